@@ -1,0 +1,5 @@
+pub mod Defs
+pub mod Find
+pub mod Primitives
+pub mod Read
+pub mod Terms

@@ -1,0 +1,13 @@
+//! Core terms, patterns, definitions and packed values: the trees that every later layer speaks of.
+#![tactic(auto)]
+
+mod copy;
+mod def;
+mod env;
+mod pat;
+mod term;
+
+pub use def::{Def, Entry, Field, Import, Module, PDef, Packet, Seen};
+pub use env::Env;
+pub use pat::Pat;
+pub use term::{Arm, Exn, Home, PVal, Term};
