@@ -3,3 +3,4 @@ pub mod Find
 pub mod Primitives
 pub mod Read
 pub mod Terms
+pub mod Typing
