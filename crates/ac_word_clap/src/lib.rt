@@ -1,4 +1,4 @@
-//! Words read by clap, as a form says.
+//! The words of a command line, read by clap as a form says.
 #![tactic(auto)]
 
 ghost use Rattle.std.specs.Prelude.{◌≡◌, IfOk, drop, map, option_map, string_bytes};
@@ -6,12 +6,13 @@ ghost use Rattle.ac_words.specs.Form.{Form, given_of};
 ghost use Rattle.ac_word_clap.specs.Rules.{ReadsForm, row, rows_in};
 ghost use Rattle.clap.specs.Words.{app_of};
 
+use ac_types::Memory;
+use ac_words::are_fit;
 use clap::error::ErrorKind;
 use clap::{ArgMatches, Command};
-use ac_words::{Memory, are_fit};
 
-/// The matches of a command that reads words as a form says, where it takes them. The first word is
-/// the command's own.
+/// The matches of a clap command that reads words as a form says, where it takes the words. The first
+/// word is the command's own name.
 pub fn matches_in<'a>(
     command: Command<'a>,
     words: &'a [String],

@@ -1,16 +1,16 @@
 use Rattle.std.proofs.Common.{rules, ◌≡◌, ◌∙◌, sym, ap, drop, map, option_map, string_bytes, true, false, List, Some, inl, inr, []}
 use Rattle.std.specs.List.{list_all}
-use Rattle.ac_words.specs.Form.{Text, is_fit, nothing}
+use Rattle.ac_words.specs.Form.{Text, is_fit}
 use Rattle.ac_word_clap.specs.Rules.{row, rows_in}
 use Rattle.clap.specs.Words.{app_of, fault_of, matches_of}
 use Rattle.clap.proofs.WalkLemmas.{both}
-use Rattle.ac_word_clap.proofs.Sim.{among_some, form_read, unfit_read}
+use Rattle.ac_word_clap.proofs.Whole.{among_some, form_read, unfit_given}
 use Rattle.ac_word_clap.proofs.matches_in.Goals as goal
 
 pub returns-then-not-are_fit : goal.returns-then-not-are_fit
 returns-then-not-are_fit c = λ f h.
     let unfit : list_all is_fit (drop 1 (map string_bytes c.args.words.now)) ≡ false = search rules in
-    sym (ap (option_map (map row)) (unfit_read f (drop 1 (map string_bytes c.args.words.now)) (record { given = []; opened = nothing; place = 1 }) unfit))
+    sym (ap (option_map (map row)) (unfit_given f (drop 1 (map string_bytes c.args.words.now)) unfit))
 
 pub returns-in-Ok : goal.returns-in-Ok
 returns-in-Ok c = λ f h.
