@@ -13,22 +13,20 @@ differ a b h = go (bytes_eq a b) refl
     go false e = refl
     go true e = let same : a ≡ b = search (rules, bytes_eq-Decides) in absurd (h same)
 
-unknown : (name : Text) (rest : List Text) → (name ≡ codes "run" → ⊥) → (name ≡ codes "make" → ⊥) → (name ≡ codes "check" → ⊥) → command_by name rest ≡ None
-unknown name rest run make check =
+-- a name that is none of the commands'
+unknown : (name : Text) (rest : List Text) → (name ≡ codes "run" → ⊥) → command_by name rest ≡ None
+unknown name rest run =
     let no_run = differ name (codes "run") run in
-    let no_make = differ name (codes "make") make in
-    let no_check = differ name (codes "check") check in
-    rw (no_run, no_make, no_check) refl
+    rw no_run refl
 
 of_first : {Z : Type 0} (ws : List (String Z)) (x : String Z) (name : Text) → Some x ≡ slice_get ws 0 → name ≡ string_bytes x
-    → (name ≡ codes "run" → ⊥) → (name ≡ codes "make" → ⊥) → (name ≡ codes "check" → ⊥) → None ≡ command_of (map string_bytes ws)
-of_first {Z} [] x name first is run make check = refl
-of_first {Z} (y ∷ ys) x name first is run make check =
+    → (name ≡ codes "run" → ⊥) → None ≡ command_of (map string_bytes ws)
+of_first {Z} [] x name first is run = refl
+of_first {Z} (y ∷ ys) x name first is run =
     let same : x ≡ y = cc in
-    sym (ap (λ n. command_by n (map string_bytes ys)) (sym (is ∙ ap (λ (s : String Z). string_bytes s) same)) ∙ unknown name (map string_bytes ys) run make check)
+    sym (ap (λ n. command_by n (map string_bytes ys)) (sym (is ∙ ap (λ (s : String Z). string_bytes s) same)) ∙ unknown name (map string_bytes ys) run)
 
 pub returns-in_default-as_str : goal.returns-in_default-as_str
 returns-in_default-as_str c =
     let first : Some c.in-Some.name.now ≡ slice_get c.args.words.now 0 = search rules in
-    of_first c.args.words.now c.in-Some.name.now c.as_str.result.now first c.as_str.ensures.value
-    c.in_default-as_str.not-run c.in_default-as_str.not-make c.in_default-as_str.not-check
+    of_first c.args.words.now c.in-Some.name.now c.as_str.result.now first c.as_str.ensures.value c.in_default-as_str.not-run
