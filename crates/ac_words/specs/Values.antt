@@ -1,20 +1,20 @@
 -- The values that words may have.
 use Rattle.std.specs.Prelude.{ℕ, ◌&&◌, Bool, true, false, not, List, [], ◌∷◌, length, codes}
 use Rattle.std.specs.Prelude.{Option, Some, None, if◌then◌else◌, nat_lt, nat_le, find, slice_get}
-use Rattle.std.specs.Prelude.{option_and_then}
+use Rattle.std.specs.Prelude.{option_and_then, option_map}
 use Rattle.std.specs.List.{list_all}
 use Rattle.std.specs.Char.{digit_value}
 use Rattle.std.specs.Str.{bytes_eq}
 use Rattle.std.specs.Str.Parse.{digits_value}
 use Rattle.ac_words.specs.Form.{Given, Text}
 
--- the values of a name that was given
+-- the values of an option or a place, where it is given
 abbrev pub all_in : Text → Given → Option (List Text)
-all_in id given = option_and_then (λ p. Some p.1) (find (λ p. bytes_eq p.0 id) given)
+all_in id given = option_map (λ p. p.1) (find (λ p. bytes_eq p.0 id) given)
 
--- the first value of a name that was given
+-- the first of them
 abbrev pub first_in : Text → Given → Option Text
-first_in id given = option_and_then (λ p. slice_get p.1 0) (find (λ p. bytes_eq p.0 id) given)
+first_in id given = option_and_then (λ values. slice_get values 0) (all_in id given)
 
 -- a FILE is neither empty nor `-`
 abbrev pub is_file : Text → Bool
