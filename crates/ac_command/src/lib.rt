@@ -33,10 +33,7 @@ pub fn read_run<'a>(alloc: Global, words: &'a [String]) -> Result<Option<Command
     let command = run_command(alloc)?;
     match matches_in(command, words)? {
         None => Ok(None),
-        Some(matches) => Ok(run_from(
-            matches.get_str("FILE"),
-            matches.get_str("steps"),
-        )),
+        Some(matches) => Ok(run_from(matches.get_str("FILE"), matches.get_str("steps"))),
     }
 }
 

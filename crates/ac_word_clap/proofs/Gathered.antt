@@ -1,9 +1,13 @@
 -- The words read from left to right give what `given_of` says.
-use Rattle.std.proofs.Common.{◌≡◌, ◌∙◌, ◌+◌, ◌&&◌, ◌||◌, ℕ, Bool, true, false, suc, true≢false, not, refl, sym, ap, arith, rules, List, [], ◌∷◌, ◌++◌, length, Option, Some, None, append-nil, append_assoc, lt-ltb, ltb-true}
+use Rattle.std.proofs.Common.{◌≡◌, ◌∙◌, ◌+◌, ◌||◌, ℕ, Bool, true, false, suc, true≢false, not, refl, sym, ap, arith, List, [], ◌∷◌, ◌++◌, length, Option, Some, None, append-nil, append_assoc, lt-ltb, ltb-true}
 use Rattle.std.specs.Prelude.{if◌then◌else◌, is_some, nat_lt, option_and_then, option_map}
 use Rattle.std.specs.List.{list_any}
 use Rattle.std.specs.Str.{bytes_eq}
+use Rattle.std.proofs.Math.Bool.{and-false, or-true}
+use Rattle.std.proofs.lemmas.Bool.{not-true}
+use Rattle.clap.proofs.WalkLemmas.{both}
 use Rattle.std.proofs.lemmas.List.Folds.{list_any-append}
+use Rattle.ac_word_clap.proofs.Chains.{map_step, none_each, other_order, same_each, some_step, two_steps}
 use Rattle.ac_words.specs.Form.{Argument, Form, Given, Look, Place, Text, arguments_of, given_from, given_of, given_once, is_once, look, named, option, option_in, place_in, plain, refused, place_after, with_next, with_option, with_place, with_place_in, with_run, with_values, with_word, word}
 use Rattle.ac_word_clap.proofs.Reading.{added, closed, has, nothing, option_met, place_met, read_from, run_of, start, state_at, step_by, value_of, with_item, word_at}
 
@@ -12,6 +16,7 @@ abbrev pub gather : Given → Given → Option Given
 gather g [] = Some g
 gather g (p ∷ rest) = option_and_then (λ h. gather h rest) (added p.0 p.1 g)
 
+-- an entry whose name is new
 once_more : (g : Given) (p : Text × List Text) → is_once g ≡ true → has p.0 g ≡ false → is_once (g ++ p ∷ []) ≡ true
 once_more [] p once new = refl
 once_more (q ∷ g) p once new =
@@ -19,42 +24,27 @@ once_more (q ∷ g) p once new =
     let news = neither (bytes_eq q.0 p.0) (has p.0 g) new in
     let rest = once_more g p parts.1 news.1 in
     let joined = list_any-append (λ z. bytes_eq q.0 z.0) g (p ∷ []) in
-    let others = not_false (list_any (λ z. bytes_eq q.0 z.0) g) parts.0 in
+    let others = not-true (list_any (λ z. bytes_eq q.0 z.0) g) parts.0 in
     rw (rest, joined, others, news.0) refl
   where
-    both : (a b : Bool) → (a && b) ≡ true → (a ≡ true) × (b ≡ true)
-    both true b e = (refl, e)
-    both false b e = absurd (true≢false (sym e))
-
     neither : (a b : Bool) → (a || b) ≡ false → (a ≡ false) × (b ≡ false)
     neither true b e = absurd (true≢false e)
     neither false b e = (refl, e)
 
-    not_false : (a : Bool) → not a ≡ true → a ≡ false
-    not_false true e = sym e
-    not_false false e = refl
-
+-- an entry whose name stands before
 twice : (g : Given) (p : Text × List Text) (rest : Given) → has p.0 g ≡ true → is_once (g ++ p ∷ rest) ≡ false
 twice [] p rest old = absurd (true≢false (sym old))
 twice (q ∷ g) p rest old = go (bytes_eq q.0 p.0) (has p.0 g) refl refl old (twice g p rest)
   where
-    and_false : (b : Bool) → (b && false) ≡ false
-    and_false true = refl
-    and_false false = refl
-
-    or_true : (b : Bool) → (b || true) ≡ true
-    or_true true = refl
-    or_true false = refl
-
     go : (a b : Bool) → bytes_eq q.0 p.0 ≡ a → has p.0 g ≡ b → (a || b) ≡ true → (has p.0 g ≡ true → is_once (g ++ p ∷ rest) ≡ false)
         → is_once (q ∷ (g ++ p ∷ rest)) ≡ false
     go true b ea eb e more =
         let joined = list_any-append (λ z. bytes_eq q.0 z.0) g (p ∷ rest) in
-        let found = or_true (list_any (λ z. bytes_eq q.0 z.0) g) in
+        let found = or-true (list_any (λ z. bytes_eq q.0 z.0) g) in
         rw (joined, ea, found) refl
     go false b ea eb e more =
         let later = more (eb ∙ e) in
-        let none = and_false (not (list_any (λ z. bytes_eq q.0 z.0) (g ++ p ∷ rest))) in
+        let none = and-false (not (list_any (λ z. bytes_eq q.0 z.0) (g ++ p ∷ rest))) in
         rw (later, none) refl
 
 -- entries can be added one by one exactly where no name stands twice
@@ -139,32 +129,6 @@ run_first g id most values None false false l e = rw (l, e) refl
 run_first g id most values (Some given) true b l e = rw l refl
 run_first g id most values (Some given) false true l e = rw (l, e) refl
 run_first g id most values (Some given) false false l e = rw (l, e) refl
-
--- chains of steps that may give none
-none_each : {X Y : Type 0} (step : X → Option Y) (o : Option X) → ((x : X) → step x ≡ None) → option_and_then step o ≡ None
-none_each step None each = refl
-none_each step (Some x) each = each x
-
-same_each : {X Y : Type 0} (a b : X → Option Y) (o : Option X) → ((x : X) → a x ≡ b x) → option_and_then a o ≡ option_and_then b o
-same_each a b None each = refl
-same_each a b (Some x) each = each x
-
-two_steps : {X Y Z : Type 0} (a : X → Option Y) (b : Y → Option Z) (o : Option X) → option_and_then b (option_and_then a o) ≡ option_and_then (λ x. option_and_then b (a x)) o
-two_steps a b None = refl
-two_steps a b (Some x) = refl
-
-other_order : {X Y Z : Type 0} (a : X → Y → Option Z) (o : Option X) (q : Option Y)
-    → option_and_then (λ y. option_and_then (λ x. a x y) o) q ≡ option_and_then (λ x. option_and_then (a x) q) o
-other_order a None q = none_each (λ y. None) q (λ y. refl)
-other_order a (Some x) q = refl
-
-some_step : {X : Type 0} (o : Option X) → option_and_then (λ x. Some x) o ≡ o
-some_step None = refl
-some_step (Some x) = refl
-
-map_step : {X Y : Type 0} (a : X → Y) (o : Option X) → option_and_then (λ x. Some (a x)) o ≡ option_map a o
-map_step a None = refl
-map_step a (Some x) = refl
 
 -- an option is no word
 abbrev NoWord : Option (List Argument) → Type 0

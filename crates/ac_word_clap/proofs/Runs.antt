@@ -1,35 +1,28 @@
 -- The steps of a run of words.
-use Rattle.std.proofs.Common.{◌≡◌, ◌∙◌, ◌+◌, ◌&&◌, ◌||◌, ℕ, Bool, cond, true, false, true≢false, not, refl, sym, ap, subst, arith, rules, List, [], ◌∷◌, ◌++◌, map, drop, length, min, Option, Some, None, append-nil}
-use Rattle.std.specs.Prelude.{◌==◌, if◌then◌else◌, find, option_and_then, option_map, is_some, nat_lt}
-use Rattle.std.specs.List.{list_all, list_any, fold, before_first}
-use Rattle.std.specs.Str.{bytes_eq}
-use Rattle.std.proofs.lemmas.List.{map-append}
-use Rattle.clap.specs.Lexer.{long_of, short_of, usize_max}
-use Rattle.clap.specs.Walk.{walk, finished, Row, Rule, Waiting, Walk, idle, option, positional, takes_several, arg_by_id, arg_by_index, arg_by_long, at_row, has_row, is_pending, more_values, settled, settled_rows, subcommand_met, used, walked, with_default, nothing_held, without}
-use Rattle.clap.specs.Simple.{App, matches_of}
-use Rattle.clap.proofs.FaultLemmas.{leaf_fault}
-use Rattle.clap.specs.Takes.{is_given}
-use Rattle.clap.proofs.WalkLemmas.{both}
-use Rattle.clap.specs.declared.error.kind.ErrorKind.{ErrorKind}
-use Rattle.clap.specs.declared.error.kind.ErrorKind.TheVariants.{ArgumentConflict, InvalidValue, TooManyValues}
+use Rattle.std.proofs.Common.{◌≡◌, ◌∙◌, ℕ, Bool, true, false, refl, sym, ap, rules, List, [], ◌∷◌, ◌++◌, length, Option, Some, None}
+use Rattle.std.specs.Prelude.{◌==◌, if◌then◌else◌, option_map, nat_lt}
+use Rattle.clap.specs.Walk.{Row, Rule, idle, positional, arg_by_id, arg_by_index, arg_by_long, has_row, settled_rows, walked}
+use Rattle.clap.specs.declared.error.kind.ErrorKind.TheVariants.{ArgumentConflict, TooManyValues}
 use Rattle.clap.specs.declared.builder.value_parser.ValueParser.TheVariants as vp
-use Rattle.clap.specs.declared.parser.matches.ValueSource.TheVariants.{CommandLine}
-use Rattle.clap.specs.Kinds.{IsAmong, Kinds, or_else, range_kinds, values_kinds}
-use Rattle.clap.specs.Faults.{fault_of, level_fault, settle_fault, turn_fault, walk_fault, defaults_fault}
-use Rattle.ac_words.specs.Form.{Form, Given, Look, Place, Text, given_of, is_fit, look, named, option_in, place_in, plain, refused, value_in}
-use Rattle.ac_word_clap.proofs.Reading.{Open, State, closed, has, nothing, option_met, place_met, read_from, run_of, start, state_at, step, value_of, with_item, word_at}
-use Rattle.ac_word_clap.specs.Rules.{Every, Apart, MostFits, OptionFits, PlaceFits, ReadsForm, rules_of_form, most_of, option_rule, place_rule, row, rule_with, shape_with}
+use Rattle.clap.specs.Kinds.{range_kinds, values_kinds}
+use Rattle.clap.specs.Faults.{settle_fault, walk_fault}
+use Rattle.ac_words.specs.Form.{Place, Text}
+use Rattle.ac_word_clap.specs.Rules.{most_of, option_rule, place_rule, row}
 use Rattle.ac_word_clap.proofs.Looks.{IsNamed, IsPlain}
 use Rattle.ac_word_clap.proofs.Rows.{same_bytes, used_once}
 use Rattle.ac_word_clap.proofs.Steps.{walk_at, total, total_step, more, named_from, named_stuck}
 
+-- each text passes as a text
 pub strings_pass : (vs : List Text) → values_kinds false vp.String vs ≡ []
 strings_pass [] = refl
 strings_pass (v ∷ vs) = strings_pass vs
 
-pub range_is : (most n : ℕ) → (1 == most) ≡ false → (n == 0) ≡ false → nat_lt n 1 ≡ false → range_kinds 1 most n ≡ (if nat_lt most n then TooManyValues ∷ [] else [])
+-- a run fails by its length only where it is too long
+pub range_is : (most n : ℕ) → (1 == most) ≡ false → (n == 0) ≡ false → nat_lt n 1 ≡ false
+    → range_kinds 1 most n ≡ (if nat_lt most n then TooManyValues ∷ [] else [])
 range_is most n run some least = rw (run, some, least) refl
 
+-- a run fails where it is too long or not the first
 pub run_fault : (c : List Rule) (q : Place) (most : ℕ) (v : Text) (vs : List Text) (rows : List Row) (long b : Bool)
     → q.most ≡ Some most → (1 == most) ≡ false → arg_by_id c q.name ≡ Some (place_rule q)
     → nat_lt most (length (v ∷ vs)) ≡ long → has_row q.name rows ≡ b
@@ -52,7 +45,9 @@ run_fault c q most v vs rows false false em run at l e =
     let pass = strings_pass vs in
     rw (at, em, range, l, e, pass) refl
 
-pub run_settled : (c : List Rule) (q : Place) (v : Text) (vs : List Text) (rows : List Row) → arg_by_id c q.name ≡ Some (place_rule q) → has_row q.name rows ≡ false
+-- a run that ends is one more row
+pub run_settled : (c : List Rule) (q : Place) (v : Text) (vs : List Text) (rows : List Row) → arg_by_id c q.name ≡ Some (place_rule q)
+    → has_row q.name rows ≡ false
     → settled_rows c (Some (q.name, v ∷ vs)) rows ≡ rows ++ row (q.name, v ∷ vs) ∷ []
 run_settled c q v vs rows at e = rw at (used_once q.name None (Some q.number) 1 (most_of q.most) v vs rows e)
 
@@ -63,9 +58,11 @@ pub run_met : (c : List Rule) (rows : List Row) (q : Place) (most : ℕ) (v : Te
 unfolding walked
 run_met c rows q most v vs k w ws em run met i = rw (total_step, i.ends, i.long, i.short, met, em, run, same_bytes q.name) refl
 
+-- what follows a run
 abbrev pub after_run : List Rule → Bool → Text → List Text → List Row → ℕ → List Text → Option (List Row)
 after_run c long id values rows k words = if long then None else more c id values rows k words
 
+-- a run at the end of the words
 pub run_end : (c : List Rule) (rows : List Row) (q : Place) (most : ℕ) (v : Text) (vs : List Text) (k : ℕ) (long b : Bool)
     → q.most ≡ Some most → (1 == most) ≡ false → arg_by_id c q.name ≡ Some (place_rule q)
     → nat_lt most (length (v ∷ vs)) ≡ long → has_row q.name rows ≡ b
@@ -76,6 +73,7 @@ run_end c rows q most v vs k false true em run at l e = let fault = run_fault c 
 run_end c rows q most v vs k false false em run at l e =
     let fault = run_fault c q most v vs rows false false em run at l e in rw (fault, e) (ap Some (run_settled c q v vs rows at e))
 
+-- an option after a run
 pub run_named : (c : List Rule) (rows : List Row) (q : Place) (most : ℕ) (v : Text) (vs : List Text) (k : ℕ) (long b : Bool) (w : Text) (ws : List Text)
     (n : Text) (x : Option Text) (o : Option (Text × Bool))
     → q.most ≡ Some most → (1 == most) ≡ false → arg_by_id c q.name ≡ Some (place_rule q)

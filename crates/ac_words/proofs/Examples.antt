@@ -1,6 +1,6 @@
 -- Command lines, and what they ask for.
 use Rattle.std.proofs.Common.{◌≡◌, refl, [], ◌∷◌, Some, None, codes, true, false}
-use Rattle.ac_words.specs.Form.{Form, Look, given_of, look, named, plain, refused}
+use Rattle.ac_words.specs.Form.{Form, given_of, look, named, plain, refused}
 use Rattle.ac_words.specs.Commands.{command_of, run}
 
 -- an option, with its value and without; a plain word; words that are refused

@@ -1,5 +1,5 @@
 -- The commands, and the words that give them.
-use Rattle.std.specs.Prelude.{ℕ, Bool, true, List, [], ◌∷◌, length, codes, nat_le}
+use Rattle.std.specs.Prelude.{ℕ, true, List, [], ◌∷◌, length, codes, nat_le}
 use Rattle.std.specs.Prelude.{Option, Some, None, if◌then◌else◌, option_and_then, option_map}
 use Rattle.std.specs.Str.{bytes_eq}
 use Rattle.ac_words.specs.Form.{Form, Given, Text, given_of}

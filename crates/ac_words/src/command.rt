@@ -8,6 +8,7 @@ const DEFAULT_STEPS: u64 = 1_000_000;
 
 // The most steps that a `run` may name, and the most digits that it may name them by.
 const MOST_STEPS: u64 = 1_000_000_000;
+
 const MOST_DIGITS: usize = 10;
 
 /// Loads a program and runs it.
