@@ -25,8 +25,8 @@ fn run_command<'a>(alloc: Global) -> Result<clap::Command<'a>, Memory>
     Ok(command)
 }
 
-/// The `run` that the words give after the first, which is the command's name, or none.
-pub fn read_run<'a>(alloc: Global, words: &'a [String]) -> Result<Option<Command<'a>>, Memory>
+// The `run` that the words give after the first, which is the command's name, or none.
+fn read_run<'a>(alloc: Global, words: &'a [String]) -> Result<Option<Command<'a>>, Memory>
     ensures { IfOk result (λ o. option_map request_of o
         ≡ words_of run_form run_of (drop 1 (map string_bytes words.now))) }
 {

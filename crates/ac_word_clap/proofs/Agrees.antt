@@ -134,7 +134,8 @@ module _ (c : List Rule) (f : Form) (r : Reads c f) where
       let test : (q.number == k) ≡ true = found_test (λ p. p.number == k) f.places q is in
       let here : q.number ≡ k = grind arith in
       let next : min (k + 1) usize_max ≡ k + 1 = subst (λ j. min (j + 1) usize_max ≡ j + 1) here fits.next in
-      let at : arg_by_id c q.name ≡ Some (single q.name None (Some q.number)) = fits.at ∙ ap (λ m. Some (rule_with q.name None (Some q.number) 1 (most_of m))) em in
+      let at : arg_by_id c q.name ≡ Some (single q.name None (Some q.number)) =
+      fits.at ∙ ap (λ m. Some (rule_with q.name None (Some q.number) 1 (most_of m))) em in
       rw next (settles q.name w None (Some q.number) (map row g) (k + 1) ws at (most_apart q.name q.most em fits.most) fit
       ∙ more_is q.name (w ∷ []) g (k + 1) ws _ refl agrees)
   place_is k q (Some m) g w ws em is fit agrees =

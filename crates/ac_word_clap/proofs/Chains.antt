@@ -13,7 +13,8 @@ same_each a b None each = refl
 same_each a b (Some x) each = each x
 
 -- two steps as one
-pub two_steps : {X Y Z : Type 0} (a : X → Option Y) (b : Y → Option Z) (o : Option X) → option_and_then b (option_and_then a o) ≡ option_and_then (λ x. option_and_then b (a x)) o
+pub two_steps : {X Y Z : Type 0} (a : X → Option Y) (b : Y → Option Z) (o : Option X)
+    → option_and_then b (option_and_then a o) ≡ option_and_then (λ x. option_and_then b (a x)) o
 two_steps a b None = refl
 two_steps a b (Some x) = refl
 

@@ -52,7 +52,8 @@ gathered : (g rest : Given) → is_once g ≡ true → gather g rest ≡ given_o
 gathered g [] once = let same = append-nil g in rw (same, once) refl
 gathered g (p ∷ rest) once = go (has p.0 g) refl (λ h e. gathered h rest e)
   where
-    go : (b : Bool) → has p.0 g ≡ b → ((h : Given) → is_once h ≡ true → gather h rest ≡ given_once (h ++ rest)) → gather g (p ∷ rest) ≡ given_once (g ++ p ∷ rest)
+    go : (b : Bool) → has p.0 g ≡ b → ((h : Given) → is_once h ≡ true → gather h rest ≡ given_once (h ++ rest))
+        → gather g (p ∷ rest) ≡ given_once (g ++ p ∷ rest)
     go true e more = let no = twice g p rest e in rw (e, no) refl
     go false e more =
         rw e (more (g ++ p ∷ []) (once_more g p once e) ∙ ap given_once (append_assoc g (p ∷ []) rest))
@@ -83,15 +84,18 @@ run_word : (f : Form) (p : Place) (most k : ℕ) (v : Text) (more : List Argumen
 run_word f p most k v more at run = at_place (place_in f k) at
   where
     of_most : (m : Option ℕ) → m ≡ Some most
-        → option_and_then (with_place p.name m v more) (given_from f (if is_some m then k else k + 1) more) ≡ option_and_then (with_run p.name most v more) (given_from f k more)
+        → option_and_then (with_place p.name m v more) (given_from f (if is_some m then k else k + 1) more)
+        ≡ option_and_then (with_run p.name most v more) (given_from f k more)
     of_most m e = rw e refl
 
     at_place : (o : Option Place) → o ≡ Some p
-        → option_and_then (with_place_in o v more) (given_from f (place_after o k) more) ≡ option_and_then (with_run p.name most v more) (given_from f k more)
+        → option_and_then (with_place_in o v more) (given_from f (place_after o k) more)
+        ≡ option_and_then (with_run p.name most v more) (given_from f k more)
     at_place o e = rw e (of_most p.most run)
 
 -- the words of a run are the values of its place
-run_given : (f : Form) (p : Place) (most k : ℕ) (args : List Argument) (v : Text) (vs : List Text) → place_in f k ≡ Some p → p.most ≡ Some most → begins_with_word args ≡ false
+run_given : (f : Form) (p : Place) (most k : ℕ) (args : List Argument) (v : Text) (vs : List Text) → place_in f k ≡ Some p
+    → p.most ≡ Some most → begins_with_word args ≡ false
     → given_from f k (words_then (v ∷ vs) args) ≡ option_and_then (with_values p.name most (v ∷ vs)) (given_from f k args)
 run_given f p most k [] v [] at run ends = run_word f p most k v [] at run
 run_given f p most k (option id values ∷ more) v [] at run ends = run_word f p most k v (option id values ∷ more) at run
@@ -102,25 +106,29 @@ run_given f p most k args v (u ∷ us) at run ends =
     ∙ go (given_from f k args)
   where
     longer : (b : Bool) (given : Given) → nat_lt most (length (u ∷ us)) ≡ b
-        → option_and_then (with_run p.name most v (words_then (u ∷ us) args)) (with_values p.name most (u ∷ us) given) ≡ with_values p.name most (v ∷ u ∷ us) given
+        → option_and_then (with_run p.name most v (words_then (u ∷ us) args)) (with_values p.name most (u ∷ us) given)
+        ≡ with_values p.name most (v ∷ u ∷ us) given
     longer true given e = let more = one_more most (length (u ∷ us)) e in rw (e, more) refl
     longer false given e = rw e refl
 
-    go : (o : Option Given) → option_and_then (with_run p.name most v (words_then (u ∷ us) args)) (option_and_then (with_values p.name most (u ∷ us)) o)
+    go : (o : Option Given)
+        → option_and_then (with_run p.name most v (words_then (u ∷ us) args)) (option_and_then (with_values p.name most (u ∷ us)) o)
         ≡ option_and_then (with_values p.name most (v ∷ u ∷ us)) o
     go None = refl
     go (Some given) = longer _ given refl
 
 -- an entry before others is added first
 item_first : (g : Given) (id : Text) (values : List Text) (rest : Option Given) (b : Bool) → has id g ≡ b
-    → option_and_then (gather g) (option_map (λ given. (id, values) ∷ given) rest) ≡ option_and_then (λ h. option_and_then (gather h) rest) (added id values g)
+    → option_and_then (gather g) (option_map (λ given. (id, values) ∷ given) rest)
+    ≡ option_and_then (λ h. option_and_then (gather h) rest) (added id values g)
 item_first g id values None true e = rw e refl
 item_first g id values None false e = rw e refl
 item_first g id values (Some given) true e = rw e refl
 item_first g id values (Some given) false e = rw e refl
 
 -- a run before others is added first, where it isn't too long
-run_first : (g : Given) (id : Text) (most : ℕ) (values : List Text) (rest : Option Given) (long b : Bool) → nat_lt most (length values) ≡ long → has id g ≡ b
+run_first : (g : Given) (id : Text) (most : ℕ) (values : List Text) (rest : Option Given) (long b : Bool)
+    → nat_lt most (length values) ≡ long → has id g ≡ b
     → option_and_then (gather g) (option_and_then (with_values id most values) rest)
     ≡ option_and_then (λ h. option_and_then (gather h) rest) (closed (run_of id most values) g)
 run_first g id most values None true b l e = rw l refl
@@ -159,9 +167,11 @@ no_next id next (Some (i, false)) None args = refl
 record Gives (f : Form) (ws : List Text) : Type 0 where
   clean : (g : Given) (k : ℕ) → read_from f ws (state_at k nothing g) ≡ option_and_then (after f g k) (arguments_of f ws)
   value : (g : Given) (id : Text) (k : ℕ)
-      → read_from f ws (state_at k (value_of id) g) ≡ option_and_then (λ args. option_and_then (after f g k) (with_next id args)) (arguments_of f ws)
+      → read_from f ws (state_at k (value_of id) g)
+      ≡ option_and_then (λ args. option_and_then (after f g k) (with_next id args)) (arguments_of f ws)
   run : (g : Given) (p : Place) (most : ℕ) (v : Text) (vs : List Text) (k : ℕ) → place_in f k ≡ Some p → p.most ≡ Some most
-      → read_from f ws (state_at k (run_of p.name most (v ∷ vs)) g) ≡ option_and_then (λ args. after f g k (words_then (v ∷ vs) args)) (arguments_of f ws)
+      → read_from f ws (state_at k (run_of p.name most (v ∷ vs)) g)
+      ≡ option_and_then (λ args. after f g k (words_then (v ∷ vs) args)) (arguments_of f ws)
 
 -- a word at a place of one word is one more entry
 single_given : (f : Form) (g : Given) (k : ℕ) (p : Place) (w : Text) (args : List Argument) → place_in f k ≡ Some p → p.most ≡ None
@@ -170,16 +180,19 @@ single_given f g k p w args at run =
     rw (at, run) (ap (option_and_then (gather g)) (sym (map_step (λ given. (p.name, w ∷ []) ∷ given) (given_from f (k + 1) args))))
 
 -- a run that ends
-run_after : (f : Form) (g : Given) (p : Place) (most : ℕ) (v : Text) (vs : List Text) (k : ℕ) → place_in f k ≡ Some p → p.most ≡ Some most → (o : Option (List Argument)) → NoWord o
+run_after : (f : Form) (g : Given) (p : Place) (most : ℕ) (v : Text) (vs : List Text) (k : ℕ) → place_in f k ≡ Some p → p.most ≡ Some most
+    → (o : Option (List Argument)) → NoWord o
     → option_and_then (λ args. after f g k (words_then (v ∷ vs) args)) o
     ≡ option_and_then (λ args. option_and_then (λ h. after f h k args) (closed (run_of p.name most (v ∷ vs)) g)) o
 run_after f g p most v vs k at run None ends = refl
 run_after f g p most v vs k at run (Some args) ends =
-    ap (option_and_then (gather g)) (run_given f p most k args v vs at run ends) ∙ run_first g p.name most (v ∷ vs) (given_from f k args) _ _ refl refl
+    ap (option_and_then (gather g)) (run_given f p most k args v vs at run ends)
+    ∙ run_first g p.name most (v ∷ vs) (given_from f k args) _ _ refl refl
 
 module _ (f : Form) (ws : List Text) (gives : Gives f ws) where
   item_step : (g : Given) (id : Text) (values : List Text) (k : ℕ)
-      → option_and_then (read_from f ws) (with_item id values k g) ≡ option_and_then (λ args. after f g k (option id values ∷ args)) (arguments_of f ws)
+      → option_and_then (read_from f ws) (with_item id values k g)
+      ≡ option_and_then (λ args. after f g k (option id values ∷ args)) (arguments_of f ws)
   item_step g id values k =
       two_steps (λ h. Some (state_at k nothing h)) (read_from f ws) (added id values g)
       ∙ same_each (λ h. read_from f ws (state_at k nothing h)) (λ h. option_and_then (after f h k) (arguments_of f ws)) (added id values g) (λ h. gives.clean h k)
@@ -188,7 +201,8 @@ module _ (f : Form) (ws : List Text) (gives : Gives f ws) where
       (λ args. sym (item_first g id values (given_from f k args) _ refl))
 
   option_step : (o : Option (Text × Bool)) (value : Option Text) (g : Given) (k : ℕ)
-      → option_and_then (read_from f ws) (option_met o value k g) ≡ option_and_then (λ args. option_and_then (after f g k) (with_option o value args)) (arguments_of f ws)
+      → option_and_then (read_from f ws) (option_met o value k g)
+      ≡ option_and_then (λ args. option_and_then (after f g k) (with_option o value args)) (arguments_of f ws)
   option_step None value g k = sym (none_each (λ args. None) (arguments_of f ws) (λ args. refl))
   option_step (Some (id, true)) (Some v) g k = item_step g id (v ∷ []) k
   option_step (Some (id, true)) None g k = gives.value g id k
@@ -196,7 +210,8 @@ module _ (f : Form) (ws : List Text) (gives : Gives f ws) where
   option_step (Some (id, false)) None g k = item_step g id [] k
 
   word_step : (g : Given) (k : ℕ) (w : Text) (p : Place) (most : Option ℕ) → place_in f k ≡ Some p → p.most ≡ most
-      → option_and_then (read_from f ws) (word_at w p.name most k g) ≡ option_and_then (λ args. after f g k (word w ∷ args)) (arguments_of f ws)
+      → option_and_then (read_from f ws) (word_at w p.name most k g)
+      ≡ option_and_then (λ args. after f g k (word w ∷ args)) (arguments_of f ws)
   word_step g k w p None at run =
       item_step g p.name (w ∷ []) (k + 1)
       ∙ same_each (λ args. after f g (k + 1) (option p.name (w ∷ []) ∷ args)) (λ args. after f g k (word w ∷ args)) (arguments_of f ws)
@@ -205,7 +220,8 @@ module _ (f : Form) (ws : List Text) (gives : Gives f ws) where
 
   place_step : (g : Given) (k : ℕ) (w : Text) (o : Option Place) → place_in f k ≡ o
       → option_and_then (read_from f ws) (place_met o w k g) ≡ option_and_then (λ args. after f g k (word w ∷ args)) (arguments_of f ws)
-  place_step g k w None at = sym (none_each (λ args. after f g k (word w ∷ args)) (arguments_of f ws) (λ args. rw at (no_place (given_from f (k + 1) args))))
+  place_step g k w None at =
+      sym (none_each (λ args. after f g k (word w ∷ args)) (arguments_of f ws) (λ args. rw at (no_place (given_from f (k + 1) args))))
     where
       no_place : (o : Option Given) → option_and_then (gather g) (option_and_then (λ given. None) o) ≡ None
       no_place None = refl
@@ -213,7 +229,8 @@ module _ (f : Form) (ws : List Text) (gives : Gives f ws) where
   place_step g k w (Some p) at = word_step g k w p p.most at refl
 
   clean_by : (g : Given) (k : ℕ) (w : Text) (l : Look)
-      → option_and_then (read_from f ws) (step_by f l w nothing k g) ≡ option_and_then (λ args. option_and_then (after f g k) (with_word f w l args)) (arguments_of f ws)
+      → option_and_then (read_from f ws) (step_by f l w nothing k g)
+      ≡ option_and_then (λ args. option_and_then (after f g k) (with_word f w l args)) (arguments_of f ws)
   clean_by g k w refused = sym (none_each (λ args. None) (arguments_of f ws) (λ args. refl))
   clean_by g k w (named n value) = option_step (option_in f n) value g k
   clean_by g k w plain = place_step g k w (place_in f k) refl
@@ -227,7 +244,8 @@ module _ (f : Form) (ws : List Text) (gives : Gives f ws) where
       (λ args. no_next id (after f g k) (option_in f n) value args))
   value_by g id k w plain = item_step g id (w ∷ []) k
 
-  run_by : (g : Given) (p : Place) (most : ℕ) (v : Text) (vs : List Text) (k : ℕ) (w : Text) (l : Look) → place_in f k ≡ Some p → p.most ≡ Some most
+  run_by : (g : Given) (p : Place) (most : ℕ) (v : Text) (vs : List Text) (k : ℕ) (w : Text) (l : Look) → place_in f k ≡ Some p
+      → p.most ≡ Some most
       → option_and_then (read_from f ws) (step_by f l w (run_of p.name most (v ∷ vs)) k g)
       ≡ option_and_then (λ args. option_and_then (λ more. after f g k (words_then (v ∷ vs) more)) (with_word f w l args)) (arguments_of f ws)
   run_by g p most v vs k w refused at run = sym (none_each (λ args. None) (arguments_of f ws) (λ args. refl))
@@ -247,17 +265,20 @@ module _ (f : Form) (ws : List Text) (gives : Gives f ws) where
       ∙ same_each (λ args. after f g k (words_then (v ∷ (vs ++ w ∷ [])) args)) (λ args. after f g k (words_then (v ∷ vs) (word w ∷ args))) (arguments_of f ws)
       (λ args. ap (after f g k) (words_then-append (v ∷ vs) w args))
 
-  next_clean : (g : Given) (k : ℕ) (w : Text) → read_from f (w ∷ ws) (state_at k nothing g) ≡ option_and_then (after f g k) (arguments_of f (w ∷ ws))
+  next_clean : (g : Given) (k : ℕ) (w : Text)
+      → read_from f (w ∷ ws) (state_at k nothing g) ≡ option_and_then (after f g k) (arguments_of f (w ∷ ws))
   next_clean g k w = clean_by g k w (look w) ∙ sym (two_steps (with_word f w (look w)) (after f g k) (arguments_of f ws))
 
   next_value : (g : Given) (id : Text) (k : ℕ) (w : Text)
-      → read_from f (w ∷ ws) (state_at k (value_of id) g) ≡ option_and_then (λ args. option_and_then (after f g k) (with_next id args)) (arguments_of f (w ∷ ws))
+      → read_from f (w ∷ ws) (state_at k (value_of id) g)
+      ≡ option_and_then (λ args. option_and_then (after f g k) (with_next id args)) (arguments_of f (w ∷ ws))
   next_value g id k w =
       value_by g id k w (look w)
       ∙ sym (two_steps (with_word f w (look w)) (λ args. option_and_then (after f g k) (with_next id args)) (arguments_of f ws))
 
   next_run : (g : Given) (p : Place) (most : ℕ) (v : Text) (vs : List Text) (k : ℕ) (w : Text) → place_in f k ≡ Some p → p.most ≡ Some most
-      → read_from f (w ∷ ws) (state_at k (run_of p.name most (v ∷ vs)) g) ≡ option_and_then (λ args. after f g k (words_then (v ∷ vs) args)) (arguments_of f (w ∷ ws))
+      → read_from f (w ∷ ws) (state_at k (run_of p.name most (v ∷ vs)) g)
+      ≡ option_and_then (λ args. after f g k (words_then (v ∷ vs) args)) (arguments_of f (w ∷ ws))
   next_run g p most v vs k w at run =
       run_by g p most v vs k w (look w) at run
       ∙ sym (two_steps (with_word f w (look w)) (λ args. after f g k (words_then (v ∷ vs) args)) (arguments_of f ws))

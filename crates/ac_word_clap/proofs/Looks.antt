@@ -27,7 +27,8 @@ pub data View (w : Text) : Type 0 where
 -- a word that begins with two hyphens
 pub view_hyphens : (x y : ℕ) (xs : Text) → (x == 45) ≡ true → (y == 45) ≡ true → is_fit (x ∷ y ∷ xs) ≡ true → View (x ∷ y ∷ xs)
 view_hyphens x y [] e d fit = let bad : false ≡ true = rw (e, d) at fit in absurd (true≢false (sym bad))
-view_hyphens x y (z ∷ zs) e d fit = as_named (before_first (λ c. c == 61) (z ∷ zs)) (value_in (z ∷ zs)) (record { look = rw (e, d) refl; ends = rw (e, d) refl; long = rw (e, d) refl })
+view_hyphens x y (z ∷ zs) e d fit =
+    as_named (before_first (λ c. c == 61) (z ∷ zs)) (value_in (z ∷ zs)) (record { look = rw (e, d) refl; ends = rw (e, d) refl; long = rw (e, d) refl })
 
 -- a word that isn't refused is an option or plain, to both
 pub view : (w : Text) → is_fit w ≡ true → View w

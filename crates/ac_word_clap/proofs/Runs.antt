@@ -54,7 +54,8 @@ run_settled c q v vs rows at e = rw at (used_once q.name None (Some q.number) 1 
 -- the word goes on with the run
 pub run_met : (c : List Rule) (rows : List Row) (q : Place) (most : ℕ) (v : Text) (vs : List Text) (k : ℕ) (w : Text) (ws : List Text)
     → q.most ≡ Some most → (1 == most) ≡ false → arg_by_index c k ≡ Some (place_rule q) → IsPlain w
-    → total c (walk_at rows (Some (q.name, v ∷ vs)) positional k) (w ∷ ws) ≡ total c (walk_at rows (Some (q.name, v ∷ (vs ++ w ∷ []))) positional k) ws
+    → total c (walk_at rows (Some (q.name, v ∷ vs)) positional k) (w ∷ ws)
+    ≡ total c (walk_at rows (Some (q.name, v ∷ (vs ++ w ∷ []))) positional k) ws
 unfolding walked
 run_met c rows q most v vs k w ws em run met i = rw (total_step, i.ends, i.long, i.short, met, em, run, same_bytes q.name) refl
 
@@ -69,7 +70,9 @@ pub run_end : (c : List Rule) (rows : List Row) (q : Place) (most : ℕ) (v : Te
     → total c (walk_at rows (Some (q.name, v ∷ vs)) positional k) [] ≡ after_run c long q.name (v ∷ vs) rows k []
 unfolding walk_fault total
 run_end c rows q most v vs k true b em run at l e = let fault = run_fault c q most v vs rows true b em run at l e in rw fault refl
-run_end c rows q most v vs k false true em run at l e = let fault = run_fault c q most v vs rows false true em run at l e in rw (fault, e) refl
+run_end c rows q most v vs k false true em run at l e =
+    let fault = run_fault c q most v vs rows false true em run at l e in
+    rw (fault, e) refl
 run_end c rows q most v vs k false false em run at l e =
     let fault = run_fault c q most v vs rows false false em run at l e in rw (fault, e) (ap Some (run_settled c q v vs rows at e))
 

@@ -39,7 +39,8 @@ total c w words =
     outcome (or_else (walk_fault (shape_with [] c) [] w words) (settle_fault c false end)) (settled c end).rows
 
 -- the first step decides before the later ones
-pub gated : (ks more last : Kinds) (rows : List Row) → outcome (or_else (or_else ks more) last) rows ≡ gate ks (outcome (or_else more last) rows)
+pub gated : (ks more last : Kinds) (rows : List Row)
+    → outcome (or_else (or_else ks more) last) rows ≡ gate ks (outcome (or_else more last) rows)
 gated [] more last rows = refl
 gated (k ∷ ks) more last rows = refl
 
@@ -126,12 +127,16 @@ pub named_from : (c : List Rule) (rows0 rows : List Row) (p : Option (Text × Li
     → total c (walk_at rows0 p waiting k) (w ∷ ws) ≡ after_option c o x rows k ws
 unfolding walked
 named_from c rows0 rows p waiting k w ws n x None b e free passes is i met = rw (total_step, free, i.ends, i.long, met) refl
-named_from c rows0 rows p waiting k w ws n (Some y) (Some (q, true)) true e free passes is i met = rw (total_step, free, i.ends, i.long, met, passes, is, e) refl
+named_from c rows0 rows p waiting k w ws n (Some y) (Some (q, true)) true e free passes is i met =
+    rw (total_step, free, i.ends, i.long, met, passes, is, e) refl
 named_from c rows0 rows p waiting k w ws n (Some y) (Some (q, true)) false e free passes is i met =
     let once = used_once q (Some q) None 1 1 y [] rows e in rw (total_step, free, i.ends, i.long, met, passes, is, once, e) refl
-named_from c rows0 rows p waiting k w ws n None (Some (q, true)) b e free passes is i met = rw (total_step, free, i.ends, i.long, met, passes, is) refl
-named_from c rows0 rows p waiting k w ws n (Some y) (Some (q, false)) b e free passes is i met = rw (total_step, free, i.ends, i.long, met) refl
-named_from c rows0 rows p waiting k w ws n None (Some (q, false)) true e free passes is i met = rw (total_step, free, i.ends, i.long, met, passes, is, e) refl
+named_from c rows0 rows p waiting k w ws n None (Some (q, true)) b e free passes is i met =
+    rw (total_step, free, i.ends, i.long, met, passes, is) refl
+named_from c rows0 rows p waiting k w ws n (Some y) (Some (q, false)) b e free passes is i met =
+    rw (total_step, free, i.ends, i.long, met) refl
+named_from c rows0 rows p waiting k w ws n None (Some (q, false)) true e free passes is i met =
+    rw (total_step, free, i.ends, i.long, met, passes, is, e) refl
 named_from c rows0 rows p waiting k w ws n None (Some (q, false)) false e free passes is i met =
     let once = used_bare q (Some q) None rows e in rw (total_step, free, i.ends, i.long, met, passes, is, once, e) refl
 
@@ -179,10 +184,14 @@ pub named_stuck : (c : List Rule) (rows0 : List Row) (p : Option (Text × List T
     → total c (walk_at rows0 p waiting k) (w ∷ ws) ≡ None
 unfolding walked
 named_stuck c rows0 p k w ws n x None waiting kind kinds fails free i met = rw (total_step, free, i.ends, i.long, met) refl
-named_stuck c rows0 p k w ws n (Some y) (Some (q, true)) waiting kind kinds fails free i met = rw (total_step, free, i.ends, i.long, met, fails) refl
-named_stuck c rows0 p k w ws n None (Some (q, true)) waiting kind kinds fails free i met = rw (total_step, free, i.ends, i.long, met, fails) refl
-named_stuck c rows0 p k w ws n (Some y) (Some (q, false)) waiting kind kinds fails free i met = rw (total_step, free, i.ends, i.long, met) refl
-named_stuck c rows0 p k w ws n None (Some (q, false)) waiting kind kinds fails free i met = rw (total_step, free, i.ends, i.long, met, fails) refl
+named_stuck c rows0 p k w ws n (Some y) (Some (q, true)) waiting kind kinds fails free i met =
+    rw (total_step, free, i.ends, i.long, met, fails) refl
+named_stuck c rows0 p k w ws n None (Some (q, true)) waiting kind kinds fails free i met =
+    rw (total_step, free, i.ends, i.long, met, fails) refl
+named_stuck c rows0 p k w ws n (Some y) (Some (q, false)) waiting kind kinds fails free i met =
+    rw (total_step, free, i.ends, i.long, met) refl
+named_stuck c rows0 p k w ws n None (Some (q, false)) waiting kind kinds fails free i met =
+    rw (total_step, free, i.ends, i.long, met, fails) refl
 
 -- where what is held fails, the next plain word fails
 pub plain_stuck : (c : List Rule) (rows0 : List Row) (p : Option (Text × List Text)) (k : ℕ) (w : Text) (ws : List Text) (o : Option Place) (kind : ErrorKind) (kinds : Kinds)

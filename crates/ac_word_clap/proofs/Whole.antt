@@ -80,7 +80,8 @@ reads_form f a h = record { long = λ name. long name f.places; index = λ k. in
     long_options name (p ∷ ps) = let e = or-false (bytes_eq p.0 name) in rw e (go (bytes_eq p.0 name) (long_options name ps))
       where
         go : (b : Bool) → arg_by_long (map option_rule ps) name ≡ option_map option_rule (find (λ p. bytes_eq p.0 name) ps)
-            → cond b (Some (option_rule p)) (arg_by_long (map option_rule ps) name) ≡ option_map option_rule (cond b (Some p) (find (λ p. bytes_eq p.0 name) ps))
+            → cond b (Some (option_rule p)) (arg_by_long (map option_rule ps) name)
+            ≡ option_map option_rule (cond b (Some p) (find (λ p. bytes_eq p.0 name) ps))
         go true e = refl
         go false e = e
 
@@ -98,8 +99,10 @@ reads_form f a h = record { long = λ name. long name f.places; index = λ k. in
     index k [] = index_options k f.options
     index k (p ∷ ps) = go (p.number == k) (index k ps)
       where
-        go : (b : Bool) → arg_by_index (map place_rule ps ++ map option_rule f.options) k ≡ option_map place_rule (find (λ p. p.number == k) ps)
-            → cond b (Some (place_rule p)) (arg_by_index (map place_rule ps ++ map option_rule f.options) k) ≡ option_map place_rule (cond b (Some p) (find (λ p. p.number == k) ps))
+        go : (b : Bool)
+            → arg_by_index (map place_rule ps ++ map option_rule f.options) k ≡ option_map place_rule (find (λ p. p.number == k) ps)
+            → cond b (Some (place_rule p)) (arg_by_index (map place_rule ps ++ map option_rule f.options) k)
+            ≡ option_map place_rule (cond b (Some p) (find (λ p. p.number == k) ps))
         go true e = refl
         go false e = e
 
@@ -110,7 +113,8 @@ or_none (k ∷ ks) = refl
 
 -- the whole of a command without subcommands is its walk
 pub total_level : (name : Text) (c : List Rule) (words : List Text) → Every Quiet c
-    → outcome (level_fault (shape_with name c) [] nothing_held words false []) (finished c (walk c [] nothing_held words).held) ≡ total c (walk_at [] None idle 1) words
+    → outcome (level_fault (shape_with name c) [] nothing_held words false []) (finished c (walk c [] nothing_held words).held)
+    ≡ total c (walk_at [] None idle 1) words
 unfolding total
 total_level name c words quiet =
     let end = (walk c [] nothing_held words).held in
@@ -148,8 +152,12 @@ unfit_given f words unfit = let none = unfit_arguments words unfit in rw none re
         → (list_all is_fit ws ≡ false → arguments_of f ws ≡ None)
         → arguments_of f (w ∷ ws) ≡ None
     first w ws refused e unfit next = refused_first w (arguments_of f ws) e
-    first w ws plain e unfit next = let rest : list_all is_fit ws ≡ false = rw e at unfit in none_each (with_word f w (look w)) (arguments_of f ws) (next rest)
-    first w ws (named n value) e unfit next = let rest : list_all is_fit ws ≡ false = rw e at unfit in none_each (with_word f w (look w)) (arguments_of f ws) (next rest)
+    first w ws plain e unfit next =
+        let rest : list_all is_fit ws ≡ false = rw e at unfit in
+        none_each (with_word f w (look w)) (arguments_of f ws) (next rest)
+    first w ws (named n value) e unfit next =
+        let rest : list_all is_fit ws ≡ false = rw e at unfit in
+        none_each (with_word f w (look w)) (arguments_of f ws) (next rest)
 
     unfit_arguments : (words : List Text) → list_all is_fit words ≡ false → arguments_of f words ≡ None
     unfit_arguments [] unfit = absurd (true≢false unfit)

@@ -32,6 +32,7 @@ abbrev pub run_by : Option Text → Option Text → Option Request
 run_by None steps = None
 run_by (Some file) steps = if is_file file then option_map (run file) (steps_in steps) else None
 
+-- a `run` by what was given
 abbrev pub run_of : Given → Option Request
 run_of given = run_by (first_in (codes "FILE") given) (first_in (codes "steps") given)
 

@@ -38,10 +38,12 @@ abbrev pub after_hyphen : Text → Look
 after_hyphen [] = plain
 after_hyphen (x ∷ xs) = if is_hyphen x then after_hyphens xs else refused
 
+-- a word by itself
 abbrev pub look : Text → Look
 look [] = plain
 look (x ∷ xs) = if is_hyphen x then after_hyphen xs else plain
 
+-- such a word is not refused
 abbrev pub is_read : Look → Bool
 is_read refused = false
 is_read _ = true
@@ -70,7 +72,7 @@ option_in f name = find (λ p. bytes_eq p.0 name) f.options
 abbrev pub place_in : Form → ℕ → Option Place
 place_in f k = find (λ p. p.number == k) f.places
 
--- what words give: an option with its value, if it has one, or a word for a place
+-- what words give: an option with its value, if it has one; or a word that is no value, for a place
 pub data Argument : Type 0 where
   option : Text → List Text → Argument
   word : Text → Argument
@@ -94,7 +96,7 @@ with_word f w refused more = None
 with_word f w (named name value) more = with_option (option_in f name) value more
 with_word f w plain more = Some (word w ∷ more)
 
--- the arguments that words give, where each of the words is taken
+-- the arguments that words give, in the order of the words, where each word is taken
 abbrev pub arguments_of : Form → List Text → Option (List Argument)
 arguments_of f [] = Some []
 arguments_of f (w ∷ ws) = option_and_then (with_word f w (look w)) (arguments_of f ws)
@@ -103,16 +105,16 @@ arguments_of f (w ∷ ws) = option_and_then (with_word f w (look w)) (arguments_
 abbrev pub Given : Type 0
 Given = List (Text × List Text)
 
--- a run of words, where they aren't too many
+-- a run of words before what is given after it, where they aren't too many
 abbrev pub with_values : Text → ℕ → List Text → Given → Option Given
 with_values id most values given = if nat_lt most (length values) then None else Some ((id, values) ∷ given)
 
--- a word of a run stands before the words that follow it at once
+-- a word of a run, before what is given after it: a word that follows at once is of the same run
 abbrev pub with_run : Text → ℕ → Text → List Argument → Given → Option Given
 with_run id most w (word next ∷ more) (p ∷ given) = with_values id most (w ∷ p.1) given
 with_run id most w _ given = with_values id most (w ∷ []) given
 
--- a word at a place, before what the arguments after it give
+-- a word at a place, before what is given after it
 abbrev pub with_place : Text → Option ℕ → Text → List Argument → Given → Option Given
 with_place id None w more given = Some ((id, w ∷ []) ∷ given)
 with_place id (Some most) w more given = with_run id most w more given
@@ -127,7 +129,7 @@ abbrev pub place_after : Option Place → ℕ → ℕ
 place_after None k = k + 1
 place_after (Some p) k = if is_some p.most then k else k + 1
 
--- what arguments give by name, the first of their words being for this place
+-- what arguments give by name, where the first word among them is for the place of this number
 abbrev pub given_from : Form → ℕ → List Argument → Option Given
 given_from f k [] = Some []
 given_from f k (option id values ∷ more) = option_map (λ given. (id, values) ∷ given) (given_from f k more)

@@ -7,6 +7,7 @@ use Rattle.ac_word_clap.specs.Rules.{row, rows_in}
 use Rattle.ac_word_clap.proofs.Getters.{first_found, some_given}
 use Rattle.ac_command.proofs.read_run.Goals as goal
 
+-- the values that the getters answer are those that were given
 run_is : (given : Option Given) (g : Given) (file steps : Option Text) → given ≡ Some g → file ≡ first_in (codes "FILE") g
     → steps ≡ first_in (codes "steps") g → run_by file steps ≡ option_and_then run_of given
 run_is given g file steps is file_is steps_is = rw (is, file_is, steps_is) refl

@@ -6,6 +6,7 @@ use Rattle.ac_words.specs.Form.{Text}
 use Rattle.ac_words.specs.Commands.{command_by, command_of}
 use Rattle.ac_command.proofs.read_words.Goals as goal
 
+-- texts that aren't equal fail the test
 differ : (a b : Text) → (a ≡ b → ⊥) → bytes_eq a b ≡ false
 differ a b h = go (bytes_eq a b) refl
   where
@@ -19,6 +20,7 @@ unknown name rest run =
     let no_run = differ name (codes "run") run in
     rw no_run refl
 
+-- words whose first is no command's name
 of_first : {Z : Type 0} (ws : List (String Z)) (x : String Z) (name : Text) → Some x ≡ slice_get ws 0 → name ≡ string_bytes x
     → (name ≡ codes "run" → ⊥) → None ≡ command_of (map string_bytes ws)
 of_first {Z} [] x name first is run = refl

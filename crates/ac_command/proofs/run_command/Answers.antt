@@ -11,6 +11,7 @@ use Rattle.ac_command.proofs.run_command.Goals as goal
 abbrev run_app : App
 run_app = with_rule (with_rule (bare (codes "run")) (new_rule (codes "FILE"))) (named (codes "steps"))
 
+-- it reads words as the form says
 reads : ReadsForm run_form run_app
 reads = record {
   built = refl;
@@ -22,8 +23,12 @@ reads = record {
 
 pub returns : goal.returns
 returns c =
-    let bare_is : app_of c.disable_help_flag.result ≡ bare (codes "run") = ap app_of_fields c.disable_help_flag.ensures ∙ ap without_help c.new-2.ensures.app in
-    let file_is : app_of c.in_ok-arg.field-0 ≡ with_rule (bare (codes "run")) (new_rule (codes "FILE")) = c.in_ok-arg.ensures.shape c.new-file.ensures.optional.1 ∙ ap₂ with_rule bare_is c.new-file.ensures.rule in
+    let bare_is : app_of c.disable_help_flag.result ≡ bare (codes "run") =
+    ap app_of_fields c.disable_help_flag.ensures ∙ ap without_help c.new-2.ensures.app in
+    let file_is : app_of c.in_ok-arg.field-0 ≡ with_rule (bare (codes "run")) (new_rule (codes "FILE")) =
+    c.in_ok-arg.ensures.shape c.new-file.ensures.optional.1 ∙ ap₂ with_rule bare_is c.new-file.ensures.rule in
     let steps : rule_of c.long-steps.result ≡ named (codes "steps") = search rules in
-    let steps_is = c.in_ok-command.ensures.shape (ap (λ (a : Arg). a.global) c.long-steps.ensures ∙ c.new.ensures.optional.1) ∙ ap₂ with_rule file_is steps in
+    let steps_is =
+    c.in_ok-command.ensures.shape (ap (λ (a : Arg). a.global) c.long-steps.ensures ∙ c.new.ensures.optional.1)
+    ∙ ap₂ with_rule file_is steps in
     subst (ReadsForm run_form) (sym steps_is) reads
