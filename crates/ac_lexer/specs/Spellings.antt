@@ -55,19 +55,23 @@ hex_value c =
     if is_between 65 70 c then Some (c - 55) else
     if is_between 97 102 c then Some (c - 87) else None
 
--- a string from behind its first `"` on, and the bytes that it stands for
-pub data Quoted : List ℕ → List ℕ → Type 0 where
-  quote : Quoted (34 ∷ []) []
-  itself : {c : ℕ} {bytes content : List ℕ} → is_plain c ≡ true → Quoted bytes content → Quoted (c ∷ bytes) (c ∷ content)
-  escape : {c b : ℕ} {bytes content : List ℕ} → escaped c ≡ Some b → Quoted bytes content → Quoted (92 ∷ c ∷ bytes) (b ∷ content)
-  hex : {high low m n : ℕ} {bytes content : List ℕ} → hex_value high ≡ Some m → hex_value low ≡ Some n → Quoted bytes content → Quoted (92 ∷ 120 ∷ high ∷ low ∷ bytes) ((16 * m + n) ∷ content)
+-- a string's text goes on with this byte, as itself or as an escape, and `rest` is behind it
+pub data Piece : List ℕ → ℕ → List ℕ → Type 0 where
+  itself : {c : ℕ} {rest : List ℕ} → is_plain c ≡ true → Piece (c ∷ rest) c rest
+  escape : {c b : ℕ} {rest : List ℕ} → escaped c ≡ Some b → Piece (92 ∷ c ∷ rest) b rest
+  hex : {high low m n : ℕ} {rest : List ℕ} → hex_value high ≡ Some m → hex_value low ≡ Some n → Piece (92 ∷ 120 ∷ high ∷ low ∷ rest) (16 * m + n) rest
+
+-- a string from behind its first `"` on: these bytes, then a `"`, and `rest` is behind that
+pub data Quoted : List ℕ → List ℕ → List ℕ → Type 0 where
+  quote : {rest : List ℕ} → Quoted (34 ∷ rest) [] rest
+  more : {text after content rest : List ℕ} {b : ℕ} → Piece text b after → Quoted after content rest → Quoted text (b ∷ content) rest
 
 -- the bytes spell the token, whatever its size
 pub data Spells : List ℕ → TokenKind → Type 0 where
   number : {bytes : List ℕ} → is_number bytes ≡ true → Spells bytes (Int (value bytes))
   name : {bytes : List ℕ} → is_name bytes ≡ true → Spells bytes (name_kind bytes)
   symbol : {bytes : List ℕ} → is_symbol bytes ≡ true → Spells bytes (Fixed (record { 0 = bytes }))
-  string : {bytes content : List ℕ} → Quoted bytes content → Spells (34 ∷ bytes) (Str (record { 0 = content }))
+  string : {bytes content : List ℕ} → Quoted bytes content [] → Spells (34 ∷ bytes) (Str (record { 0 = content }))
 
 -- a number has at most 63 bits, an identifier at most 255 bytes
 abbrev pub is_within_limits : TokenKind → Bool
