@@ -1,5 +1,5 @@
 -- Which bytes spell which token.
-use Rattle.std.specs.Prelude.{◌≡◌, ℕ, ◌+◌, ◌-◌, ◌*◌, ◌^◌, ◌==◌, ◌&&◌, ◌||◌, not, Bool, true, List, [], ◌∷◌, Option, Some, None, if◌then◌else◌, nat_le, nat_lt, length, slice_index, fold, codes, bytes_eq}
+use Rattle.std.specs.Prelude.{◌<◌, ◌≤◌, take, false, ◌≡◌, ℕ, ◌+◌, ◌-◌, ◌*◌, ◌^◌, ◌==◌, ◌&&◌, ◌||◌, not, Bool, true, List, [], ◌∷◌, Option, Some, None, if◌then◌else◌, nat_le, nat_lt, length, slice_index, fold, codes, bytes_eq}
 use Rattle.std.specs.List.{list_any, list_all}
 use Rattle.ac_types.specs.Words.{is_between, is_start, is_part, is_reserved}
 use Rattle.ac_lexer.specs.declared.tokens.TokenKind.{TokenKind}
@@ -34,6 +34,11 @@ symbols =
 
 abbrev pub is_symbol : List ℕ → Bool
 is_symbol bytes = list_any (λ symbol. bytes_eq symbol bytes) symbols
+
+-- the longest symbol that begins the text has `count` bytes, none where that is 0
+abbrev pub SymbolBegins : List ℕ → ℕ → Type 0
+SymbolBegins text count =
+    (count ≤ 2) × (count ≤ length text) × (0 < count → is_symbol (take count text) ≡ true) × ((n : ℕ) → count < n → n ≤ 2 → n ≤ length text → is_symbol (take n text) ≡ false)
 
 -- a byte that stands for itself in a string: any but `"`, `\` and line feed
 abbrev pub is_plain : ℕ → Bool

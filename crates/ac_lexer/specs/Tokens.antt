@@ -2,7 +2,9 @@
 use Rattle.std.specs.Prelude.{◌≡◌, ℕ, ◌-◌, ◌<◌, ◌≤◌, true, false, List, [], ◌∷◌, ◌++◌, length}
 use Rattle.ac_lexer.specs.declared.tokens.Token.{Token}
 use Rattle.ac_lexer.specs.declared.tokens.TokenKind.{TokenKind}
-use Rattle.ac_lexer.specs.Gaps.{Gap, opens}
+use Rattle.ac_lexer.specs.declared.tokens.LexFault.{LexFault}
+use Rattle.ac_lexer.specs.declared.tokens.LexFault.TheVariants.{TooLong, Lexical, Memory}
+use Rattle.ac_lexer.specs.Gaps.{Gap, NoGap, opens}
 use Rattle.ac_lexer.specs.Spellings.{Spells, is_within_limits}
 
 -- no longer front of the text spells a token
@@ -32,10 +34,14 @@ pub data Reads (whole : List ℕ) : List ℕ → List Token → List ℕ → Typ
 abbrev pub Tokens : List ℕ → List Token → Type 0
 Tokens text tokens = Reads text text tokens []
 
+-- no token begins the text
+abbrev pub NoToken : List ℕ → Type 0
+NoToken text = (kind : TokenKind) (rest : List ℕ) → TokenAt text kind rest → ⊥
+
 -- no separator, no whole comment and no token begins the text
 pub record NothingBegins (text : List ℕ) : Type 0 where
-  pub no_gap : (rest : List ℕ) → Gap text rest → ⊥
-  pub no_token : (kind : TokenKind) (rest : List ℕ) → TokenAt text kind rest → ⊥
+  pub no_gap : NoGap text
+  pub no_token : NoToken text
 
 -- the text has no tokens, since nothing begins at this place of it
 pub record FailsAt (text : List ℕ) (at : ℕ) : Type 0 where
@@ -45,3 +51,9 @@ pub record FailsAt (text : List ℕ) (at : ℕ) : Type 0 where
   pub some : 0 < length rest
   pub nothing_begins : NothingBegins rest
   pub here : at ≡ place text rest
+
+-- a text that is too long, or in which nothing begins at some place, is refused for that; memory may want for any other
+abbrev pub IsFault : List ℕ → LexFault → Type 0
+IsFault text (TooLong len) = (1048576 < length text) × (len ≡ length text)
+IsFault text (Lexical at) = (length text ≤ 1048576) × FailsAt text at
+IsFault text Memory = length text ≤ 1048576

@@ -1,7 +1,5 @@
 // Tokens, and why a text has none.
 
-ghost use Rattle.std.specs.Prelude.{◌≡◌};
-ghost use Rattle.ac_lexer.specs.Tokens.{Tokens, FailsAt};
 
 use ac_types::{Memory, Text, Word};
 
