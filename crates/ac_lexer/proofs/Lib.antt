@@ -1,2 +1,5 @@
+pub mod Comments
+pub mod Fronts
+pub mod GapLaws
 pub mod Spelled
 pub mod Unique

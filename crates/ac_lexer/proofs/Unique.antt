@@ -26,7 +26,7 @@ same_piece (hex h i) (hex f g) = let d = sym h ∙ f in let e = sym i ∙ g in (
 no_piece : {rest q : List ℕ} {b : ℕ} → Piece (34 ∷ rest) b q → ⊥
 no_piece (itself h) = false≢true h
 
-same_quoted : {text s u r q : List ℕ} → Quoted text s r → Quoted text u q → (s ≡ u) × (r ≡ q)
+pub same_quoted : {text s u r q : List ℕ} → Quoted text s r → Quoted text u q → (s ≡ u) × (r ≡ q)
 same_quoted quote quote = (refl, refl)
 same_quoted quote (more p y) = absurd (no_piece p)
 same_quoted (more p x) quote = absurd (no_piece p)

@@ -1,6 +1,6 @@
 // What stands between tokens.
 
-ghost use Rattle.std.specs.Prelude.{◌≡◌, ◌<◌, length, List, ℕ, IfSome, MatchOption};
+ghost use Rattle.std.specs.Prelude.{◌≡◌, ◌<◌, ◌≤◌, ◌++◌, false, length, codes, List, ℕ, IfSome, MatchOption, IsTrue};
 ghost use Rattle.ac_lexer.specs.Gaps.{is_separator, opens, closes, Inside, Gap, NoGap};
 
 fn is_separator(c: u8) -> bool
@@ -9,17 +9,36 @@ fn is_separator(c: u8) -> bool
     c == b' ' || c == b'\t' || c == b'\r' || c == b'\n'
 }
 
-/// Whether `(*` begins the text.
-pub(crate) fn opens(text: &[u8]) -> bool
-    ensures { result ≡ opens text.now }
+// What is behind the `(*` that begins the text, if one does.
+fn behind_opening(text: &[u8]) -> Option<&[u8]>
+    ensures { MatchOption result (opens text.now ≡ false) (λ rest. text.now ≡ codes "(*" ++ rest.now) }
 {
-    text.starts_with(b"(*")
+    if opens(text) {
+        let (_, rest) = text.split_at(2);
+        Some(rest)
+    } else {
+        None
+    }
 }
 
-fn closes(text: &[u8]) -> bool
-    ensures { result ≡ closes text.now }
+// What is behind the `*)` that begins the text, if one does.
+fn behind_closing(text: &[u8]) -> Option<&[u8]>
+    ensures { MatchOption result (closes text.now ≡ false) (λ rest. text.now ≡ codes "*)" ++ rest.now) }
 {
-    text.starts_with(b"*)")
+    if text.starts_with(b"*)") {
+        let (_, rest) = text.split_at(2);
+        Some(rest)
+    } else {
+        None
+    }
+}
+
+/// Whether `(*` begins the text.
+pub(crate) fn opens(text: &[u8]) -> bool
+    ensures value { result ≡ opens text.now }
+    ensures long { IsTrue result → 2 ≤ length text.now }
+{
+    text.starts_with(b"(*")
 }
 
 // What is behind the comment whose inside begins the text, `None` where it has no end.
@@ -30,15 +49,15 @@ fn behind_comment(text: &[u8]) -> Option<&[u8]>
     let mut around = 0usize;
     let mut rest = text;
     while let Some((_, after)) = rest.split_first() {
-        if opens(rest) {
+        if let Some(inside) = behind_opening(rest) {
             around += 1;
-            rest = &rest[2..];
-        } else if closes(rest) {
-            rest = &rest[2..];
+            rest = inside;
+        } else if let Some(outside) = behind_closing(rest) {
             if around == 0 {
-                return Some(rest);
+                return Some(outside);
             }
             around -= 1;
+            rest = outside;
         } else {
             rest = after;
         }
@@ -55,8 +74,5 @@ pub(crate) fn behind_gap(text: &[u8]) -> Option<&[u8]>
     if is_separator(*first) {
         return Some(rest);
     }
-    if opens(text) {
-        return behind_comment(&text[2..]);
-    }
-    None
+    behind_comment(behind_opening(text)?)
 }

@@ -31,6 +31,7 @@ pub enum LexFault {
 }
 
 impl From<Memory> for LexFault {
+    ghost use Rattle.std.specs.Prelude.{◌≡◌};
     ghost use Rattle.ac_lexer.specs.declared.tokens.LexFault.TheVariants as fault;
 
     ghost from_gives = { λ _ e. e ≡ fault.Memory };
