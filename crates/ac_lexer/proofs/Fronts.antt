@@ -1,8 +1,8 @@
 -- The longest token that begins a text, by its first byte.
-use Rattle.std.proofs.Common.{◌≡◌, ◌≤◌, ◌<◌, ◌+◌, ◌-◌, ◌^◌, ℕ, suc, Bool, true, false, cond, List, [], ◌∷◌, ◌++◌, Some, None, refl, sym, ◌∙◌, ap, subst, arith, length, take, drop, get_or, append_assoc, length-append, ltb, get_or-take, ⊎_elim}
+use Rattle.std.proofs.Common.{◌≡◌, ◌≤◌, ◌<◌, ◌+◌, ◌-◌, ◌^◌, ℕ, suc, Bool, true, false, cond, List, [], ◌∷◌, ◌++◌, Some, None, refl, sym, ◌∙◌, ap, subst, arith, length, take, drop, get_or, append_assoc, length-append, ltb, get_or-take, ⊎_elim, ◌⊎◌, inl, inr}
 use Rattle.std.specs.Prelude.{slice_index, nat_le, nat_lt, ◌&&◌}
 use Rattle.std.specs.List.{list_all, prefix_len}
-use Rattle.std.proofs.lemmas.Bool.{cases_lt, and_parts, and_from, false≢true, true≢false, both_ways, lt-ltb, le-ltb, leb-true}
+use Rattle.std.proofs.lemmas.Bool.{cases_lt, cases_eq, and_parts, and_from, false≢true, true≢false, both_ways, lt-ltb, le-ltb, leb-true}
 use Rattle.std.proofs.lemmas.List.{take-append-drop, length-take-le, take_at, drop_at}
 use Rattle.std.proofs.lemmas.List.Sums.{prefix_len-le-length}
 use Rattle.std.proofs.Math.Numerals.{one-add}
@@ -95,10 +95,6 @@ name_front text h = record {
   longest = λ other behind k e x. run_longest is_start is_part start_is_part refl text other behind e (by_start x (sym (ap is_start (same_first text other behind e x)) ∙ h)).0;
 }
 
--- the name that begins the text
-pub is_name_front : (text : List ℕ) → is_start (slice_index text 0) ≡ true → is_name (take (prefix_len is_part text) text) ≡ true
-is_name_front text h = run_front is_start is_part start_is_part refl text h
-
 -- strings
 
 pub string_front : (text content rest : List ℕ) → Quoted text content rest → Longest (34 ∷ text) (Str (record { 0 = content })) rest
@@ -166,3 +162,46 @@ no_symbol_front text b d s q = λ k rest t. nothing_spelled t.front t.spelled (n
   nothing_spelled : (front : List ℕ) {k : TokenKind} → Spells front k → length front ≤ 0 → ⊥
   nothing_spelled [] x l = no_empty x
   nothing_spelled (c ∷ front) x l = absurd (omega arith)
+
+-- the tokens that the code answers
+
+module _ (text front rest : List ℕ) (count : ℕ) (front_is : front ≡ take count text) (rest_is : rest ≡ drop count text) (no_comment : opens text ≡ false) where
+  pub number_token : is_digit (slice_index text 0) ≡ true → count ≡ prefix_len is_digit text → (n : ℕ) → n ≡ value front → value front < 2 ^ 63 → TokenAt text (Int n) rest
+  number_token h count_is n is small =
+      let fits : is_within_limits (Int (value front)) ≡ true = lt-ltb (value front) (2 ^ 63) small in
+      rw (is, front_is, rest_is, count_is) (accepted (number_front text h) (rw (front_is, count_is) at fits) no_comment)
+
+  pub no_number : is_digit (slice_index text 0) ≡ true → count ≡ prefix_len is_digit text → 2 ^ 63 ≤ value front → NoToken text
+  no_number h count_is large =
+      let past : is_within_limits (Int (value front)) ≡ false = le-ltb (value front) (2 ^ 63) large in
+      rejected (number_front text h) (rw (front_is, count_is) at past)
+
+  pub is_name_of : is_start (slice_index text 0) ≡ true → count ≡ prefix_len is_part text → is_name front ≡ true
+  is_name_of h count_is = rw (front_is, count_is) (run_front is_start is_part start_is_part refl text h)
+
+  pub name_token : is_start (slice_index text 0) ≡ true → count ≡ prefix_len is_part text → (kind : TokenKind) → (kind ≡ name_kind front) × (is_within_limits kind ≡ true) → TokenAt text kind rest
+  name_token h count_is kind is =
+      let fits : is_within_limits (name_kind front) ≡ true = sym (ap is_within_limits is.0) ∙ is.1 in
+      rw (is.0, front_is, rest_is, count_is) (accepted (name_front text h) (rw (front_is, count_is) at fits) no_comment)
+
+  pub no_name : is_start (slice_index text 0) ≡ true → count ≡ prefix_len is_part text → is_within_limits (name_kind front) ≡ false → NoToken text
+  no_name h count_is past = rejected (name_front text h) (rw (front_is, count_is) at past)
+
+  pub symbol_token : SymbolBegins text count → (count ≡ 0 → ⊥) → is_digit (slice_index text 0) ≡ false → is_start (slice_index text 0) ≡ false → (slice_index text 0 ≡ 34 → ⊥) → (bytes : List ℕ) → bytes ≡ front → TokenAt text (Fixed (record { 0 = bytes })) rest
+  symbol_token b some d s q bytes is = rw (is, front_is, rest_is) (accepted (symbol_front text count b (omega (arith, some)) d s q) refl no_comment)
+
+-- strings
+
+pub quote_first : (text : List ℕ) → slice_index text 0 ≡ 34 → text ≡ 34 ∷ drop 1 text
+quote_first [] e = absurd (omega arith)
+quote_first (c ∷ text) e = ap (λ (n : ℕ). n ∷ text) e
+
+pub string_token : (text inside content rest : List ℕ) → slice_index text 0 ≡ 34 → inside ≡ drop 1 text → Quoted inside content rest → TokenAt text (Str (record { 0 = content })) rest
+string_token text inside content rest e is q =
+    let split : text ≡ 34 ∷ inside = quote_first text e ∙ ap (λ (l : List ℕ). 34 ∷ l) (sym is) in
+    subst (λ (l : List ℕ). TokenAt l (Str (record { 0 = content })) rest) (sym split) (accepted (string_front inside content rest q) refl refl)
+
+pub no_string_token : (text inside : List ℕ) → slice_index text 0 ≡ 34 → inside ≡ drop 1 text → ((content rest : List ℕ) → Quoted inside content rest → ⊥) → NoToken text
+no_string_token text inside e is none =
+    let split : text ≡ 34 ∷ inside = quote_first text e ∙ ap (λ (l : List ℕ). 34 ∷ l) (sym is) in
+    subst (λ (l : List ℕ). NoToken l) (sym split) (no_string inside none)

@@ -14,13 +14,3 @@ behind (comment x) = x
 pub by_comment : (text after : List ℕ) → text ≡ 40 ∷ 42 ∷ after → (o : Option (Bor (List ℕ))) → MatchOption o ((rest : List ℕ) → Inside after rest → ⊥) (λ rest. Inside after rest.now) → MatchOption o (NoGap text) (λ rest. Gap text rest.now)
 by_comment text after e None none = λ rest g. none rest (behind (subst (λ (l : List ℕ). Gap l rest) e g))
 by_comment text after e (Some rest) x = subst (λ (l : List ℕ). Gap l rest.now) (sym e) (comment x)
-
-no_gap_before : (b : ℕ) (text : List ℕ) → is_separator b ≡ false → opens (b ∷ text) ≡ false → {rest : List ℕ} → Gap (b ∷ text) rest → ⊥
-no_gap_before b text s o (separator h) = both_ways (is_separator b) s h
-no_gap_before b text s o (comment x) = both_ways (opens (b ∷ text)) o refl
-
-pub no_gap : (text after : List ℕ) (b : ℕ) → text ≡ b ∷ after → is_separator b ≡ false → opens text ≡ false → NoGap text
-no_gap text after b e s o = λ rest g. no_gap_before b after s (sym (ap opens e) ∙ o) (subst (λ (l : List ℕ). Gap l rest) e g)
-
-pub no_gap_at_end : (text : List ℕ) → text ≡ [] → NoGap text
-no_gap_at_end text e = λ rest g. let h = subst (λ (l : List ℕ). Gap l rest) e g in elim h [ ]

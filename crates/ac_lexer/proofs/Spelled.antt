@@ -12,13 +12,14 @@ use Rattle.ac_lexer.specs.Gaps.{is_separator}
 use Rattle.ac_lexer.specs.Spellings.{is_digit, is_number, value, is_name, name_kind, symbols, is_symbol, is_plain, Quoted, Spells, number, name, symbol, string}
 
 -- what holds of each of some words holds of each word that is equal to one of them
-any_all : (P : List ℕ → Bool) (words : List (List ℕ)) (bytes : List ℕ) → list_any (λ w. bytes_eq w bytes) words ≡ true → list_all P words ≡ true → P bytes ≡ true
+pub any_all : (P : List ℕ → Bool) (words : List (List ℕ)) (bytes : List ℕ) → list_any (λ w. bytes_eq w bytes) words ≡ true → list_all P words ≡ true → P bytes ≡ true
 any_all P [] bytes h a = absurd (false≢true h)
 any_all P (w ∷ words) bytes h a =
     let p = and_parts (P w) (list_all P words) a in
     ⊎_elim (λ (e : bytes_eq w bytes ≡ true). subst (λ (b : List ℕ). P b ≡ true) ((bytes_decides w bytes).0 e) p.0) (λ (e : list_any (λ v. bytes_eq v bytes) words ≡ true). any_all P words bytes e p.1) (or_cases (bytes_eq w bytes) (list_any (λ v. bytes_eq v bytes) words) h)
 
 pub of_symbols : (P : List ℕ → Bool) (bytes : List ℕ) → is_symbol bytes ≡ true → list_all P symbols ≡ true → P bytes ≡ true
+unfolding is_symbol
 of_symbols P bytes h a = any_all P symbols bytes h a
 
 -- no symbol begins with a byte of this kind
@@ -78,6 +79,7 @@ by_separator (string q) s = false≢true s
 
 -- no bytes spell no token
 pub no_empty : {kind : TokenKind} → Spells [] kind → ⊥
+unfolding is_symbol
 no_empty (number h) = false≢true h
 no_empty (name h) = false≢true h
 no_empty (symbol h) = false≢true h

@@ -12,7 +12,7 @@ use Rattle.ac_lexer.proofs.Spelled.{by_digit, by_start, by_quote, by_separator, 
 
 -- one byte of a string
 
-same_piece : {text r q : List ℕ} {b c : ℕ} → Piece text b r → Piece text c q → (b ≡ c) × (r ≡ q)
+pub same_piece : {text r q : List ℕ} {b c : ℕ} → Piece text b r → Piece text c q → (b ≡ c) × (r ≡ q)
 same_piece (itself h) (itself g) = (refl, refl)
 same_piece (itself h) (escape g) = absurd (cc)
 same_piece (itself h) (hex f g) = absurd (cc)
@@ -23,7 +23,7 @@ same_piece (hex h i) (itself g) = absurd (cc)
 same_piece (hex h i) (escape g) = absurd (cc)
 same_piece (hex h i) (hex f g) = let d = sym h ∙ f in let e = sym i ∙ g in (cc, refl)
 
-no_piece : {rest q : List ℕ} {b : ℕ} → Piece (34 ∷ rest) b q → ⊥
+pub no_piece : {rest q : List ℕ} {b : ℕ} → Piece (34 ∷ rest) b q → ⊥
 no_piece (itself h) = false≢true h
 
 pub same_quoted : {text s u r q : List ℕ} → Quoted text s r → Quoted text u q → (s ≡ u) × (r ≡ q)

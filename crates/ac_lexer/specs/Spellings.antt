@@ -32,7 +32,7 @@ abbrev pub symbols : List (List ℕ)
 symbols =
     codes "(" ∷ codes ")" ∷ codes "[" ∷ codes "]" ∷ codes "," ∷ codes ";" ∷ codes ":" ∷ codes "." ∷ codes "=" ∷ codes "<" ∷ codes "+" ∷ codes "-" ∷ codes "*" ∷ codes "/" ∷ codes "^" ∷ codes "::" ∷ codes "->" ∷ codes "&&" ∷ codes "||" ∷ codes "|" ∷ []
 
-abbrev pub is_symbol : List ℕ → Bool
+unfoldable pub is_symbol : List ℕ → Bool
 is_symbol bytes = list_any (λ symbol. bytes_eq symbol bytes) symbols
 
 -- the longest symbol that begins the text has `count` bytes, none where that is 0

@@ -2,12 +2,18 @@
 
 ghost use Rattle.std.specs.Prelude.{◌≡◌, ◌∷◌, ◌<◌, ◌≤◌, length, List, ℕ, IfSome, IfOk, MatchOption, slice_index, false};
 ghost use Rattle.ac_lexer.specs.Gaps.{opens};
-ghost use Rattle.ac_lexer.specs.Spellings.{escaped, hex_value, Piece, Quoted};
+ghost use Rattle.ac_lexer.specs.Spellings.{is_plain, escaped, hex_value, Piece, Quoted};
 ghost use Rattle.ac_lexer.specs.Tokens.{TokenAt, NoToken};
 
 use crate::tokens::TokenKind;
 use ac_types::{Many, Memory, Text};
 use std::alloc::Global;
+
+fn is_plain(c: u8) -> bool
+    ensures { result ≡ is_plain c }
+{
+    c != b'"' && c != b'\\' && c != b'\n'
+}
 
 fn escaped(c: u8) -> Option<u8>
     ensures { result ≡ escaped c }
@@ -41,7 +47,7 @@ fn hex(text: &[u8]) -> Option<(u8, &[u8])>
 {
     let (high, rest) = text.split_first()?;
     let (low, rest) = rest.split_first()?;
-    Some((hex_value(*high)? * 16 + hex_value(*low)?, rest))
+    Some((16 * hex_value(*high)? + hex_value(*low)?, rest))
 }
 
 // What a `\` and the front of the text stand for.
@@ -62,10 +68,13 @@ fn piece(text: &[u8]) -> Option<(u8, &[u8])>
     ensures shorter { IfSome result (λ x. length x.1.now < length text.now) }
 {
     let (first, rest) = text.split_first()?;
-    match *first {
-        b'\\' => escape(rest),
-        b'"' | b'\n' => None,
-        c => Some((c, rest)),
+    if is_plain(*first) {
+        return Some((*first, rest));
+    }
+    if *first == b'\\' {
+        escape(rest)
+    } else {
+        None
     }
 }
 
@@ -95,8 +104,9 @@ pub(crate) fn string(alloc: Global, text: &[u8]) -> Result<Option<(TokenKind, &[
     ensures token { IfOk result (λ o. MatchOption o (NoToken text.now) (λ x. TokenAt text.now x.0 x.1.now)) }
     ensures shorter { IfOk result (λ o. IfSome o (λ x. length x.1.now < length text.now)) }
 {
-    Ok(match quoted(alloc, &text[1..])? {
-        Some((content, rest)) => Some((TokenKind::Str(content), rest)),
-        None => None,
-    })
+    let (_, inside) = text.split_at(1);
+    let Some((content, rest)) = quoted(alloc, inside)? else {
+        return Ok(None);
+    };
+    Ok(Some((TokenKind::Str(content), rest)))
 }

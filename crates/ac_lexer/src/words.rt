@@ -99,10 +99,10 @@ pub(crate) fn name(alloc: Global, text: &[u8]) -> Result<Option<(TokenKind, &[u8
     ensures shorter { IfOk result (λ o. IfSome o (λ x. length x.1.now < length text.now)) }
 {
     let (name, rest) = text.split_at(count_parts(text));
-    Ok(match name_kind(alloc, name)? {
-        Some(kind) => Some((kind, rest)),
-        None => None,
-    })
+    let Some(kind) = name_kind(alloc, name)? else {
+        return Ok(None);
+    };
+    Ok(Some((kind, rest)))
 }
 
 const SYMBOLS: [&[u8]; 20] = [
@@ -110,6 +110,7 @@ const SYMBOLS: [&[u8]; 20] = [
     b"::", b"->", b"&&", b"||", b"|",
 ];
 
+#[tactic(auto, unfolding(crate::specs::Spellings::is_symbol))]
 fn is_symbol(text: &[u8]) -> bool
     ensures { result ≡ is_symbol text.now }
 {
