@@ -2,6 +2,7 @@ pub mod Comments
 pub mod Fronts
 pub mod GapLaws
 pub mod NameLaws
+pub mod Reading
 pub mod Spelled
 pub mod Strings
 pub mod Unique

@@ -15,22 +15,21 @@ const LONGEST_TEXT: usize = 1_048_576;
 
 // The token that the text begins with, and what is behind it.
 fn first_token(alloc: Global, text: &[u8]) -> Result<Option<(TokenKind, &[u8])>, Memory>
+    requires { 0 < length text.now }
     ensures token { IfOk result (λ o. MatchOption o (NoToken text.now) (λ x. TokenAt text.now x.0 x.1.now)) }
     ensures shorter { IfOk result (λ o. IfSome o (λ x. length x.1.now < length text.now)) }
 {
-    let Some(first) = text.first() else {
-        return Ok(None);
-    };
     if opens(text) {
         return Ok(None);
     }
-    if is_digit(*first) {
+    let first = text[0];
+    if is_digit(first) {
         return Ok(number(text));
     }
-    if is_start(*first) {
+    if is_start(first) {
         return name(alloc, text);
     }
-    if *first == b'"' {
+    if first == b'"' {
         return string(alloc, text);
     }
     symbol(alloc, text)
