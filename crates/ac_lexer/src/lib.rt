@@ -5,6 +5,8 @@ mod gaps;
 mod laws;
 mod lexer;
 mod quoted;
+#[cfg(test)]
+mod tests;
 mod tokens;
 mod words;
 
