@@ -1,4 +1,5 @@
 pub mod Comments
+mod Examples
 pub mod Fronts
 pub mod GapLaws
 pub mod NameLaws

@@ -4,7 +4,7 @@ use Rattle.ac_lexer.specs.declared.tokens.Token.{Token}
 use Rattle.ac_lexer.specs.declared.tokens.TokenKind.{TokenKind}
 use Rattle.ac_lexer.specs.Gaps.{Gap, NoGap}
 use Rattle.ac_lexer.specs.Tokens.{TokenAt, NoToken, Reads, nothing, gap, token, NothingBegins, Tokens, FailsAt, place}
-use Rattle.ac_lexer.proofs.Unique.{same_tokens}
+use Rattle.ac_lexer.proofs.Unique.{same_tokens, no_failure}
 
 pub past_gap : {whole text here after : List ℕ} {tokens : List Token} → Reads whole text tokens here → Gap here after → Reads whole text tokens after
 past_gap nothing g = gap g nothing
@@ -19,9 +19,12 @@ past_token (token u x) t at e = token u (past_token x t at e)
 pub whole_text : {text here : List ℕ} {tokens : List Token} → Reads text text tokens here → here ≡ [] → Tokens text tokens
 whole_text {text} {tokens = tokens} x e = subst (λ (l : List ℕ). Reads text text tokens l) e x
 
-pub failure : {text here : List ℕ} {tokens : List Token} → Reads text text tokens here → 0 < length here → NoGap here → NoToken here → (at : ℕ) → at ≡ place text here → FailsAt text at
+failure : {text here : List ℕ} {tokens : List Token} → Reads text text tokens here → 0 < length here → NoGap here → NoToken here → (at : ℕ) → at ≡ place text here → FailsAt text at
 failure {text} {here} {tokens} x some g t at e =
     record { tokens = tokens; rest = here; reads = x; some = some; nothing_begins = record { no_gap = g; no_token = t }; here = e }
+
+pub no_tokens : {text here : List ℕ} {tokens : List Token} → Reads text text tokens here → 0 < length here → NoGap here → NoToken here → (others : List Token) → Tokens text others → ⊥
+no_tokens {text} {here} x some g t others y = no_failure text others (place text here) y (failure x some g t (place text here) refl)
 
 pub only : {text : List ℕ} {tokens : List Token} → Tokens text tokens → (others : List Token) → Tokens text others → others ≡ tokens
 only {text} {tokens} x others y = same_tokens text others tokens y x

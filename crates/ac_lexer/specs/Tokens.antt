@@ -57,3 +57,8 @@ abbrev pub IsFault : List ℕ → LexFault → Type 0
 IsFault text (TooLong len) = (1048576 < length text) × (len ≡ length text)
 IsFault text (Lexical at) = (length text ≤ 1048576) × FailsAt text at
 IsFault text Memory = length text ≤ 1048576
+
+-- what holds where something is no token
+abbrev pub OnLexical : LexFault → Type 0 → Type 0
+OnLexical (Lexical at) P = P
+OnLexical _ P = Unit {0}

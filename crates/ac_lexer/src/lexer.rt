@@ -2,7 +2,7 @@
 
 ghost use Rattle.std.specs.Prelude.{◌≡◌, ◌<◌, ◌≤◌, length, List, ℕ, IfSome, IfOk, IfErr, MatchOption};
 ghost use Rattle.ac_lexer.specs.declared.tokens.Token.{Token};
-ghost use Rattle.ac_lexer.specs.Tokens.{TokenAt, NoToken, Tokens, IsFault};
+ghost use Rattle.ac_lexer.specs.Tokens.{TokenAt, NoToken, Tokens, IsFault, OnLexical};
 
 use crate::gaps::{behind_gap, opens};
 use crate::quoted::string;
@@ -40,6 +40,7 @@ pub fn lex(alloc: Global, text: &[u8]) -> Result<Many<Token>, LexFault>
     ensures tokens { IfOk result (λ tokens. (length text.now ≤ 1048576) × Tokens text.now tokens) }
     ensures only { IfOk result (λ tokens. (others : List Token) → Tokens text.now others → others ≡ tokens) }
     ensures fault { IfErr result (IsFault text.now) }
+    ensures none { IfErr result (λ fault. OnLexical fault ((others : List Token) → Tokens text.now others → ⊥)) }
 {
     if text.len() > LONGEST_TEXT {
         return Err(LexFault::TooLong {

@@ -12,4 +12,4 @@ mod words;
 
 pub use laws::{one_place, same_tokens, tokens_or_fault};
 pub use lexer::lex;
-pub use tokens::{LexFault, Token, TokenKind};
+pub use tokens::{LexFault, Token, TokenKind, token_crosses};
