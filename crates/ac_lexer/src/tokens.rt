@@ -1,0 +1,49 @@
+// Tokens, and why a text has none.
+
+
+use ac_types::{Memory, Text, Word};
+
+/// What a token is. `Fixed` holds the bytes of a symbol, of a reserved word or of `_`.
+#[derive(Debug, Drop)]
+pub enum TokenKind {
+    Lower(Word),
+    Upper(Word),
+    Int(u64),
+    Str(Text),
+    Fixed(Text),
+}
+
+/// A token, and the place of its first byte.
+#[derive(Debug, Drop)]
+pub struct Token {
+    pub kind: TokenKind,
+    pub at: u32,
+}
+
+/// Why a text gives no tokens.
+#[derive(Clone, Copy, Debug, PartialEq, Eq)]
+pub enum LexFault {
+    /// The text has more than 1,048,576 bytes: its length.
+    TooLong { len: u64 },
+    /// The place of the first byte at which no token, separator or whole comment begins.
+    Lexical { at: u32 },
+    Memory,
+}
+
+impl From<Memory> for LexFault {
+    ghost use Rattle.std.specs.Prelude.{◌≡◌};
+    ghost use Rattle.ac_lexer.specs.declared.tokens.LexFault.TheVariants as fault;
+
+    ghost from_gives = { λ _ e. e ≡ fault.Memory };
+
+    fn from(_e: Memory) -> LexFault {
+        LexFault::Memory
+    }
+}
+
+fn crosses<T: Send + Sync>(_value: &T) {}
+
+/// Tokens go between threads.
+pub fn token_crosses(token: &Token) {
+    crosses(token);
+}
