@@ -1,10 +1,10 @@
 -- Spellings, comments and strings by example.
-use Rattle.std.proofs.Common.{◌≡◌, List, ℕ, [], ◌∷◌, ◌++◌, Some, None, true, false, refl}
+use Rattle.std.proofs.Common.{◌≡◌, [], ◌∷◌, ◌++◌, true, false, refl}
 use Rattle.std.specs.Prelude.{codes}
 use Rattle.ac_types.specs.Words.{is_reserved}
 use Rattle.ac_lexer.specs.declared.tokens.TokenKind.TheVariants.{Lower, Upper, Int, Str, Fixed}
 use Rattle.ac_lexer.specs.Gaps.{Inside, closed, nested, byte}
-use Rattle.ac_lexer.specs.Spellings.{value, name_kind, is_name, is_symbol, escaped, hex_value, Piece, itself, escape, hex, Quoted, quote, more, Spells, number, name, symbol, string, is_within_limits}
+use Rattle.ac_lexer.specs.Spellings.{value, name_kind, is_name, is_symbol, itself, escape, hex, quote, more, Spells, number, symbol, string, is_within_limits}
 
 ex_value : value (codes "007") ≡ 7
 ex_value = refl

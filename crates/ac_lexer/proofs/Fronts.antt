@@ -1,17 +1,17 @@
 -- The longest token that begins a text, by its first byte.
-use Rattle.std.proofs.Common.{◌≡◌, ◌≤◌, ◌<◌, ◌+◌, ◌-◌, ◌^◌, ℕ, suc, Bool, true, false, cond, List, [], ◌∷◌, ◌++◌, Some, None, refl, sym, ◌∙◌, ap, subst, arith, length, take, drop, get_or, append_assoc, length-append, ltb, get_or-take, ⊎_elim, ◌⊎◌, inl, inr}
-use Rattle.std.specs.Prelude.{slice_index, nat_le, nat_lt, ◌&&◌}
+use Rattle.std.proofs.Common.{◌≡◌, ◌≤◌, ◌<◌, ◌+◌, ◌^◌, ℕ, Bool, true, false, cond, List, [], ◌∷◌, ◌++◌, refl, sym, ◌∙◌, ap, subst, arith, length, take, drop, length-append, get_or-take, ⊎_elim}
+use Rattle.std.specs.Prelude.{slice_index, nat_le, ◌&&◌}
 use Rattle.std.specs.List.{list_all, prefix_len}
-use Rattle.std.proofs.lemmas.Bool.{cases_lt, cases_eq, and_parts, and_from, false≢true, true≢false, both_ways, lt-ltb, le-ltb, leb-true}
-use Rattle.std.proofs.lemmas.List.{take-append-drop, length-take-le, take_at, drop_at}
+use Rattle.std.proofs.lemmas.Bool.{cases_lt, and_parts, and_from, both_ways, lt-ltb, le-ltb, leb-true}
+use Rattle.std.proofs.lemmas.List.{take-append-drop, length-take-le, take_at}
 use Rattle.std.proofs.lemmas.List.Sums.{prefix_len-le-length}
 use Rattle.std.proofs.Math.Numerals.{one-add}
 use Rattle.std.proofs.lemmas.Bool.Decides.{nat_tests}
-use Rattle.ac_types.specs.Words.{is_start, is_part, is_between}
+use Rattle.ac_types.specs.Words.{is_start, is_part}
 use Rattle.ac_lexer.specs.declared.tokens.TokenKind.{TokenKind}
-use Rattle.ac_lexer.specs.declared.tokens.TokenKind.TheVariants.{Lower, Upper, Int, Str, Fixed}
+use Rattle.ac_lexer.specs.declared.tokens.TokenKind.TheVariants.{Int, Str, Fixed}
 use Rattle.ac_lexer.specs.Gaps.{opens}
-use Rattle.ac_lexer.specs.Spellings.{is_digit, is_number, value, is_name, name_kind, symbols, is_symbol, SymbolBegins, Quoted, Spells, number, name, symbol, string, is_within_limits}
+use Rattle.ac_lexer.specs.Spellings.{is_digit, value, is_name, name_kind, is_symbol, SymbolBegins, Quoted, Spells, number, name, symbol, string, is_within_limits}
 use Rattle.ac_lexer.specs.Tokens.{IsLongest, TokenAt, NoToken}
 use Rattle.ac_lexer.proofs.Spelled.{by_digit, by_start, by_quote, by_other, of_symbols, no_empty}
 use Rattle.ac_lexer.proofs.Unique.{same_split, one_kind, same_quoted, quoted_on, quoted_front}
@@ -106,17 +106,17 @@ string_front text content rest q =
       spelled = string f.2;
       longest = λ other behind k e x. string_longest text content rest f.0 q f.1 other behind k e x;
     } where
-  string_longest : (text content rest front : List ℕ) → Quoted text content rest → text ≡ front ++ rest → (other behind : List ℕ) (k : TokenKind) → 34 ∷ text ≡ other ++ behind → Spells other k → length other ≤ length (34 ∷ front)
-  string_longest text content rest front q split other behind k e x =
-      let b = by_quote x (sym (same_first (34 ∷ text) other behind e x)) in
-      let whole_text : 34 ∷ text ≡ 34 ∷ (b.0 ++ behind) = e ∙ ap (λ (l : List ℕ). l ++ behind) b.2 in
-      let tail : text ≡ b.0 ++ behind = cc in
-      let whole = subst (λ (l : List ℕ). Quoted l b.1 behind) (sym tail) (quoted_on b.3 behind) in
-      let same = ap length (same_quoted q whole).1 in
-      let one = ap length b.2 in
-      let two = ap length split ∙ length-append front rest in
-      let three = ap length tail ∙ length-append b.0 behind in
-      omega (arith, same, one, two, three)
+      string_longest : (text content rest front : List ℕ) → Quoted text content rest → text ≡ front ++ rest → (other behind : List ℕ) (k : TokenKind) → 34 ∷ text ≡ other ++ behind → Spells other k → length other ≤ length (34 ∷ front)
+      string_longest text content rest front q split other behind k e x =
+          let b = by_quote x (sym (same_first (34 ∷ text) other behind e x)) in
+          let whole_text : 34 ∷ text ≡ 34 ∷ (b.0 ++ behind) = e ∙ ap (λ (l : List ℕ). l ++ behind) b.2 in
+          let tail : text ≡ b.0 ++ behind = cc in
+          let whole = subst (λ (l : List ℕ). Quoted l b.1 behind) (sym tail) (quoted_on b.3 behind) in
+          let same = ap length (same_quoted q whole).1 in
+          let one = ap length b.2 in
+          let two = ap length split ∙ length-append front rest in
+          let three = ap length tail ∙ length-append b.0 behind in
+          omega (arith, same, one, two, three)
 
 pub no_string : (text : List ℕ) → ((content rest : List ℕ) → Quoted text content rest → ⊥) → NoToken (34 ∷ text)
 no_string text none = λ k rest t.
@@ -142,8 +142,8 @@ other_first text other behind e x d s q =
 no_more : (text other behind : List ℕ) (count : ℕ) → SymbolBegins text count → text ≡ other ++ behind → is_symbol other ≡ true → length other ≤ count
 no_more text other behind count b e h =
     ⊎_elim (λ (lt : count < length other).
-        let i = symbol_in text other behind e in
-        absurd (both_ways (is_symbol (take (length other) text)) (b.3 (length other) lt (symbol_length other h) i.1) (ap is_symbol i.0 ∙ h)))
+    let i = symbol_in text other behind e in
+    absurd (both_ways (is_symbol (take (length other) text)) (b.3 (length other) lt (symbol_length other h) i.1) (ap is_symbol i.0 ∙ h)))
     (λ (ge : length other ≤ count). ge) (cases_lt count (length other))
 
 pub symbol_front : (text : List ℕ) (count : ℕ) → SymbolBegins text count → 0 < count → is_digit (slice_index text 0) ≡ false → is_start (slice_index text 0) ≡ false → (slice_index text 0 ≡ 34 → ⊥) → Longest text (Fixed (record { 0 = take count text })) (drop count text)

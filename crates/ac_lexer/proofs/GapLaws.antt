@@ -1,8 +1,8 @@
 -- Which gap begins a text.
-use Rattle.std.proofs.Common.{◌≡◌, ℕ, Bool, true, false, List, [], ◌∷◌, Option, Some, None, refl, sym, ◌∙◌, ap, subst, MatchOption}
+use Rattle.std.proofs.Common.{◌≡◌, ℕ, true, List, ◌∷◌, Option, Some, None, sym, subst, MatchOption}
 use Rattle.std.specs.Borrow.{Bor}
-use Rattle.std.proofs.lemmas.Bool.{false≢true, both_ways}
-use Rattle.ac_lexer.specs.Gaps.{is_separator, opens, Inside, Gap, NoGap, separator, comment}
+use Rattle.std.proofs.lemmas.Bool.{false≢true}
+use Rattle.ac_lexer.specs.Gaps.{is_separator, Inside, Gap, NoGap, separator, comment}
 
 pub by_separator : (text rest : List ℕ) (b : ℕ) → text ≡ b ∷ rest → is_separator b ≡ true → Gap text rest
 by_separator text rest b e h = subst (λ (l : List ℕ). Gap l rest) (sym e) (separator h)

@@ -1,9 +1,9 @@
 -- How a text is read from its front.
-use Rattle.std.proofs.Common.{◌≡◌, ◌≤◌, ◌<◌, ◌-◌, ℕ, List, [], ◌∷◌, ◌++◌, refl, sym, ◌∙◌, ap, subst, arith, length}
+use Rattle.std.proofs.Common.{◌≡◌, ◌<◌, ℕ, List, [], ◌∷◌, ◌++◌, refl, subst, length}
 use Rattle.ac_lexer.specs.declared.tokens.Token.{Token}
 use Rattle.ac_lexer.specs.declared.tokens.TokenKind.{TokenKind}
 use Rattle.ac_lexer.specs.Gaps.{Gap, NoGap}
-use Rattle.ac_lexer.specs.Tokens.{TokenAt, NoToken, Reads, nothing, gap, token, NothingBegins, Tokens, FailsAt, place}
+use Rattle.ac_lexer.specs.Tokens.{TokenAt, NoToken, Reads, nothing, gap, token, Tokens, FailsAt, place}
 use Rattle.ac_lexer.proofs.Unique.{same_tokens, no_failure}
 
 pub past_gap : {whole text here after : List ℕ} {tokens : List Token} → Reads whole text tokens here → Gap here after → Reads whole text tokens after

@@ -1,15 +1,15 @@
 -- What a token's first byte tells of it.
-use Rattle.std.proofs.Common.{◌≡◌, ◌≤◌, ◌<◌, ◌+◌, ℕ, suc, Bool, true, false, List, [], ◌∷◌, ◌++◌, Some, None, refl, sym, ◌∙◌, ap, subst, arith, length, take, not, ⊎_elim}
-use Rattle.std.specs.Prelude.{slice_index, nat_le, bytes_eq, ◌==◌}
-use Rattle.std.specs.List.{list_any, list_all, prefix_len}
+use Rattle.std.proofs.Common.{◌≡◌, ℕ, Bool, true, false, List, [], ◌∷◌, refl, sym, ◌∙◌, ap, subst, arith, not, ⊎_elim}
+use Rattle.std.specs.Prelude.{slice_index, bytes_eq, ◌==◌}
+use Rattle.std.specs.List.{list_any, list_all}
 use Rattle.std.specs.Cmp.Lexicographic.{bytes_decides}
 use Rattle.std.proofs.lemmas.Bool.{or_cases, and_parts, both_ways, not-true, false≢true}
 use Rattle.std.proofs.lemmas.Bool.Decides.{nat_tests}
 use Rattle.ac_types.specs.Words.{is_start, is_part}
 use Rattle.ac_lexer.specs.declared.tokens.TokenKind.{TokenKind}
-use Rattle.ac_lexer.specs.declared.tokens.TokenKind.TheVariants.{Lower, Upper, Int, Str, Fixed}
+use Rattle.ac_lexer.specs.declared.tokens.TokenKind.TheVariants.{Int, Str, Fixed}
 use Rattle.ac_lexer.specs.Gaps.{is_separator}
-use Rattle.ac_lexer.specs.Spellings.{is_digit, is_number, value, is_name, name_kind, symbols, is_symbol, is_plain, Quoted, Spells, number, name, symbol, string}
+use Rattle.ac_lexer.specs.Spellings.{is_digit, is_number, value, is_name, name_kind, symbols, is_symbol, Quoted, Spells, number, name, symbol, string}
 
 -- what holds of each of some words holds of each word that is equal to one of them
 pub any_all : (P : List ℕ → Bool) (words : List (List ℕ)) (bytes : List ℕ) → list_any (λ w. bytes_eq w bytes) words ≡ true → list_all P words ≡ true → P bytes ≡ true
@@ -48,7 +48,6 @@ by_start {bytes} (number h) s = absurd (digit_no_start (slice_index bytes 0) (fi
 by_start (name h) s = (h, refl)
 by_start {bytes} (symbol h) s = absurd (no_symbol is_start bytes refl h s)
 by_start (string q) s = absurd (false≢true s)
-
 
 -- what begins with a quote is a string
 pub by_quote : {bytes : List ℕ} {kind : TokenKind} → Spells bytes kind → slice_index bytes 0 ≡ 34 → (inner : List ℕ) × (content : List ℕ) × (bytes ≡ 34 ∷ inner) × Quoted inner content [] × (kind ≡ Str (record { 0 = content }))

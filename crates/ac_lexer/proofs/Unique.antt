@@ -1,12 +1,11 @@
 -- A text has one answer.
-use Rattle.std.proofs.Common.{◌≡◌, ◌≤◌, ◌<◌, ◌+◌, ℕ, suc, Bool, true, false, List, [], ◌∷◌, ◌++◌, Some, None, refl, sym, ◌∙◌, ap, subst, arith, length, take, append_assoc}
+use Rattle.std.proofs.Common.{◌≡◌, ℕ, true, List, [], ◌∷◌, ◌++◌, refl, sym, ◌∙◌, ap, subst, arith, length, append_assoc}
 use Rattle.std.specs.Prelude.{◌==◌}
 use Rattle.std.proofs.lemmas.Bool.{false≢true, true≢false}
 use Rattle.ac_lexer.specs.declared.tokens.TokenKind.{TokenKind}
-use Rattle.ac_lexer.specs.declared.tokens.TokenKind.TheVariants.{Lower, Upper, Int, Str, Fixed}
 use Rattle.ac_lexer.specs.declared.tokens.Token.{Token}
-use Rattle.ac_lexer.specs.Gaps.{Inside, closed, nested, byte, Gap, separator, comment, opens, closes, is_separator}
-use Rattle.ac_lexer.specs.Spellings.{is_plain, escaped, hex_value, Piece, itself, escape, hex, Quoted, quote, more, Spells, number, name, symbol, string, is_digit}
+use Rattle.ac_lexer.specs.Gaps.{Inside, closed, nested, byte, Gap, separator, comment, is_separator}
+use Rattle.ac_lexer.specs.Spellings.{Piece, itself, escape, hex, Quoted, quote, more, Spells, number, name, symbol, string}
 use Rattle.ac_lexer.specs.Tokens.{TokenAt, Reads, nothing, gap, token, NothingBegins, Tokens, FailsAt, place}
 use Rattle.ac_lexer.proofs.Spelled.{by_digit, by_start, by_quote, by_separator, no_empty, no_symbol, first_of_number, first_of_name}
 

@@ -52,11 +52,15 @@ pub record FailsAt (text : List ℕ) (at : ℕ) : Type 0 where
   pub nothing_begins : NothingBegins rest
   pub here : at ≡ place text rest
 
+-- how many bytes a text may have
+abbrev pub longest_text : ℕ
+longest_text = 1048576
+
 -- a text that is too long, or in which nothing begins at some place, is refused for that; memory may want for any other
 abbrev pub IsFault : List ℕ → LexFault → Type 0
-IsFault text (TooLong len) = (1048576 < length text) × (len ≡ length text)
-IsFault text (Lexical at) = (length text ≤ 1048576) × FailsAt text at
-IsFault text Memory = length text ≤ 1048576
+IsFault text (TooLong len) = (longest_text < length text) × (len ≡ length text)
+IsFault text (Lexical at) = (length text ≤ longest_text) × FailsAt text at
+IsFault text Memory = length text ≤ longest_text
 
 -- what holds where something is no token
 abbrev pub OnLexical : LexFault → Type 0 → Type 0

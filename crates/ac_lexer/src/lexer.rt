@@ -2,7 +2,7 @@
 
 ghost use Rattle.std.specs.Prelude.{◌≡◌, ◌<◌, ◌≤◌, length, List, ℕ, IfSome, IfOk, IfErr, MatchOption};
 ghost use Rattle.ac_lexer.specs.declared.tokens.Token.{Token};
-ghost use Rattle.ac_lexer.specs.Tokens.{TokenAt, NoToken, Tokens, IsFault, OnLexical};
+ghost use Rattle.ac_lexer.specs.Tokens.{TokenAt, NoToken, Tokens, IsFault, OnLexical, longest_text};
 
 use crate::gaps::{behind_gap, opens};
 use crate::quoted::string;
@@ -37,7 +37,7 @@ fn first_token(alloc: Global, text: &[u8]) -> Result<Option<(TokenKind, &[u8])>,
 
 /// The tokens of a text of at most 1,048,576 bytes, with the places of their first bytes.
 pub fn lex(alloc: Global, text: &[u8]) -> Result<Many<Token>, LexFault>
-    ensures tokens { IfOk result (λ tokens. (length text.now ≤ 1048576) × Tokens text.now tokens) }
+    ensures tokens { IfOk result (λ tokens. (length text.now ≤ longest_text) × Tokens text.now tokens) }
     ensures only { IfOk result (λ tokens. (others : List Token) → Tokens text.now others → others ≡ tokens) }
     ensures fault { IfErr result (IsFault text.now) }
     ensures none { IfErr result (λ fault. OnLexical fault ((others : List Token) → Tokens text.now others → ⊥)) }

@@ -71,11 +71,7 @@ fn piece(text: &[u8]) -> Option<(u8, &[u8])>
     if is_plain(*first) {
         return Some((*first, rest));
     }
-    if *first == b'\\' {
-        escape(rest)
-    } else {
-        None
-    }
+    if *first == b'\\' { escape(rest) } else { None }
 }
 
 // The bytes of a string up to its last quote, from behind its first one on.

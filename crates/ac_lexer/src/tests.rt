@@ -7,10 +7,16 @@ use std::test::Fail;
 const CASES: [(&[u8], &[u8]); 71] = [
     (b"", b""),
     (b" \t\r\n", b""),
-    (b"let x = 12 in M.y'", b"f:let@0 l:x@4 f:=@6 i:12@8 f:in@11 U:M@14 f:.@15 l:y'@16 "),
+    (
+        b"let x = 12 in M.y'",
+        b"f:let@0 l:x@4 f:=@6 i:12@8 f:in@11 U:M@14 f:.@15 l:y'@16 ",
+    ),
     (b"( ) [ ]", b"f:(@0 f:)@2 f:[@4 f:]@6 "),
     (b"()[],;", b"f:(@0 f:)@1 f:[@2 f:]@3 f:,@4 f:;@5 "),
-    (b":.=<+-*/^|", b"f::@0 f:.@1 f:=@2 f:<@3 f:+@4 f:-@5 f:*@6 f:/@7 f:^@8 f:|@9 "),
+    (
+        b":.=<+-*/^|",
+        b"f::@0 f:.@1 f:=@2 f:<@3 f:+@4 f:-@5 f:*@6 f:/@7 f:^@8 f:|@9 ",
+    ),
     (b"::->&&||", b"f:::@0 f:->@2 f:&&@4 f:||@6 "),
     (b":::", b"f:::@0 f::@2 "),
     (b"-->", b"f:-@0 f:->@1 "),
@@ -24,17 +30,47 @@ const CASES: [(&[u8], &[u8]); 71] = [
     (b"a #", b"!2"),
     (b"\x80", b"!0"),
     (b"a \xff", b"!2"),
-    (b"as bool by else end exn false fun", b"f:as@0 f:bool@3 f:by@8 f:else@11 f:end@16 f:exn@20 f:false@24 f:fun@30 "),
-    (b"if import in int let like list", b"f:if@0 f:import@3 f:in@10 f:int@13 f:let@17 f:like@21 f:list@26 "),
-    (b"mark marshal match mod module", b"f:mark@0 f:marshal@5 f:match@13 f:mod@19 f:module@23 "),
-    (b"myname name not option raise rec", b"f:myname@0 l:name@7 f:not@12 f:option@16 f:raise@23 f:rec@29 "),
-    (b"sig string struct then true try", b"f:sig@0 f:string@4 f:struct@11 f:then@18 f:true@23 f:try@28 "),
-    (b"type unit unmarshal val version with", b"f:type@0 f:unit@5 f:unmarshal@10 f:val@20 f:version@24 f:with@32 "),
-    (b"Some None Static_Link Here_Already", b"f:Some@0 f:None@5 f:Static_Link@10 f:Here_Already@22 "),
-    (b"Failure Invalid_argument Not_found", b"f:Failure@0 f:Invalid_argument@8 f:Not_found@25 "),
-    (b"Division_by_zero Match_failure", b"f:Division_by_zero@0 f:Match_failure@17 "),
+    (
+        b"as bool by else end exn false fun",
+        b"f:as@0 f:bool@3 f:by@8 f:else@11 f:end@16 f:exn@20 f:false@24 f:fun@30 ",
+    ),
+    (
+        b"if import in int let like list",
+        b"f:if@0 f:import@3 f:in@10 f:int@13 f:let@17 f:like@21 f:list@26 ",
+    ),
+    (
+        b"mark marshal match mod module",
+        b"f:mark@0 f:marshal@5 f:match@13 f:mod@19 f:module@23 ",
+    ),
+    (
+        b"myname name not option raise rec",
+        b"f:myname@0 l:name@7 f:not@12 f:option@16 f:raise@23 f:rec@29 ",
+    ),
+    (
+        b"sig string struct then true try",
+        b"f:sig@0 f:string@4 f:struct@11 f:then@18 f:true@23 f:try@28 ",
+    ),
+    (
+        b"type unit unmarshal val version with",
+        b"f:type@0 f:unit@5 f:unmarshal@10 f:val@20 f:version@24 f:with@32 ",
+    ),
+    (
+        b"Some None Static_Link Here_Already",
+        b"f:Some@0 f:None@5 f:Static_Link@10 f:Here_Already@22 ",
+    ),
+    (
+        b"Failure Invalid_argument Not_found",
+        b"f:Failure@0 f:Invalid_argument@8 f:Not_found@25 ",
+    ),
+    (
+        b"Division_by_zero Match_failure",
+        b"f:Division_by_zero@0 f:Match_failure@17 ",
+    ),
     (b"End_of_file Sys_error", b"f:End_of_file@0 f:Sys_error@12 "),
-    (b"Marshal_failure Unmarshal_failure Resolve_failure", b"f:Marshal_failure@0 f:Unmarshal_failure@16 f:Resolve_failure@34 "),
+    (
+        b"Marshal_failure Unmarshal_failure Resolve_failure",
+        b"f:Marshal_failure@0 f:Unmarshal_failure@16 f:Resolve_failure@34 ",
+    ),
     (b"lets Lets", b"l:lets@0 U:Lets@5 "),
     (b"x'", b"l:x'@0 "),
     (b"_x", b"l:_x@0 "),
@@ -54,7 +90,10 @@ const CASES: [(&[u8], &[u8]); 71] = [
     (b"x 99999999999999999999999", b"!2"),
     (b"\"\"", b"s:@0 "),
     (b"\"ab\" \"c\"", b"s:ab@0 s:c@5 "),
-    (b"\"\\\\ \\\" \\n \\t \\r \\x41 \\xaF\"", b"s:\\ \" \n \t \r A \xaf@0 "),
+    (
+        b"\"\\\\ \\\" \\n \\t \\r \\x41 \\xaF\"",
+        b"s:\\ \" \n \t \r A \xaf@0 ",
+    ),
     (b"\"\xff\x00'(*\"", b"s:\xff\x00'(*@0 "),
     (b"\"a", b"!0"),
     (b"x \"a\\\"", b"!2"),

@@ -1,6 +1,5 @@
 // Tokens, and why a text has none.
 
-
 use ac_types::{Memory, Text, Word};
 
 /// What a token is. `Fixed` holds the bytes of a symbol, of a reserved word or of `_`.

@@ -58,7 +58,11 @@ fn value(digits: &[u8]) -> Option<u64>
         let digit = u64::from(digit.saturating_sub(b'0'));
         value = value.checked_mul(10)?.checked_add(digit)?;
     }
-    if value <= LARGEST_INT { Some(value) } else { None }
+    if value <= LARGEST_INT {
+        Some(value)
+    } else {
+        None
+    }
 }
 
 /// The number that the text begins with.

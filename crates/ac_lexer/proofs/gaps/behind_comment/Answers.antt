@@ -1,6 +1,5 @@
-use Rattle.std.proofs.Common.{◌≡◌, sym, ◌∙◌, arith, length, ap, [], ◌∷◌}
+use Rattle.std.proofs.Common.{arith, length, ap}
 use Rattle.std.proofs.lemmas.List.{nil_from_length}
-use Rattle.ac_lexer.specs.Gaps.{opens, closes}
 use Rattle.ac_lexer.proofs.Comments.{begun, opened, ended, whole, passed, unfinished}
 use Rattle.ac_lexer.proofs.gaps.behind_comment.Goals as goal
 

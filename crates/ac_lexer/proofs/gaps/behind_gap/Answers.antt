@@ -1,4 +1,4 @@
-use Rattle.std.proofs.Common.{◌≡◌, ◌∙◌, sym}
+use Rattle.std.proofs.Common.{◌∙◌, sym}
 use Rattle.ac_lexer.proofs.GapLaws.{by_separator, by_comment}
 use Rattle.ac_lexer.proofs.gaps.behind_gap.Goals as goal
 

@@ -1,7 +1,6 @@
-use Rattle.std.proofs.Common.{◌≡◌, ◌∙◌, sym, refl, ap, subst, List, ℕ, ◌∷◌, ◌<◌, arith, length, rules}
+use Rattle.std.proofs.Common.{◌≡◌, refl, ◌<◌, arith, length, rules}
 use Rattle.std.proofs.lemmas.List.{nil_from_length}
-use Rattle.ac_lexer.specs.declared.tokens.Token.{Token}
-use Rattle.ac_lexer.specs.Tokens.{Reads, nothing}
+use Rattle.ac_lexer.specs.Tokens.{nothing}
 use Rattle.ac_lexer.proofs.Reading.{past_gap, past_token, whole_text, no_tokens, only}
 use Rattle.ac_lexer.proofs.lexer.lex.Goals as goal
 

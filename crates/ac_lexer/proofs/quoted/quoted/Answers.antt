@@ -1,6 +1,6 @@
-use Rattle.std.proofs.Common.{◌≡◌, ◌∙◌, ap, subst, List, ℕ, ◌∷◌, arith}
+use Rattle.std.proofs.Common.{◌∙◌, ap, ℕ, ◌∷◌, arith}
 use Rattle.std.proofs.lemmas.List.{nil_from_length}
-use Rattle.ac_lexer.proofs.Strings.{Begun, goes_on, ends, breaks, unclosed}
+use Rattle.ac_lexer.proofs.Strings.{goes_on, ends, breaks, unclosed}
 use Rattle.ac_lexer.proofs.quoted.quoted.Goals as goal
 
 pub returns-then-first-eq34-clause-quoted : goal.returns-then-first-eq34-clause-quoted

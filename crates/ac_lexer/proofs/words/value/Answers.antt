@@ -1,6 +1,6 @@
-use Rattle.std.proofs.Common.{◌≡◌, arith, drop, ◌≤◌, ◌^◌}
+use Rattle.std.proofs.Common.{arith, ◌≤◌, ◌^◌}
 use Rattle.ac_lexer.specs.Spellings.{value}
-use Rattle.ac_lexer.proofs.Values.{value_after, value_step}
+use Rattle.ac_lexer.proofs.Values.{value_step}
 use Rattle.ac_lexer.proofs.words.value.Goals as goal
 
 pub returns-in_err-checked_mul : goal.returns-in_err-checked_mul
