@@ -1,0 +1,2 @@
+pub mod Generate
+pub mod Machine
