@@ -2,7 +2,7 @@
 use Rattle.std.proofs.Common.{◌≡◌, ℕ, zero, suc, ◌+◌, Bool, true, false, List, [], ◌∷◌, ◌++◌, length, Option, Some, None, refl, ap, ap₂, ◌∙◌, subst, sym, arith, slice_get}
 use Rattle.ac_types.specs.Types.{Typ}
 use Rattle.ac_terms.specs.Terms.{Expr, Int, Boolean, Str, Unit', Var, Let, If, Seq, Prim, Val, Exprs, no_exprs, expr, Value, VInt, VBool, VStr, VUnit, Values, no_values, value}
-use Rattle.ac_terms.specs.Constants.{Answer, Gives, Prints, NoSense}
+use Rattle.ac_terms.specs.Constants.{Answer, Gives, Prints, NoSense, meaning}
 use Rattle.ac_terms.specs.Reduction.{Written, Slot, Free, Bound, up, slot_in, slot, from_slot, inst, inst_all, constant, consts_of, answered, World, printed}
 
 -- how an evaluation ends
@@ -53,7 +53,7 @@ abbrev mutual
   eval (If c a b) vs = follow (eval c vs) (λ v. branching v (eval a vs) (eval b vs))
   eval (Seq no_exprs) vs = wrongly
   eval (Seq (expr e es)) vs = follow (eval e vs) (λ v. eval_rest es vs v)
-  eval (Prim k es) vs = follow (eval_all es vs) (λ ws. answering (answered k (consts_of ws)))
+  eval (Prim k es) vs = follow (eval_all es vs) (λ ws. answering (answered (meaning k) (consts_of ws)))
   eval e vs = wrongly
 
   pub eval_all : Exprs → List Value → M Values

@@ -2,7 +2,7 @@
 use Rattle.std.specs.Prelude.{◌≡◌, ℕ, zero, suc, Bool, true, false, List, [], ◌∷◌, ◌++◌, Option, Some, None}
 use Rattle.ac_types.specs.Types.{Bytes, Typ}
 use Rattle.ac_terms.specs.Terms.{Expr, Int, Boolean, Str, Unit', Var, Let, If, Seq, Prim, Val, Exprs, no_exprs, expr, Value, VInt, VBool, VStr, VUnit, Values, no_values, value}
-use Rattle.ac_terms.specs.Constants.{Const, CInt, CBool, CStr, CUnit, Answer, Gives, Prints, NoSense, meaning, applied}
+use Rattle.ac_terms.specs.Constants.{Const, CInt, CBool, CStr, CUnit, Answer, Gives, Prints, NoSense, Meaning, meaning, applied}
 
 -- values to be written for variables, with the types that the variables have, the newest first
 abbrev pub Written : Type 0
@@ -76,9 +76,10 @@ abbrev pub consts_of : Values → Option (List Const)
 consts_of no_values = Some []
 consts_of (value v vs) = all_there (const_of v) (consts_of vs)
 
-abbrev pub answered : ℕ → Option (List Const) → Answer
-answered k None = NoSense
-answered k (Some cs) = applied (meaning k) cs
+-- what a primitive of this meaning answers
+abbrev pub answered : Meaning → Option (List Const) → Answer
+answered m None = NoSense
+answered m (Some cs) = applied m cs
 
 -- what a run does to the world: its console so far
 pub record World : Type 0 where
@@ -127,7 +128,7 @@ abbrev mutual
   look (If c a b) = within (λ c'. If c' a b) (λ v. branch v a b) (look c)
   look (Seq (expr e no_exprs)) = Goes e
   look (Seq (expr e (expr b es))) = within (λ e'. Seq (expr e' (expr b es))) (λ v. Goes (Seq (expr b es))) (look e)
-  look (Prim k es) = within (λ es'. Prim k es') (λ vs. answer (answered k (consts_of vs))) (look_all es)
+  look (Prim k es) = within (λ es'. Prim k es') (λ vs. answer (answered (meaning k) (consts_of vs))) (look_all es)
   look e = Wrong
 
   pub look_all : Exprs → Act Exprs Values
