@@ -1,2 +1,3 @@
+pub mod Correct
 pub mod Generate
 pub mod Machine

@@ -2,5 +2,6 @@
 #![tactic(auto)]
 
 mod instr;
+pub mod laws;
 
 pub use instr::Instr;

@@ -40,14 +40,13 @@ answering (Gives c) z = Fine (constant c) z
 answering (Prints s) z = Fine VUnit (printed s z)
 answering NoSense z = Wrongly
 
--- the term's value where its variables have these values, the newest first
+-- the value of a term of the source where its variables have these values, the newest first
 abbrev mutual
   pub eval : Expr → List Value → M Value
   eval (Int n) vs = give (VInt n)
   eval (Boolean b) vs = give (VBool b)
   eval (Str s) vs = give (VStr s)
   eval Unit' vs = give VUnit
-  eval (Val T v) vs = give v
   eval (Var i) vs = found (slice_get vs i)
   eval (Let T e b) vs = follow (eval e vs) (λ v. eval b (v ∷ vs))
   eval (If c a b) vs = follow (eval c vs) (λ v. branching v (eval a vs) (eval b vs))

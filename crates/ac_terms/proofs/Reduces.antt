@@ -103,7 +103,6 @@ mutual
   does (Boolean b) ws z = is look (Boolean b) (VBool b) z refl
   does (Str s) ws z = is look (Str s) (VStr s) z refl
   does Unit' ws z = is look Unit' VUnit z refl
-  does (Val T v) ws z = is look (Val T v) v z refl
   does (Var i) ws z = var_does ws i z
   does (Let T e b) ws z =
       part (λ e'. Let T e' (inst 1 ws b)) (λ s v. Goes (inst 0 ((T, v) ∷ []) (inst 1 ws b))) look look (λ s. refl) (inst 0 ws e) z (eval e (vals ws) z) (λ v. eval b (v ∷ vals ws)) (does e ws z)
