@@ -1,3 +1,4 @@
+pub mod EmitLaws
 pub mod Follows
 pub mod Placed
 pub mod Theorem

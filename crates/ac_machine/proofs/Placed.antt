@@ -3,7 +3,7 @@ use Rattle.std.proofs.Common.{◌≡◌, ℕ, zero, suc, ◌+◌, List, [], ◌�
 use Rattle.ac_terms.specs.Terms.{Expr, Int, Boolean, Str, Unit', Var, Let, If, Seq, Prim, Exprs, no_exprs, expr}
 use Rattle.ac_machine.specs.declared.instr.Instr.{Instr}
 use Rattle.ac_machine.specs.declared.instr.Instr.TheVariants as instr
-use Rattle.ac_machine.specs.Generate.{code, code_all, code_seq, code_rest, generated}
+use Rattle.ac_machine.specs.Generate.{code_of, code_all, code_seq, code_rest, generated}
 use Rattle.ac_machine.proofs.Follows.{Stands, Has, HasAll, HasSeq, HasRest}
 
 -- a list stands in another from a place on
@@ -28,24 +28,24 @@ cut l p (x ∷ xs) ys h =
 
 module _ (all : List Instr) where
   mutual
-    has : (t : Expr) (p q : ℕ) → q ≡ p + length (code t p) → Part all p (code t p) → Has all t p q
+    has : (t : Expr) (p q : ℕ) → q ≡ p + length (code_of t p) → Part all p (code_of t p) → Has all t p q
     has (Int n) p q e h = (h.0, omega (arith, e))
     has (Boolean b) p q e h = (h.0, omega (arith, e))
     has (Str s) p q e h = (h.0, omega (arith, e))
     has Unit' p q e h = (h.0, omega (arith, e))
     has (Var i) p q e h = (h.0, omega (arith, e))
     has (Let T t b) p q e h =
-        let r = p + length (code t p) in
-        let h1 = cut all p (code t p) (instr.Bind ∷ (code b (suc r) ++ instr.Unbind 1 ∷ [])) h in
-        let h2 = cut all (suc r) (code b (suc r)) (instr.Unbind 1 ∷ []) h1.1.1 in
-        let s = suc r + length (code b (suc r)) in
-        (r, s, has t p r refl h1.0, h1.1.0, has b (suc r) s refl h2.0, h2.1.0, omega (arith, e, length-append (code t p) (instr.Bind ∷ (code b (suc r) ++ instr.Unbind 1 ∷ [])), length-append (code b (suc r)) (instr.Unbind 1 ∷ [])))
+        let r = p + length (code_of t p) in
+        let h1 = cut all p (code_of t p) (instr.Bind ∷ (code_of b (suc r) ++ instr.Unbind 1 ∷ [])) h in
+        let h2 = cut all (suc r) (code_of b (suc r)) (instr.Unbind 1 ∷ []) h1.1.1 in
+        let s = suc r + length (code_of b (suc r)) in
+        (r, s, has t p r refl h1.0, h1.1.0, has b (suc r) s refl h2.0, h2.1.0, omega (arith, e, length-append (code_of t p) (instr.Bind ∷ (code_of b (suc r) ++ instr.Unbind 1 ∷ [])), length-append (code_of b (suc r)) (instr.Unbind 1 ∷ [])))
     has (If t a b) p q e h =
-        let test = code t p in
+        let test = code_of t p in
         let r = p + length test in
-        let so = code a (suc r) in
+        let so = code_of a (suc r) in
         let s = suc r + length so in
-        let otherwise = code b (suc s) in
+        let otherwise = code_of b (suc s) in
         let jump = instr.Jump (suc s + length otherwise) in
         let h1 = cut all p test (instr.JumpIfNot (suc s) ∷ (so ++ (jump ∷ otherwise))) h in
         let h2 = cut all (suc r) so (jump ∷ otherwise) h1.1.1 in
@@ -61,25 +61,25 @@ module _ (all : List Instr) where
     has_all : (ts : Exprs) (p q : ℕ) → q ≡ p + length (code_all ts p) → Part all p (code_all ts p) → HasAll all ts p q
     has_all no_exprs p q e h = omega (arith, e)
     has_all (expr t ts) p q e h =
-        let r = p + length (code t p) in
-        let h1 = cut all p (code t p) (code_all ts r) h in
-        (r, has t p r refl h1.0, has_all ts r q (omega (arith, e, length-append (code t p) (code_all ts r))) h1.1)
+        let r = p + length (code_of t p) in
+        let h1 = cut all p (code_of t p) (code_all ts r) h in
+        (r, has t p r refl h1.0, has_all ts r q (omega (arith, e, length-append (code_of t p) (code_all ts r))) h1.1)
 
     has_seq : (ts : Exprs) (p q : ℕ) → q ≡ p + length (code_seq ts p) → Part all p (code_seq ts p) → HasSeq all ts p q
     has_seq no_exprs p q e h = tt
     has_seq (expr t ts) p q e h =
-        let r = p + length (code t p) in
-        let h1 = cut all p (code t p) (code_rest ts r) h in
-        (r, has t p r refl h1.0, has_rest ts r q (omega (arith, e, length-append (code t p) (code_rest ts r))) h1.1)
+        let r = p + length (code_of t p) in
+        let h1 = cut all p (code_of t p) (code_rest ts r) h in
+        (r, has t p r refl h1.0, has_rest ts r q (omega (arith, e, length-append (code_of t p) (code_rest ts r))) h1.1)
 
     has_rest : (ts : Exprs) (p q : ℕ) → q ≡ p + length (code_rest ts p) → Part all p (code_rest ts p) → HasRest all ts p q
     has_rest no_exprs p q e h = omega (arith, e)
     has_rest (expr t ts) p q e h =
-        let r = suc p + length (code t (suc p)) in
-        let h1 = cut all (suc p) (code t (suc p)) (code_rest ts r) h.1 in
-        (r, h.0, has t (suc p) r refl h1.0, has_rest ts r q (omega (arith, e, length-append (code t (suc p)) (code_rest ts r))) h1.1)
+        let r = suc p + length (code_of t (suc p)) in
+        let h1 = cut all (suc p) (code_of t (suc p)) (code_rest ts r) h.1 in
+        (r, h.0, has t (suc p) r refl h1.0, has_rest ts r q (omega (arith, e, length-append (code_of t (suc p)) (code_rest ts r))) h1.1)
 
 pub has_program : (e : Expr) → (q : ℕ) × Has (generated e) e 0 q × Stands (generated e) q instr.Stop
 has_program e =
-    let h = cut (generated e) 0 (code e 0) (instr.Stop ∷ []) (part_all (generated e)) in
-    (0 + length (code e 0), has (generated e) e 0 (0 + length (code e 0)) refl h.0, h.1.0)
+    let h = cut (generated e) 0 (code_of e 0) (instr.Stop ∷ []) (part_all (generated e)) in
+    (0 + length (code_of e 0), has (generated e) e 0 (0 + length (code_of e 0)) refl h.0, h.1.0)

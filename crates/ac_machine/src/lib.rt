@@ -1,7 +1,9 @@
 //! Stack code: its instructions, its generation from core terms, and the machine that runs it.
 #![tactic(auto)]
 
+mod generating;
 mod instr;
 pub mod laws;
 
+pub use generating::generate;
 pub use instr::Instr;
