@@ -1,4 +1,5 @@
 pub mod EmitLaws
 pub mod Follows
 pub mod Placed
+pub mod PrimitiveLaws
 pub mod Theorem

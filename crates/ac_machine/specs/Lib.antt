@@ -1,3 +1,5 @@
 pub mod Correct
 pub mod Generate
+pub mod Held
 pub mod Machine
+pub mod Meant

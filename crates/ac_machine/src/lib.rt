@@ -1,9 +1,11 @@
 //! Stack code: its instructions, its generation from core terms, and the machine that runs it.
 #![tactic(auto)]
 
+mod constant;
 mod generating;
 mod instr;
 pub mod laws;
+mod primitive;
 
 pub use generating::generate;
 pub use instr::Instr;
