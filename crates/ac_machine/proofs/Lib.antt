@@ -1,5 +1,6 @@
 pub mod EmitLaws
 pub mod Follows
+pub mod HeldLaws
 pub mod Placed
 pub mod PrimitiveLaws
 pub mod Theorem

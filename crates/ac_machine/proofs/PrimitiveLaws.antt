@@ -42,19 +42,3 @@ less_text x (code.Str y) = refl
 less_text x _ = refl
 
 pub ruleset operator_laws = (sum_is, difference_is, product_is, less_int, less_bool, less_text, wraps, common_steps)
-
--- the other numbers have no meaning yet
-pub unknown : (k : ℕ) → (k ≡ 0 → ⊥) → (k ≡ 1 → ⊥) → (k ≡ 2 → ⊥) → (k ≡ 7 → ⊥) → (k ≡ 10 → ⊥) → (k ≡ 11 → ⊥) → meaning k ≡ Later
-unknown zero a b c d e f = absurd (a refl)
-unknown (suc zero) a b c d e f = absurd (b refl)
-unknown (suc (suc zero)) a b c d e f = absurd (c refl)
-unknown (suc (suc (suc zero))) a b c d e f = refl
-unknown (suc (suc (suc (suc zero)))) a b c d e f = refl
-unknown (suc (suc (suc (suc (suc zero))))) a b c d e f = refl
-unknown (suc (suc (suc (suc (suc (suc zero)))))) a b c d e f = refl
-unknown (suc (suc (suc (suc (suc (suc (suc zero))))))) a b c d e f = absurd (d refl)
-unknown (suc (suc (suc (suc (suc (suc (suc (suc zero)))))))) a b c d e f = refl
-unknown (suc (suc (suc (suc (suc (suc (suc (suc (suc zero))))))))) a b c d e f = refl
-unknown (suc (suc (suc (suc (suc (suc (suc (suc (suc (suc zero)))))))))) a b c d e f = absurd (e refl)
-unknown (suc (suc (suc (suc (suc (suc (suc (suc (suc (suc (suc zero))))))))))) a b c d e f = absurd (f refl)
-unknown (suc (suc (suc (suc (suc (suc (suc (suc (suc (suc (suc (suc k)))))))))))) a b c d e f = refl

@@ -3,3 +3,4 @@ pub mod Generate
 pub mod Held
 pub mod Machine
 pub mod Meant
+pub mod Stops

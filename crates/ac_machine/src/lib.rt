@@ -5,7 +5,9 @@ mod constant;
 mod generating;
 mod instr;
 pub mod laws;
+mod machine;
 mod primitive;
 
 pub use generating::generate;
 pub use instr::Instr;
+pub use machine::{Machine, Pause, machine_crosses};
