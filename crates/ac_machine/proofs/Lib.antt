@@ -3,4 +3,5 @@ pub mod Follows
 pub mod HeldLaws
 pub mod Placed
 pub mod PrimitiveLaws
+pub mod RunLaws
 pub mod Theorem
