@@ -1,6 +1,9 @@
+pub mod Constants
 pub mod Defs
 pub mod Find
+pub mod Language
 pub mod Primitives
 pub mod Read
+pub mod Reduction
 pub mod Terms
 pub mod Typing
