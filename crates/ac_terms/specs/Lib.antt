@@ -1,6 +1,12 @@
-pub mod Defs
-pub mod Find
-pub mod Primitives
-pub mod Read
 pub mod Terms
+pub mod Defs
+pub mod Primitives
+pub mod Spelling
+pub mod Names
+pub mod Parts
+pub mod Renumbered
+pub mod Nesting
+pub mod Bounds
+pub mod Read
+pub mod Find
 pub mod Typing
