@@ -1,0 +1,3 @@
+//! The rules: what a type stands for, typing, links, well-formed definitions, coherent
+//! environments, plain values, needed definitions and accepted packets. They stand in `specs/`.
+#![tactic(auto)]
