@@ -8,7 +8,7 @@ use Rattle.ac_types.specs.declared.ty.Ty.TheOpen.{Ty-F, Int, Bool, Str, Unit, Ex
 
 -- the type that is read as this one
 abbrev mutual
-  back : Typ → Ty
+  pub back : Typ → Ty
   back TInt = roll-Ty Int
   back TBool = roll-Ty Bool
   back TStr = roll-Ty Str
@@ -21,7 +21,7 @@ abbrev mutual
   back (TAbs n t) = roll-Ty (Abs (record { 0 = n }) t)
   back (TMine t) = roll-Ty (Mine t)
 
-  backs : Typs → List Ty
+  pub backs : Typs → List Ty
   backs no_types = []
   backs (typ T Ts) = back T ∷ backs Ts
 
@@ -46,7 +46,7 @@ of_layer (Fun a b) = ap₂ (λ t u. roll-Ty (Fun t u)) a.1 b.1
 of_layer (Abs n t) = refl
 of_layer (Mine t) = refl
 
-typ_back : (t : Ty) → back (typ_of t) ≡ t
+pub typ_back : (t : Ty) → back (typ_of t) ≡ t
 unfolding typ_of
 typ_back = ind-Ty (λ t. back (typ_of t) ≡ t) (λ x y is.
     ap back (fold-roll-Ty Typ typ_layer x) ∙
