@@ -162,8 +162,8 @@ module _ {A : Type 0} {f : Reads A} {item : A → Bytes} {test : A → Bool} (ea
       let p = both_true _ _ e in
       back_after (λ a. one (λ ys. a ∷ ys) (times [] (λ y ys. y ∷ ys) f (length xs))) (each x p.0) (back_one (λ ys. x ∷ ys) (back_items xs p.1))
 
-  pub back_list : {count : Reads ℕ} {number : ℕ → Bytes} (xs : List A) → Back count (number (length xs)) (length xs) → list_all test xs ≡ true → Back (read_list count f) (listed number item xs) xs
-  back_list xs p e = back_after (times [] (λ y ys. y ∷ ys) f) p (back_items xs e)
+  pub back_list : {count : Reads ℕ} (number : ℕ → Bytes) (xs : List A) → Back count (number (length xs)) (length xs) → list_all test xs ≡ true → Back (read_list count f) (listed number item xs) xs
+  back_list number xs p e = back_after (times [] (λ y ys. y ∷ ys) f) p (back_items xs e)
 
 -- a tag says how to go on
 abbrev pub tagged : {A : Type 0} → List (Reads A) → Reads A
