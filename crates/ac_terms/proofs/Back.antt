@@ -2,11 +2,11 @@
 use Rattle.std.proofs.Common.{◌≡◌, refl, sym, ap, ◌∙◌, ℕ, zero, suc, ◌<◌, ◌^◌, Bool, true, false, List, [], ◌∷◌, ◌++◌, length, Option, Some, None, append_assoc}
 use Rattle.std.specs.Prelude.{ℤ, pos, negsuc, option_and_then, option_map, slice_get, nat_lt, flat_map}
 use Rattle.std.specs.List.{list_all}
-use Rattle.std.specs.Int.{w16, w32, w64, from_be_bytes, to_be_bytes, cast_signed, cast_unsigned}
+use Rattle.std.specs.Int.{w16, w32, w64, from_be_bytes, cast_signed, cast_unsigned}
 use Rattle.std.proofs.lemmas.Bool.Decides.{nat_tests}
 use Rattle.std.proofs.lemmas.Nat.{from_be_bytes-to_be_bytes_2, from_be_bytes-to_be_bytes_4, from_be_bytes-to_be_bytes_8}
-use Rattle.std.proofs.lemmas.Int.{to_z-of_z, fits_signed_from_abs}
-use Rattle.std.specs.Int.RustNames.{FitsSigned, unsigned_abs}
+use Rattle.std.proofs.lemmas.Int.{to_z-of_z}
+use Rattle.std.specs.Int.RustNames.{FitsSigned}
 use native.Mathlib.Omega.{arith}
 use Rattle.ac_types.proofs.Same.{both_true}
 use Rattle.ac_types.proofs.FirstLaws.{some_eq}
@@ -52,9 +52,18 @@ back_after {f = f} g {bs} {cs} p q = record {
 pub back_two : {A B C : Type 0} (c : A → B → C) {f : Reads A} {g : Reads B} {bs cs : Bytes} {a : A} {b : B} → Back f bs a → Back g cs b → Back (two c f g) (bs ++ cs) (c a b)
 back_two c {g = g} {a = a} p q = back_after (λ x. one (c x) g) p (back_one (c a) q)
 
+-- bytes joined from the left
+pub regrouped : {A : Type 0} {f : Reads A} (bs cs ds : Bytes) {a : A} → Back f (bs ++ (cs ++ ds)) a → Back f ((bs ++ cs) ++ ds) a
+regrouped {f = f} bs cs ds p = record { reads = λ r. ap (λ xs. f (xs ++ r)) (append_assoc bs cs ds) ∙ p.reads r }
+
 pub back_three : {A B C D : Type 0} (c : A → B → C → D) {f : Reads A} {g : Reads B} {h : Reads C} {bs cs ds : Bytes} {a : A} {b : B} {d : C} →
-    Back f bs a → Back g cs b → Back h ds d → Back (three c f g h) (bs ++ (cs ++ ds)) (c a b d)
-back_three c {g = g} {h = h} {a = a} p q s = back_after (λ x. two (c x) g h) p (back_two (c a) q s)
+    Back f bs a → Back g cs b → Back h ds d → Back (three c f g h) ((bs ++ cs) ++ ds) (c a b d)
+back_three c {g = g} {h = h} {bs} {cs} {ds} {a} p q s = regrouped bs cs ds (back_after (λ x. two (c x) g h) p (back_two (c a) q s))
+
+-- one thing, then a count and so much
+pub back_counted : {A B C : Type 0} (c : A → B → C) (so_much : ℕ → Reads B) {f : Reads A} {count : Reads ℕ} {bs cs ds : Bytes} {a : A} {n : ℕ} {b : B} →
+    Back f bs a → Back count cs n → Back (so_much n) ds b → Back (two c f (after count so_much)) ((bs ++ cs) ++ ds) (c a b)
+back_counted c so_much {bs = bs} {cs} {ds} p q s = regrouped bs cs ds (back_two c p (back_after so_much q s))
 
 -- that many bytes
 abbrev pub cut : ℕ → Reads Bytes

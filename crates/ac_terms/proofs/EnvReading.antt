@@ -3,13 +3,13 @@ use Rattle.std.proofs.Common.{◌≡◌, refl, sym, ap, ◌∙◌, [], map}
 use Rattle.std.specs.Prelude.{option_map}
 use mathlib.Core.Path.{ap₂}
 use Rattle.ac_types.specs.Types.{Bytes}
-use Rattle.ac_types.specs.ReadTypes.{typ_of, typed_of, sig_of, atom_of, constraint_of, resolve_of}
+use Rattle.ac_types.specs.ReadTypes.{typed_of, sig_of, atom_of, resolve_of}
 use Rattle.ac_types.specs.declared.text.Name.{Name}
 use Rattle.ac_types.specs.Sigs.{Exact}
 use Rattle.ac_types.proofs.TypeReading.{back, typ_back}
 use Rattle.ac_types.proofs.SigReading.{map_back, option_back, find_typed, typed_back, find_sig, sig_back, find_atom, atom_back, find_constraint, constraint_back, find_resolve, resolve_back}
 use Rattle.ac_terms.specs.Defs as defs
-use Rattle.ac_terms.specs.Read.{expr_of, value_of, field_of, module_of_code, import_of_code, def_of_code, pdef_of, seen_of, name_of_code, entry_of, environment_of, packet_of}
+use Rattle.ac_terms.specs.Read.{field_of, module_of_code, import_of_code, def_of_code, pdef_of, seen_of, name_of_code, entry_of, environment_of, packet_of}
 use Rattle.ac_terms.specs.declared.def.Field.{Field}
 use Rattle.ac_terms.specs.declared.def.Module.{Module}
 use Rattle.ac_terms.specs.declared.def.Import.{Import}

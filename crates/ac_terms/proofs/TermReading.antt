@@ -8,8 +8,7 @@ use Rattle.ac_types.proofs.TypeReading.{back, typ_back}
 use Rattle.ac_types.proofs.SigReading.{option_back}
 use Rattle.ac_terms.specs.Terms as terms
 use Rattle.ac_terms.specs.Terms.{Pattern, Expr, Exprs, no_exprs, expr, exprs, Arms, no_arms, arm, arms, PValue, KInt, KBool, KStr, KUnit, KExn, KTuple, KList, KAbsent, KPresent, KFun, PValues, no_pvalues, pvalue, pvalues}
-use Rattle.ac_types.specs.ReadTypes.{typ_of}
-use Rattle.ac_terms.specs.Read.{home_of, bytes_of, pattern_of, expr_of, value_of, value_layer, expr_layer, arm_layer}
+use Rattle.ac_terms.specs.Read.{home_of, bytes_of, expr_of, value_of, value_layer, expr_layer, arm_layer}
 use Rattle.ac_terms.specs.declared.term.Home as code_home
 use Rattle.ac_terms.specs.declared.term.Exn.{Exn}
 use Rattle.ac_terms.specs.declared.term.Term.{Term}
