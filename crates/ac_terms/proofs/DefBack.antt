@@ -172,10 +172,10 @@ back_def k (AModule m) i w h =
     let v = both_true _ _ s.0 in
     record {
       reads = (back_one a_module
-        (back_pair
           (back_pair
-            (back_pair (back_pair (back_word m.name) (back_list back_atom byte m.version (back_byte (length m.version)) v.1)) (back_sig m.sig s.1))
-            (back_list (back_typed false) two_bytes m.types (back_two_bytes (length m.types) (count_two (length m.types) d.1)) c.1))
+          (back_pair
+          (back_pair (back_pair (back_word m.name) (back_list back_atom byte m.version (back_byte (length m.version)) v.1)) (back_sig m.sig s.1))
+          (back_list (back_typed false) two_bytes m.types (back_two_bytes (length m.types) (count_two (length m.types) d.1)) c.1))
           (back_list (back_field k) two_bytes m.fields (back_two_bytes (length m.fields) (count_two (length m.fields) b.1)) (both_all k m.fields a.1 h)))).reads;
     }
 back_def k (AnImport m) i w h =
@@ -188,10 +188,10 @@ back_def k (AnImport m) i w h =
     let s = both_true _ _ n.0 in
     record {
       reads = (back_one an_import
-        (back_pair
           (back_pair
-            (back_pair (back_pair (back_word m.name) (back_sig m.sig s.1)) (back_constraint m.constraint n.1))
-            (back_list (back_typed false) two_bytes m.like (back_two_bytes (length m.like) (count_two (length m.like) l.1)) d.1))
+          (back_pair
+          (back_pair (back_pair (back_word m.name) (back_sig m.sig s.1)) (back_constraint m.constraint n.1))
+          (back_list (back_typed false) two_bytes m.like (back_two_bytes (length m.like) (count_two (length m.like) l.1)) d.1))
           (back_list back_resolve byte m.by (back_byte (length m.by)) a.1))).reads;
     }
 back_def k (AMark t) i w h = absurd (true≢false (sym i))
@@ -233,10 +233,10 @@ back_packet p w =
     let kinds = both_true _ _ fit.0 in
     record {
       reads = (back_one a_packet
-        (back_pair
           (back_pair
-            (back_list back_packed_def two_bytes p.defs (back_two_bytes (length p.defs) kinds.0) (all_three p.defs kinds.1 fit.1 nest.1))
-            (back_type false p.ty type.1))
+          (back_pair
+          (back_list back_packed_def two_bytes p.defs (back_two_bytes (length p.defs) kinds.0) (all_three p.defs kinds.1 fit.1 nest.1))
+          (back_type false p.ty type.1))
           (back_value two_bytes read_two back_two_bytes p.value 500 (le_true (value_nesting p.value) 500 nests.1) value.1))).reads;
     }
 

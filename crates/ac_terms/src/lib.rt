@@ -6,6 +6,8 @@ mod def;
 mod env;
 mod pat;
 mod term;
+#[cfg(test)]
+mod tests;
 
 pub use def::{Def, Entry, Field, Import, Module, PDef, Packet, Seen};
 pub use env::Env;
