@@ -1,17 +1,18 @@
 -- Definitions and packets are read back from their spelling: so a string spells at most one packet.
-use Rattle.std.proofs.Common.{◌≡◌, refl, ap, ℕ, ◌≤◌, Bool, true, false, ◌&&◌, List, [], ◌∷◌, ◌++◌, length, map, Option, Some, None, IsTrue, append-nil, subst, ◌∙◌, sym}
+use Rattle.std.proofs.Common.{◌≡◌, refl, ap, ℕ, ◌≤◌, Bool, true, false, ◌&&◌, List, [], ◌∷◌, ◌++◌, length, map, Option, Some, None, IsTrue, append-nil, subst, ◌∙◌, sym, append_assoc}
 use Rattle.std.specs.Prelude.{nat_le}
 use Rattle.std.specs.List.{list_all}
 use Rattle.std.proofs.lemmas.Bool.Decides.{nat_tests}
 use mathlib.Core.Bool.{true≢false}
 use native.Mathlib.Omega.{arith}
+use Rattle.ac_types.proofs.FirstLaws.{none≢some, some_eq}
 use Rattle.ac_types.proofs.Same.{both_true, and_true}
 use Rattle.ac_types.specs.Types.{Bytes, Typ}
 use Rattle.ac_types.specs.Sigs.{Typed_name, Sig_type, Signature, Atom, Number, MyName, Range, One, Between, UpTo, From, Constraint, Ranges, Exact, Resolve, StaticLink, HereAlready, Uri}
 use Rattle.ac_terms.specs.Terms.{Expr, PValue}
-use Rattle.ac_terms.specs.Defs.{Field, Module, Import, Def, AModule, AnImport, AMark, Packet}
+use Rattle.ac_terms.specs.Defs.{Field, Module, Import, Def, AModule, AnImport, AMark, Packet, signature}
 use Rattle.ac_terms.specs.Nesting.{nesting, value_nesting}
-use Rattle.ac_terms.specs.Spelling.{byte, two as two_bytes, atom_bytes, range_bytes, constraint_bytes, manifest_bytes, sig_type_bytes, typed_bytes, sig_bytes, resolve_bytes, field_bytes, def_bytes, packet_bytes}
+use Rattle.ac_terms.specs.Spelling.{byte, two as two_bytes, atom_bytes, range_bytes, constraint_bytes, manifest_bytes, sig_type_bytes, typed_bytes, sig_bytes, resolve_bytes, field_bytes, def_bytes, packet_bytes, module_bytes, import_bytes, word, listed, canonical_text, text_of_import}
 use Rattle.ac_terms.specs.Bounds.{is_two, is_string, is_lower, fits_type, fits_term, fits_atom, fits_range, fits_constraint, fits_resolve, fits_typed, fits_sig, fits_def, is_module_or_import, def_nesting, nests_little, fits_packet, Spells}
 use Rattle.std.specs.Option.{option_map_or}
 use Rattle.ac_terms.proofs.Back.{Reads, Back, give, one, two, three, after, cut, tagged, read_byte, read_two, read_four, read_truth, read_word, read_str, read_name, read_list, back_give, back_one, back_two, back_three, back_byte, back_two_bytes, back_four_bytes, back_truth, back_word, back_str, back_name, back_list, none_begins}
@@ -244,3 +245,85 @@ back_packet p w =
 pub spells_one : (bytes : Bytes) (p q : Packet) → Spells bytes p → Spells bytes q → p ≡ q
 spells_one bytes p q s t =
     (none_begins read_packet (back_packet p s.fits) (back_packet q t.fits) [] [] (ap (λ bs. bs ++ []) (sym s.spelled ∙ t.spelled))).0
+
+-- a canonical text begins with what its definition shows: two definitions of one text have one signature
+abbrev read_header : Reads Signature
+read_header bs =
+    tagged ((λ cs. None) ∷ two (λ p s. s) (pair read_word (read_list read_byte read_atom)) read_sig ∷ two (λ w s. s) read_word read_sig ∷ []) bs
+
+module_within : (m : Module) → fits_def (AModule m) ≡ true → (list_all fits_atom m.version ≡ true) × (fits_sig m.sig ≡ true)
+module_within m w =
+    let a = both_true _ _ w in
+    let b = both_true _ _ a.0 in
+    let c = both_true _ _ b.0 in
+    let d = both_true _ _ c.0 in
+    let s = both_true _ _ d.0 in
+    let v = both_true _ _ s.0 in
+    (v.1, s.1)
+
+import_within : (m : Import) → fits_def (AnImport m) ≡ true → fits_sig m.sig ≡ true
+import_within m w =
+    let a = both_true _ _ w in
+    let b = both_true _ _ a.0 in
+    let c = both_true _ _ b.0 in
+    let d = both_true _ _ c.0 in
+    let l = both_true _ _ d.0 in
+    let n = both_true _ _ l.0 in
+    (both_true _ _ n.0).1
+
+module_header : (ref : ℕ → Bytes) (m : Module) → fits_def (AModule m) ≡ true → (r : Bytes) × (read_header (module_bytes ref m) ≡ Some (m.sig, r))
+module_header ref m w = (types ++ fields, ap read_module_header (append_assoc head types fields) ∙ begins.reads (types ++ fields))
+  where
+    head : Bytes
+    head = (word m.name ++ listed byte atom_bytes m.version) ++ sig_bytes m.sig
+
+    types : Bytes
+    types = listed two_bytes typed_bytes m.types
+
+    fields : Bytes
+    fields = listed two_bytes (field_bytes ref) m.fields
+
+    read_module_header : Reads Signature
+    read_module_header = two (λ p s. s) (pair read_word (read_list read_byte read_atom)) read_sig
+
+    begins : Back read_module_header head m.sig
+    begins =
+        back_two (λ p t. t) (back_pair (back_word m.name) (back_list back_atom byte m.version (back_byte (length m.version)) (module_within m w).0)) (back_sig m.sig (module_within m w).1)
+
+import_header : (m : Import) → fits_def (AnImport m) ≡ true → (r : Bytes) × (read_header (import_bytes m) ≡ Some (m.sig, r))
+import_header m w = (wants ++ likes, ap read_import_header (append_assoc head wants likes) ∙ begins.reads (wants ++ likes))
+  where
+    head : Bytes
+    head = word m.name ++ sig_bytes m.sig
+
+    wants : Bytes
+    wants = constraint_bytes m.constraint
+
+    likes : Bytes
+    likes = listed two_bytes typed_bytes m.like
+
+    read_import_header : Reads Signature
+    read_import_header = two (λ n s. s) read_word read_sig
+
+    begins : Back read_import_header head m.sig
+    begins = back_two (λ n t. t) (back_word m.name) (back_sig m.sig (import_within m w))
+
+text_header : (ref : ℕ → Bytes) (d : Def) (t : Bytes) (g : Signature) → fits_def d ≡ true → canonical_text ref d ≡ Some t → signature d ≡ Some g → (r : Bytes) × (read_header t ≡ Some (g, r))
+text_header ref (AModule m) t g w e s =
+    let h = module_header ref m w in
+    (h.0, ap read_header (sym (some_eq e)) ∙ h.1 ∙ ap (λ x. Some (x, h.0)) (some_eq s))
+text_header ref (AnImport m) t g w e s = by m.constraint e
+  where
+    by : (c : Constraint) → text_of_import c m ≡ Some t → (r : Bytes) × (read_header t ≡ Some (g, r))
+    by (Ranges rs star) p =
+        let h = import_header m w in
+        (h.0, ap read_header (sym (some_eq p)) ∙ h.1 ∙ ap (λ x. Some (x, h.0)) (some_eq s))
+    by (Exact n) p = absurd (none≢some p)
+text_header ref (AMark u) t g w e s = absurd (none≢some e)
+
+pub one_text-one_signature : (ref : ℕ → Bytes) (c d : Def) (t : Bytes) (f g : Signature) → fits_def c ≡ true → fits_def d ≡ true →
+    canonical_text ref c ≡ Some t → canonical_text ref d ≡ Some t → signature c ≡ Some f → signature d ≡ Some g → f ≡ g
+one_text-one_signature ref c d t f g v w p q x y =
+    let a = text_header ref c t f v p x in
+    let b = text_header ref d t g w q y in
+    ap (λ (z : Signature × Bytes). z.0) (some_eq (sym a.1 ∙ b.1))
