@@ -7,3 +7,5 @@ pub mod NeededExamples
 pub mod PacketExamples
 pub mod Rules
 pub mod NeededLaws
+pub mod EarlierLaws
+pub mod ViewLaws

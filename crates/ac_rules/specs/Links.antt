@@ -74,12 +74,18 @@ by_name m i kept n =
     option_map Spec (missing_spec true m.sig i.sig) ∷
     fails (names kept n) Name ∷ []
 
+-- those that apply
+abbrev pub conditions : Environment → Import → ℕ → Module → Constraint → List (Option Link_fault)
+conditions E i j m (Ranges rs star) = by_version m i rs star
+conditions E i j m (Exact n) = by_name m i (name_at E j) n
+
 -- the first condition that fails for an import and entry j
+abbrev pub fault_at : Environment → Import → ℕ → Option Module → Option Link_fault
+fault_at E i j None = Some NoModule
+fault_at E i j (Some m) = first_some (conditions E i j m i.constraint)
+
 abbrev pub link_fault : Environment → Import → ℕ → Option Link_fault
-link_fault E i j = elim (module_at E j) [
-  | None ↦ Some NoModule
-  | Some m ↦ elim i.constraint [ Ranges rs star ↦ first_some (by_version m i rs star) | Exact n ↦ first_some (by_name m i (name_at E j) n) ]
-]
+link_fault E i j = fault_at E i j (module_at E j)
 
 abbrev pub MayLink : Environment → Import → ℕ → Type 0
 MayLink E i j = link_fault E i j ≡ None

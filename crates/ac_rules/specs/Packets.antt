@@ -9,7 +9,7 @@ use Rattle.ac_terms.specs.Defs.{Environment, Entry, Import, Def, AModule, AnImpo
 use Rattle.ac_rules.specs.Views.{Coloured, is_known}
 use Rattle.ac_rules.specs.Typing.{holds}
 use Rattle.ac_types.specs.First.{given, first_some, first_failing, first_wrong}
-use Rattle.ac_terms.specs.Spelling.{def_bytes}
+use Rattle.ac_terms.specs.Spelling.{def_bytes, four, module_bytes}
 use Rattle.ac_terms.specs.Names.{name_by, text_of_entry}
 use Rattle.ac_rules.specs.Links.{linked, InPacket, is_exact}
 use Rattle.ac_terms.specs.Parts.{part_refs, part_homes, part_mentions, value_parts, def_parts}
@@ -28,9 +28,14 @@ number ps k = unwrap_or (option_and_then (λ (p : Place). p.at) (slice_get ps k)
 abbrev pub is_unresolved : List Place → ℕ → Bool
 is_unresolved ps k = option_map_or (λ (p : Place). p.unresolved) (slice_get ps k) true
 
--- two definitions are equal where their spellings are
+-- a definition's spelling with references of four bytes, so that no number of an entry is cut
+abbrev pub wide_bytes : Def → Bytes
+wide_bytes (AModule m) = module_bytes four m
+wide_bytes d = def_bytes d
+
+-- two definitions are equal where these spellings are
 abbrev pub same_def : Def → Def → Bool
-same_def d c = same_bytes (def_bytes d) (def_bytes c)
+same_def d c = same_bytes (wide_bytes d) (wide_bytes c)
 
 -- two links are equal
 abbrev pub same_link : Option ℕ → Option ℕ → Bool
@@ -90,12 +95,12 @@ module _ (digest : Bytes → Bytes) where
   place_ranges s i None = put s (AnImport i) None true
   place_ranges s i (Some j) = found_or_put s (AnImport i) (Some j)
 
-  -- so is a definition that refers to an import without a link; any other is found or put, with its numbers rewritten
+  -- a definition that refers to an import without a link is new too: an empty mark stands for it, which equals no definition. Any other is found or put, with its numbers rewritten
   abbrev pub place : Environment → Placed → Def → Placed
   place E s (AnImport i) = elim (is_exact i.constraint) [ true ↦ place_exact s (linked E i InPacket) | false ↦ place_ranges s i (linked E i InPacket) ]
   place E s d =
       let there : Def = def_renumbered (number s.1) d in
-      elim (list_any (is_unresolved s.1) (part_refs (def_parts d))) [ true ↦ put s there None false | false ↦ found_or_put s there None ]
+      elim (list_any (is_unresolved s.1) (part_refs (def_parts d))) [ true ↦ put s (AMark []) None false | false ↦ found_or_put s there None ]
 
   abbrev pub place_all : Environment → Placed → List Def → Placed
   place_all E s [] = s

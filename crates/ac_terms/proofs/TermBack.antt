@@ -123,7 +123,7 @@ takes_arity ([] ∷ rest) k n e = absurd (true≢false (sym e))
 takes_arity ((r ∷ rs) ∷ rest) zero n e = eq_true (type_count r.0) n e
 takes_arity ((r ∷ rs) ∷ rest) (suc k) n e = takes_arity rest k n e
 
-count_two : (n : ℕ) → nat_le n 1024 ≡ true → is_two n ≡ true
+pub count_two : (n : ℕ) → nat_le n 1024 ≡ true → is_two n ≡ true
 count_two n e = grind (arith, nat_tests)
 
 nesting-pos : (e : Expr) → 1 ≤ nesting e

@@ -7,6 +7,8 @@ mod env;
 pub mod laws;
 mod pat;
 mod term;
+#[cfg(test)]
+mod tests;
 
 pub use def::{Def, Entry, Field, Import, Module, PDef, Packet, Seen};
 pub use env::Env;

@@ -1,0 +1,135 @@
+-- In a coherent environment a representation speaks of earlier names alone.
+use Rattle.std.proofs.Common.{◌≡◌, refl, sym, ap, ◌∙◌, subst, ℕ, zero, suc, ◌+◌, ◌<◌, Bool, true, false, not, cond, nat_lt, ◌&&◌, List, [], ◌∷◌, ◌++◌, length, map, Option, Some, None, IsTrue, take}
+use Rattle.std.specs.Prelude.{position, option_map, option_and_then, slice_get, ◌||◌}
+use Rattle.std.specs.Option.{option_map_or}
+use Rattle.std.specs.List.{list_any, list_all, position_or_len}
+use Rattle.std.proofs.lemmas.Bool.Decides.{nat_tests}
+use mathlib.Core.Bool.{true≢false}
+use native.Mathlib.Omega.{arith}
+use Rattle.ac_types.specs.First.{or_else}
+use Rattle.ac_types.proofs.Same.{both_true, and_true, bytes_eq}
+use Rattle.ac_types.proofs.FirstLaws.{none≢some, some_eq}
+use Rattle.ac_types.specs.Types.{Bytes, Typ, mentions, same_bytes}
+use Rattle.ac_types.specs.Sigs.{Typed_name, Signature, under, type_under, is_abstract}
+use Rattle.ac_terms.specs.Defs.{Environment, Entry, names, find_name, name_at, signature}
+use Rattle.ac_terms.specs.Parts.{Part, OfType, OfRef, OfHome, Captured, part_mentions, part_types, def_parts, sig_types, term_parts}
+use Rattle.ac_rules.specs.Views.{declares, is_known, representation, type_of_entry, import_type, module_type}
+use Rattle.ac_rules.specs.Links.{MayLink, link_fault, by_name, fails, Link_fault}
+use Rattle.ac_rules.specs.Coherent.{IsCoherent, IsLinked, link_at}
+use Rattle.ac_rules.proofs.Rules.{map_some, then_some}
+
+-- the place of the first that passes, a step at a time
+lt-zero : (n : ℕ) → nat_lt 0 (suc n) ≡ true
+lt-zero n = grind (arith, nat_tests)
+
+lt-suc : (k n : ℕ) (b : Bool) → nat_lt k n ≡ b → nat_lt (1 + k) (suc n) ≡ b
+lt-suc k n true e = grind (arith, nat_tests)
+lt-suc k n false e = grind (arith, nat_tests)
+
+pub position-first : {A : Type 0} (p : A → Bool) (x : A) (xs : List A) → p x ≡ true → position p (x ∷ xs) ≡ Some 0
+position-first p x xs e =
+    ap (λ b. cond (nat_lt (cond (not b) (1 + position_or_len p xs) 0) (suc (length xs))) (Some (cond (not b) (1 + position_or_len p xs) 0)) None) e ∙
+    ap (λ b. cond b (Some 0) None) (lt-zero (length xs))
+
+pub position-later : {A : Type 0} (p : A → Bool) (x : A) (xs : List A) → p x ≡ false → position p (x ∷ xs) ≡ option_map suc (position p xs)
+position-later p x xs e =
+    ap (λ b. cond (nat_lt (cond (not b) (1 + position_or_len p xs) 0) (suc (length xs))) (Some (cond (not b) (1 + position_or_len p xs) 0)) None) e ∙
+    by (position_or_len p xs) (length xs) (nat_lt (position_or_len p xs) (length xs)) refl
+  where
+    by : (k n : ℕ) (b : Bool) → nat_lt k n ≡ b → cond (nat_lt (1 + k) (suc n)) (Some (1 + k)) None ≡ option_map suc (cond (nat_lt k n) (Some k) None)
+    by k n true e = ap (λ b. cond b (Some (1 + k)) None) (lt-suc k n true e) ∙ ap Some (omega arith) ∙ ap (λ b. option_map suc (cond b (Some k) None)) (sym e)
+    by k n false e = ap (λ b. cond b (Some (1 + k)) None) (lt-suc k n false e) ∙ ap (λ b. option_map suc (cond b (Some k) None)) (sym e)
+
+-- whether an entry keeps the name
+abbrev keeps : Bytes → Entry → Bool
+keeps n e = names e.name n
+
+-- a name that is known among the entries before i is kept by one of them
+pub known_earlier : (E : Environment) (i : ℕ) (n t : Bytes) → is_known (take i E) (n, t) ≡ true → (j : ℕ) × (find_name E n ≡ Some j) × (j < i)
+known_earlier E zero n t h = absurd (true≢false (sym h))
+known_earlier [] (suc i) n t h = absurd (true≢false (sym h))
+known_earlier (e ∷ es) (suc i) n t h = by (known_earlier es i n t) (keeps n e) refl
+  where
+    rest : (a b : Bool) → a ≡ false → (a || b) ≡ true → b ≡ true
+    rest true b p q = absurd (true≢false p)
+    rest false b p q = q
+
+    none_there : keeps n e ≡ false → declares n t e ≡ false
+    none_there p = ap (λ b. b && option_map_or (λ (s : Signature). is_abstract (type_under t s.types)) (signature e.def) false) p
+
+    by : (is_known (take i es) (n, t) ≡ true → (j : ℕ) × (find_name es n ≡ Some j) × (j < i)) → (b : Bool) → keeps n e ≡ b → (j : ℕ) × (find_name (e ∷ es) n ≡ Some j) × (j < suc i)
+    by more true p = (0, position-first (keeps n) e es p, omega arith)
+    by more false p =
+        let r = more (rest (declares n t e) _ (none_there p) h) in
+        let lt : r.0 < i = r.2 in
+        (suc r.0, position-later (keeps n) e es p ∙ ap (option_map suc) r.1, omega arith)
+
+-- the least entry of a name keeps it
+pub found_keeps : (E : Environment) (n : Bytes) (i : ℕ) → find_name E n ≡ Some i → (e : Entry) × (slice_get E i ≡ Some e) × (keeps n e ≡ true)
+found_keeps [] n i h = absurd (none≢some h)
+found_keeps (e ∷ es) n i h = by (found_keeps es n) (keeps n e) refl
+  where
+    by : ((k : ℕ) → find_name es n ≡ Some k → (d : Entry) × (slice_get es k ≡ Some d) × (keeps n d ≡ true)) → (b : Bool) → keeps n e ≡ b → (d : Entry) × (slice_get (e ∷ es) i ≡ Some d) × (keeps n d ≡ true)
+    by more true p = (e, ap (slice_get (e ∷ es)) (sym (some_eq (sym (position-first (keeps n) e es p) ∙ h))), p)
+    by more false p =
+        let q = map_some suc (find_name es n) i (sym (position-later (keeps n) e es p) ∙ h) in
+        let r = more q.0 q.1 in
+        (r.0, ap (slice_get (e ∷ es)) (sym q.2) ∙ r.1, r.2)
+
+-- and no earlier entry does
+pub least : (E : Environment) (n : Bytes) (i k : ℕ) → find_name E n ≡ Some i → k < i → names (name_at E k) n ≡ false
+least [] n i k h lt = absurd (none≢some h)
+least (e ∷ es) n i k h lt = by (least es n) (keeps n e) refl k lt
+  where
+    by : ((j m : ℕ) → find_name es n ≡ Some j → m < j → names (name_at es m) n ≡ false) → (b : Bool) → keeps n e ≡ b → (m : ℕ) → m < i → names (name_at (e ∷ es) m) n ≡ false
+    by more true p m l = let z : 0 ≡ i = some_eq (sym (position-first (keeps n) e es p) ∙ h) in absurd (omega arith)
+    by more false p zero l = p
+    by more false p (suc m) l =
+        let q = map_some suc (find_name es n) i (sym (position-later (keeps n) e es p) ∙ h) in
+        let z : suc q.0 ≡ i = q.2 in
+        more q.0 m q.1 (omega arith)
+
+-- what passes in two lists together passes in each
+pub all_left : {A : Type 0} (p : A → Bool) (xs ys : List A) → list_all p (xs ++ ys) ≡ true → list_all p xs ≡ true
+all_left p [] ys h = refl
+all_left p (x ∷ xs) ys h =
+    let q = both_true (p x) (list_all p (xs ++ ys)) h in
+    and_true {a = p x} {b = list_all p xs} q.0 (all_left p xs ys q.1)
+
+pub all_right : {A : Type 0} (p : A → Bool) (xs ys : List A) → list_all p (xs ++ ys) ≡ true → list_all p ys ≡ true
+all_right p [] ys h = h
+all_right p (x ∷ xs) ys h = all_right p xs ys (both_true (p x) (list_all p (xs ++ ys)) h).1
+
+module _ (p : Bytes × Bytes → Bool) where
+  abbrev pub AllPass : List Part → Type 0
+  AllPass ps = list_all p (part_mentions ps) ≡ true
+
+  pub pass_right : (ps qs : List Part) → AllPass (ps ++ qs) → AllPass qs
+  pass_right [] qs h = h
+  pass_right (OfType T ∷ ps) qs h = pass_right ps qs (all_right p (mentions T) (part_mentions (ps ++ qs)) h)
+  pass_right (OfRef j x ∷ ps) qs h = pass_right ps qs h
+  pass_right (OfHome c ∷ ps) qs h = pass_right ps qs h
+  pass_right (Captured ∷ ps) qs h = pass_right ps qs h
+
+  pub pass_left : (ps qs : List Part) → AllPass (ps ++ qs) → AllPass ps
+  pass_left [] qs h = refl
+  pass_left (OfType T ∷ ps) qs h = join (mentions T) (part_mentions ps) (all_left p (mentions T) (part_mentions (ps ++ qs)) h) (pass_left ps qs (all_right p (mentions T) (part_mentions (ps ++ qs)) h))
+    where
+      join : (xs ys : List (Bytes × Bytes)) → list_all p xs ≡ true → list_all p ys ≡ true → list_all p (xs ++ ys) ≡ true
+      join [] ys a b = b
+      join (x ∷ xs) ys a b = let q = both_true (p x) (list_all p xs) a in and_true {a = p x} {b = list_all p (xs ++ ys)} q.0 (join xs ys q.1 b)
+  pass_left (OfRef j x ∷ ps) qs h = pass_left ps qs h
+  pass_left (OfHome c ∷ ps) qs h = pass_left ps qs h
+  pass_left (Captured ∷ ps) qs h = pass_left ps qs h
+
+  -- the type under a name is one of the list's
+  pub pass_under : (xs : List Typed_name) (t : Bytes) (R : Typ) → AllPass (map (λ (x : Typed_name). OfType x.ty) xs) → under t xs ≡ Some R → list_all p (mentions R) ≡ true
+  pass_under [] t R h e = absurd (none≢some e)
+  pass_under (x ∷ xs) t R h e = by (pass_under xs t R) (same_bytes x.name t) e
+    where
+      types : List Part
+      types = map (λ (y : Typed_name). OfType y.ty) xs
+
+      by : (AllPass types → under t xs ≡ Some R → list_all p (mentions R) ≡ true) → (b : Bool) → elim b [ true ↦ Some x.ty | false ↦ under t xs ] ≡ Some R → list_all p (mentions R) ≡ true
+      by more true q = subst (λ T. list_all p (mentions T) ≡ true) (some_eq q) (all_left p (mentions x.ty) (part_mentions types) h)
+      by more false q = more (all_right p (mentions x.ty) (part_mentions types) h) q
