@@ -1,0 +1,5 @@
+pub mod Elaboration
+pub mod Grammar
+pub mod ReadTrees
+pub mod Signs
+pub mod Trees
