@@ -1,5 +1,6 @@
 pub mod Elaboration
 pub mod Grammar
+pub mod Parsing
 pub mod ReadTrees
 pub mod Signs
 pub mod Trees
