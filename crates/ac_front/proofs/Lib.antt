@@ -1,2 +1,4 @@
 pub mod Begin
+pub mod Fronts
+pub mod TreeLaws
 pub mod Unique

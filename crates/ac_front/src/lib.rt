@@ -1,6 +1,7 @@
 //! From the signs of a text to a core term that has a type: the grammar and its parser, the names, the types.
 #![tactic(auto)]
 
+mod front;
 mod sign;
 mod surface;
 
