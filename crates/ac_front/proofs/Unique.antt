@@ -42,7 +42,7 @@ part_stops Swallow n h = omega arith
 pub semicolon_goes_on : {P : Type 0} (r s : List Sign) → r ≡ Fixed Semicolon ∷ s → 4 < front r → P
 semicolon_goes_on r s is h = absurd (omega (arith, ap front is))
 
-same_operator : {x : Option Operator} {o o' : Operator} → x ≡ Some o → x ≡ Some o' → o ≡ o'
+pub same_operator : {x : Option Operator} {o o' : Operator} → x ≡ Some o → x ≡ Some o' → o ≡ o'
 same_operator p q = some_eq (sym p ∙ q)
 
 one_way : {P : Type 0} {x : Option Operator} (o o' : Operator) → x ≡ Some o → x ≡ Some o' → chains o ≡ true → chains o' ≡ false → P

@@ -1,7 +1,7 @@
 -- What a parser of one level may answer: the tree at the front that nothing goes on behind, or none.
 use Rattle.std.specs.Prelude.{◌≡◌, ℕ, ◌<◌, ◌≤◌, List, [], ◌∷◌, Option, Some, None}
 use Rattle.ac_types.specs.Types.{Bytes, Typ}
-use Rattle.ac_front.specs.Trees.{Tree, height}
+use Rattle.ac_front.specs.Trees.{Tree, Trees, tree, Sequence, height}
 use Rattle.ac_front.specs.Signs.{operator_of, level_of, type_named, printer_of}
 use Rattle.ac_front.specs.Grammar.{Level, Expr, Rest, Part, Binary, After, App, Atom, Ending, Closed, Swallow, Parses}
 use Rattle.ac_front.specs.declared.sign.Symbol.{Symbol}
@@ -9,6 +9,8 @@ use Rattle.ac_front.specs.declared.sign.Symbol.TheVariants.{Open, Close, Semicol
 use Rattle.ac_front.specs.declared.sign.Sign.{Sign}
 use Rattle.ac_front.specs.declared.sign.Sign.TheVariants.{Lower, Fixed}
 use Rattle.ac_front.specs.declared.surface.Operator.{Operator}
+use Rattle.ac_front.specs.declared.parser.Stop.{Stop}
+use Rattle.ac_front.specs.declared.parser.Stop.TheVariants.{Memory, Syntax}
 use Rattle.ac_front.specs.declared.surface.Printer.{Printer}
 
 abbrev pub looseness_of : Option Operator → ℕ
@@ -88,3 +90,14 @@ pub record Enclosed (ts : List Sign) (e : Tree) (rest : List Sign) : Type 0 wher
 
 abbrev pub NoLeaf : List Sign → Type 0
 NoLeaf ts = (e : Tree) (rest : List Sign) → Parses Atom Closed ts e rest → Enclosed ts e rest
+
+-- a fault of syntax comes only there; want of memory is free
+abbrev pub OnSyntax : Stop → Type 0 → Type 0
+OnSyntax Memory P = Unit {0}
+OnSyntax (Syntax left) P = P
+
+-- the sequence of a first part and those behind a `;`
+pub record SequenceOf (depth : ℕ) (a : Tree) (ts : List Sign) (e : Tree) (rest : List Sign) : Type 0 where
+  pub parts : Trees
+  pub is : e ≡ Sequence (tree a parts)
+  pub behind : IsTree depth Rest ts (Sequence parts) rest
