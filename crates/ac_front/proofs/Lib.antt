@@ -1,6 +1,8 @@
 pub mod Begin
+pub mod Depth
 pub mod Fronts
 pub mod Heights
+pub mod Levels
 pub mod Operands
 pub mod Parts
 pub mod Sequences

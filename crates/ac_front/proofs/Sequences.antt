@@ -2,7 +2,7 @@
 use Rattle.std.proofs.Common.{◌≡◌, ℕ, suc, ◌+◌, ◌<◌, ◌≤◌, max, List, [], ◌∷◌, ◌++◌, refl, sym, ◌∙◌, ap, subst, arith}
 use Rattle.ac_front.specs.Trees.{Tree, Sequence, Trees, no_trees, tree, trees, height, highest}
 use Rattle.ac_front.specs.Grammar.{Level, Expr, Rest, Part, Ending, Closed, Swallow, Parses, alone, sequence, last, more}
-use Rattle.ac_front.specs.Parsing.{front, looseness, Stops, IsTree, NoTree}
+use Rattle.ac_front.specs.Parsing.{front, looseness, Stops, IsTree, NoTree, SequenceOf}
 use Rattle.ac_front.specs.declared.sign.Symbol.{Symbol}
 use Rattle.ac_front.specs.declared.sign.Symbol.TheVariants.{Semicolon, Less, Plus, Minus, Star}
 use Rattle.ac_front.specs.declared.sign.Sign.{Sign}
@@ -198,3 +198,27 @@ pub record PartsSoFar (D : ℕ) (a : Tree) (ts : List Sign) (parts : List Tree) 
   pub acc : List Tree
   pub parts_are : parts ≡ a ∷ acc
   pub so : RestSoFar D ts acc rest
+
+pub sequence_of : (D : ℕ) (ts r behind s : List Sign) (a e : Tree) → IsTree D Part ts a r → r ≡ Fixed Semicolon ∷ behind → height a < D → SequenceOf D a behind e s → IsTree D Expr ts e s
+sequence_of D ts r behind s a e t is lower q = subst (λ (x : Tree). IsTree D Expr ts x s) (sym q.is) (sequence_tree D ts r behind a t is q.parts s lower q.behind)
+
+pub parts_start : (D : ℕ) (a : Tree) (ts : List Sign) (parts : List Tree) → parts ≡ a ∷ [] → 0 < D → PartsSoFar D a ts parts ts
+parts_start D a ts parts is pos = record { acc = []; parts_are = is; so = rest_start D ts pos }
+
+module _ (D d : ℕ) (a : Tree) (ts rest : List Sign) (parts : List Tree) (is : suc d ≡ D) (so : PartsSoFar D a ts parts rest) where
+  pub parts_none : NoTree d Part rest → NoTree D Rest ts
+  parts_none none = rest_none D d ts rest so.acc is so.so none
+
+  pub parts_more : (r behind : List Sign) (e : Tree) (all : List Tree) → all ≡ parts ++ e ∷ [] → IsTree d Part rest e r → r ≡ Fixed Semicolon ∷ behind → PartsSoFar D a ts all behind
+  parts_more r behind e all are t semicolon = record {
+    acc = so.acc ++ e ∷ [];
+    parts_are = are ∙ ap (λ (x : List Tree). x ++ e ∷ []) so.parts_are;
+    so = rest_more D d ts rest so.acc is so.so r behind e t semicolon;
+  }
+
+  pub parts_ended : (s : List Sign) (e f : Tree) (all : List Tree) → all ≡ parts ++ e ∷ [] → f ≡ Sequence (trees all) → IsTree d Part rest e s → ((b : List Sign) → s ≡ Fixed Semicolon ∷ b → ⊥) → SequenceOf D a ts f s
+  parts_ended s e f all are same t none = record {
+    parts = trees (so.acc ++ e ∷ []);
+    is = same ∙ ap (λ (x : List Tree). Sequence (trees x)) (are ∙ ap (λ (x : List Tree). x ++ e ∷ []) so.parts_are);
+    behind = rest_ended D d ts rest so.acc is so.so s e t none;
+  }

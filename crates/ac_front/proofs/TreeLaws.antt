@@ -1,11 +1,12 @@
 -- The equations of the reading of trees and types: one for all layers, and one for the form that holds a list.
-use Rattle.std.proofs.Common.{◌≡◌, ◌∙◌, ap, ℤ, Bool, List, map}
+use Rattle.std.proofs.Common.{◌≡◌, ◌∙◌, ap, refl, arith, ℕ, ◌+◌, max, ℤ, Bool, List, [], ◌∷◌, ◌++◌, map}
 use Rattle.ac_types.specs.Types.{Bytes, Typ}
 use Rattle.ac_types.specs.declared.text.Text.{Text}
 use Rattle.ac_types.specs.ReadTypes.{typ_of, typ_layer}
 use Rattle.ac_types.specs.declared.ty.Ty.{Ty, out-Ty, map-Ty, fold_out-Ty}
 use Rattle.ac_types.specs.declared.ty.Ty.TheViews as ty
-use Rattle.ac_front.specs.Trees.{Tree, Number, Quote, Truth, Nothing, Name, Op, Print, LetIn, IfElse, Sequence, trees}
+use Rattle.ac_front.specs.Trees.{Tree, Number, Quote, Truth, Nothing, Name, Op, Print, LetIn, IfElse, Sequence, trees, height, highest}
+use Rattle.ac_front.proofs.Sequences.{highest_more}
 use Rattle.ac_front.specs.ReadTrees.{tree_of, tree_layer}
 use Rattle.ac_front.specs.declared.surface.Surface.{Surface, out-Surface, map-Surface, fold_out-Surface}
 use Rattle.ac_front.specs.declared.surface.Surface.TheOpen.{Surface-F}
@@ -59,3 +60,16 @@ pub tree_of-Seq : (ss : List Surface) → tree_of (code.Seq ss) ≡ Sequence (tr
 tree_of-Seq ss = tree_out (code.Seq ss) ∙ ap layer (code.outs-Seq ss)
 
 pub ruleset tree_laws = (tree_out, tree_of-Seq, the_lemmas)
+
+pushed : (xs : List Surface) (x : Surface) → map tree_of (xs ++ x ∷ []) ≡ map tree_of xs ++ tree_of x ∷ []
+pushed [] x = refl
+pushed (y ∷ xs) x = ap (λ (ts : List Tree). tree_of y ∷ ts) (pushed xs x)
+
+pub trees_pushed : (xs ys : List Surface) (x : Surface) → ys ≡ xs ++ x ∷ [] → map tree_of ys ≡ map tree_of xs ++ tree_of x ∷ []
+trees_pushed xs ys x e = ap (map tree_of) e ∙ pushed xs x
+
+pub pushed_height : (xs ys : List Surface) (x : Surface) (h n : ℕ) → h ≡ highest (trees (map tree_of xs)) → n ≡ height (tree_of x) → ys ≡ xs ++ x ∷ [] → max h n ≡ highest (trees (map tree_of ys))
+pushed_height xs ys x h n p q e = omega (arith, highest_more (map tree_of xs) (tree_of x), ap (λ (ts : List Tree). highest (trees ts)) (trees_pushed xs ys x e))
+
+pub sequence_height : (ss : List Surface) → height (tree_of (code.Seq ss)) ≡ highest (trees (map tree_of ss)) + 1
+sequence_height ss = ap height (tree_of-Seq ss)

@@ -9,11 +9,11 @@
 --   app     = 'IO' '.' 'print_int' atom | 'IO' '.' 'print_string' atom | atom
 --   atom    = INT | STRING | 'true' | 'false' | '(' ')' | lower | '(' expr ')'
 --   type    = 'int' | 'bool' | 'string' | 'unit'
-use Rattle.std.specs.Prelude.{◌≡◌, ℕ, zero, suc, ◌+◌, ◌-◌, ◌≤◌, ℤ, Bool, true, false, ◌&&◌, nat_lt, List, [], ◌∷◌, Option, Some}
+use Rattle.std.specs.Prelude.{◌≡◌, ℕ, zero, suc, ◌+◌, ◌-◌, ◌≤◌, ℤ, Bool, true, false, ◌&&◌, nat_lt, List, [], ◌∷◌, Option, Some, if◌then◌else◌}
 use Rattle.ac_types.specs.declared.text.Text.{Text}
 use Rattle.ac_types.specs.Types.{Bytes, Typ}
 use Rattle.ac_front.specs.Trees.{Tree, Number, Quote, Truth, Nothing, Name, Op, Print, LetIn, IfElse, Sequence, Trees, no_trees, tree, height}
-use Rattle.ac_front.specs.Signs.{operator_of, type_named, printer_of, level_of, chains}
+use Rattle.ac_front.specs.Signs.{operator_of, type_named, printer_of, level_of, chains, opens, closes}
 use Rattle.ac_front.specs.declared.sign.Symbol.{Symbol}
 use Rattle.ac_front.specs.declared.sign.Symbol.TheVariants.{Open, Close, Semicolon, Let, Colon, Equals, In, If, Then, Else, Io, Dot, True, False}
 use Rattle.ac_front.specs.declared.sign.Sign.{Sign}
@@ -76,12 +76,10 @@ pub data Parses : Level → Ending → List Sign → Tree → List Sign → Type
   name : {x : Bytes} {ts : List Sign} → Parses Atom Closed (Lower x ∷ ts) (Name x) ts
   parens : {k : Ending} {e : Tree} {ts r : List Sign} → Parses Expr k ts e (Fixed Close ∷ r) → Parses Atom Closed (Fixed Open ∷ ts) e r
 
--- no front of the signs has more than 200 unclosed openers, with so many open before
+-- no front of the signs has more than 200 unclosed openers, with so many open before; a closer where nothing is open changes nothing
 abbrev pub is_shallow : ℕ → List Sign → Bool
 is_shallow n [] = true
-is_shallow n (Fixed Open ∷ ts) = nat_lt n 200 && is_shallow (n + 1) ts
-is_shallow n (Fixed Close ∷ ts) = is_shallow (n - 1) ts
-is_shallow n (t ∷ ts) = is_shallow n ts
+is_shallow n (t ∷ ts) = if opens t then nat_lt n 200 && is_shallow (n + 1) ts else if closes t then is_shallow (n - 1) ts else is_shallow n ts
 
 -- the signs have this tree
 pub record HasTree (ts : List Sign) (e : Tree) : Type 0 where

@@ -1,4 +1,5 @@
 pub mod Elaboration
+pub mod Faults
 pub mod Grammar
 pub mod Parsing
 pub mod ReadTrees

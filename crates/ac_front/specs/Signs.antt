@@ -2,7 +2,7 @@
 use Rattle.std.specs.Prelude.{ℕ, Bool, true, false, List, [], ◌∷◌, map, codes, Option, Some, None, if◌then◌else◌}
 use Rattle.ac_types.specs.Types.{Bytes, Typ, TInt, TBool, TStr, TUnit, same_bytes}
 use Rattle.ac_front.specs.declared.sign.Symbol.{Symbol}
-use Rattle.ac_front.specs.declared.sign.Symbol.TheVariants.{Semicolon, Less, Plus, Minus, Star, IntType, BoolType, StringType, UnitType}
+use Rattle.ac_front.specs.declared.sign.Symbol.TheVariants.{Open, Close, Less, Plus, Minus, Star, IntType, BoolType, StringType, UnitType}
 use Rattle.ac_front.specs.declared.sign.Sign.{Sign}
 use Rattle.ac_front.specs.declared.sign.Sign.TheVariants.{Fixed}
 use Rattle.ac_front.specs.declared.sign.Placed.{Placed}
@@ -47,3 +47,11 @@ level_of op.Less = 3
 abbrev pub chains : Operator → Bool
 chains op.Less = false
 chains o = true
+
+abbrev pub opens : Sign → Bool
+opens (Fixed Open) = true
+opens t = false
+
+abbrev pub closes : Sign → Bool
+closes (Fixed Close) = true
+closes t = false

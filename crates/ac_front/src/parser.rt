@@ -1,20 +1,24 @@
 // From signs to a tree, by recursive descent. Each parser takes the front of the signs and gives what is left.
 // A tree may have the height `depth` at most: what would be higher is refused on the way down.
 
-ghost use Rattle.std.specs.Prelude.{◌≡◌, ◌<◌, ◌≤◌, ◌-◌, ◌^◌, ◌∷◌, max, length, IfOk, IfErr};
+ghost use Rattle.std.specs.Prelude.{◌≡◌, ◌<◌, ◌≤◌, ◌-◌, ◌^◌, ◌∷◌, List, true, false, max, length, IfOk, IfErr, MatchOption};
 ghost use Rattle.ac_types.specs.ReadTypes.{typ_of};
-ghost use Rattle.ac_front.specs.Trees.{height, Op, Print, LetIn, IfElse};
-ghost use Rattle.ac_front.specs.Signs.{signs};
-ghost use Rattle.ac_front.specs.Grammar.{Expr, Rest, Part, Binary, App, Atom};
+ghost use Rattle.ac_front.specs.Trees.{Tree, height, Op, Print, LetIn, IfElse};
+ghost use Rattle.ac_front.specs.Signs.{signs, opens, closes};
+ghost use Rattle.ac_front.specs.Grammar.{Expr, Rest, Part, Binary, App, Atom, HasTree, is_shallow};
 ghost use Rattle.ac_front.specs.Parsing.{IsTree, NoTree, OnSyntax, SequenceOf};
+ghost use Rattle.ac_front.specs.Faults.{OnFault, IsPlace};
+ghost use Rattle.ac_front.specs.declared.sign.Sign.{Sign};
 ghost use Rattle.ac_front.specs.ReadTrees.{tree_of};
 ghost use Rattle.ac_front.specs.declared.parser.Stop.TheVariants as stop;
 
-use crate::front::{after, binder, leaf, operator, printer};
+use crate::front::{after, binder, leaf, next, operator, printer};
 use crate::sign::{Placed, Sign, Symbol};
 use crate::surface::{Operator, Printer, Surface};
 use ac_types::{Box, Many, Memory, Ty, Word};
 use std::alloc::Global;
+
+const MAX_HEIGHT: u32 = 500;
 
 /// A tree, and its height.
 #[derive(Drop)]
@@ -300,4 +304,90 @@ fn sequence(alloc: Global, depth: u32, first: Parsed, tokens: &[Placed]) -> Resu
         };
         rest = behind;
     }
+}
+
+fn opens(sign: &Sign) -> bool
+    ensures { result ≡ opens sign.now }
+{
+    matches!(sign, Sign::Fixed(Symbol::Open))
+}
+
+fn closes(sign: &Sign) -> bool
+    ensures { result ≡ closes sign.now }
+{
+    matches!(sign, Sign::Fixed(Symbol::Close))
+}
+
+/// What is left at the first opener at which more than 200 are unclosed.
+#[tactic(auto, using(crate::proofs::Depth::depth_laws))]
+fn too_deep(tokens: &[Placed]) -> Option<&[Placed]>
+    ensures { MatchOption result (is_shallow 0 (signs tokens.now) ≡ true) (λ _. is_shallow 0 (signs tokens.now) ≡ false) }
+{
+    let mut open = 0u32;
+    let mut rest = tokens;
+    while let Some((sign, behind)) = next(rest) {
+        if opens(sign) {
+            if open >= 200 {
+                return Some(rest);
+            }
+            open += 1;
+        } else if closes(sign) {
+            open = open.saturating_sub(1);
+        }
+        rest = behind;
+    }
+    None
+}
+
+fn whole(alloc: Global, tokens: &[Placed]) -> Result<Surface, Stop>
+    ensures tree { IfOk result (λ tree. HasTree (signs tokens.now) (tree_of tree)) }
+    ensures none { IfErr result (λ e. OnSyntax e ((t : Tree) → HasTree (signs tokens.now) t → ⊥)) }
+{
+    if let Some(rest) = too_deep(tokens) {
+        return Err(refused_at(rest));
+    }
+    let (parsed, rest) = expr(alloc, MAX_HEIGHT, tokens)?;
+    if !rest.is_empty() {
+        return Err(refused_at(rest));
+    }
+    Ok(parsed.tree)
+}
+
+/// Why there is no tree.
+#[derive(Clone, Copy, Debug, PartialEq, Eq)]
+pub enum ParseFault {
+    /// No tree has these signs. `at` is the place of a sign at which the parser stopped, or the end of the text.
+    Syntax { at: u32 },
+    Memory,
+}
+
+fn place(tokens: &[Placed], left: usize, end: u32) -> u32
+    ensures { IsPlace tokens.now end result }
+{
+    let passed = tokens.len().saturating_sub(left);
+    match tokens.get(passed) {
+        Some(token) => token.at,
+        None => end,
+    }
+}
+
+/// The one tree of the signs of a whole text, which ends at `end`.
+pub fn parse(alloc: Global, tokens: &[Placed], end: u32) -> Result<Surface, ParseFault>
+    ensures tree { IfOk result (λ tree. HasTree (signs tokens.now) (tree_of tree)) }
+    ensures none { IfErr result (λ fault. OnFault fault (λ at. (t : Tree) → HasTree (signs tokens.now) t → ⊥)) }
+    ensures place { IfErr result (λ fault. OnFault fault (IsPlace tokens.now end)) }
+{
+    match whole(alloc, tokens) {
+        Ok(tree) => Ok(tree),
+        Err(Stop::Memory) => Err(ParseFault::Memory),
+        Err(Stop::Syntax(left)) => Err(ParseFault::Syntax {
+            at: place(tokens, left, end),
+        }),
+    }
+}
+
+/// A list of signs has at most one tree.
+pub fn one_tree()
+    ensures { (ts : List Sign) (e f : Tree) → HasTree ts e → HasTree ts f → e ≡ f }
+{
 }
