@@ -8,3 +8,5 @@ pub mod Parts
 pub mod Sequences
 pub mod TreeLaws
 pub mod Unique
+pub mod Whole
+pub mod NameLaws

@@ -1,5 +1,5 @@
 -- The core term of a tree, and which trees have a type.
-use Rattle.std.specs.Prelude.{ℕ, Bool, List, [], ◌∷◌, Option, Some, None, option_map, option_and_then, position}
+use Rattle.std.specs.Prelude.{ℕ, suc, Bool, true, false, List, [], ◌∷◌, Option, Some, None, option_map, option_and_then}
 use Rattle.ac_types.specs.Types.{Bytes, Typ, same_bytes}
 use Rattle.ac_terms.specs.Terms.{Expr, Int, Boolean, Str, Unit', Var, Let, If, Seq, Prim, Exprs, no_exprs, expr}
 use Rattle.ac_terms.specs.Typing.{type_of}
@@ -20,9 +20,10 @@ abbrev pub number_of_printer : Printer → ℕ
 number_of_printer printer.Int = 10
 number_of_printer printer.Str = 11
 
--- how many of the names, the newest first, stand before this one
+-- how many of the names, the newest first, stand before the first that is this one
 abbrev pub binders_to : Bytes → List Bytes → Option ℕ
-binders_to x names = position (λ y. same_bytes y x) names
+binders_to x [] = None
+binders_to x (y ∷ names) = elim (same_bytes y x) [ true ↦ Some 0 | false ↦ option_map suc (binders_to x names) ]
 
 abbrev pub put_before : Option Expr → Option Exprs → Option Exprs
 put_before (Some e) (Some es) = Some (expr e es)

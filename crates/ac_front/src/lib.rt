@@ -2,6 +2,7 @@
 #![tactic(auto)]
 
 mod front;
+mod names;
 mod parser;
 mod sign;
 mod surface;

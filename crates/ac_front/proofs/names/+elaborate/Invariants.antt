@@ -1,0 +1,12 @@
+use Rattle.std.proofs.Common.{◌≡◌, map}
+use Rattle.ac_terms.specs.Read.{expr_of}
+use Rattle.ac_front.specs.Trees.{trees}
+use Rattle.ac_front.specs.ReadTrees.{tree_of}
+use Rattle.ac_front.specs.Elaboration.{elaborated_all}
+use Rattle.ac_front.specs.Scopes.{names_of}
+use Rattle.ac_front.proofs.NameLaws.{ahead, parts_from}
+use Rattle.ac_front.proofs.names.+elaborate.Given as goal
+
+abbrev pub invariant-elaborate_all-loop-tree : goal.invariant-elaborate_all-loop-tree
+invariant-elaborate_all-loop-tree l =
+    elaborated_all (names_of l.scope) (trees (map tree_of l.all)) ≡ ahead (map expr_of l.terms) (parts_from (names_of l.scope) l.tree-index l.all)
