@@ -1,5 +1,6 @@
 pub mod Begin
 pub mod Depth
+pub mod FrontLaws
 pub mod Fronts
 pub mod Heights
 pub mod Levels
@@ -7,6 +8,7 @@ pub mod Operands
 pub mod Parts
 pub mod Sequences
 pub mod TreeLaws
+pub mod TypeLaws
 pub mod Unique
 pub mod Whole
 pub mod NameLaws

@@ -1,5 +1,5 @@
 -- The equations that elaboration needs: of terms form by form, of scopes, of lists of parts.
-use Rattle.std.proofs.Common.{◌≡◌, ◌∙◌, ap, refl, sym, ℕ, ℤ, Bool, Bor, List, [], ◌∷◌, ◌++◌, map, Option, Some, None, ◌+◌, ◌<◌, length, drop, get_or, add-one, drop-cons}
+use Rattle.std.proofs.Common.{◌≡◌, ◌∙◌, ap, refl, sym, arith, ℕ, zero, suc, max, ◌≤◌, ℤ, Bool, Bor, List, [], ◌∷◌, ◌++◌, map, Option, Some, None, ◌+◌, ◌<◌, length, drop, get_or, add-one, drop-cons}
 use Rattle.std.proofs.Math.Seq.{drop-length}
 use Rattle.ac_types.specs.Types.{Bytes}
 use Rattle.ac_types.specs.ReadTypes.{typ_of}
@@ -13,10 +13,13 @@ use Rattle.ac_terms.specs.declared.term.PVal.{PVal}
 use Rattle.ac_terms.specs.declared.term.PVal.TheOpen.{Term-F}
 use Rattle.ac_terms.specs.declared.term.Term.TheVariants as term
 use Rattle.ac_terms.proofs.ReadLaws.{read_parts, expr_out, expr_of-Seq, expr_of-Prim}
-use Rattle.ac_front.specs.Trees.{trees}
+use Rattle.ac_front.specs.Trees.{trees, height, highest}
 use Rattle.ac_front.specs.ReadTrees.{tree_of}
 use Rattle.ac_front.specs.Elaboration.{elaborated, elaborated_all, put_before}
 use Rattle.ac_front.specs.declared.surface.Surface.{Surface}
+use Rattle.ac_front.specs.declared.surface.Surface.TheVariants as code
+use Rattle.ac_front.specs.declared.surface.Operator.{Operator}
+use Rattle.ac_front.specs.declared.surface.Printer.{Printer}
 use Rattle.ac_front.specs.Scopes.{names_of, names_step}
 use Rattle.ac_front.specs.declared.names.Scope.{Scope, out-Scope, map-Scope, fold_out-Scope}
 use Rattle.ac_front.specs.declared.names.Scope.TheOpen.{Scope-F}
@@ -107,7 +110,37 @@ module _ (names : List Bytes) (i : ℕ) (ss : List Surface) (s : Surface) (h : i
       ∙ sym (ahead_more (map expr_of ts) (expr_of t) _)
       ∙ ap (λ (es : List Expr). ahead es (parts_from names (i + 1) ss)) (sym (ap (map expr_of) pushed ∙ exprs_pushed ts t))
 
+pub parts_end : (names : List Bytes) (ss : List Surface) (i : ℕ) → i ≡ length ss → parts_from names i ss ≡ Some no_exprs
+parts_end names ss i e = ap (λ (xs : List Surface). elaborated_all names (trees (map tree_of xs))) (ap (λ (n : ℕ). drop n ss) e ∙ drop-length ss)
+
 pub parts_all : (names : List Bytes) (ss : List Surface) (all : Option Exprs) (ts : List Term) (i : ℕ) → i ≡ length ss → all ≡ ahead (map expr_of ts) (parts_from names i ss) → all ≡ Some (exprs (map expr_of ts))
 parts_all names ss all ts i e so =
-    let none : parts_from names i ss ≡ Some no_exprs = ap (λ (xs : List Surface). elaborated_all names (trees (map tree_of xs))) (ap (λ (n : ℕ). drop n ss) e ∙ drop-length ss) in
-    so ∙ ap (ahead (map expr_of ts)) none ∙ ahead_all (map expr_of ts)
+    so ∙ ap (ahead (map expr_of ts)) (parts_end names ss i e) ∙ ahead_all (map expr_of ts)
+
+-- heights of the parts of a tree
+
+pub op_height : (s : Surface) (o : Operator) (l r : Surface) → s ≡ code.Op o l r → height (tree_of s) ≡ max (height (tree_of l)) (height (tree_of r)) + 1
+op_height s o l r e = ap (λ (x : Surface). height (tree_of x)) e ∙ ap height (tree_of-Op o l r)
+
+pub print_height : (s : Surface) (p : Printer) (a : Surface) → s ≡ code.Print p a → height (tree_of s) ≡ height (tree_of a) + 1
+print_height s p a e = ap (λ (x : Surface). height (tree_of x)) e ∙ ap height (tree_of-Print p a)
+
+pub let_height : (s : Surface) (w : Bytes) (t : Ty) (a b : Surface) → s ≡ code.Let w t a b → height (tree_of s) ≡ max (height (tree_of a)) (height (tree_of b)) + 1
+let_height s w t a b e = ap (λ (x : Surface). height (tree_of x)) e ∙ ap height (tree_of-Let w t a b)
+
+pub if_height : (s c a b : Surface) → s ≡ code.If c a b → height (tree_of s) ≡ max (height (tree_of c)) (max (height (tree_of a)) (height (tree_of b))) + 1
+if_height s c a b e = ap (λ (x : Surface). height (tree_of x)) e ∙ ap height (tree_of-If c a b)
+
+pub seq_height : (s : Surface) (ss : List Surface) → s ≡ code.Seq ss → height (tree_of s) ≡ highest (trees (map tree_of ss)) + 1
+seq_height s ss e = ap (λ (x : Surface). height (tree_of x)) e ∙ ap height (tree_of-Seq ss)
+
+pub same_height : (s t : Surface) → s ≡ t → height (tree_of s) ≡ height (tree_of t)
+same_height s t e = ap (λ (x : Surface). height (tree_of x)) e
+
+pub part_height : (ss : List Surface) (i : ℕ) (s : Surface) → i < length ss → s ≡ get_or ss i s → height (tree_of s) ≤ highest (trees (map tree_of ss))
+part_height [] i s h e = absurd (omega arith)
+part_height (t ∷ ss) zero s h e = let q = same_height s t e in omega arith
+part_height (t ∷ ss) (suc i) s h e = let q = part_height ss i s (omega arith) e in omega arith
+
+pub scope_length : (s : Scope) (outer : Bor Scope) (word : Bor Bytes) → s ≡ scope.Inner outer word → length (names_of s) ≡ length (names_of outer.now) + 1
+scope_length s outer word e = omega (arith, ap (λ (x : Scope). length (names_of x)) e, ap length (names_of-Inner outer word))

@@ -1,0 +1,12 @@
+use Rattle.std.proofs.Common.{◌≡◌, ◌∙◌, sym, ap, arith, length, Some, None}
+use Rattle.std.specs.Prelude.{option_map}
+use Rattle.ac_terms.specs.Read.{expr_of}
+use Rattle.ac_front.proofs.NameLaws.{names_of-Empty}
+use Rattle.ac_front.proofs.FrontLaws.{untyped, unbound, accepted}
+use Rattle.ac_front.proofs.accept.check.Goals as goal
+
+pub returns-in_default-clause-fault : goal.returns-in_default-clause-fault
+returns-in_default-clause-fault c = untyped _ _ c.in_ok-tree.ensures.tree c.in_default.ensures
+
+pub elaborate-requires : goal.elaborate-requires
+elaborate-requires c = omega (arith, c.in_ok-tree.ensures.tree.low, ap length names_of-Empty)
