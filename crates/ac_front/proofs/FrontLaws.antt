@@ -13,6 +13,7 @@ use Rattle.ac_front.specs.Typed.{typed}
 use Rattle.ac_front.specs.declared.sign.Sign.{Sign}
 use Rattle.ac_front.specs.declared.names.Scope.TheVariants as scope
 use Rattle.ac_front.specs.declared.typing.Types.TheVariants as types
+use Rattle.ac_front.proofs.Spoken.{elaborated_spoken}
 use Rattle.ac_front.proofs.NameLaws.{names_of-Empty}
 use Rattle.ac_front.proofs.TypeLaws.{bound_names-Empty, bound_types-Empty}
 
@@ -32,4 +33,4 @@ unbound ts t has none = record { tree = t; has = has; untyped = ap (λ (o : Opti
 pub accepted : (ts : List Sign) (t : Tree) (e : Expr) (T : Typ) → HasTree ts t → Some e ≡ elaborated (names_of scope.Empty) t → Some T ≡ typed (bound_types types.Empty) (elaborated (bound_names types.Empty) t) → Accepts ts e
 accepted ts t e T has term ty =
     let found : elaborated [] t ≡ Some e = sym (term ∙ elaborated_empty t) in
-    record { tree = t; has = has; elaborates = found; ty = T; typed = sym (ty ∙ typed_empty t ∙ ap (λ (o : Option Expr). option_and_then (type_of []) o) found) }
+    record { tree = t; has = has; elaborates = found; ty = T; typed = sym (ty ∙ typed_empty t ∙ ap (λ (o : Option Expr). option_and_then (type_of []) o) found); spoken = elaborated_spoken [] t e found }

@@ -7,6 +7,7 @@ pub mod Levels
 pub mod Operands
 pub mod Parts
 pub mod Sequences
+pub mod Spoken
 pub mod TreeLaws
 pub mod TypeLaws
 pub mod Unique

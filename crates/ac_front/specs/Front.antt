@@ -1,9 +1,10 @@
 -- What is accepted, with which term, and what is refused.
-use Rattle.std.specs.Prelude.{◌≡◌, ℕ, List, [], Some, None}
+use Rattle.std.specs.Prelude.{◌≡◌, ℕ, true, List, [], Some, None}
 use Rattle.ac_types.specs.Types.{Typ}
 use Rattle.ac_terms.specs.Terms.{Expr}
 use Rattle.ac_terms.specs.Typing.{type_of}
 use Rattle.ac_front.specs.Trees.{Tree}
+use Rattle.ac_front.specs.Language.{is_spoken}
 use Rattle.ac_front.specs.Grammar.{HasTree}
 use Rattle.ac_front.specs.Elaboration.{elaborated, type_of_tree}
 use Rattle.ac_front.specs.Faults.{IsPlace}
@@ -14,13 +15,14 @@ use Rattle.ac_front.specs.declared.parser.ParseFault.TheVariants as parse
 use Rattle.ac_front.specs.declared.accept.FrontFault.{FrontFault}
 use Rattle.ac_front.specs.declared.accept.FrontFault.TheVariants.{Syntax, IllTyped, Memory}
 
--- the signs have a tree, whose term this is, and it has a type
+-- the signs have a tree, whose term this is, and it has a type; so it is a closed term of this language
 pub record Accepts (ts : List Sign) (e : Expr) : Type 0 where
   pub tree : Tree
   pub has : HasTree ts tree
   pub elaborates : elaborated [] tree ≡ Some e
   pub ty : Typ
   pub typed : type_of [] e ≡ Some ty
+  pub spoken : is_spoken e ≡ true
 
 -- the signs have a tree that has no type
 pub record IsUntyped (ts : List Sign) : Type 0 where

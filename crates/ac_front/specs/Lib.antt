@@ -2,6 +2,7 @@ pub mod Elaboration
 pub mod Faults
 pub mod Front
 pub mod Grammar
+pub mod Language
 pub mod Parsing
 pub mod ReadTrees
 pub mod Scopes

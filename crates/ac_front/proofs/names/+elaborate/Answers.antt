@@ -45,12 +45,12 @@ elaborate_all-elaborate-requires t c = let h = part_height _ _ _ c.loop-tree-tes
 
 pub elaborate_all-returns-in_default : goal.elaborate_all-returns-in_default
 elaborate_all-returns-in_default t c =
-    sym (part_unbound _ _ _ _ c.loop-tree-test.true c.tree-item.is _ _ c.loop-tree.invariant (sym c.in_ok-term.ensures ∙ ap (option_map expr_of) c.in_default.is))
+    sym (part_unbound _ _ _ _ c.loop-tree-test.true c.tree-item.is _ c.loop-tree.terms c.loop-tree.invariant (sym c.in_ok-term.ensures ∙ ap (option_map expr_of) c.in_default.is))
 
 pub elaborate_all-loop-tree-preserved : goal.elaborate_all-loop-tree-preserved
 elaborate_all-loop-tree-preserved t c =
-    part_pushed _ _ _ _ c.loop-tree-test.true c.tree-item.is _ _ c.loop-tree.invariant _ _ c.in_ok-push.ensures.ok (sym c.in_ok-term.ensures ∙ ap (option_map expr_of) c.in-Some.is)
+    part_pushed _ _ _ _ c.loop-tree-test.true c.tree-item.is _ c.loop-tree.terms c.loop-tree.invariant _ _ c.in_ok-push.ensures.ok (sym c.in_ok-term.ensures ∙ ap (option_map expr_of) c.in-Some.is)
 
 pub elaborate_all-returns : goal.elaborate_all-returns
 elaborate_all-returns t c =
-    let e : c.loop-tree.tree-index ≡ length c.args.all.now = omega arith in sym (parts_all _ _ _ _ _ e c.loop-tree.invariant)
+    let e : c.loop-tree.tree-index ≡ length c.args.all.now = omega arith in sym (parts_all _ _ _ c.loop-tree.terms _ e c.loop-tree.invariant)
