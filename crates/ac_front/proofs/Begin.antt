@@ -1,5 +1,5 @@
 -- With which signs a part of each level begins.
-use Rattle.std.proofs.Common.{◌≡◌, Bool, true, false, ◌||◌, List, [], ◌∷◌, refl, ap, ◌∙◌}
+use Rattle.std.proofs.Common.{◌≡◌, Bool, true, false, ◌||◌, List, ◌∷◌, refl, ap}
 use Rattle.ac_front.specs.Grammar.{Level, Expr, Rest, Part, Binary, After, App, Atom, Ending, Parses, alone, sequence, last, more, let_in, if_else, compared, binary, applied, stop, left, once, print, atom, number, quote, yes_, no_, nothing, name, parens}
 use Rattle.ac_front.specs.declared.sign.Symbol.TheVariants.{Open, Let, If, Io, True, False}
 use Rattle.ac_front.specs.declared.sign.Sign.{Sign}

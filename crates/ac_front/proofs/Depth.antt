@@ -1,6 +1,6 @@
 -- One sign further, for the number of unclosed openers.
-use Rattle.std.proofs.Common.{rules, ◌≡◌, ℕ, ◌+◌, ◌-◌, ◌<◌, ◌≤◌, true, false, List, ◌∷◌, refl, ap, ◌∙◌, arith}
-use Rattle.std.specs.Prelude.{◌&&◌, nat_lt}
+use Rattle.std.proofs.Common.{rules, ◌≡◌, ℕ, ◌+◌, ◌-◌, ◌<◌, ◌≤◌, true, false, List, ◌∷◌}
+use Rattle.std.specs.Prelude.{nat_lt}
 use Rattle.ac_front.specs.Signs.{opens, closes}
 use Rattle.ac_front.specs.Grammar.{is_shallow}
 use Rattle.ac_front.specs.declared.sign.Sign.{Sign}

@@ -1,6 +1,6 @@
 -- From the tree of a text to what is accepted.
 use Rattle.std.proofs.Common.{◌≡◌, ◌∙◌, sym, ap, List, [], Option, Some, None}
-use Rattle.std.specs.Prelude.{option_map, option_and_then}
+use Rattle.std.specs.Prelude.{option_and_then}
 use Rattle.ac_types.specs.Types.{Bytes, Typ}
 use Rattle.ac_terms.specs.Terms.{Expr}
 use Rattle.ac_terms.specs.Typing.{type_of}

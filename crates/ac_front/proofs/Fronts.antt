@@ -1,18 +1,17 @@
 -- What stands at the front of the signs, over lists of signs.
-use Rattle.std.proofs.Common.{◌≡◌, ℕ, ℤ, Bool, true, false, List, [], ◌∷◌, Option, Some, None, refl, sym, ◌∙◌, ap, subst}
+use Rattle.std.proofs.Common.{◌≡◌, ℕ, ℤ, true, false, List, [], ◌∷◌, Some, None, refl, sym, ◌∙◌, ap, subst}
 use Rattle.ac_types.proofs.FirstLaws.{none≢some, some_eq}
-use Rattle.ac_types.specs.Types.{Bytes, Typ}
+use Rattle.ac_types.specs.Types.{Bytes}
 use Rattle.ac_types.specs.declared.text.Text.{Text}
 use Rattle.ac_front.specs.Trees.{Tree, Number, Quote, Truth, Nothing, Name, height}
-use Rattle.ac_front.specs.Signs.{operator_of, level_of, type_named, printer_of}
-use Rattle.ac_front.specs.Grammar.{Atom, Ending, Closed, Parses, number, quote, yes_, no_, nothing, name, parens}
-use Rattle.ac_front.specs.Parsing.{OperatorAt, NoOperator, PrinterAt, NoPrinter, BinderAt, NoBinder, LeafAt, NoLeaf, Enclosed}
+use Rattle.ac_front.specs.Signs.{operator_of, level_of}
+use Rattle.ac_front.specs.Grammar.{Atom, Closed, Parses, number, quote, yes_, no_, nothing, name, parens}
+use Rattle.ac_front.specs.Parsing.{NoOperator, LeafAt, NoLeaf, Enclosed}
 use Rattle.ac_front.specs.declared.sign.Symbol.{Symbol}
-use Rattle.ac_front.specs.declared.sign.Symbol.TheVariants.{Open, Close, Colon, Equals, Io, Dot, True, False}
+use Rattle.ac_front.specs.declared.sign.Symbol.TheVariants.{Open, Close, True, False}
 use Rattle.ac_front.specs.declared.sign.Sign.{Sign}
 use Rattle.ac_front.specs.declared.sign.Sign.TheVariants.{Int, Str, Lower, Fixed, Other}
 use Rattle.ac_front.specs.declared.surface.Operator.{Operator}
-use Rattle.ac_front.specs.declared.surface.Printer.{Printer}
 
 pub head_symbol : {t u : Symbol} {ts us : List Sign} → Fixed t ∷ ts ≡ Fixed u ∷ us → t ≡ u
 head_symbol e = cc

@@ -1,7 +1,7 @@
 -- Heights, and what every level shares.
-use Rattle.std.proofs.Common.{◌≡◌, ℕ, suc, ◌+◌, ◌<◌, ◌≤◌, max, List, [], ◌∷◌, refl, sym, subst, arith}
-use Rattle.ac_front.specs.Trees.{Tree, Number, Quote, Truth, Nothing, Name, Op, Print, LetIn, IfElse, Sequence, Trees, height}
-use Rattle.ac_front.specs.Grammar.{Level, Binary, After, App, Atom, Ending, Closed, Parses, binary, applied, stop, left, once, print, atom, number, quote, yes_, no_, nothing, name, parens}
+use Rattle.std.proofs.Common.{ℕ, ◌<◌, ◌≤◌, List, ◌∷◌, arith}
+use Rattle.ac_front.specs.Trees.{Tree, Number, Quote, Truth, Nothing, Name, Op, Print, LetIn, IfElse, Sequence, height}
+use Rattle.ac_front.specs.Grammar.{Level, Binary, App, Atom, Ending, Closed, Parses, binary, applied, print, atom, number, quote, yes_, no_, nothing, name, parens}
 use Rattle.ac_front.specs.Parsing.{front, IsTree, NoTree}
 use Rattle.ac_front.specs.declared.sign.Symbol.{Symbol}
 use Rattle.ac_front.specs.declared.sign.Symbol.TheVariants.{Semicolon}

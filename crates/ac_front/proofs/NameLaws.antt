@@ -5,7 +5,7 @@ use Rattle.ac_types.specs.Types.{Bytes}
 use Rattle.ac_types.specs.ReadTypes.{typ_of}
 use Rattle.ac_types.specs.declared.text.Text.{Text}
 use Rattle.ac_types.specs.declared.ty.Ty.{Ty}
-use Rattle.ac_terms.specs.Terms.{Expr, Int, Boolean, Str, Unit', Var, Let, If, Exprs, no_exprs, expr, exprs}
+use Rattle.ac_terms.specs.Terms.{Expr, Int, Boolean, Str, Unit', Var, Let, If, Exprs, no_exprs, exprs}
 use Rattle.ac_terms.specs.Read.{expr_of, expr_layer}
 use Rattle.ac_terms.specs.declared.term.Term.{Term}
 use Rattle.ac_terms.specs.declared.term.Arm.{Arm}

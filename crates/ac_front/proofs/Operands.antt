@@ -1,11 +1,10 @@
 -- The parser's steps at operators, applications and atoms, over lists of signs.
-use Rattle.std.proofs.Common.{◌≡◌, ℕ, zero, suc, ◌+◌, ◌<◌, ◌≤◌, max, Bool, true, false, List, [], ◌∷◌, Option, Some, None, refl, sym, ◌∙◌, ap, subst, arith}
-use Rattle.ac_types.proofs.FirstLaws.{some_eq}
+use Rattle.std.proofs.Common.{◌≡◌, ℕ, zero, suc, ◌+◌, ◌<◌, ◌≤◌, true, false, List, ◌∷◌, Some, refl, sym, ◌∙◌, ap, subst, arith}
 use Rattle.ac_types.specs.Types.{Bytes}
 use Rattle.ac_front.specs.Trees.{Tree, Op, Print, height}
 use Rattle.ac_front.specs.Signs.{operator_of, level_of, printer_of, chains}
-use Rattle.ac_front.specs.Grammar.{Level, Expr, Binary, After, App, Atom, Ending, Closed, Parses, binary, applied, stop, left, once, print, atom, parens}
-use Rattle.ac_front.specs.Parsing.{front, IsTree, NoTree, OperatorAt, NoOperator, PrinterAt, NoPrinter, LeafAt, Enclosed, NoLeaf}
+use Rattle.ac_front.specs.Grammar.{Expr, Binary, After, App, Atom, Ending, Closed, Parses, binary, applied, stop, left, once, print, atom, parens}
+use Rattle.ac_front.specs.Parsing.{front, IsTree, NoTree, OperatorAt, NoOperator, PrinterAt, NoPrinter, LeafAt, NoLeaf}
 use Rattle.ac_front.specs.declared.sign.Symbol.{Symbol}
 use Rattle.ac_front.specs.declared.sign.Symbol.TheVariants.{Open, Close, Semicolon, Less, Plus, Minus, Star, Io, Dot}
 use Rattle.ac_front.specs.declared.sign.Sign.{Sign}

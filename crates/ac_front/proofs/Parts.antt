@@ -1,17 +1,15 @@
 -- The parser's steps at `let`, `if` and what is compared, over lists of signs.
-use Rattle.std.proofs.Common.{◌≡◌, ℕ, suc, ◌+◌, ◌<◌, ◌≤◌, max, List, [], ◌∷◌, Some, refl, sym, ◌∙◌, ap, subst, arith}
-use Rattle.ac_types.proofs.FirstLaws.{some_eq}
+use Rattle.std.proofs.Common.{◌≡◌, ℕ, suc, ◌+◌, ◌<◌, ◌≤◌, max, List, ◌∷◌, refl, sym, ◌∙◌, ap, subst, arith}
 use Rattle.ac_types.specs.Types.{Bytes, Typ}
 use Rattle.ac_front.specs.Trees.{Tree, LetIn, IfElse, height}
-use Rattle.ac_front.specs.Signs.{type_named}
-use Rattle.ac_front.specs.Grammar.{Level, Expr, Part, Binary, Ending, Closed, Swallow, Parses, let_in, if_else, compared}
+use Rattle.ac_front.specs.Grammar.{Expr, Part, Binary, Ending, Closed, Swallow, Parses, let_in, if_else, compared}
 use Rattle.ac_front.specs.Parsing.{front, Stops, IsTree, NoTree, BinderAt, NoBinder}
 use Rattle.ac_front.specs.declared.sign.Symbol.{Symbol}
 use Rattle.ac_front.specs.declared.sign.Symbol.TheVariants.{Let, Colon, Equals, In, If, Then, Else}
 use Rattle.ac_front.specs.declared.sign.Sign.{Sign}
 use Rattle.ac_front.specs.declared.sign.Sign.TheVariants.{Lower, Fixed}
 use Rattle.ac_front.proofs.Begin.{begins}
-use Rattle.ac_front.proofs.Unique.{apart, unique, tail_eq}
+use Rattle.ac_front.proofs.Unique.{apart, tail_eq}
 use Rattle.ac_front.proofs.Heights.{same_tree, closed_operand}
 
 -- what is compared

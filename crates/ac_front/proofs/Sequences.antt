@@ -1,14 +1,13 @@
 -- The parser's steps at `;`, over lists of signs.
 use Rattle.std.proofs.Common.{◌≡◌, ℕ, suc, ◌+◌, ◌<◌, ◌≤◌, max, List, [], ◌∷◌, ◌++◌, refl, sym, ◌∙◌, ap, subst, arith}
 use Rattle.ac_front.specs.Trees.{Tree, Sequence, Trees, no_trees, tree, trees, height, highest}
-use Rattle.ac_front.specs.Grammar.{Level, Expr, Rest, Part, Ending, Closed, Swallow, Parses, alone, sequence, last, more}
+use Rattle.ac_front.specs.Grammar.{Expr, Rest, Part, Ending, Closed, Swallow, Parses, alone, sequence, last, more}
 use Rattle.ac_front.specs.Parsing.{front, looseness, Stops, IsTree, NoTree, SequenceOf}
 use Rattle.ac_front.specs.declared.sign.Symbol.{Symbol}
 use Rattle.ac_front.specs.declared.sign.Symbol.TheVariants.{Semicolon, Less, Plus, Minus, Star}
 use Rattle.ac_front.specs.declared.sign.Sign.{Sign}
 use Rattle.ac_front.specs.declared.sign.Sign.TheVariants.{Fixed}
 use Rattle.ac_front.proofs.Unique.{unique, part_stops, semicolon_goes_on, at_same, tail_eq}
-use Rattle.ac_front.proofs.Heights.{same_tree}
 
 abbrev NoSemicolon : List Sign → Type 0
 NoSemicolon ts = (b : List Sign) → ts ≡ Fixed Semicolon ∷ b → ⊥

@@ -3,7 +3,7 @@ use Rattle.std.proofs.Common.{◌≡◌, refl, subst, ℕ, true, List, ◌∷◌
 use Rattle.std.specs.Prelude.{option_map}
 use Rattle.ac_types.specs.Types.{Bytes, Typ}
 use Rattle.ac_types.proofs.Same.{and_true}
-use Rattle.ac_terms.specs.Terms.{Expr, Var, Let, If, Seq, Prim, Exprs, no_exprs}
+use Rattle.ac_terms.specs.Terms.{Expr, Var, Seq, Prim, Exprs, no_exprs}
 use Rattle.ac_front.specs.Trees.{Tree, Number, Quote, Truth, Nothing, Name, Op, Print, LetIn, IfElse, Sequence, Trees, no_trees, tree}
 use Rattle.ac_front.specs.Elaboration.{elaborated, elaborated_all, binders_to, number_of, number_of_printer, put_before, let_of, if_of}
 use Rattle.ac_front.specs.Language.{is_spoken, are_spoken, is_operator, is_printer}

@@ -1,13 +1,12 @@
 -- The type of a tree form by form, in terms of the types of its parts.
-use Rattle.std.proofs.Common.{◌≡◌, ◌∙◌, ap, refl, sym, ℕ, suc, Bool, true, false, Bor, List, [], ◌∷◌, ◌+◌, ◌<◌, map, length, drop, get_or, add-one, drop-cons, Option, Some, None}
+use Rattle.std.proofs.Common.{◌≡◌, ◌∙◌, ap, refl, sym, ℕ, suc, Bool, true, false, Bor, List, [], ◌∷◌, ◌+◌, ◌<◌, map, length, get_or, Option, Some, None}
 use Rattle.std.specs.Prelude.{option_map, option_and_then, slice_get}
-use Rattle.std.proofs.Math.Seq.{drop-length}
 use Rattle.ac_types.specs.First.{given}
 use Rattle.ac_types.specs.Types.{Bytes, Typ, TInt, TBool, TStr, TUnit, Typs, no_types, typ, same}
-use Rattle.ac_terms.specs.Terms.{Expr, Int, Boolean, Str, Unit', Var, Let, If, Seq, Prim, Exprs, no_exprs, expr}
+use Rattle.ac_terms.specs.Terms.{Expr, Var, Seq, Prim, Exprs, no_exprs}
 use Rattle.ac_terms.specs.Primitives.{primitive_type}
-use Rattle.ac_terms.specs.Typing.{has, both_same, also, last_of, type_of, types_of}
-use Rattle.ac_front.specs.Trees.{Tree, Op, Print, LetIn, IfElse, Sequence, Trees, no_trees, tree, trees, Name}
+use Rattle.ac_terms.specs.Typing.{has, both_same, also, last_of, type_of}
+use Rattle.ac_front.specs.Trees.{Tree, trees}
 use Rattle.ac_front.specs.ReadTrees.{tree_of}
 use Rattle.ac_front.specs.Elaboration.{elaborated, elaborated_all, binders_to, number_of, number_of_printer, put_before, let_of, if_of}
 use Rattle.ac_front.specs.Typed.{typed, typed_all, sum_type, comparison_type, printed_type}
@@ -16,7 +15,7 @@ use Rattle.ac_front.specs.declared.typing.Types.{Types, out-Types, map-Types, fo
 use Rattle.ac_front.specs.declared.typing.Types.TheOpen.{Types-F}
 use Rattle.ac_front.specs.declared.typing.Types.TheVariants as scope
 use Rattle.ac_types.proofs.FirstLaws.{none≢some, some_eq}
-use Rattle.ac_front.proofs.TreeLaws.{tree_of-Int, tree_of-Str, tree_of-Bool, tree_of-Unit, tree_of-Var, tree_of-Op, tree_of-Print, tree_of-Let, tree_of-If, tree_of-Seq}
+use Rattle.ac_front.proofs.TreeLaws.{tree_of-Var, tree_of-Op, tree_of-Print, tree_of-Let, tree_of-If, tree_of-Seq}
 use Rattle.ac_front.proofs.NameLaws.{parts_from, parts_next, parts_end}
 use Rattle.ac_front.specs.declared.typing.Base.{Base}
 use Rattle.ac_front.specs.declared.typing.Base.TheVariants as base
@@ -168,7 +167,6 @@ print_other printer.Str base.Str e = absurd (e refl)
 print_other printer.Int a e = refl
 print_other printer.Str a e = refl
 
-
 -- no type of this language is another
 pub base_same : (b : Base) (T : Typ) → base_in T ≡ None → same (base_typ b) T ≡ false
 base_same base.Int TInt e = absurd (none≢some (sym e))
@@ -230,7 +228,6 @@ refl_base base.Str = refl
 refl_base base.Unit = refl
 
 pub ruleset bases = (other_bases, base_same, base_is, refl_base)
-
 
 -- each form of tree
 

@@ -1,17 +1,16 @@
 -- The grammar has at most one tree at a front that nothing goes on behind, so a list of signs has at most one tree.
-use Rattle.std.proofs.Common.{◌≡◌, ◌<◌, ℕ, suc, Bool, true, false, List, [], ◌∷◌, Option, Some, None, refl, sym, ◌∙◌, ap, subst, arith}
+use Rattle.std.proofs.Common.{◌≡◌, ◌<◌, ℕ, suc, true, false, List, ◌∷◌, Option, Some, refl, sym, ◌∙◌, ap, subst, arith}
 use Rattle.ac_types.proofs.FirstLaws.{none≢some, some_eq}
-use Rattle.ac_types.specs.Types.{Typ}
-use Rattle.ac_front.specs.Trees.{Tree, Op, Print, LetIn, IfElse, Sequence, Trees, no_trees, tree}
+use Rattle.ac_front.specs.Trees.{Tree, Sequence, Trees, no_trees, tree}
 use Rattle.ac_front.specs.Signs.{operator_of, level_of, chains}
-use Rattle.ac_front.specs.Grammar.{Level, Expr, Rest, Part, Binary, After, App, Atom, Ending, Closed, Swallow, Parses, alone, sequence, last, more, let_in, if_else, compared, binary, applied, stop, left, once, print, atom, number, quote, yes_, no_, nothing, name, parens, HasTree}
+use Rattle.ac_front.specs.Grammar.{Level, Part, After, Ending, Closed, Swallow, Parses, alone, sequence, last, more, let_in, if_else, compared, binary, applied, stop, left, once, print, atom, number, quote, yes_, no_, nothing, name, parens, HasTree}
 use Rattle.ac_front.specs.Parsing.{front, looseness, Stops}
 use Rattle.ac_front.specs.declared.sign.Symbol.{Symbol}
-use Rattle.ac_front.specs.declared.sign.Symbol.TheVariants.{Close, Semicolon, Let, In, If, Then, Else, Less, Plus, Minus, Star, Io}
+use Rattle.ac_front.specs.declared.sign.Symbol.TheVariants.{Semicolon, Less, Plus, Minus, Star}
 use Rattle.ac_front.specs.declared.sign.Sign.{Sign}
 use Rattle.ac_front.specs.declared.sign.Sign.TheVariants.{Fixed}
 use Rattle.ac_front.specs.declared.surface.Operator.{Operator}
-use Rattle.ac_front.proofs.Begin.{begins, may_begin}
+use Rattle.ac_front.proofs.Begin.{begins}
 
 pub apart : {P : Type 0} → false ≡ true → P
 apart e = cc

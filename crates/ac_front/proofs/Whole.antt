@@ -1,5 +1,5 @@
 -- A tree of all signs.
-use Rattle.std.proofs.Common.{◌≡◌, List, [], ◌∷◌, length, refl, sym, arith}
+use Rattle.std.proofs.Common.{◌≡◌, List, [], ◌∷◌, length, refl, arith}
 use Rattle.ac_front.specs.Trees.{Tree}
 use Rattle.ac_front.specs.Signs.{signs}
 use Rattle.ac_front.specs.Grammar.{Expr, HasTree}

@@ -9,7 +9,7 @@
 --   app     = 'IO' '.' 'print_int' atom | 'IO' '.' 'print_string' atom | atom
 --   atom    = INT | STRING | 'true' | 'false' | '(' ')' | lower | '(' expr ')'
 --   type    = 'int' | 'bool' | 'string' | 'unit'
-use Rattle.std.specs.Prelude.{◌≡◌, ℕ, zero, suc, ◌+◌, ◌-◌, ◌≤◌, ℤ, Bool, true, false, ◌&&◌, nat_lt, List, [], ◌∷◌, Option, Some, if◌then◌else◌}
+use Rattle.std.specs.Prelude.{◌≡◌, ℕ, zero, suc, ◌+◌, ◌-◌, ◌≤◌, ℤ, Bool, true, false, ◌&&◌, nat_lt, List, [], ◌∷◌, Some, if◌then◌else◌}
 use Rattle.ac_types.specs.declared.text.Text.{Text}
 use Rattle.ac_types.specs.Types.{Bytes, Typ}
 use Rattle.ac_front.specs.Trees.{Tree, Number, Quote, Truth, Nothing, Name, Op, Print, LetIn, IfElse, Sequence, Trees, no_trees, tree, height}
@@ -42,11 +42,9 @@ pub data Parses : Level → Ending → List Sign → Tree → List Sign → Type
   alone : {k : Ending} {e : Tree} {ts r : List Sign} → Parses Part k ts e r → Parses Expr k ts e r
   sequence : {k : Ending} {e : Tree} {es : Trees} {ts r s : List Sign}
       → Parses Part Closed ts e (Fixed Semicolon ∷ r) → Parses Rest k r (Sequence es) s → Parses Expr k ts (Sequence (tree e es)) s
-
   last : {k : Ending} {e : Tree} {ts r : List Sign} → Parses Part k ts e r → Parses Rest k ts (Sequence (tree e no_trees)) r
   more : {k : Ending} {e : Tree} {es : Trees} {ts r s : List Sign}
       → Parses Part Closed ts e (Fixed Semicolon ∷ r) → Parses Rest k r (Sequence es) s → Parses Rest k ts (Sequence (tree e es)) s
-
   let_in : {k j : Ending} {x : Bytes} {t : Symbol} {T : Typ} {a b : Tree} {ts r s : List Sign} → type_named t ≡ Some T
       → Parses Expr k ts a (Fixed In ∷ r) → Parses Expr j r b s
       → Parses Part Swallow (Fixed Let ∷ Lower x ∷ Fixed Colon ∷ Fixed t ∷ Fixed Equals ∷ ts) (LetIn x T a b) s
@@ -54,7 +52,6 @@ pub data Parses : Level → Ending → List Sign → Tree → List Sign → Type
       → Parses Expr i ts c (Fixed Then ∷ r) → Parses Expr j r a (Fixed Else ∷ s) → Parses Part k s b u
       → Parses Part k (Fixed If ∷ ts) (IfElse c a b) u
   compared : {e : Tree} {ts r : List Sign} → Parses (Binary 3) Closed ts e r → Parses Part Closed ts e r
-
   binary : {k : ℕ} {a e : Tree} {ts r s : List Sign}
       → Parses (Binary k) Closed ts a r → Parses (After (suc k) a) Closed r e s → Parses (Binary (suc k)) Closed ts e s
   applied : {e : Tree} {ts r : List Sign} → Parses App Closed ts e r → Parses (Binary zero) Closed ts e r
@@ -63,11 +60,9 @@ pub data Parses : Level → Ending → List Sign → Tree → List Sign → Type
       → Parses (Binary k) Closed ts b r → Parses (After (suc k) (Op o a b)) Closed r e s → Parses (After (suc k) a) Closed (Fixed t ∷ ts) e s
   once : {k : ℕ} {t : Symbol} {o : Operator} {a b : Tree} {ts r : List Sign} → operator_of t ≡ Some o → level_of o ≡ suc k → chains o ≡ false
       → Parses (Binary k) Closed ts b r → Parses (After (suc k) a) Closed (Fixed t ∷ ts) (Op o a b) r
-
   print : {w : Bytes} {p : Printer} {a : Tree} {ts r : List Sign} → printer_of w ≡ Some p
       → Parses Atom Closed ts a r → Parses App Closed (Fixed Io ∷ Fixed Dot ∷ Lower w ∷ ts) (Print p a) r
   atom : {e : Tree} {ts r : List Sign} → Parses Atom Closed ts e r → Parses App Closed ts e r
-
   number : {n : ℤ} {ts : List Sign} → Parses Atom Closed (Int n ∷ ts) (Number n) ts
   quote : {t : Text} {ts : List Sign} → Parses Atom Closed (Str t ∷ ts) (Quote t.0) ts
   yes_ : {ts : List Sign} → Parses Atom Closed (Fixed True ∷ ts) (Truth true) ts

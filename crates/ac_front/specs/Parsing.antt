@@ -1,5 +1,5 @@
 -- What a parser of one level may answer: the tree at the front that nothing goes on behind, or none.
-use Rattle.std.specs.Prelude.{◌≡◌, ℕ, ◌<◌, ◌≤◌, List, [], ◌∷◌, Option, Some, None}
+use Rattle.std.specs.Prelude.{◌≡◌, ℕ, ◌<◌, ◌≤◌, List, ◌∷◌, Option, Some, None}
 use Rattle.ac_types.specs.Types.{Bytes, Typ}
 use Rattle.ac_front.specs.Trees.{Tree, Trees, tree, Sequence, height}
 use Rattle.ac_front.specs.Signs.{operator_of, level_of, type_named, printer_of}

@@ -108,7 +108,12 @@ fn one(alloc: Global, number: u8, part: Option<Term>) -> Result<Option<Term>, Me
 
 /// A primitive at two arguments, where both are there.
 #[tactic(auto, using(crate::proofs::NameLaws::term_forms))]
-fn two(alloc: Global, number: u8, left: Option<Term>, right: Option<Term>) -> Result<Option<Term>, Memory>
+fn two(
+    alloc: Global,
+    number: u8,
+    left: Option<Term>,
+    right: Option<Term>,
+) -> Result<Option<Term>, Memory>
     ensures { IfOk result (λ o. option_map expr_of o ≡ option_map (Prim number) (put_before (option_map expr_of left) (put_before (option_map expr_of right) (Some no_exprs)))) }
 {
     let Some((left, right)) = together(left, right) else {
@@ -119,7 +124,12 @@ fn two(alloc: Global, number: u8, left: Option<Term>, right: Option<Term>) -> Re
 }
 
 #[tactic(auto, using(crate::proofs::NameLaws::term_forms))]
-fn let_term(alloc: Global, ty: &Ty, bound: Option<Term>, body: Option<Term>) -> Result<Option<Term>, Memory>
+fn let_term(
+    alloc: Global,
+    ty: &Ty,
+    bound: Option<Term>,
+    body: Option<Term>,
+) -> Result<Option<Term>, Memory>
     ensures { IfOk result (λ o. option_map expr_of o ≡ let_of (typ_of ty.now) (option_map expr_of bound) (option_map expr_of body)) }
 {
     let Some((bound, body)) = together(bound, body) else {
@@ -131,7 +141,12 @@ fn let_term(alloc: Global, ty: &Ty, bound: Option<Term>, body: Option<Term>) -> 
 }
 
 /// A box of each value, where all are there.
-fn three<T: Drop>(alloc: Global, a: Option<T>, b: Option<T>, c: Option<T>) -> Result<Option<(Box<T>, Box<T>, Box<T>)>, Memory>
+fn three<T: Drop>(
+    alloc: Global,
+    a: Option<T>,
+    b: Option<T>,
+    c: Option<T>,
+) -> Result<Option<(Box<T>, Box<T>, Box<T>)>, Memory>
     ensures { IfOk result (λ o. MatchOption o ((a ≡ None) ⊎ (b ≡ None) ⊎ (c ≡ None)) (λ x. (a ≡ Some x.0) × (b ≡ Some x.1) × (c ≡ Some x.2))) }
 {
     let Some(a) = a else {
@@ -150,7 +165,12 @@ fn three<T: Drop>(alloc: Global, a: Option<T>, b: Option<T>, c: Option<T>) -> Re
 }
 
 #[tactic(auto, using(crate::proofs::NameLaws::term_forms))]
-fn if_term(alloc: Global, test: Option<Term>, so: Option<Term>, otherwise: Option<Term>) -> Result<Option<Term>, Memory>
+fn if_term(
+    alloc: Global,
+    test: Option<Term>,
+    so: Option<Term>,
+    otherwise: Option<Term>,
+) -> Result<Option<Term>, Memory>
     ensures { IfOk result (λ o. option_map expr_of o ≡ if_of (option_map expr_of test) (option_map expr_of so) (option_map expr_of otherwise)) }
 {
     let Some((test, so, otherwise)) = three(alloc, test, so, otherwise)? else {
@@ -162,7 +182,11 @@ fn if_term(alloc: Global, test: Option<Term>, so: Option<Term>, otherwise: Optio
 /// The term of a tree, `None` exactly where a name is unbound.
 #[cycle(elaborate)]
 #[tactic(auto, using(crate::proofs::NameLaws::name_laws))]
-pub fn elaborate<'a>(alloc: Global, scope: &'a Scope<'a>, tree: &'a Surface) -> Result<Option<Term>, Memory>
+pub fn elaborate<'a>(
+    alloc: Global,
+    scope: &'a Scope<'a>,
+    tree: &'a Surface,
+) -> Result<Option<Term>, Memory>
     requires { length (names_of scope.now) + height (tree_of tree.now) < 2 ^ 16 }
     ensures { IfOk result (λ o. option_map expr_of o ≡ elaborated (names_of scope.now) (tree_of tree.now)) }
 {
@@ -207,7 +231,11 @@ pub fn elaborate<'a>(alloc: Global, scope: &'a Scope<'a>, tree: &'a Surface) -> 
 }
 
 #[cycle(elaborate)]
-fn elaborate_all<'a>(alloc: Global, scope: &'a Scope<'a>, all: &'a [Surface]) -> Result<Option<Many<Term>>, Memory>
+fn elaborate_all<'a>(
+    alloc: Global,
+    scope: &'a Scope<'a>,
+    all: &'a [Surface],
+) -> Result<Option<Many<Term>>, Memory>
     requires { length (names_of scope.now) + highest (trees (map tree_of all.now)) < 2 ^ 16 }
     ensures { IfOk result (λ o. option_map (λ ts. exprs (map expr_of ts)) o ≡ elaborated_all (names_of scope.now) (trees (map tree_of all.now))) }
 {

@@ -163,7 +163,12 @@ fn app(alloc: Global, depth: u32, tokens: &[Placed]) -> Result<(Parsed, &[Placed
 
 /// A part of this level or tighter.
 #[cycle(parser)]
-fn binary(alloc: Global, level: u32, depth: u32, tokens: &[Placed]) -> Result<(Parsed, &[Placed]), Stop>
+fn binary(
+    alloc: Global,
+    level: u32,
+    depth: u32,
+    tokens: &[Placed],
+) -> Result<(Parsed, &[Placed]), Stop>
     requires { level ≤ 3 }
     ensures tree { IfOk result (λ x. IsTree depth (Binary level) (signs tokens.now) (tree_of x.0.tree) (signs x.1.now)) }
     ensures height { IfOk result (λ x. x.0.height ≡ height (tree_of x.0.tree)) }
@@ -276,7 +281,12 @@ fn expr(alloc: Global, depth: u32, tokens: &[Placed]) -> Result<(Parsed, &[Place
 
 /// The sequence of a first part and those behind its `;`.
 #[cycle(parser)]
-fn sequence(alloc: Global, depth: u32, first: Parsed, tokens: &[Placed]) -> Result<(Parsed, &[Placed]), Stop>
+fn sequence(
+    alloc: Global,
+    depth: u32,
+    first: Parsed,
+    tokens: &[Placed],
+) -> Result<(Parsed, &[Placed]), Stop>
     requires low { first.height < depth }
     requires first { first.height ≡ height (tree_of first.tree) }
     ensures tree { IfOk result (λ x. SequenceOf depth (tree_of first.tree) (signs tokens.now) (tree_of x.0.tree) (signs x.1.now)) }
@@ -389,5 +399,4 @@ pub fn parse(alloc: Global, tokens: &[Placed], end: u32) -> Result<Surface, Pars
 /// A list of signs has at most one tree.
 pub fn one_tree()
     ensures { (ts : List Sign) (e f : Tree) → HasTree ts e → HasTree ts f → e ≡ f }
-{
-}
+{}

@@ -1,4 +1,4 @@
-use Rattle.std.proofs.Common.{◌≡◌, ◌∙◌, sym, ap, arith, length, Some, None}
+use Rattle.std.proofs.Common.{◌∙◌, sym, ap, arith, length}
 use Rattle.std.specs.Prelude.{option_map}
 use Rattle.ac_terms.specs.Read.{expr_of}
 use Rattle.ac_front.proofs.NameLaws.{names_of-Empty}

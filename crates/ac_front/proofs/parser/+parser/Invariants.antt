@@ -1,5 +1,5 @@
-use Rattle.std.proofs.Common.{◌≡◌, ◌<◌, ◌≤◌, ◌+◌, ◌*◌, ◌-◌, List, [], ◌∷◌, map, length}
-use Rattle.ac_front.specs.Trees.{Tree, trees, height, highest}
+use Rattle.std.proofs.Common.{◌≡◌, ◌<◌, ◌≤◌, ◌+◌, ◌*◌, ◌-◌, map, length}
+use Rattle.ac_front.specs.Trees.{trees, height, highest}
 use Rattle.ac_front.specs.Signs.{signs}
 use Rattle.ac_front.specs.ReadTrees.{tree_of}
 use Rattle.ac_front.proofs.Operands.{SoFar}

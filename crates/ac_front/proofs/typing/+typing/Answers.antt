@@ -1,4 +1,4 @@
-use Rattle.std.proofs.Common.{◌≡◌, ◌∙◌, sym, Some, None}
+use Rattle.std.proofs.Common.{◌∙◌, sym, Some, None}
 use Rattle.ac_front.specs.Scopes.{base_typ}
 use Rattle.ac_front.proofs.TreeLaws.{tree_of-Int, tree_of-Str, tree_of-Bool, tree_of-Unit}
 use Rattle.ac_front.proofs.TypeLaws.{at_form, op_arm, print_arm, if_arm, let_none, let_some, seq_arm, var_arm, part_typed, bound_names-Inner, bound_types-Inner}
@@ -42,4 +42,3 @@ type_of-returns-in-If t c = c.if_type.ensures ∙ if_arm _ _ _ _ _ _ _ _ _ _ _ _
 
 pub type_of-returns-in-Seq : goal.type_of-returns-in-Seq
 type_of-returns-in-Seq t c = c.last_type.ensures ∙ seq_arm _ _ _ _ _ c.in-Seq.is c.as_slice.ensures
-
