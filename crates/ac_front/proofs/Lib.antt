@@ -1,5 +1,6 @@
 pub mod Begin
 pub mod Depth
+pub mod Examples
 pub mod FrontLaws
 pub mod Fronts
 pub mod Heights

@@ -8,6 +8,7 @@ ghost use Rattle.ac_front.specs.Front.{Accepts, Refuses, Stands};
 use crate::names::{Scope, elaborate};
 use crate::parser::{ParseFault, parse};
 use crate::sign::Placed;
+use crate::surface::Surface;
 use crate::typing::{Types, type_of};
 use ac_terms::Term;
 use ac_types::Memory;
@@ -60,4 +61,13 @@ pub fn check(alloc: Global, tokens: &[Placed], end: u32) -> Result<Term, FrontFa
         return Err(FrontFault::IllTyped);
     };
     Ok(term)
+}
+
+fn crosses<T: Send + Sync>(_value: &T) {}
+
+/// Signs, trees and faults may cross to another thread.
+pub fn front_crosses(sign: &Placed, tree: &Surface, fault: &FrontFault) {
+    crosses(sign);
+    crosses(tree);
+    crosses(fault);
 }

@@ -9,7 +9,7 @@ mod sign;
 mod surface;
 mod typing;
 
-pub use accept::{FrontFault, check};
+pub use accept::{FrontFault, check, front_crosses};
 pub use names::{Scope, elaborate};
 pub use parser::{ParseFault, one_tree, parse};
 pub use sign::{Placed, Sign, Symbol};
