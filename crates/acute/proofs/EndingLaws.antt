@@ -6,7 +6,7 @@ use Rattle.ac_words.specs.Commands.{Request}
 use Rattle.acute.specs.Streams.{Reading, Writing, Whole, Part, Cut, IsFaultLine, write_line, memory_line, read_line}
 use Rattle.acute.specs.Meaning.{Answer, answer}
 use Rattle.acute.specs.Endings.{Gives, ReadFailed, OnItsWay, gives, fault, nothing, Ended, done, read_fault, write_fault, no_memory, Said}
-use Rattle.acute.specs.Endings as way
+use Rattle.acute.specs.Endings as ending
 use Rattle.acute.proofs.Writes.{all_of, none_of}
 
 -- nothing was written
@@ -30,26 +30,26 @@ cut_before s piece line is part told = record { middle = s.old; line = line; is_
 module _ (request : Option Request) (files : List ℕ → Reading) (output errors : Writing) where
   -- a line that the request gives, with nothing on output
   pub end_said : (status : ℕ) (line : List ℕ) → Gives request files (answer status [] line) → Still output → (r : ℕ) → Said errors line status r → Ended request files output errors r
-  end_said status line g still r (way.said whole) = done (answer r [] line) g (still_whole output still) whole
-  end_said status line g still r (way.failed rose part) = write_fault (answer status [] line) (gives g) (inr rose) (still_part output [] still) (cut_in errors line part)
-  end_said status line g still r (way.no_memory part) = no_memory (answer status [] line) (gives g) (still_part output [] still) (cut_in errors line part)
+  end_said status line g still r (ending.said whole) = done (answer r [] line) g (still_whole output still) whole
+  end_said status line g still r (ending.failed rose part) = write_fault (answer status [] line) (gives g) (inr rose) (still_part output [] still) (cut_in errors line part)
+  end_said status line g still r (ending.no_memory part) = no_memory (answer status [] line) (gives g) (still_part output [] still) (cut_in errors line part)
 
   pub end_read_fault : ReadFailed request files → Still output → (r : ℕ) → Said errors read_line 5 r → Ended request files output errors r
-  end_read_fault f still r (way.said whole) = read_fault f (still_whole output still) whole
-  end_read_fault f still r (way.failed rose part) = write_fault (answer 5 [] read_line) (fault f) (inr rose) (still_part output [] still) (cut_in errors read_line part)
-  end_read_fault f still r (way.no_memory part) = no_memory (answer 5 [] read_line) (fault f) (still_part output [] still) (cut_in errors read_line part)
+  end_read_fault f still r (ending.said whole) = read_fault f (still_whole output still) whole
+  end_read_fault f still r (ending.failed rose part) = write_fault (answer 5 [] read_line) (fault f) (inr rose) (still_part output [] still) (cut_in errors read_line part)
+  end_read_fault f still r (ending.no_memory part) = no_memory (answer 5 [] read_line) (fault f) (still_part output [] still) (cut_in errors read_line part)
 
   -- want of memory, on the way to an answer
   pub end_no_memory : (a : Answer) → OnItsWay request files a → Part output a.console → (r : ℕ) → Said errors memory_line 4 r → Ended request files output errors r
-  end_no_memory a way part r (way.said whole) = no_memory a way part (cut_before errors a.line memory_line (inr refl) (λ told. all_of _ _ _ (whole told)))
-  end_no_memory a way part r (way.failed rose p) = write_fault a way (inr rose) part (cut_before errors a.line memory_line (inr refl) p)
-  end_no_memory a way part r (way.no_memory p) = no_memory a way part (cut_before errors a.line memory_line (inr refl) p)
+  end_no_memory a way part r (ending.said whole) = no_memory a way part (cut_before errors a.line memory_line (inr refl) (λ told. all_of _ _ _ (whole told)))
+  end_no_memory a way part r (ending.failed rose p) = write_fault a way (inr rose) part (cut_before errors a.line memory_line (inr refl) p)
+  end_no_memory a way part r (ending.no_memory p) = no_memory a way part (cut_before errors a.line memory_line (inr refl) p)
 
   -- a write on output that failed
   pub end_write_fault : (a : Answer) → OnItsWay request files a → Rose output.before output.after → Part output a.console → (r : ℕ) → Said errors write_line 6 r → Ended request files output errors r
-  end_write_fault a way rose part r (way.said whole) = write_fault a way (inl rose) part (cut_before errors a.line write_line (inl refl) (λ told. all_of _ _ _ (whole told)))
-  end_write_fault a way rose part r (way.failed rose' p) = write_fault a way (inl rose) part (cut_before errors a.line write_line (inl refl) p)
-  end_write_fault a way rose part r (way.no_memory p) = no_memory a way part (cut_before errors a.line write_line (inl refl) p)
+  end_write_fault a way rose part r (ending.said whole) = write_fault a way (inl rose) part (cut_before errors a.line write_line (inl refl) (λ told. all_of _ _ _ (whole told)))
+  end_write_fault a way rose part r (ending.failed rose' p) = write_fault a way (inl rose) part (cut_before errors a.line write_line (inl refl) p)
+  end_write_fault a way rose part r (ending.no_memory p) = no_memory a way part (cut_before errors a.line write_line (inl refl) p)
 
   -- want of memory before anything was written on output
   pub end_early : Still output → (r : ℕ) → Said errors memory_line 4 r → Ended request files output errors r

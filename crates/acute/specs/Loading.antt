@@ -3,23 +3,25 @@ use Rattle.std.specs.Prelude.{◌≡◌, ◌<◌, ◌≤◌, ℕ, List, [], ◌�
 use Rattle.std.specs.Fmt.{decimal}
 use Rattle.ac_types.specs.Types.{Typ}
 use Rattle.ac_terms.specs.Terms.{Expr}
-use Rattle.ac_terms.specs.Typing.{type_of}
+use Rattle.ac_terms.specs.Language.{IsProgram}
 use Rattle.ac_lexer.specs.Tokens.{Tokens}
 use Rattle.ac_lexer.specs.declared.tokens.Token.{Token}
 use Rattle.ac_front.specs.Trees.{Tree}
 use Rattle.ac_front.specs.Grammar.{HasTree}
 use Rattle.ac_front.specs.Elaboration.{elaborated, type_of_tree}
-use Rattle.ac_front.specs.Signs.{signs_of_tokens}
+use Rattle.ac_front.specs.declared.sign.Sign.{Sign}
+use Rattle.ac_front.specs.Front.{IsUntyped}
+use Rattle.ac_front.specs.Signs.{signs_of}
 use Rattle.acute.specs.declared.loading.Refusal.{Refusal}
 use Rattle.acute.specs.declared.loading.Refusal.TheVariants.{TooLong, Syntax, IllTyped}
 use Rattle.acute.specs.declared.loading.LoadFault.{LoadFault}
 use Rattle.acute.specs.declared.loading.LoadFault.TheVariants.{Memory, Refused as IsRefused}
 
--- the tokens of the text have this tree
+-- the text's tokens have this tree
 pub record Grammar (text : List ℕ) (tree : Tree) : Type 0 where
   pub tokens : List Token
   pub lexed : Tokens text tokens
-  pub parsed : HasTree (signs_of_tokens tokens) tree
+  pub parsed : HasTree (signs_of tokens) tree
 
 -- the text is the source of this term, which has a type
 pub record Accepted (text : List ℕ) (e : Expr) : Type 0 where
@@ -28,7 +30,7 @@ pub record Accepted (text : List ℕ) (e : Expr) : Type 0 where
   pub grammar : Grammar text tree
   pub elaborates : elaborated [] tree ≡ Some e
   pub ty : Typ
-  pub typed : type_of [] e ≡ Some ty
+  pub program : IsProgram e ty
 
 -- the first that applies: the text is too long, it has no tree, its tree has no type
 abbrev pub Refused : List ℕ → Refusal → Type 0
@@ -46,3 +48,10 @@ refusal_line IllTyped = codes "acute: refused: type at 0" ++ 10 ∷ []
 abbrev pub IsFaultOf : List ℕ → LoadFault → Type 0
 IsFaultOf text Memory = Unit {0}
 IsFaultOf text (IsRefused refusal) = Refused text refusal
+
+-- a fault of what comes after the tokens
+abbrev pub IsFaultOfSigns : List Sign → LoadFault → Type 0
+IsFaultOfSigns ts Memory = Unit {0}
+IsFaultOfSigns ts (IsRefused (TooLong len)) = ⊥
+IsFaultOfSigns ts (IsRefused (Syntax at)) = (tree : Tree) → HasTree ts tree → ⊥
+IsFaultOfSigns ts (IsRefused IllTyped) = IsUntyped ts

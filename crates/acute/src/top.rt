@@ -1,17 +1,22 @@
 // The top call: what the words ask for, from files to output.
-ghost use Rattle.std.specs.Prelude.{◌≡◌, ◌⊎◌, List, ℕ, Option, None, IsTrue};
-ghost use Rattle.ac_outside.specs.Outside.{Rose, Extends};
-ghost use Rattle.ac_words.specs.Commands.{command_of, Request};
+ghost use Rattle.std.specs.Prelude.{◌≡◌, ◌⊎◌, [], List, ℕ, Option, Some, None, IsTrue};
+ghost use Rattle.ac_types.specs.Types.{Typ};
+ghost use Rattle.ac_terms.specs.Language.{IsProgram};
+ghost use Rattle.ac_terms.specs.Read.{expr_of};
+ghost use Rattle.ac_terms.specs.Reduction.{Ends};
+ghost use Rattle.ac_words.specs.Commands.{command_of, request_of, run, Request};
 ghost use Rattle.acute.specs.Streams.{Reading, reading, writing, memory_line};
-ghost use Rattle.acute.specs.Meaning.{Answer, Means};
+ghost use Rattle.acute.specs.Loading.{refusal_line};
+ghost use Rattle.acute.specs.Meaning.{Answer, answer, Means};
 ghost use Rattle.acute.specs.Endings.{texts, Ended, Said, Gives};
 
-use crate::loading::{LoadFault, load};
+use crate::loading::{LoadFault, Refusal, load};
 use crate::reading::{ReadFault, read_text};
 use ac_command::read_words;
 use ac_outside::{Files, Put, Sink};
-use ac_session::{RunEnd, run};
-use ac_words::Command;
+use ac_session::{RunEnd, run as run_program};
+use ac_terms::Term;
+use ac_words::{Command, Run};
 use std::alloc::Global;
 
 /// How the program ends: 0 finished, 1 the program is refused, 4 want of memory, 5 a read failed, 6 a write failed,
@@ -38,20 +43,46 @@ pub fn acute<F: Files, O: Sink, E: Sink>(
     // Where the words are refused, no file is touched.
     ensures untouched { command_of (texts words.now) ≡ None → files.new ≡ files.old }
 {
-    let command = match read_words(alloc, words) {
-        Ok(Some(command)) => command,
-        Ok(None) => return say(errors, b"acute: words refused\n", 7),
-        Err(_) => return no_memory(errors),
-    };
-    match command {
-        Command::Run(request) => {
-            let text = match read_text(alloc, files, request.file) {
-                Ok(text) => text,
-                Err(ReadFault::Failed) => return say(errors, b"acute: read fault\n", 5),
-                Err(ReadFault::Memory) => return no_memory(errors),
-            };
-            run_text(alloc, text.as_slice(), output, errors)
+    match read_words(alloc, words) {
+        Ok(Some(command)) => {
+            let Run { file, steps } = run_of(command);
+            run_file(alloc, file, steps, files, output, errors)
         }
+        Ok(None) => say(errors, b"acute: words refused\n", 7),
+        Err(_) => no_memory(errors),
+    }
+}
+
+// The run that a command is.
+fn run_of(command: Command) -> Run
+    ensures { request_of command.entry ≡ run result.file.now result.steps }
+{
+    match command {
+        Command::Run(request) => request,
+    }
+}
+
+// Runs the program of a file.
+fn run_file<F: Files, O: Sink, E: Sink>(
+    alloc: Global,
+    name: &str,
+    steps: u64,
+    files: &mut F,
+    output: &mut O,
+    errors: &mut E,
+) -> Status
+    ensures ends { Ended (Some (run name.now steps))
+        (λ name. reading F.told (F.contents files.old name) (F.read_faults files.old name) (F.read_faults files.new name))
+        (writing O.told (O.written output.old) (O.written output.new) (O.faults output.old) (O.faults output.new))
+        (writing E.told (E.written errors.old) (E.written errors.new) (E.faults errors.old) (E.faults errors.new))
+        result.0 }
+    ensures kept { IsTrue F.told → F.contents files.new ≡ F.contents files.old }
+{
+    let _ = steps;
+    match read_text(alloc, files, name) {
+        Ok(text) => run_text(alloc, text.as_slice(), output, errors),
+        Err(ReadFault::Failed) => say(errors, b"acute: read fault\n", 5),
+        Err(ReadFault::Memory) => no_memory(errors),
     }
 }
 
@@ -63,20 +94,37 @@ fn run_text<O: Sink, E: Sink>(alloc: Global, text: &[u8], output: &mut O, errors
         (writing E.told (E.written errors.old) (E.written errors.new) (E.faults errors.old) (E.faults errors.new))
         result.0 }
 {
-    let term = match load(alloc, text) {
-        Ok(term) => term,
-        Err(LoadFault::Refused(refusal)) => {
-            return match refusal.line(alloc) {
-                Ok(line) => say(errors, line.as_bytes(), 1),
-                Err(_) => no_memory(errors),
-            };
-        }
-        Err(LoadFault::Memory) => return no_memory(errors),
-    };
-    match run(alloc, &term, output) {
+    match load(alloc, text) {
+        Ok(term) => run_term(alloc, &term, output, errors),
+        Err(LoadFault::Refused(refusal)) => refuse(alloc, refusal, errors),
+        Err(LoadFault::Memory) => no_memory(errors),
+    }
+}
+
+// Runs the term of a program.
+fn run_term<O: Sink, E: Sink>(alloc: Global, term: &Term, output: &mut O, errors: &mut E) -> Status
+    requires { (T : Typ) × IsProgram (expr_of term.now) T }
+    ensures { (request : Option Request) (files : List ℕ → Reading) → ((out : List ℕ) → Ends (expr_of term.now) out → Gives request files (answer 0 out [])) →
+        Ended request files
+        (writing O.told (O.written output.old) (O.written output.new) (O.faults output.old) (O.faults output.new))
+        (writing E.told (E.written errors.old) (E.written errors.new) (E.faults errors.old) (E.faults errors.new))
+        result.0 }
+{
+    match run_program(alloc, term, output) {
         RunEnd::Finished => Status(0),
         RunEnd::WriteFault => say(errors, b"acute: write fault\n", 6),
         RunEnd::Memory => no_memory(errors),
+    }
+}
+
+// Writes the line of a refusal.
+fn refuse<E: Sink>(alloc: Global, refusal: Refusal, errors: &mut E) -> Status
+    ensures { let stream = writing E.told (E.written errors.old) (E.written errors.new) (E.faults errors.old) (E.faults errors.new)
+        in Said stream (refusal_line refusal) 1 result.0 ⊎ Said stream memory_line 4 result.0 }
+{
+    match refusal.line(alloc) {
+        Ok(line) => say(errors, line.as_bytes(), 1),
+        Err(_) => no_memory(errors),
     }
 }
 

@@ -1,0 +1,17 @@
+pub mod Begin
+pub mod Depth
+pub mod Examples
+pub mod FrontLaws
+pub mod Fronts
+pub mod Heights
+pub mod Levels
+pub mod Operands
+pub mod Parts
+pub mod Sequences
+pub mod Spoken
+pub mod TreeLaws
+pub mod TypeLaws
+pub mod Unique
+pub mod Whole
+pub mod NameLaws
+pub mod SignLaws

@@ -1,0 +1,10 @@
+pub mod Elaboration
+pub mod Faults
+pub mod Front
+pub mod Grammar
+pub mod Parsing
+pub mod ReadTrees
+pub mod Scopes
+pub mod Signs
+pub mod Trees
+pub mod Typed

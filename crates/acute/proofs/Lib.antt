@@ -1,0 +1,4 @@
+pub mod EndingLaws
+pub mod Pieces
+pub mod TextLaws
+pub mod Writes
