@@ -11,7 +11,7 @@ use Rattle.ac_terms.specs.Terms.{Expr, PValue, Pattern, Tuple as TupleOf, Seq as
 use Rattle.ac_terms.specs.Read.{expr_of, value_of, value_layer, expr_layer, arm_layer}
 
 -- an arm, read
-pub read_arm : Arm → Pattern × Expr
+unfoldable pub read_arm : Arm → Pattern × Expr
 read_arm = fold-Arm PValue Expr (Pattern × Expr) value_layer expr_layer arm_layer
 
 -- the parts of one layer, read

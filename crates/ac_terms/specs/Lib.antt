@@ -1,6 +1,15 @@
+pub mod Bounds
+pub mod Constants
 pub mod Defs
 pub mod Find
+pub mod Language
+pub mod Names
+pub mod Nesting
+pub mod Parts
 pub mod Primitives
 pub mod Read
+pub mod Reduction
+pub mod Renumbered
+pub mod Spelling
 pub mod Terms
 pub mod Typing

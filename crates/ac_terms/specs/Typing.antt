@@ -1,4 +1,4 @@
--- Typing of terms that speak of no definition and bind by `let` alone.
+-- Typing of the first language; terms of other forms have no type here.
 use Rattle.std.specs.Prelude.{Bool, false, List, ◌∷◌, Option, Some, None, option_and_then, slice_get}
 use Rattle.ac_types.specs.Types.{Typ, TInt, TBool, TStr, TUnit, Typs, no_types, typ, same}
 use Rattle.ac_types.specs.First.{given}

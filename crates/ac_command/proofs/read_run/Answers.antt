@@ -1,0 +1,24 @@
+use Rattle.std.proofs.Common.{◌≡◌, ◌∙◌, sym, ap, refl, codes, drop, map, option_map, string_bytes, List, Option, Some}
+use Rattle.std.specs.Prelude.{option_and_then}
+use Rattle.ac_words.specs.Form.{Given, Text, given_of}
+use Rattle.ac_words.specs.Values.{first_in}
+use Rattle.ac_words.specs.Commands.{run_by, run_form, run_of}
+use Rattle.ac_word_clap.specs.Rules.{row, rows_in}
+use Rattle.ac_word_clap.proofs.Getters.{first_found, some_given}
+use Rattle.ac_command.proofs.read_run.Goals as goal
+
+-- the values that the getters answer are those that were given
+run_is : (given : Option Given) (g : Given) (file steps : Option Text) → given ≡ Some g → file ≡ first_in (codes "FILE") g
+    → steps ≡ first_in (codes "steps") g → run_by file steps ≡ option_and_then run_of given
+run_is given g file steps is file_is steps_is = rw (is, file_is, steps_is) refl
+
+pub returns-in-Some : goal.returns-in-Some
+returns-in-Some c =
+    let words : List Text = drop 1 (map string_bytes c.args.words.now) in
+    let m = c.in-Some.matches in
+    let read : Some (rows_in m) ≡ option_map (map row) (given_of run_form words) =
+    ap (option_map rows_in) (sym c.in-Some.is) ∙ c.in_ok-matches_in.ensures run_form c.in_ok-command.ensures in
+    let got = some_given (given_of run_form words) (rows_in m) read in
+    let file = c.get_str.ensures ∙ first_found m got.0 (codes "FILE") got.2 in
+    let steps = c.get_str-in-Some.ensures ∙ first_found m got.0 (codes "steps") got.2 in
+    c.run_from.ensures ∙ run_is (given_of run_form words) got.0 _ _ got.1 file steps

@@ -1,0 +1,51 @@
+//! The command that the words of a command line give, read by clap.
+#![tactic(auto)]
+
+ghost use Rattle.std.specs.Prelude.{◌≡◌, IfOk, drop, map, option_map, string_bytes};
+ghost use Rattle.clap.specs.Words.{app_of};
+ghost use Rattle.ac_words.specs.Commands.{command_of, request_of, run_form, run_of, words_of};
+ghost use Rattle.ac_word_clap.specs.Rules.{ReadsForm};
+
+use ac_types::Memory;
+use ac_word_clap::matches_in;
+use ac_words::{Command, run_from};
+use clap::Arg;
+use std::alloc::Global;
+
+// What clap is to know of `run`.
+fn run_command<'a>(alloc: Global) -> Result<clap::Command<'a>, Memory>
+    ensures { IfOk result (λ c. ReadsForm run_form (app_of c)) }
+{
+    let file = Arg::new(alloc, "FILE");
+    let steps = Arg::new(alloc, "steps").long("steps");
+    let command = clap::Command::new(alloc, "run")
+        .disable_help_flag(true)
+        .arg(file)?
+        .arg(steps)?;
+    Ok(command)
+}
+
+// The `run` that the words give after the first, which is the command's name, or none.
+fn read_run<'a>(alloc: Global, words: &'a [String]) -> Result<Option<Command<'a>>, Memory>
+    ensures { IfOk result (λ o. option_map request_of o
+        ≡ words_of run_form run_of (drop 1 (map string_bytes words.now))) }
+{
+    let command = run_command(alloc)?;
+    match matches_in(command, words)? {
+        None => Ok(None),
+        Some(matches) => Ok(run_from(matches.get_str("FILE"), matches.get_str("steps"))),
+    }
+}
+
+/// The command that the words of a command line give, or none where they are refused.
+pub fn read_words<'a>(alloc: Global, words: &'a [String]) -> Result<Option<Command<'a>>, Memory>
+    ensures { IfOk result (λ o. option_map request_of o ≡ command_of (map string_bytes words.now)) }
+{
+    let Some(name) = words.first() else {
+        return Ok(None);
+    };
+    match name.as_str() {
+        "run" => read_run(alloc, words),
+        _ => Ok(None),
+    }
+}

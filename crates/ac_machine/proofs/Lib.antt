@@ -1,0 +1,7 @@
+pub mod EmitLaws
+pub mod Follows
+pub mod HeldLaws
+pub mod Placed
+pub mod PrimitiveLaws
+pub mod RunLaws
+pub mod Theorem

@@ -1,0 +1,33 @@
+-- What sinks and files in memory keep.
+use Rattle.std.specs.Prelude.{◌≡◌, ℕ, zero, suc, List, [], ◌∷◌, true, false, if◌then◌else◌, bytes_eq, string_bytes, Some, None}
+use Rattle.ac_outside.specs.Outside.{Contents}
+use Rattle.ac_outside.specs.declared.calls.Calls.{Calls}
+use Rattle.ac_outside.specs.declared.files.MemoryFile.{MemoryFile}
+
+-- a sink: the bytes written, and its writes
+pub record Sunk : Type 0 where
+  pub bytes : List ℕ
+  pub writes : Calls
+
+-- files: their names and bytes, their reads, and their creates and appends
+pub record Filed : Type 0 where
+  pub files : List MemoryFile
+  pub reads : Calls
+  pub writes : Calls
+
+-- the bytes of the first file of that name
+abbrev pub bytes_of : List MemoryFile → Contents
+bytes_of [] name = None
+bytes_of (file ∷ files) name = if bytes_eq (string_bytes file.name) name then Some file.bytes.0 else bytes_of files name
+
+-- the first file of that name stands there
+abbrev pub StandsAt : List MemoryFile → List ℕ → ℕ → Type 0
+StandsAt [] name i = ⊥
+StandsAt (file ∷ files) name zero = bytes_eq (string_bytes file.name) name ≡ true
+StandsAt (file ∷ files) name (suc i) = (bytes_eq (string_bytes file.name) name ≡ false) × StandsAt files name i
+
+-- the files before that place have other names
+abbrev pub Passed : List MemoryFile → List ℕ → ℕ → Type 0
+Passed files name zero = Unit {0}
+Passed [] name (suc i) = ⊥
+Passed (file ∷ files) name (suc i) = (bytes_eq (string_bytes file.name) name ≡ false) × Passed files name i

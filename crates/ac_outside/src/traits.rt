@@ -1,0 +1,84 @@
+// The traits of the outside, and what their calls answer.
+ghost use Rattle.std.specs.Prelude.{◌≡◌, ◌<◌, ◌≤◌, ℕ, List, Bool, IsTrue, length};
+ghost use Rattle.ac_outside.specs.Outside.{Rose, Contents, NeverFall, IsWithin, Reads, Wrote, Created, Appended, OthersSame};
+
+/// What a read answers.
+#[derive(Clone, Copy, Debug, PartialEq, Eq)]
+pub enum Got {
+    /// So many bytes stand at the front of the buffer, at least one.
+    Bytes(usize),
+    /// No byte is left.
+    End,
+    /// The read failed, and took nothing.
+    Failed,
+}
+
+/// What a write answers.
+#[derive(Clone, Copy, Debug, PartialEq, Eq)]
+pub enum Put {
+    /// All of it was written.
+    Done,
+    /// The write failed: some front of the piece was written.
+    Failed,
+    /// Memory ran out: some front of the piece was written.
+    Memory,
+}
+
+/// A place to write to.
+pub trait Sink {
+    /// Whether what is written is told.
+    ghost told: { Bool };
+
+    /// The bytes written so far.
+    ghost written: { Self → List ℕ };
+
+    /// How often a write has failed. A count that stands at 2^64 - 1 stays there.
+    ghost faults: { Self → ℕ };
+
+    /// Adds a piece at the end.
+    fn write(&mut self, bytes: &[u8]) -> Put
+        ensures bytes { IsTrue told → Wrote result (written self.old) (written self.new) bytes.now }
+        ensures cause { result ≡ Put.Failed → Rose (faults self.old) (faults self.new) }
+        ensures later { faults self.old ≤ faults self.new };
+}
+
+/// Files by name.
+pub trait Files {
+    /// Whether what the files have is told.
+    ghost told: { Bool };
+
+    /// The bytes of each name, `None` where there is no such file.
+    ghost contents: { Self → Contents };
+
+    /// How often a read of a name has failed.
+    ghost read_faults: { Self → List ℕ → ℕ };
+
+    /// How often a write of a name has failed.
+    ghost write_faults: { Self → List ℕ → ℕ };
+
+    /// Reads from a place on, in bytes from 0. Each file keeps its bytes, and the read of a missing one fails.
+    fn read(&mut self, name: &str, from: u64, buf: &mut [u8]) -> Got
+        requires { 0 < length buf.old }
+        ensures bound { IsWithin result (length buf.new) }
+        ensures bytes { IsTrue told → Reads result (contents self.old name.now) from buf.new }
+        ensures same { IsTrue told → contents self.new ≡ contents self.old }
+        ensures cause { result ≡ Got.Failed → Rose (read_faults self.old name.now) (read_faults self.new name.now) }
+        ensures later { NeverFall (read_faults self.old) (read_faults self.new) }
+        ensures later_writes { NeverFall (write_faults self.old) (write_faults self.new) };
+
+    /// Makes a file empty.
+    fn create(&mut self, name: &str) -> Put
+        ensures bytes { IsTrue told → Created result (contents self.old name.now) (contents self.new name.now) }
+        ensures others { IsTrue told → OthersSame name.now (contents self.old) (contents self.new) }
+        ensures cause { result ≡ Put.Failed → Rose (write_faults self.old name.now) (write_faults self.new name.now) }
+        ensures later { NeverFall (read_faults self.old) (read_faults self.new) }
+        ensures later_writes { NeverFall (write_faults self.old) (write_faults self.new) };
+
+    /// Adds bytes at the end of a file, which it makes first where it is missing.
+    fn append(&mut self, name: &str, bytes: &[u8]) -> Put
+        ensures bytes { IsTrue told → Appended result (contents self.old name.now) (contents self.new name.now) bytes.now }
+        ensures others { IsTrue told → OthersSame name.now (contents self.old) (contents self.new) }
+        ensures cause { result ≡ Put.Failed → Rose (write_faults self.old name.now) (write_faults self.new name.now) }
+        ensures later { NeverFall (read_faults self.old) (read_faults self.new) }
+        ensures later_writes { NeverFall (write_faults self.old) (write_faults self.new) };
+}

@@ -1,0 +1,9 @@
+pub mod Samples
+pub mod TypingExamples
+pub mod LinkExamples
+pub mod ModuleExamples
+pub mod PlainExamples
+pub mod NeededExamples
+pub mod PacketExamples
+pub mod Rules
+pub mod NeededLaws

@@ -1,0 +1,126 @@
+-- What an import may link to, and what it is linked to.
+use Rattle.std.specs.Prelude.{◌≡◌, ℕ, zero, suc, ◌+◌, Bool, true, false, ◌&&◌, ◌||◌, not, is_some, is_none, List, [], ◌∷◌, length, Option, Some, None, option_and_then, option_map, slice_get, map}
+use Rattle.std.specs.Option.{option_map_or}
+use Rattle.ac_types.specs.First.{first_failing, or_else, first_some}
+use Rattle.ac_types.specs.Types.{Bytes, Typ, same, same_bytes, agree}
+use Rattle.ac_types.specs.Sigs.{Signature, Sig_type, Typed_name, Range, Constraint, Ranges, Exact, Resolve, StaticLink, HereAlready, Uri, under, type_under, is_manifest, is_abstract, equal_under}
+use Rattle.ac_terms.specs.Defs.{Environment, Entry, Module, Import, Seen, Here, Shelf, Arrived, module_at, name_at, names}
+use Rattle.ac_version.specs.Versions.{fit}
+
+-- the conditions of a link, in order; a spec is counted among the import's types and then its values, an abstract type among its types
+pub data Link_fault : Type 0 where
+  NoModule : Link_fault
+  External : Link_fault
+  Version : Link_fault
+  Spec : ℕ → Link_fault
+  Like : ℕ → Link_fault
+  Name : Link_fault
+
+-- whether the import is by exact name
+abbrev pub is_exact : Constraint → Bool
+is_exact (Ranges rs star) = false
+is_exact (Exact n) = true
+
+-- a module's type equals the import's: by exact name as it is, by version where an own abstract type of the import stands for the module's own or manifest type
+abbrev pub is_equal : Bool → Signature → Option Typ → Typ → Bool
+is_equal exact s None U = false
+is_equal true s (Some T) U = same T U
+is_equal false s (Some T) U = equal_under s T U
+
+-- an abstract type of the import is abstract in the module, or by version manifest; a manifest type is manifest there and equal
+abbrev pub manifest_of : Option (Option Typ) → Option Typ
+manifest_of o = option_and_then (λ m. m) o
+
+abbrev pub has_type_spec : Bool → Signature → Sig_type → Bool
+has_type_spec exact s spec = elim spec.manifest [
+  | None ↦ is_abstract (type_under spec.name s.types) || (not exact && is_manifest (type_under spec.name s.types))
+  | Some T ↦ is_equal exact s (manifest_of (type_under spec.name s.types)) T
+]
+
+-- a value is there with an equal type
+abbrev pub has_val_spec : Bool → Signature → Typed_name → Bool
+has_val_spec exact s spec = is_equal exact s (under spec.name s.vals) spec.ty
+
+-- the first spec that a module's signature lacks, types first
+abbrev pub missing_spec : Bool → Signature → Signature → Option ℕ
+missing_spec exact s wanted =
+    or_else (first_failing (has_type_spec exact s) wanted.types)
+    (option_map (λ k. length wanted.types + k) (first_failing (has_val_spec exact s) wanted.vals))
+
+-- the first abstract type whose representation in the module isn't the likespec's type
+abbrev pub is_like : Module → Import → Sig_type → Bool
+is_like m i spec = is_some spec.manifest || agree (under spec.name m.types) (under spec.name i.like)
+
+abbrev pub unlike : Module → Import → Option ℕ
+unlike m i = first_failing (is_like m i) i.sig.types
+
+-- the fault where a test fails
+abbrev pub fails : Bool → Link_fault → Option Link_fault
+fails true f = None
+fails false f = Some f
+
+-- the conditions on an import by version and a module
+abbrev pub by_version : Module → Import → List Range → Bool → List (Option Link_fault)
+by_version m i rs star =
+    fails (same_bytes m.name i.name) External ∷
+    fails (fit rs star m.version) Version ∷
+    option_map Spec (missing_spec false m.sig i.sig) ∷
+    option_map Like (unlike m i) ∷ []
+
+-- the conditions on an import by exact name and a module that keeps a name
+abbrev pub by_name : Module → Import → Option Bytes → Bytes → List (Option Link_fault)
+by_name m i kept n =
+    fails (same_bytes m.name i.name) External ∷
+    option_map Spec (missing_spec true m.sig i.sig) ∷
+    fails (names kept n) Name ∷ []
+
+-- the first condition that fails for an import and entry j
+abbrev pub link_fault : Environment → Import → ℕ → Option Link_fault
+link_fault E i j = elim (module_at E j) [
+  | None ↦ Some NoModule
+  | Some m ↦ elim i.constraint [ Ranges rs star ↦ first_some (by_version m i rs star) | Exact n ↦ first_some (by_name m i (name_at E j) n) ]
+]
+
+abbrev pub MayLink : Environment → Import → ℕ → Type 0
+MayLink E i j = link_fault E i j ≡ None
+
+-- the last number below k that passes
+abbrev pub last_below : (ℕ → Bool) → ℕ → Option ℕ
+last_below test zero = None
+last_below test (suc k) = elim (test k) [ true ↦ Some k | false ↦ last_below test k ]
+
+-- the kinds of entries among which an import looks
+abbrev pub is_own : Seen → Bool
+is_own Here = true
+is_own s = false
+
+abbrev pub has_arrived : Seen → Bool
+has_arrived Arrived = true
+has_arrived s = false
+
+abbrev pub has_uri : Bytes → Seen → Bool
+has_uri u (Shelf v) = same_bytes u v
+has_uri u s = false
+
+-- the latest entry of a kind that the import may link to
+abbrev pub latest : (Seen → Bool) → Environment → Import → Option ℕ
+latest kind E i =
+    last_below (λ j. option_map_or (λ (e : Entry). kind e.seen) (slice_get E j) false && is_none (link_fault E i j)) (length E)
+
+-- when an import is resolved: as the program is loaded, over the entries before it, or in a packet
+pub data When : Type 0 where
+  AtLoad : When
+  InPacket : When
+
+-- the entry that an atom of a resolvespec gives
+abbrev pub gives : Environment → Import → When → Resolve → Option ℕ
+gives E i AtLoad StaticLink = latest is_own E i
+gives E i InPacket StaticLink = None
+gives E i AtLoad HereAlready = latest is_own E i
+gives E i InPacket HereAlready =
+    or_else (latest is_own E i) (elim (is_exact i.constraint) [ true ↦ latest has_arrived E i | false ↦ None ])
+gives E i when (Uri u) = latest (has_uri u) E i
+
+-- the entry of the first atom that gives one
+abbrev pub linked : Environment → Import → When → Option ℕ
+linked E i when = first_some (map (gives E i when) i.by)

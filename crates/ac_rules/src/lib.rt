@@ -1,0 +1,7 @@
+//! The rules: what a type stands for, typing, links, well-formed definitions, coherent
+//! environments, plain values, needed definitions and accepted packets. They stand in `specs/`.
+#![tactic(auto)]
+
+mod reps;
+
+pub use reps::rep;

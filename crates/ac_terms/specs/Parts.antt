@@ -1,0 +1,113 @@
+-- What a term, a value or a definition speaks of: types, references and homes.
+use Rattle.std.specs.Prelude.{ℕ, Bool, true, false, List, [], ◌∷◌, ◌++◌, map, flat_map, option_to_list}
+use Rattle.ac_types.specs.Types.{Bytes, Typ, mentions}
+use Rattle.ac_types.specs.Sigs.{Typed_name, Sig_type, Signature}
+use Rattle.ac_terms.specs.Terms.{Home, In, Pattern, PVar, PTuple, PCons, PPresent, PExnOf, Patterns, no_patterns, pattern', Expr, ExnOf, Tuple, Nil, Empty, Present, Cons, Ref, Lam, Rec, App, Let, If, Seq, Match, Try, Raise, Prim, Marshal, Unmarshal, Packed, Val, Bracket, Exprs, no_exprs, expr, Arms, no_arms, arm, PValue, KTuple, KList, KPresent, KFun, PValues, no_pvalues, pvalue}
+use Rattle.ac_terms.specs.Defs.{Field, Def, AModule, AnImport, AMark}
+
+-- the types of a pattern's variables, from left to right
+abbrev mutual
+  pub pattern_types : Pattern → List Typ
+  pattern_types (PVar T) = T ∷ []
+  pattern_types (PTuple ps) = all_pattern_types ps
+  pattern_types (PCons p q) = pattern_types p ++ pattern_types q
+  pattern_types (PPresent p) = pattern_types p
+  pattern_types (PExnOf k p) = pattern_types p
+  pattern_types p = []
+
+  pub all_pattern_types : Patterns → List Typ
+  all_pattern_types no_patterns = []
+  all_pattern_types (pattern' p ps) = pattern_types p ++ all_pattern_types ps
+
+-- a type, a reference, a home, or that a captured value stands there
+pub data Part : Type 0 where
+  OfType : Typ → Part
+  OfRef : ℕ → Bytes → Part
+  OfHome : Home → Part
+  Captured : Part
+
+-- the parts of a term and of a packed value, from left to right; a value of the reduction is not entered
+abbrev mutual
+  pub term_parts : Expr → List Part
+  term_parts (ExnOf k e) = term_parts e
+  term_parts (Tuple es) = all_term_parts es
+  term_parts (Nil T) = OfType T ∷ []
+  term_parts (Empty T) = OfType T ∷ []
+  term_parts (Present e) = term_parts e
+  term_parts (Cons a b) = term_parts a ++ term_parts b
+  term_parts (Ref j x) = OfRef j x ∷ []
+  term_parts (Lam T e) = OfType T ∷ term_parts e
+  term_parts (Rec T U e) = OfType T ∷ OfType U ∷ term_parts e
+  term_parts (App f a) = term_parts f ++ term_parts a
+  term_parts (Let T e b) = OfType T ∷ term_parts e ++ term_parts b
+  term_parts (If c a b) = term_parts c ++ term_parts a ++ term_parts b
+  term_parts (Seq es) = all_term_parts es
+  term_parts (Match e arms) = term_parts e ++ arm_parts arms
+  term_parts (Try e arms) = term_parts e ++ arm_parts arms
+  term_parts (Raise T e) = OfType T ∷ term_parts e
+  term_parts (Prim k es) = all_term_parts es
+  term_parts (Marshal T m e) = OfType T ∷ term_parts m ++ term_parts e
+  term_parts (Unmarshal T e) = OfType T ∷ term_parts e
+  term_parts (Packed T v) = OfType T ∷ Captured ∷ value_parts v
+  term_parts (Val T v) = OfType T ∷ Captured ∷ []
+  term_parts (Bracket c T e) = OfHome c ∷ OfType T ∷ term_parts e
+  term_parts e = []
+
+  pub all_term_parts : Exprs → List Part
+  all_term_parts no_exprs = []
+  all_term_parts (expr e es) = term_parts e ++ all_term_parts es
+
+  pub arm_parts : Arms → List Part
+  arm_parts no_arms = []
+  arm_parts (arm p e rest) = map OfType (pattern_types p) ++ term_parts e ++ arm_parts rest
+
+  pub value_parts : PValue → List Part
+  value_parts (KTuple vs) = all_value_parts vs
+  value_parts (KList vs) = all_value_parts vs
+  value_parts (KPresent v) = value_parts v
+  value_parts (KFun h l) = OfHome h ∷ term_parts l
+  value_parts v = []
+
+  pub all_value_parts : PValues → List Part
+  all_value_parts no_pvalues = []
+  all_value_parts (pvalue v vs) = value_parts v ++ all_value_parts vs
+
+-- the types among some parts
+abbrev pub part_types : List Part → List Typ
+part_types [] = []
+part_types (OfType T ∷ ps) = T ∷ part_types ps
+part_types (p ∷ ps) = part_types ps
+
+-- the definitions that are referred to
+abbrev pub part_refs : List Part → List ℕ
+part_refs [] = []
+part_refs (OfRef j x ∷ ps) = j ∷ part_refs ps
+part_refs (p ∷ ps) = part_refs ps
+
+-- the definitions that are homes
+abbrev pub part_homes : List Part → List ℕ
+part_homes [] = []
+part_homes (OfHome (In k) ∷ ps) = k ∷ part_homes ps
+part_homes (p ∷ ps) = part_homes ps
+
+-- whether a captured value is among them
+abbrev pub has_captured : List Part → Bool
+has_captured [] = false
+has_captured (Captured ∷ ps) = true
+has_captured (p ∷ ps) = has_captured ps
+
+-- the types of a signature: the manifest ones, then those of its values
+abbrev pub sig_types : Signature → List Typ
+sig_types s = flat_map (λ (t : Sig_type). option_to_list t.manifest) s.types ++ map (λ (v : Typed_name). v.ty) s.vals
+
+-- the parts of a definition
+abbrev pub def_parts : Def → List Part
+def_parts (AModule m) =
+    map OfType (sig_types m.sig) ++ map (λ (t : Typed_name). OfType t.ty) m.types ++
+    flat_map (λ (f : Field). OfType f.ty ∷ term_parts f.term) m.fields
+def_parts (AnImport i) = map OfType (sig_types i.sig) ++ map (λ (t : Typed_name). OfType t.ty) i.like
+def_parts (AMark t) = []
+
+-- the abstract types that some parts mention
+abbrev pub part_mentions : List Part → List (Bytes × Bytes)
+part_mentions ps = flat_map mentions (part_types ps)

@@ -1,0 +1,61 @@
+-- Command lines, and what they ask for.
+use Rattle.std.proofs.Common.{◌≡◌, refl, [], ◌∷◌, Some, None, codes, true, false}
+use Rattle.ac_words.specs.Form.{Form, given_of, look, named, plain, refused}
+use Rattle.ac_words.specs.Commands.{command_of, run}
+
+-- an option, with its value and without; a plain word; words that are refused
+look_option : look (codes "--steps=5") ≡ named (codes "steps") (Some (codes "5"))
+look_option = refl
+
+look_name : look (codes "--steps") ≡ named (codes "steps") None
+look_name = refl
+
+look_hyphen : look (codes "-") ≡ plain
+look_hyphen = refl
+
+look_short : look (codes "-h") ≡ refused
+look_short = refl
+
+look_end : look (codes "--") ≡ refused
+look_end = refl
+
+-- `run f` and `run --steps 5 f`
+default : command_of (codes "run" ∷ codes "f" ∷ []) ≡ Some (run (codes "f") 1000000)
+default = refl
+
+steps_first : command_of (codes "run" ∷ codes "--steps" ∷ codes "5" ∷ codes "f" ∷ []) ≡ Some (run (codes "f") 5)
+steps_first = refl
+
+-- no FILE, two of them, an option twice, and a value that is an option
+no_file : command_of (codes "run" ∷ []) ≡ None
+no_file = refl
+
+two_files : command_of (codes "run" ∷ codes "f" ∷ codes "g" ∷ []) ≡ None
+two_files = refl
+
+twice : command_of (codes "run" ∷ codes "f" ∷ codes "--steps=1" ∷ codes "--steps=1" ∷ []) ≡ None
+twice = refl
+
+no_value : command_of (codes "run" ∷ codes "f" ∷ codes "--steps" ∷ codes "--steps=1" ∷ []) ≡ None
+no_value = refl
+
+-- a form with a flag, an option with a value, a place of one word, and a run of at most two words
+abbrev tried : Form
+tried = record {
+  options = (codes "all", false) ∷ (codes "in", true) ∷ [];
+  places = record { number = 1; name = codes "SEED"; most = None }
+      ∷ record { number = 2; name = codes "FILE"; most = Some 2 } ∷ [];
+}
+
+-- `7 --all a b --in c`
+whole_run : given_of tried (codes "7" ∷ codes "--all" ∷ codes "a" ∷ codes "b" ∷ codes "--in" ∷ codes "c" ∷ [])
+    ≡ Some ((codes "SEED", codes "7" ∷ []) ∷ (codes "all", []) ∷ (codes "FILE", codes "a" ∷ codes "b" ∷ [])
+    ∷ (codes "in", codes "c" ∷ []) ∷ [])
+whole_run = refl
+
+-- `7 a --all b`, whose run is parted, and `7 a b c`, whose run is too long
+parted_run : given_of tried (codes "7" ∷ codes "a" ∷ codes "--all" ∷ codes "b" ∷ []) ≡ None
+parted_run = refl
+
+long_run : given_of tried (codes "7" ∷ codes "a" ∷ codes "b" ∷ codes "c" ∷ []) ≡ None
+long_run = refl

@@ -1,0 +1,98 @@
+//! The commands, and the values of their words.
+ghost use Rattle.std.specs.Prelude.{◌≡◌, ◌==◌, option_map, slice_index};
+ghost use Rattle.ac_words.specs.Commands.{request_of, run_by, steps_in};
+ghost use Rattle.ac_words.specs.Values.{is_file, number_in};
+
+// The steps of a `run` that names none.
+const DEFAULT_STEPS: u64 = 1_000_000;
+
+// The most steps that a `run` may name, and the most digits that it may name them by.
+const MOST_STEPS: u64 = 1_000_000_000;
+
+const MOST_DIGITS: usize = 10;
+
+/// Loads a program and runs it.
+#[derive(Clone, Copy, Debug)]
+pub struct Run<'a> {
+    /// The program's file.
+    pub file: &'a str,
+    /// How many applications the run may make.
+    pub steps: u64,
+}
+
+/// What the words of a command line ask for.
+#[derive(Clone, Copy, Debug)]
+pub enum Command<'a> {
+    Run(Run<'a>),
+}
+
+// Whether a plus stands first, which `parse` takes.
+fn has_plus(text: &str) -> bool
+    ensures { result ≡ (slice_index text.now 0 == 43) }
+{
+    match text.as_bytes() {
+        [b'+', ..] => true,
+        _ => false,
+    }
+}
+
+/// The number that decimal digits write, where it lies between `least` and `most`, both included.
+pub fn number_of(text: &str, least: u64, most: u64) -> Option<u64>
+    ensures { result ≡ number_in least most text.now }
+{
+    if has_plus(text) {
+        return None;
+    }
+    match text.parse::<u64>() {
+        Ok(number) => {
+            if least <= number && number <= most {
+                Some(number)
+            } else {
+                None
+            }
+        }
+        Err(_) => None,
+    }
+}
+
+/// The number of steps that the text of an N names.
+pub fn steps_of(text: Option<&str>) -> Option<u64>
+    ensures { result ≡ steps_in (option_map (λ s. s.now) text.entry) }
+{
+    match text {
+        None => Some(DEFAULT_STEPS),
+        Some(text) => {
+            if text.len() > MOST_DIGITS {
+                return None;
+            }
+            number_of(text, 0, MOST_STEPS)
+        }
+    }
+}
+
+/// Whether the text may name a FILE.
+pub fn is_file_name(text: &str) -> bool
+    ensures { result ≡ is_file text.now }
+{
+    !text.is_empty() && text != "-"
+}
+
+/// A `run`, by the texts of its FILE and its N.
+pub fn run_from<'a>(file: Option<&'a str>, steps: Option<&str>) -> Option<Command<'a>>
+    ensures { option_map request_of result
+        ≡ run_by (option_map (λ s. s.now) file.entry) (option_map (λ s. s.now) steps.entry) }
+{
+    let file = file?;
+    if !is_file_name(file) {
+        return None;
+    }
+    let steps = steps_of(steps)?;
+    Some(Command::Run(Run { file, steps }))
+}
+
+fn crosses<T: Send + Sync>(_value: &T) {}
+
+/// A command may cross to another thread.
+pub fn command_crosses(command: &Command<'_>) {
+    crosses(command);
+}

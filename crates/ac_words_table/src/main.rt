@@ -1,0 +1,43 @@
+//! Prints for each line of its input what it asks for as a command line.
+//!
+//! The words of a line are parted by single spaces, so two spaces have an empty word between them. An
+//! empty line has no words.
+#![tactic(auto)]
+
+use ac_command::read_words;
+use ac_types::Memory;
+use ac_words::{Command, Run};
+use std::alloc::Global;
+use std::io;
+
+fn words_in(alloc: Global, line: &str) -> Result<Vec<String>, Memory> {
+    let mut words = Vec::new(alloc);
+    if line.is_empty() {
+        return Ok(words);
+    }
+    for word in line.split(' ') {
+        words.push(String::from_str(alloc, word)?)?;
+    }
+    Ok(words)
+}
+
+fn answer_to(alloc: Global, line: &str) -> Result<String, Memory> {
+    let words = words_in(alloc, line)?;
+    match read_words(alloc, words.as_slice())? {
+        None => Ok(format!(in alloc; "refused")?),
+        Some(Command::Run(Run { file, steps })) => {
+            Ok(format!(in alloc; "run {file}, {steps} steps")?)
+        }
+    }
+}
+
+fn main(rt: HostRuntime) -> io::Result<()> {
+    for line in rt.lines(rt.alloc()) {
+        let line = line?;
+        match answer_to(rt.alloc(), line.as_str()) {
+            Ok(answer) => println!(rt; "{line}: {answer}")?,
+            Err(Memory) => println!(rt; "{line}: out of memory")?,
+        }
+    }
+    Ok(())
+}

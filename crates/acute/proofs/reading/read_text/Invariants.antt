@@ -1,0 +1,15 @@
+use Rattle.std.proofs.Common.{◌≡◌, ◌≤◌, ◌-◌, length, IsTrue}
+use Rattle.acute.specs.Fronts.{Begins}
+use Rattle.acute.proofs.reading.read_text.Given as goal
+
+abbrev pub invariant-loop-len : goal.invariant-loop-len
+invariant-loop-len g l = record {
+  len_is : l.len ≡ length l.text.0;
+  within : l.len ≤ 1048577;
+  later : g.F.Files.read_faults l.fn.files l.fn.name ≤ g.F.Files.read_faults l.files l.fn.name;
+  begins : IsTrue g.F.Files.told → Begins (g.F.Files.contents l.fn.files l.fn.name) l.text.0;
+  same : IsTrue g.F.Files.told → g.F.Files.contents l.files ≡ g.F.Files.contents l.fn.files;
+}
+
+abbrev pub decreases-loop-len : goal.decreases-loop-len
+decreases-loop-len g l = 1048577 - l.len

@@ -1,0 +1,20 @@
+-- What a text means.
+use Rattle.std.specs.Prelude.{ℕ, List, []}
+use Rattle.ac_terms.specs.Terms.{Expr}
+use Rattle.ac_terms.specs.Reduction.{Ends}
+use Rattle.acute.specs.Loading.{Accepted, Refused, refusal_line}
+use Rattle.acute.specs.declared.loading.Refusal.{Refusal}
+
+-- what a command gives where nothing fails: a status, what stands on output, and what stands on errors
+pub record Answer : Type 0 where
+  pub status : ℕ
+  pub console : List ℕ
+  pub line : List ℕ
+
+abbrev pub answer : ℕ → List ℕ → List ℕ → Answer
+answer status console line = record { status = status; console = console; line = line }
+
+-- a text is refused, or its term's reduction ends with what it printed
+pub data Means (text : List ℕ) : Answer → Type 0 where
+  refused : (r : Refusal) → Refused text r → Means text (answer 1 [] (refusal_line r))
+  ends : (e : Expr) (out : List ℕ) → Accepted text e → Ends e out → Means text (answer 0 out [])

@@ -1,0 +1,41 @@
+//! The program `acute`: the top call over the real files and streams.
+#![tactic(auto)]
+
+mod laws;
+mod loading;
+mod reading;
+#[cfg(test)]
+mod tests;
+mod top;
+
+use ac_outside::{RealFiles, RealSink};
+use std::alloc::{AllocFailed, Global};
+use std::env;
+use std::process::ExitCode;
+use top::{Status, acute};
+
+fn main(rt: HostRuntime) -> ExitCode {
+    let alloc = rt.alloc();
+    let mut output = RealSink::new(rt.stdout());
+    let mut errors = RealSink::new(rt.stderr());
+    let words = match words_of(alloc, &rt) {
+        Ok(words) => words,
+        Err(_) => return ExitCode::from(4),
+    };
+    let mut files = RealFiles::new(rt);
+    let Status(status) = acute(alloc, &words, &mut files, &mut output, &mut errors);
+    ExitCode::from(status)
+}
+
+// The words after the program's own name. Words that are no text count as none.
+fn words_of(alloc: Global, rt: &HostRuntime) -> Result<Vec<String>, AllocFailed<String>> {
+    let mut words = Vec::new(alloc);
+    if let Ok(args) = env::args(rt) {
+        for (i, word) in args.enumerate() {
+            if i > 0 {
+                words.push(word)?;
+            }
+        }
+    }
+    Ok(words)
+}

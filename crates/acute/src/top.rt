@@ -1,0 +1,98 @@
+// The top call: what the words ask for, from files to output.
+ghost use Rattle.std.specs.Prelude.{◌≡◌, ◌⊎◌, List, ℕ, Option, None, IsTrue};
+ghost use Rattle.ac_outside.specs.Outside.{Rose, Extends};
+ghost use Rattle.ac_words.specs.Commands.{command_of, Request};
+ghost use Rattle.acute.specs.Streams.{Reading, reading, writing, memory_line};
+ghost use Rattle.acute.specs.Meaning.{Answer, Means};
+ghost use Rattle.acute.specs.Endings.{texts, Ended, Said, Gives};
+
+use crate::loading::{LoadFault, load};
+use crate::reading::{ReadFault, read_text};
+use ac_command::read_words;
+use ac_outside::{Files, Put, Sink};
+use ac_session::{RunEnd, run};
+use ac_words::Command;
+use std::alloc::Global;
+
+/// How the program ends: 0 finished, 1 the program is refused, 4 want of memory, 5 a read failed, 6 a write failed,
+/// 7 the words are refused.
+#[derive(Clone, Copy, Debug, PartialEq, Eq)]
+pub struct Status(pub u8);
+
+/// Does what the words ask for, which are those after the program's own name.
+pub fn acute<F: Files, O: Sink, E: Sink>(
+    alloc: Global,
+    words: &[String],
+    files: &mut F,
+    output: &mut O,
+    errors: &mut E,
+) -> Status
+    // How the call ends: a row for each way.
+    ensures ends { Ended (command_of (texts words.now))
+        (λ name. reading F.told (F.contents files.old name) (F.read_faults files.old name) (F.read_faults files.new name))
+        (writing O.told (O.written output.old) (O.written output.new) (O.faults output.old) (O.faults output.new))
+        (writing E.told (E.written errors.old) (E.written errors.new) (E.faults errors.old) (E.faults errors.new))
+        result.0 }
+    // No file is created or changed.
+    ensures kept { IsTrue F.told → F.contents files.new ≡ F.contents files.old }
+    // Where the words are refused, no file is touched.
+    ensures untouched { command_of (texts words.now) ≡ None → files.new ≡ files.old }
+{
+    let command = match read_words(alloc, words) {
+        Ok(Some(command)) => command,
+        Ok(None) => return say(errors, b"acute: words refused\n", 7),
+        Err(_) => return no_memory(errors),
+    };
+    match command {
+        Command::Run(request) => {
+            let text = match read_text(alloc, files, request.file) {
+                Ok(text) => text,
+                Err(ReadFault::Failed) => return say(errors, b"acute: read fault\n", 5),
+                Err(ReadFault::Memory) => return no_memory(errors),
+            };
+            run_text(alloc, text.as_slice(), output, errors)
+        }
+    }
+}
+
+// Runs a text: what comes of it is what the text means, if that is what the request gives.
+fn run_text<O: Sink, E: Sink>(alloc: Global, text: &[u8], output: &mut O, errors: &mut E) -> Status
+    ensures { (request : Option Request) (files : List ℕ → Reading) → ((a : Answer) → Means text.now a → Gives request files a) →
+        Ended request files
+        (writing O.told (O.written output.old) (O.written output.new) (O.faults output.old) (O.faults output.new))
+        (writing E.told (E.written errors.old) (E.written errors.new) (E.faults errors.old) (E.faults errors.new))
+        result.0 }
+{
+    let term = match load(alloc, text) {
+        Ok(term) => term,
+        Err(LoadFault::Refused(refusal)) => {
+            return match refusal.line(alloc) {
+                Ok(line) => say(errors, line.as_bytes(), 1),
+                Err(_) => no_memory(errors),
+            };
+        }
+        Err(LoadFault::Memory) => return no_memory(errors),
+    };
+    match run(alloc, &term, output) {
+        RunEnd::Finished => Status(0),
+        RunEnd::WriteFault => say(errors, b"acute: write fault\n", 6),
+        RunEnd::Memory => no_memory(errors),
+    }
+}
+
+fn no_memory<E: Sink>(errors: &mut E) -> Status
+    ensures { Said (writing E.told (E.written errors.old) (E.written errors.new) (E.faults errors.old) (E.faults errors.new)) memory_line 4 result.0 }
+{
+    say(errors, b"acute: out of memory\n", 4)
+}
+
+// Writes a line on errors, before an end with this status.
+fn say<E: Sink>(errors: &mut E, line: &[u8], status: u8) -> Status
+    ensures { Said (writing E.told (E.written errors.old) (E.written errors.new) (E.faults errors.old) (E.faults errors.new)) line.now status result.0 }
+{
+    match errors.write(line) {
+        Put::Done => Status(status),
+        Put::Failed => Status(6),
+        Put::Memory => Status(4),
+    }
+}
