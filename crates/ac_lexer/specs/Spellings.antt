@@ -1,5 +1,5 @@
--- Which bytes spell which token.
-use Rattle.std.specs.Prelude.{◌<◌, ◌≤◌, take, false, ◌≡◌, ℕ, ◌+◌, ◌-◌, ◌*◌, ◌^◌, ◌==◌, ◌&&◌, ◌||◌, not, Bool, true, List, [], ◌∷◌, Option, Some, None, if◌then◌else◌, nat_le, nat_lt, length, slice_index, fold, codes, bytes_eq}
+-- Which bytes spell which token. A quote is 34, a backslash 92, a line feed 10, a small x 120.
+use Rattle.std.specs.Prelude.{◌≡◌, ℕ, ◌+◌, ◌-◌, ◌*◌, ◌^◌, ◌==◌, ◌<◌, ◌≤◌, ◌&&◌, ◌||◌, not, Bool, true, false, List, [], ◌∷◌, take, Option, Some, None, if◌then◌else◌, nat_le, nat_lt, length, slice_index, fold, codes, bytes_eq}
 use Rattle.std.specs.List.{list_any, list_all}
 use Rattle.ac_types.specs.Words.{is_between, is_start, is_part, is_reserved}
 use Rattle.ac_lexer.specs.declared.tokens.TokenKind.{TokenKind}
@@ -27,7 +27,7 @@ name_kind bytes =
     if is_reserved bytes then Fixed (record { 0 = bytes }) else
     if is_between 65 90 (slice_index bytes 0) then Upper bytes else Lower bytes
 
--- the symbols
+-- the symbols, of one byte and of two
 abbrev pub symbols : List (List ℕ)
 symbols =
     codes "(" ∷ codes ")" ∷ codes "[" ∷ codes "]" ∷ codes "," ∷ codes ";" ∷ codes ":" ∷ codes "." ∷ codes "=" ∷ codes "<" ∷ codes "+" ∷ codes "-" ∷ codes "*" ∷ codes "/" ∷ codes "^" ∷ codes "::" ∷ codes "->" ∷ codes "&&" ∷ codes "||" ∷ codes "|" ∷ []
@@ -35,7 +35,7 @@ symbols =
 unfoldable pub is_symbol : List ℕ → Bool
 is_symbol bytes = list_any (λ symbol. bytes_eq symbol bytes) symbols
 
--- the longest symbol that begins the text has `count` bytes, none where that is 0
+-- the longest symbol that begins the text has `count` bytes; 0 where none begins it
 abbrev pub SymbolBegins : List ℕ → ℕ → Type 0
 SymbolBegins text count =
     (count ≤ 2) × (count ≤ length text) × (0 < count → is_symbol (take count text) ≡ true) × ((n : ℕ) → count < n → n ≤ 2 → n ≤ length text → is_symbol (take n text) ≡ false)
@@ -78,7 +78,7 @@ pub data Spells : List ℕ → TokenKind → Type 0 where
   symbol : {bytes : List ℕ} → is_symbol bytes ≡ true → Spells bytes (Fixed (record { 0 = bytes }))
   string : {bytes content : List ℕ} → Quoted bytes content [] → Spells (34 ∷ bytes) (Str (record { 0 = content }))
 
--- a number has at most 63 bits, an identifier at most 255 bytes
+-- a number has at most 63 bits, and an identifier at most 255 bytes
 abbrev pub is_within_limits : TokenKind → Bool
 is_within_limits (Lower word) = nat_le (length word) 255
 is_within_limits (Upper word) = nat_le (length word) 255

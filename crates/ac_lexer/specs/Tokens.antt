@@ -43,7 +43,7 @@ pub record NothingBegins (text : List ℕ) : Type 0 where
   pub no_gap : NoGap text
   pub no_token : NoToken text
 
--- the text has no tokens, since nothing begins at this place of it
+-- separators, comments and tokens go up to this place of the text, and nothing begins there
 pub record FailsAt (text : List ℕ) (at : ℕ) : Type 0 where
   pub tokens : List Token
   pub rest : List ℕ
@@ -56,13 +56,13 @@ pub record FailsAt (text : List ℕ) (at : ℕ) : Type 0 where
 abbrev pub longest_text : ℕ
 longest_text = 1048576
 
--- a text that is too long, or in which nothing begins at some place, is refused for that; memory may want for any other
+-- a text is refused where it is too long, and at the place where nothing begins; for any that is not too long memory may run out
 abbrev pub IsFault : List ℕ → LexFault → Type 0
 IsFault text (TooLong len) = (longest_text < length text) × (len ≡ length text)
 IsFault text (Lexical at) = (length text ≤ longest_text) × FailsAt text at
 IsFault text Memory = length text ≤ longest_text
 
--- what holds where something is no token
+-- what holds of a fault in the text's bytes
 abbrev pub OnLexical : LexFault → Type 0 → Type 0
 OnLexical (Lexical at) P = P
 OnLexical _ P = Unit {0}

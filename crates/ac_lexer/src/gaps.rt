@@ -11,7 +11,8 @@ fn is_separator(c: u8) -> bool
 
 // What is behind the `(*` that begins the text, if one does.
 fn behind_opening(text: &[u8]) -> Option<&[u8]>
-    ensures { MatchOption result (opens text.now ≡ false) (λ rest. text.now ≡ codes "(*" ++ rest.now) }
+    ensures { MatchOption result (opens text.now ≡ false)
+        (λ rest. text.now ≡ codes "(*" ++ rest.now) }
 {
     if opens(text) {
         let (_, rest) = text.split_at(2);
@@ -23,7 +24,8 @@ fn behind_opening(text: &[u8]) -> Option<&[u8]>
 
 // What is behind the `*)` that begins the text, if one does.
 fn behind_closing(text: &[u8]) -> Option<&[u8]>
-    ensures { MatchOption result (closes text.now ≡ false) (λ rest. text.now ≡ codes "*)" ++ rest.now) }
+    ensures { MatchOption result (closes text.now ≡ false)
+        (λ rest. text.now ≡ codes "*)" ++ rest.now) }
 {
     if text.starts_with(b"*)") {
         let (_, rest) = text.split_at(2);
@@ -43,7 +45,8 @@ pub(crate) fn opens(text: &[u8]) -> bool
 
 // What is behind the comment whose inside begins the text, `None` where it has no end.
 fn behind_comment(text: &[u8]) -> Option<&[u8]>
-    ensures comment { MatchOption result ((rest : List ℕ) → Inside text.now rest → ⊥) (λ rest. Inside text.now rest.now) }
+    ensures comment { MatchOption result ((rest : List ℕ) → Inside text.now rest → ⊥)
+        (λ rest. Inside text.now rest.now) }
     ensures shorter { IfSome result (λ rest. length rest.now < length text.now) }
 {
     let mut around = 0usize;

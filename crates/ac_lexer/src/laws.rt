@@ -6,7 +6,8 @@ ghost use Rattle.ac_lexer.specs.Tokens.{Tokens, FailsAt};
 
 /// A text has at most one list of tokens.
 pub fn same_tokens()
-    ensures { (text : List ℕ) (tokens others : List Token) → Tokens text tokens → Tokens text others → tokens ≡ others }
+    ensures { (text : List ℕ) (tokens others : List Token) → Tokens text tokens
+        → Tokens text others → tokens ≡ others }
 {}
 
 /// A text fails at one place at most.

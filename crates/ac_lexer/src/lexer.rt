@@ -16,7 +16,8 @@ const LONGEST_TEXT: usize = 1_048_576;
 // The token that the text begins with, and what is behind it.
 fn first_token(alloc: Global, text: &[u8]) -> Result<Option<(TokenKind, &[u8])>, Memory>
     requires { 0 < length text.now }
-    ensures token { IfOk result (λ o. MatchOption o (NoToken text.now) (λ x. TokenAt text.now x.0 x.1.now)) }
+    ensures token { IfOk result (λ o. MatchOption o (NoToken text.now)
+        (λ x. TokenAt text.now x.0 x.1.now)) }
     ensures shorter { IfOk result (λ o. IfSome o (λ x. length x.1.now < length text.now)) }
 {
     if opens(text) {
@@ -40,7 +41,8 @@ pub fn lex(alloc: Global, text: &[u8]) -> Result<Many<Token>, LexFault>
     ensures tokens { IfOk result (λ tokens. (length text.now ≤ longest_text) × Tokens text.now tokens) }
     ensures only { IfOk result (λ tokens. (others : List Token) → Tokens text.now others → others ≡ tokens) }
     ensures fault { IfErr result (IsFault text.now) }
-    ensures none { IfErr result (λ fault. OnLexical fault ((others : List Token) → Tokens text.now others → ⊥)) }
+    ensures none { IfErr result (λ fault. OnLexical fault
+        ((others : List Token) → Tokens text.now others → ⊥)) }
 {
     if text.len() > LONGEST_TEXT {
         return Err(LexFault::TooLong {

@@ -42,7 +42,8 @@ fn hex_value(c: u8) -> Option<u8>
 
 // The byte whose two hexadecimal digits begin the text.
 fn hex(text: &[u8]) -> Option<(u8, &[u8])>
-    ensures piece { MatchOption result ((b : ℕ) (rest : List ℕ) → Piece (92 ∷ 120 ∷ text.now) b rest → ⊥) (λ x. Piece (92 ∷ 120 ∷ text.now) x.0 x.1.now) }
+    ensures piece { MatchOption result ((b : ℕ) (rest : List ℕ) → Piece (92 ∷ 120 ∷ text.now) b rest → ⊥)
+        (λ x. Piece (92 ∷ 120 ∷ text.now) x.0 x.1.now) }
     ensures shorter { IfSome result (λ x. length x.1.now < length text.now) }
 {
     let (high, rest) = text.split_first()?;
@@ -52,7 +53,8 @@ fn hex(text: &[u8]) -> Option<(u8, &[u8])>
 
 // What a `\` and the front of the text stand for.
 fn escape(text: &[u8]) -> Option<(u8, &[u8])>
-    ensures piece { MatchOption result ((b : ℕ) (rest : List ℕ) → Piece (92 ∷ text.now) b rest → ⊥) (λ x. Piece (92 ∷ text.now) x.0 x.1.now) }
+    ensures piece { MatchOption result ((b : ℕ) (rest : List ℕ) → Piece (92 ∷ text.now) b rest → ⊥)
+        (λ x. Piece (92 ∷ text.now) x.0 x.1.now) }
     ensures shorter { IfSome result (λ x. length x.1.now < length text.now) }
 {
     let (first, rest) = text.split_first()?;
@@ -64,7 +66,8 @@ fn escape(text: &[u8]) -> Option<(u8, &[u8])>
 
 // The byte that the front of a string's text stands for.
 fn piece(text: &[u8]) -> Option<(u8, &[u8])>
-    ensures piece { MatchOption result ((b : ℕ) (rest : List ℕ) → Piece text.now b rest → ⊥) (λ x. Piece text.now x.0 x.1.now) }
+    ensures piece { MatchOption result ((b : ℕ) (rest : List ℕ) → Piece text.now b rest → ⊥)
+        (λ x. Piece text.now x.0 x.1.now) }
     ensures shorter { IfSome result (λ x. length x.1.now < length text.now) }
 {
     let (first, rest) = text.split_first()?;
@@ -76,7 +79,8 @@ fn piece(text: &[u8]) -> Option<(u8, &[u8])>
 
 // The bytes of a string up to its last quote, from behind its first one on.
 fn quoted(alloc: Global, text: &[u8]) -> Result<Option<(Text, &[u8])>, Memory>
-    ensures quoted { IfOk result (λ o. MatchOption o ((content rest : List ℕ) → Quoted text.now content rest → ⊥) (λ x. Quoted text.now x.0.0 x.1.now)) }
+    ensures quoted { IfOk result (λ o. MatchOption o ((content rest : List ℕ) → Quoted text.now content rest → ⊥)
+        (λ x. Quoted text.now x.0.0 x.1.now)) }
     ensures shorter { IfOk result (λ o. IfSome o (λ x. length x.1.now < length text.now)) }
 {
     let mut content = Many::new(alloc);
@@ -97,7 +101,8 @@ fn quoted(alloc: Global, text: &[u8]) -> Result<Option<(Text, &[u8])>, Memory>
 /// The string that the text begins with.
 pub(crate) fn string(alloc: Global, text: &[u8]) -> Result<Option<(TokenKind, &[u8])>, Memory>
     requires quote { slice_index text.now 0 ≡ 34 }
-    ensures token { IfOk result (λ o. MatchOption o (NoToken text.now) (λ x. TokenAt text.now x.0 x.1.now)) }
+    ensures token { IfOk result (λ o. MatchOption o (NoToken text.now)
+        (λ x. TokenAt text.now x.0 x.1.now)) }
     ensures shorter { IfOk result (λ o. IfSome o (λ x. length x.1.now < length text.now)) }
 {
     let (_, inside) = text.split_at(1);

@@ -44,7 +44,7 @@ const CASES: [(&[u8], &[u8]); 71] = [
     ),
     (
         b"myname name not option raise rec",
-        b"f:myname@0 l:name@7 f:not@12 f:option@16 f:raise@23 f:rec@29 ",
+        b"f:myname@0 f:name@7 f:not@12 f:option@16 f:raise@23 f:rec@29 ",
     ),
     (
         b"sig string struct then true try",

@@ -99,7 +99,8 @@ fn name_kind(alloc: Global, name: &[u8]) -> Result<Option<TokenKind>, Memory>
 pub(crate) fn name(alloc: Global, text: &[u8]) -> Result<Option<(TokenKind, &[u8])>, Memory>
     requires start { is_start (slice_index text.now 0) ≡ true }
     requires no_comment { opens text.now ≡ false }
-    ensures token { IfOk result (λ o. MatchOption o (NoToken text.now) (λ x. TokenAt text.now x.0 x.1.now)) }
+    ensures token { IfOk result (λ o. MatchOption o (NoToken text.now)
+        (λ x. TokenAt text.now x.0 x.1.now)) }
     ensures shorter { IfOk result (λ o. IfSome o (λ x. length x.1.now < length text.now)) }
 {
     let (name, rest) = text.split_at(count_parts(text));
@@ -147,7 +148,8 @@ pub(crate) fn symbol(alloc: Global, text: &[u8]) -> Result<Option<(TokenKind, &[
     requires no_start { is_start (slice_index text.now 0) ≡ false }
     requires no_quote { slice_index text.now 0 ≡ 34 → ⊥ }
     requires no_comment { opens text.now ≡ false }
-    ensures token { IfOk result (λ o. MatchOption o (NoToken text.now) (λ x. TokenAt text.now x.0 x.1.now)) }
+    ensures token { IfOk result (λ o. MatchOption o (NoToken text.now)
+        (λ x. TokenAt text.now x.0 x.1.now)) }
     ensures shorter { IfOk result (λ o. IfSome o (λ x. length x.1.now < length text.now)) }
 {
     let count = count_symbol(text);
