@@ -1,5 +1,5 @@
 -- A run of code that comes to its end, from one pause to the next.
-use Rattle.std.proofs.Common.{◌≡◌, ℕ, zero, suc, ◌+◌, ◌-◌, ◌≤◌, ◌<◌, List, [], ◌∷◌, ◌++◌, refl, sym, ap, ◌∙◌, subst, arith, append_assoc, ⊎_elim}
+use Rattle.std.proofs.Common.{◌≡◌, ℕ, zero, suc, ◌+◌, ◌-◌, List, [], ◌++◌, refl, sym, ap, ◌∙◌, subst, arith, append_assoc, ⊎_elim}
 use Rattle.std.proofs.lemmas.Bool.{cases_lt}
 use Rattle.std.proofs.lemmas.List.{append-nil}
 use Rattle.ac_types.specs.Types.{Bytes}
@@ -7,7 +7,7 @@ use Rattle.ac_terms.specs.Constants.{CUnit}
 use Rattle.ac_terms.specs.Reduction.{World, printed, iter}
 use Rattle.ac_terms.proofs.Reduces.{Leads, leads_on, iter_still, iter-plus, one_end}
 use Rattle.ac_machine.specs.declared.instr.Instr.{Instr}
-use Rattle.ac_machine.specs.Machine.{MConst, Core, Ask, AskPrint, MState, Run, Paused, Halted, Stuck, pushed, exec, next, turn, Halts}
+use Rattle.ac_machine.specs.Machine.{MConst, Core, AskPrint, MState, Run, Paused, Halted, Stuck, pushed, exec, next, turn, Halts}
 use Rattle.ac_machine.specs.Stops.{IsPause, Pauses, Reaches}
 
 -- what is reached, from where one has come on the way to it
@@ -40,6 +40,7 @@ module _ (code : List Instr) where
     where
       stays : (t : MState) → next code t ≡ t → exec code c ≡ t → iter (next code) k t ≡ s → Leads (turn code) (Run c, z) (s, z)
       stays t still is h = (1, ap (λ t. (t, z)) (is ∙ sym (iter_still (next code) k t still) ∙ h))
+
       go : ((c' : Core) → iter (next code) k (Run c') ≡ s → Leads (turn code) (Run c', z) (s, z)) → (t : MState) → exec code c ≡ t → iter (next code) k t ≡ s → Leads (turn code) (Run c, z) (s, z)
       go again (Run c') is h = let l = again c' h in (suc l.0, ap (λ t. iter (turn code) l.0 (t, z)) is ∙ l.1)
       go again (Paused a c') is h = stays (Paused a c') refl is h
