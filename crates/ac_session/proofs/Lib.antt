@@ -1,3 +1,4 @@
 pub mod Bounds
 pub mod Halting
+pub mod TestLaws
 pub mod Writes
