@@ -1,4 +1,3 @@
 pub mod Bounds
 pub mod Halting
-pub mod TestLaws
 pub mod Writes

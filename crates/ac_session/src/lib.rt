@@ -2,7 +2,5 @@
 #![tactic(auto)]
 
 mod session;
-#[cfg(test)]
-mod tests;
 
 pub use session::{RunEnd, run};
