@@ -1,4 +1,4 @@
-use Rattle.std.proofs.Common.{◌≡◌, ◌≤◌}
+use Rattle.std.proofs.Common.{◌≤◌}
 use Rattle.ac_types.specs.Types.{Bytes}
 use Rattle.ac_terms.specs.Read.{expr_of}
 use Rattle.ac_machine.specs.Generate.{generated}
