@@ -1,14 +1,14 @@
 -- The machine does what the interpreter does, on code that stands where it should.
-use Rattle.std.proofs.Common.{◌≡◌, ℕ, zero, suc, ◌+◌, Bool, true, false, cond, List, [], ◌∷◌, length, Option, Some, None, refl, sym, ap, ap₂, ◌∙◌, subst, arith, slice_get, ◌⊎◌, inl, inr, ⊎_elim}
+use Rattle.std.proofs.Common.{◌≡◌, ℕ, zero, suc, ◌+◌, true, false, cond, List, [], ◌∷◌, length, Option, Some, None, refl, sym, ap, ap₂, ◌∙◌, subst, arith, slice_get, ◌⊎◌, inl, inr, ⊎_elim}
 use Rattle.ac_types.proofs.FirstLaws.{none≢some, some_eq}
-use Rattle.ac_terms.specs.Terms.{Expr, Int, Boolean, Str, Unit', Var, Let, If, Seq, Prim, Exprs, no_exprs, expr, Value, VInt, VBool, VStr, VUnit, Values, no_values, value}
+use Rattle.ac_terms.specs.Terms.{Expr, Int, Boolean, Str, Unit', Var, Let, If, Seq, Prim, Exprs, no_exprs, expr, Value, Values, no_values, value}
 use Rattle.ac_terms.specs.Constants.{Const, CInt, CBool, CStr, CUnit, Answer, Gives, Prints, NoSense, Meaning, One, Two, Later, meaning, arity, applied}
-use Rattle.ac_terms.specs.Reduction.{constant, const_of, all_there, consts_of, answered, World, printed, iter}
+use Rattle.ac_terms.specs.Reduction.{constant, const_of, all_there, consts_of, answered, World}
 use Rattle.ac_terms.proofs.Eval.{Result, Fine, Wrongly, M, then', found, branching, answering, eval, eval_all, eval_rest}
 use Rattle.ac_terms.proofs.Reduces.{Leads, leads_on}
 use Rattle.ac_machine.specs.declared.instr.Instr.{Instr}
 use Rattle.ac_machine.specs.declared.instr.Instr.TheVariants as instr
-use Rattle.ac_machine.specs.Machine.{MValue, MConst, Core, Ask, AskPrint, MState, Run, Paused, Halted, if_there, opened, without, taken, const_in, bool_in, consts_in, pushed, answers, act, exec, turn}
+use Rattle.ac_machine.specs.Machine.{MValue, MConst, Core, MState, Run, if_there, taken, bool_in, consts_in, pushed, answers, act, turn}
 
 -- what a value of the machine stands for
 abbrev pub stands : MValue → Value

@@ -1,4 +1,5 @@
 pub mod EmitLaws
+pub mod Examples
 pub mod Follows
 pub mod HeldLaws
 pub mod Placed

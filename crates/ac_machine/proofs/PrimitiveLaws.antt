@@ -1,10 +1,10 @@
 -- What the primitives answer, by the constants that they are given.
-use Rattle.std.proofs.Common.{◌≡◌, ℕ, zero, suc, ℤ, ◌+ℤ◌, ◌-ℤ◌, ◌*ℤ◌, Bool, not, ◌&&◌, int_lt, Option, Some, None, refl, slice_get}
+use Rattle.std.proofs.Common.{◌≡◌, ℤ, ◌+ℤ◌, ◌-ℤ◌, ◌*ℤ◌, Bool, not, ◌&&◌, int_lt, Option, Some, None, refl}
 use Rattle.std.specs.Int.{int_wrap, w64}
 use Rattle.std.proofs.lemmas.Int.{wraps}
 use Rattle.std.proofs.lemmas.Grind.{common_steps}
 use Rattle.ac_types.specs.declared.text.Text.{Text}
-use Rattle.ac_terms.specs.Constants.{Const, CInt, CBool, CStr, CUnit, Answer, Gives, NoSense, sum, difference, product, less, comes_before, Later, meaning}
+use Rattle.ac_terms.specs.Constants.{CInt, CBool, CStr, Answer, Gives, NoSense, sum, difference, product, less, comes_before}
 use Rattle.ac_machine.specs.declared.constant.Constant.{Constant}
 use Rattle.ac_machine.specs.declared.constant.Constant.TheVariants as code
 use Rattle.ac_machine.specs.Held.{const_at, int_at, bool_at, text_at}

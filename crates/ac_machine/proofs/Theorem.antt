@@ -1,18 +1,14 @@
 -- The code of a program ends as its reduction does.
-use Rattle.std.proofs.Common.{◌≡◌, ℕ, suc, List, [], ◌∷◌, Option, Some, refl, sym, ap, ◌∙◌, subst}
-use Rattle.ac_types.specs.Types.{Bytes, Typ}
-use Rattle.ac_terms.specs.Terms.{Expr, Value}
-use Rattle.ac_terms.specs.Reduction.{World, fresh, Ends, iter}
-use Rattle.ac_terms.specs.Language.{IsProgram}
-use Rattle.ac_terms.proofs.Eval.{Result, Fine, eval}
-use Rattle.ac_terms.proofs.Reduces.{Leads, leads_on, reaches}
+use Rattle.std.proofs.Common.{suc, [], ◌∷◌, refl, ap, subst}
+use Rattle.ac_terms.specs.Terms.{Expr}
+use Rattle.ac_terms.specs.Reduction.{fresh}
+use Rattle.ac_terms.proofs.Eval.{Fine}
+use Rattle.ac_terms.proofs.Reduces.{leads_on, reaches}
 use Rattle.ac_terms.proofs.Sound.{value_of}
-use Rattle.ac_machine.specs.declared.instr.Instr.{Instr}
-use Rattle.ac_machine.specs.declared.instr.Instr.TheVariants as instr
-use Rattle.ac_machine.specs.Machine.{MValue, MState, Run, Halted, if_there, act, turn, beginning, Runs}
+use Rattle.ac_machine.specs.Machine.{Run, Halted, if_there, act, turn, beginning}
 use Rattle.ac_machine.specs.Generate.{generated}
 use Rattle.ac_machine.specs.Correct.{Compiles}
-use Rattle.ac_machine.proofs.Follows.{stands, at, To, Lands, runs}
+use Rattle.ac_machine.proofs.Follows.{at, To, Lands, runs}
 use Rattle.ac_machine.proofs.Placed.{has_program}
 
 pub compiles : (e : Expr) → Compiles e (generated e)

@@ -1,12 +1,12 @@
 // The machine.
 
-ghost use Rattle.std.specs.Prelude.{◌≡◌, ◌<◌, ◌^◌, ◌∷◌, [], ◌+◌, IfOk, OnOk, IfSome, MatchOption, length, slice_get, option_map, Some, None};
+ghost use Rattle.std.specs.Prelude.{◌≡◌, ℕ, ◌<◌, ◌^◌, ◌∷◌, [], ◌+◌, IfOk, OnOk, IfSome, MatchOption, length, slice_get, option_map, Some, None};
 ghost use Rattle.std.specs.Option.{option_copied};
 ghost use Rattle.ac_terms.specs.Constants.{CUnit, One, Two};
 ghost use Rattle.ac_machine.specs.Machine.{Run, act, exec, performs, pushed, without, beginning, MConst};
 ghost use Rattle.ac_machine.specs.Held.{held, newest};
 ghost use Rattle.ac_machine.specs.Meant.{combines, prints};
-ghost use Rattle.ac_machine.specs.Stops.{Does, Pauses, Stops};
+ghost use Rattle.ac_machine.specs.Stops.{Does, PausesWithin, Stops};
 ghost use Rattle.ac_machine.specs.declared.machine.Step.TheVariants.{On};
 ghost use Rattle.ac_machine.specs.declared.instr.Instr.TheVariants as instr;
 
@@ -67,12 +67,13 @@ impl Machine {
         }
     }
 
-    /// Runs to the next pause. Where 2^64 - 1 instructions don't reach one it answers `Memory`.
+    /// Runs to the next pause.
     pub fn go(&mut self, alloc: Global, code: &[Instr]) -> Pause
-        requires { Pauses code.now self.old }
+        ghost bound: { ℕ }
+        requires { PausesWithin bound code.now self.old }
         ensures { Stops code.now self.old result self.new }
     {
-        for _ in 0..u64::MAX {
+        loop {
             match self.step(alloc, code) {
                 Ok(Step::On) => {}
                 Ok(Step::Print(text)) => return Pause::Print(text),
@@ -81,7 +82,6 @@ impl Machine {
                 Err(_) => return Pause::Memory,
             }
         }
-        Pause::Memory
     }
 
     /// Gives the answer to a print: unit.

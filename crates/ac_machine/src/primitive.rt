@@ -95,11 +95,7 @@ fn less(first: &Constant, second: &Constant) -> Option<bool>
 }
 
 /// What a printer prints of a constant, `None` exactly where that has no meaning.
-pub fn shown(
-    alloc: Global,
-    printer: Printer,
-    value: Constant,
-) -> Result<Option<Text>, Memory>
+pub fn shown(alloc: Global, printer: Printer, value: Constant) -> Result<Option<Text>, Memory>
     ensures { IfOk result (λ o. MatchOption o (prints printer (const_at value) ≡ NoSense) (λ text. prints printer (const_at value) ≡ Prints text.0)) }
 {
     match printer {

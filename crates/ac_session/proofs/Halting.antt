@@ -1,14 +1,15 @@
 -- A run of code that comes to its end, from one pause to the next.
-use Rattle.std.proofs.Common.{◌≡◌, ℕ, zero, suc, ◌+◌, ◌-◌, ◌≤◌, ◌<◌, List, [], ◌∷◌, ◌++◌, refl, sym, ap, ◌∙◌, subst, arith, append_assoc, ⊎_elim}
+use Rattle.std.proofs.Common.{◌≡◌, true, ℕ, zero, suc, ◌+◌, ◌-◌, List, [], ◌++◌, refl, sym, ap, ◌∙◌, arith, append_assoc, ⊎_elim}
 use Rattle.std.proofs.lemmas.Bool.{cases_lt}
 use Rattle.std.proofs.lemmas.List.{append-nil}
+use mathlib.Core.Bool.{true≢false}
 use Rattle.ac_types.specs.Types.{Bytes}
 use Rattle.ac_terms.specs.Constants.{CUnit}
 use Rattle.ac_terms.specs.Reduction.{World, printed, iter}
 use Rattle.ac_terms.proofs.Reduces.{Leads, leads_on, iter_still, iter-plus, one_end}
 use Rattle.ac_machine.specs.declared.instr.Instr.{Instr}
-use Rattle.ac_machine.specs.Machine.{MConst, Core, Ask, AskPrint, MState, Run, Paused, Halted, Stuck, pushed, exec, next, turn, Halts}
-use Rattle.ac_machine.specs.Stops.{IsPause, Pauses, Reaches}
+use Rattle.ac_machine.specs.Machine.{MConst, Core, AskPrint, MState, Run, Paused, Halted, Stuck, pushed, exec, next, turn, Halts}
+use Rattle.ac_machine.specs.Stops.{is_pause, Reaches}
 
 -- what is reached, from where one has come on the way to it
 leads_rest : {S : Type 0} (f : S → S) (s t u : S) → f u ≡ u → Leads f s t → Leads f s u → Leads f t u
@@ -19,27 +20,14 @@ leads_rest f s t u still a b =
     (cases_lt a.0 b.0)
 
 module _ (code : List Instr) where
-  stuck_stays : (k : ℕ) (z w : World) (d : Core) → iter (turn code) k (Stuck, z) ≡ (Halted d, w) → ⊥
-  stuck_stays k z w d e = let same : Stuck ≡ Halted d = ap (λ s. s.0) (sym (iter_still (turn code) k (Stuck, z) refl) ∙ e) in cc
-
-  -- it comes to a pause first
-  pauses_by : (k : ℕ) (c d : Core) (z w : World) → iter (turn code) k (Run c, z) ≡ (Halted d, w) → Pauses code c
-  pauses_by zero c d z w e = let same : Run c ≡ Halted d = ap (λ s. s.0) e in cc
-  pauses_by (suc k) c d z w e = go (λ c' h. pauses_by k c' d z w h) (exec code c) refl e
-    where
-      go : ((c' : Core) → iter (turn code) k (Run c', z) ≡ (Halted d, w) → Pauses code c') → (s : MState) → exec code c ≡ s → iter (turn code) k (s, z) ≡ (Halted d, w) → Pauses code c
-      go again (Run c') is h = let p = again c' h in (suc p.0, subst (λ s. IsPause (iter (next code) p.0 s)) (sym is) p.1)
-      go again (Paused a c') is h = (1, subst IsPause (sym is) tt)
-      go again (Halted c') is h = (1, subst IsPause (sym is) tt)
-      go again Stuck is h = absurd (stuck_stays k z w d h)
-
   -- instructions alone are steps of the run
-  turns_by : (k : ℕ) (c : Core) (s : MState) (z : World) → iter (next code) k (Run c) ≡ s → IsPause s → Leads (turn code) (Run c, z) (s, z)
-  turns_by zero c s z e p = absurd (subst IsPause (sym e) p)
+  pub turns_by : (k : ℕ) (c : Core) (s : MState) (z : World) → iter (next code) k (Run c) ≡ s → is_pause s ≡ true → Leads (turn code) (Run c, z) (s, z)
+  turns_by zero c s z e p = absurd (true≢false (sym (ap is_pause e ∙ p)))
   turns_by (suc k) c s z e p = go (λ c' h. turns_by k c' s z h p) (exec code c) refl e
     where
       stays : (t : MState) → next code t ≡ t → exec code c ≡ t → iter (next code) k t ≡ s → Leads (turn code) (Run c, z) (s, z)
       stays t still is h = (1, ap (λ t. (t, z)) (is ∙ sym (iter_still (next code) k t still) ∙ h))
+
       go : ((c' : Core) → iter (next code) k (Run c') ≡ s → Leads (turn code) (Run c', z) (s, z)) → (t : MState) → exec code c ≡ t → iter (next code) k t ≡ s → Leads (turn code) (Run c, z) (s, z)
       go again (Run c') is h = let l = again c' h in (suc l.0, ap (λ t. iter (turn code) l.0 (t, z)) is ∙ l.1)
       go again (Paused a c') is h = stays (Paused a c') refl is h
@@ -56,19 +44,16 @@ module _ (code : List Instr) where
   grows (suc k) (Halted c) z w d e = grows k (Halted c) z w d e
   grows (suc k) Stuck z w d e = grows k Stuck z w d e
 
-  pub halts_pauses : (c : Core) (z : World) (out : Bytes) → Halts code c z out → Pauses code c
-  halts_pauses c z out h = pauses_by h.0 c h.1 z h.2 h.3
-
   pub halts_front : (c : Core) (z : World) (out : Bytes) → Halts code c z out → (rest : Bytes) × (out ≡ z.console ++ rest)
   halts_front c z out h = let r = grows h.0 (Run c) z h.2 h.1 h.3 in (r.0, sym h.4 ∙ r.1)
 
   pub halts_on : (c d : Core) (z : World) (out t : Bytes) → Halts code c z out → Reaches code c (Paused (AskPrint t) d) → Halts code (pushed (MConst CUnit) d) (printed t z) out
   halts_on c d z out t h r =
-      let l = leads_on (turn code) (Run c, z) (Paused (AskPrint t) d, z) (Run (pushed (MConst CUnit) d), printed t z) (turns_by r.0 c (Paused (AskPrint t) d) z r.1 tt) (1, refl) in
+      let l = leads_on (turn code) (Run c, z) (Paused (AskPrint t) d, z) (Run (pushed (MConst CUnit) d), printed t z) (turns_by r.0 c (Paused (AskPrint t) d) z r.1 refl) (1, refl) in
       let rest = leads_rest (turn code) (Run c, z) (Run (pushed (MConst CUnit) d), printed t z) (Halted h.1, h.2) refl l (h.0, h.3) in
       (rest.0, h.1, h.2, rest.1, h.4)
 
   pub halts_now : (c d : Core) (z : World) (out : Bytes) → Halts code c z out → Reaches code c (Halted d) → z.console ≡ out
   halts_now c d z out h r =
-      let same = one_end (turn code) (Run c, z) (Halted d, z) (Halted h.1, h.2) refl refl (turns_by r.0 c (Halted d) z r.1 tt) (h.0, h.3) in
+      let same = one_end (turn code) (Run c, z) (Halted d, z) (Halted h.1, h.2) refl refl (turns_by r.0 c (Halted d) z r.1 refl) (h.0, h.3) in
       ap (λ s. s.1.console) same ∙ h.4

@@ -1,12 +1,12 @@
 -- What is written on the way.
-use Rattle.std.proofs.Common.{◌≡◌, ℕ, List, [], ◌++◌, refl, sym, ◌∙◌, ap, subst, append_assoc, IsTrue, Bool}
+use Rattle.std.proofs.Common.{◌≡◌, List, [], ◌++◌, refl, sym, ◌∙◌, ap, subst, append_assoc, IsTrue, Bool}
 use Rattle.std.proofs.lemmas.List.{append-nil}
 use Rattle.ac_types.specs.Types.{Bytes}
 use Rattle.ac_terms.specs.Constants.{CUnit}
 use Rattle.ac_terms.specs.Reduction.{World, fresh, printed}
 use Rattle.ac_outside.specs.Outside.{Extends}
 use Rattle.ac_machine.specs.declared.instr.Instr.{Instr}
-use Rattle.ac_machine.specs.Machine.{MConst, Core, AskPrint, Run, Paused, Halted, pushed, beginning, Halts, Runs}
+use Rattle.ac_machine.specs.Machine.{MConst, Core, AskPrint, Paused, Halted, pushed, beginning, Halts, Runs}
 use Rattle.ac_machine.specs.Stops.{Reaches}
 use Rattle.ac_session.proofs.Halting.{halts_front, halts_on, halts_now}
 

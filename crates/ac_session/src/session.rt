@@ -6,10 +6,12 @@ ghost use Rattle.ac_terms.specs.Read.{expr_of};
 ghost use Rattle.ac_terms.specs.Reduction.{Ends};
 ghost use Rattle.ac_terms.specs.Language.{IsProgram};
 ghost use Rattle.ac_outside.specs.Outside.{Rose};
-ghost use Rattle.ac_machine.specs.Machine.{Runs};
+ghost use Rattle.ac_machine.specs.Generate.{generated};
+ghost use Rattle.ac_machine.specs.Machine.{Runs, beginning};
 ghost use Rattle.ac_session.specs.Printed.{Printed};
+ghost use Rattle.ac_session.specs.Within.{HaltsWithin};
 
-use ac_machine::{Instr, Machine, Pause, generate};
+use ac_machine::{Machine, Pause, generate};
 use ac_outside::{Put, Sink};
 use ac_terms::Term;
 use std::alloc::Global;
@@ -32,21 +34,24 @@ pub fn run<O: Sink>(alloc: Global, term: &Term, output: &mut O) -> RunEnd
     ensures cause { result ≡ RunEnd.WriteFault → Rose (O.faults output.old) (O.faults output.new) }
     ensures later { O.faults output.old ≤ O.faults output.new }
 {
-    match generate(alloc, term) {
-        Ok(code) => run_code(alloc, code.as_slice(), output),
-        Err(_) => RunEnd::Memory,
-    }
+    run_within(alloc, term, output)
 }
 
-// Runs code from its beginning.
-fn run_code<O: Sink>(alloc: Global, code: &[Instr], output: &mut O) -> RunEnd
-    requires { (out : Bytes) × Runs code.now out }
-    ensures printed { (out : Bytes) → Runs code.now out → IsTrue O.told → Printed result (O.written output.old) (O.written output.new) out }
+// Runs a program that takes at most so many steps.
+fn run_within<O: Sink>(alloc: Global, term: &Term, output: &mut O) -> RunEnd
+    ghost bound: { ℕ }
+    requires { HaltsWithin bound (generated (expr_of term.now)) beginning }
+    ensures printed { (out : Bytes) → Runs (generated (expr_of term.now)) out → IsTrue O.told → Printed result (O.written output.old) (O.written output.new) out }
     ensures cause { result ≡ RunEnd.WriteFault → Rose (O.faults output.old) (O.faults output.new) }
     ensures later { O.faults output.old ≤ O.faults output.new }
 {
+    let made = match generate(alloc, term) {
+        Ok(code) => code,
+        Err(_) => return RunEnd::Memory,
+    };
+    let code = made.as_slice();
     let mut machine = Machine::start(alloc);
-    for _ in 0..u64::MAX {
+    loop {
         match machine.go(alloc, code) {
             Pause::Print(text) => match output.write(text.as_slice()) {
                 Put::Done => match machine.resume_unit() {
@@ -60,5 +65,4 @@ fn run_code<O: Sink>(alloc: Global, code: &[Instr], output: &mut O) -> RunEnd
             Pause::Memory => return RunEnd::Memory,
         }
     }
-    RunEnd::Memory
 }

@@ -1,7 +1,7 @@
 -- The interpreter that stands between the reduction and the machine: it goes over the term, with the values of its variables.
-use Rattle.std.proofs.Common.{◌≡◌, ℕ, zero, suc, ◌+◌, Bool, true, false, List, [], ◌∷◌, ◌++◌, length, Option, Some, None, refl, ap, ap₂, ◌∙◌, subst, sym, arith, slice_get}
+use Rattle.std.proofs.Common.{◌≡◌, ℕ, zero, suc, ◌+◌, true, false, List, [], ◌∷◌, ◌++◌, length, Option, Some, None, refl, ap, ap₂, ◌∙◌, subst, sym, arith, slice_get}
 use Rattle.ac_types.specs.Types.{Typ}
-use Rattle.ac_terms.specs.Terms.{Expr, Int, Boolean, Str, Unit', Var, Let, If, Seq, Prim, Val, Exprs, no_exprs, expr, Value, VInt, VBool, VStr, VUnit, Values, no_values, value}
+use Rattle.ac_terms.specs.Terms.{Expr, Int, Boolean, Str, Unit', Var, Let, If, Seq, Prim, Exprs, no_exprs, expr, Value, VInt, VBool, VStr, VUnit, Values, no_values, value}
 use Rattle.ac_terms.specs.Constants.{Answer, Gives, Prints, NoSense, meaning}
 use Rattle.ac_terms.specs.Reduction.{Written, Slot, Free, Bound, up, slot_in, slot, from_slot, inst, inst_all, constant, consts_of, answered, World, printed}
 

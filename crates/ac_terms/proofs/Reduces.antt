@@ -1,11 +1,11 @@
 -- The reduction does what the interpreter does.
-use Rattle.std.proofs.Common.{◌≡◌, ℕ, zero, suc, ◌+◌, ◌<◌, ◌≤◌, Bool, true, false, List, [], ◌∷◌, ◌++◌, Option, Some, None, refl, sym, ap, ◌∙◌, subst, arith, slice_get, ⊎_elim}
+use Rattle.std.proofs.Common.{◌≡◌, ℕ, zero, suc, ◌+◌, ◌≤◌, true, false, [], ◌∷◌, refl, sym, ap, ◌∙◌, subst, arith, slice_get, ⊎_elim}
 use Rattle.std.proofs.lemmas.Bool.{cases_lt}
-use Rattle.ac_types.specs.Types.{Bytes, Typ}
-use Rattle.ac_terms.specs.Terms.{Expr, Int, Boolean, Str, Unit', Var, Let, If, Seq, Prim, Val, Exprs, no_exprs, expr, Value, VInt, VBool, VStr, VUnit, Values, no_values, value}
+use Rattle.ac_types.specs.Types.{Bytes}
+use Rattle.ac_terms.specs.Terms.{Expr, Int, Boolean, Str, Unit', Var, Let, If, Seq, Prim, Val, Exprs, no_exprs, expr, Value, VInt, VBool, VStr, VUnit, no_values, value}
 use Rattle.ac_terms.specs.Constants.{Const, CInt, CBool, CStr, CUnit, Answer, Gives, Prints, NoSense, meaning}
-use Rattle.ac_terms.specs.Reduction.{Written, slot_in, from_slot, inst, inst_all, constant, spelled, consts_of, answered, World, printed, Act, Is, Goes, Turns, Wrong, within, branch, answer, look, look_all, Outcome, Returned, Stuck, State, At, Over, after, step_by, step, iter, start, Ends}
-use Rattle.ac_terms.proofs.Eval.{Result, Fine, Wrongly, M, then', give, wrongly, follow, found, branching, answering, eval, eval_all, eval_rest, vals, inst-inst, inst_none}
+use Rattle.ac_terms.specs.Reduction.{Written, slot_in, from_slot, inst, inst_all, constant, spelled, consts_of, answered, World, Act, Is, Goes, Turns, Wrong, within, branch, answer, look, look_all, Outcome, Returned, Stuck, At, Over, after, step_by, step, iter, start, Ends}
+use Rattle.ac_terms.proofs.Eval.{Result, Fine, Wrongly, M, then', give, follow, found, branching, answering, eval, eval_all, eval_rest, vals, inst-inst, inst_none}
 
 pub iter-plus : {S : Type 0} (f : S → S) (j k : ℕ) (s : S) → iter f (j + k) s ≡ iter f k (iter f j s)
 iter-plus f zero k s = let e : 0 + k ≡ k = omega arith in ap (λ n. iter f n s) e

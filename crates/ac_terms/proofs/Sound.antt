@@ -2,13 +2,12 @@
 use Rattle.std.proofs.Common.{◌≡◌, ℕ, zero, suc, ℤ, Bool, true, false, ◌&&◌, ◌⊎◌, List, [], ◌∷◌, Option, Some, None, refl, sym, ap, ◌∙◌, subst, slice_get, option_and_then, inl, inr, ⊎_elim}
 use mathlib.Core.Bool.{true≢false}
 use Rattle.ac_types.specs.Types.{Bytes, Typ, TInt, TBool, TStr, TUnit, Typs, no_types, typ, same, same_all}
-use Rattle.ac_types.specs.First.{given}
 use Rattle.ac_types.proofs.FirstLaws.{none≢some, some_eq, given_some}
 use Rattle.ac_types.proofs.Same.{both_true, same_eq, same_all_eq}
-use Rattle.ac_terms.specs.Terms.{Expr, Int, Boolean, Str, Unit', Var, Let, If, Seq, Prim, Val, Exprs, no_exprs, expr, Value, VInt, VBool, VStr, VUnit, Values, no_values, value}
+use Rattle.ac_terms.specs.Terms.{Expr, Int, Boolean, Str, Unit', Var, Let, If, Seq, Prim, Exprs, no_exprs, expr, Value, VInt, VBool, VStr, VUnit, Values, no_values, value}
 use Rattle.ac_terms.specs.Primitives.{Rule, by_rules, primitives, takes_one, takes_two, arithmetic, comparison}
 use Rattle.ac_terms.specs.Typing.{has, both_same, also, last_of, type_of, types_of}
-use Rattle.ac_terms.specs.Constants.{Const, CInt, CBool, CStr, CUnit, Answer, sum, difference, product, less, print_int, print_string, Meaning, One, Two, Later, meanings, or_later, meaning, is_known}
+use Rattle.ac_terms.specs.Constants.{Const, CInt, CBool, CStr, Answer, sum, difference, product, less, print_int, print_string, Meaning, One, Two, Later, meanings, or_later, meaning, is_known}
 use Rattle.ac_terms.specs.Reduction.{const_of, all_there, consts_of, answered, World, fresh, Ends, Over, Stuck, Returned, iter, step, start}
 use Rattle.ac_terms.specs.Language.{is_in_language, are_in_language, IsProgram}
 use Rattle.ac_terms.proofs.Eval.{Result, Fine, Wrongly, M, then', branching, answering, found, eval, eval_all, eval_rest}
@@ -123,13 +122,37 @@ Agree (rs ∷ rest) [] = Unit {0}
 Agree (rs ∷ rest) (m ∷ ms) = Keeps rs m × Agree rest ms
 
 agree : Agree primitives meanings
-agree =
-    (keeps_arithmetic sum (λ x y z. (_, refl)), (keeps_arithmetic difference (λ x y z. (_, refl)), (keeps_arithmetic product (λ x y z. (_, refl)), (keeps_later _, (keeps_later _,
-    (keeps_later _,
-    (keeps_later _, (keeps_less,
-    (keeps_later _,
-    (keeps_later _,
-    (keeps_print_int, (keeps_print_string, tt))))))))))))
+agree = (
+  keeps_arithmetic sum (λ x y z. (_, refl)),
+  (
+    keeps_arithmetic difference (λ x y z. (_, refl)),
+    (
+      keeps_arithmetic product (λ x y z. (_, refl)),
+      (
+        keeps_later _,
+        (
+          keeps_later _,
+          (
+            keeps_later _,
+            (
+              keeps_later _,
+              (
+                keeps_less,
+                (
+                  keeps_later _,
+                  (
+                    keeps_later _,
+                    (keeps_print_int, (keeps_print_string, tt)),
+                  ),
+                ),
+              ),
+            ),
+          ),
+        ),
+      ),
+    ),
+  ),
+)
 
 prim_at : (rs : List (List Rule)) (ms : List Meaning) → Agree rs ms → (k : ℕ) (Ts : Typs) (T : Typ) (vs : Values) (z : World) → is_known (or_later (slice_get ms k)) ≡ true → option_and_then (λ r. by_rules r Ts) (slice_get rs k) ≡ Some T → Ofs vs Ts → Comes (λ v. Of v T) (answering (answered (or_later (slice_get ms k)) (consts_of vs)) z)
 unfolding Keeps

@@ -1,7 +1,7 @@
 -- The programs of this language.
-use Rattle.std.specs.Prelude.{◌≡◌, ◌&&◌, Bool, true, false, [], Option, Some}
+use Rattle.std.specs.Prelude.{◌≡◌, ◌&&◌, Bool, true, [], Some}
 use Rattle.ac_types.specs.Types.{Typ}
-use Rattle.ac_terms.specs.Terms.{Expr, Int, Boolean, Str, Unit', Var, Let, If, Seq, Prim, Exprs, no_exprs, expr}
+use Rattle.ac_terms.specs.Terms.{Expr, Let, If, Seq, Prim, Exprs, no_exprs, expr}
 use Rattle.ac_terms.specs.Typing.{type_of}
 use Rattle.ac_terms.specs.Constants.{meaning, is_known}
 

@@ -1,5 +1,5 @@
 -- The reduction, in call by value and from the left: a step of a term, and how a run ends.
-use Rattle.std.specs.Prelude.{◌≡◌, ℕ, zero, suc, Bool, true, false, List, [], ◌∷◌, ◌++◌, Option, Some, None}
+use Rattle.std.specs.Prelude.{◌≡◌, ℕ, zero, suc, true, false, List, [], ◌∷◌, ◌++◌, Option, Some, None}
 use Rattle.ac_types.specs.Types.{Bytes, Typ}
 use Rattle.ac_terms.specs.Terms.{Expr, Int, Boolean, Str, Unit', Var, Let, If, Seq, Prim, Val, Exprs, no_exprs, expr, Value, VInt, VBool, VStr, VUnit, Values, no_values, value}
 use Rattle.ac_terms.specs.Constants.{Const, CInt, CBool, CStr, CUnit, Answer, Gives, Prints, NoSense, Meaning, meaning, applied}

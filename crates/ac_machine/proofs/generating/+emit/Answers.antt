@@ -1,4 +1,4 @@
-use Rattle.std.proofs.Common.{◌≡◌, ◌++◌, ◌∷◌, [], ◌∙◌, length, ap, sym, rules, arith}
+use Rattle.std.proofs.Common.{◌≡◌, ◌++◌, ◌∙◌, length, ap, sym, rules, arith}
 use Rattle.ac_terms.specs.Read.{expr_of}
 use Rattle.ac_terms.specs.Terms.{If}
 use Rattle.ac_machine.specs.Generate.{code_of}
