@@ -9,3 +9,4 @@ pub mod Rules
 pub mod NeededLaws
 pub mod EarlierLaws
 pub mod ViewLaws
+pub mod BareLaws

@@ -22,11 +22,11 @@ use Rattle.ac_rules.proofs.Rules.{then_some}
 use Rattle.ac_rules.proofs.EarlierLaws.{known_earlier, found_keeps, least, all_left, all_right, pass_left, pass_right, pass_under}
 
 -- where the first of some is none, each is none
-or_none : {A : Type 0} (a b : Option A) → or_else a b ≡ None → b ≡ None
+pub or_none : {A : Type 0} (a b : Option A) → or_else a b ≡ None → b ≡ None
 or_none None b e = e
 or_none (Some x) b e = absurd (none≢some (sym e))
 
-or_none_left : {A : Type 0} (a b : Option A) → or_else a b ≡ None → a ≡ None
+pub or_none_left : {A : Type 0} (a b : Option A) → or_else a b ≡ None → a ≡ None
 or_none_left None b e = refl
 or_none_left (Some x) b e = absurd (none≢some (sym e))
 
@@ -35,7 +35,7 @@ passes true f e = refl
 passes false f e = absurd (none≢some (sym e))
 
 -- a link by exact name goes to a module that keeps the name
-exact_keeps : (E : Environment) (m : Import) (j : ℕ) (q : Bytes) → m.constraint ≡ Exact q → MayLink E m j → names (name_at E j) q ≡ true
+pub exact_keeps : (E : Environment) (m : Import) (j : ℕ) (q : Bytes) → m.constraint ≡ Exact q → MayLink E m j → names (name_at E j) q ≡ true
 exact_keeps E m j q c h = by (module_at E j) h
   where
     by : (o : Option Module) → fault_at E m j o ≡ None → names (name_at E j) q ≡ true
@@ -45,13 +45,13 @@ exact_keeps E m j q c h = by (module_at E j) h
         passes (names (name_at E j) q) Link_fault.Name (or_none_left _ None (or_none _ _ (or_none _ _ r)))
 
 -- what is found is within
-within : {A : Type 0} (xs : List A) (i : ℕ) (x : A) → slice_get xs i ≡ Some x → i < length xs
+pub within : {A : Type 0} (xs : List A) (i : ℕ) (x : A) → slice_get xs i ≡ Some x → i < length xs
 within [] i x h = absurd (none≢some h)
 within (y ∷ xs) zero x h = omega arith
 within (y ∷ xs) (suc i) x h = let l : i < length xs = within xs i x h in omega arith
 
 -- equal names are one
-names_eq : (o : Option Bytes) (q n : Bytes) → o ≡ Some q → names o n ≡ true → q ≡ n
+pub names_eq : (o : Option Bytes) (q n : Bytes) → o ≡ Some q → names o n ≡ true → q ≡ n
 names_eq o q n e h = bytes_eq q n (ap (λ x. names x n) (sym e) ∙ h)
 
 module _ (E : Environment) (coherent : IsCoherent E) where
@@ -99,7 +99,7 @@ module _ (E : Environment) (coherent : IsCoherent E) where
       type_known n t i e R f k.1 k.2 e.def e.link refl refl r
 
 -- each that passes one test passes another
-all_implies : {A : Type 0} (p q : A → Bool) → ((x : A) → p x ≡ true → q x ≡ true) → (xs : List A) → list_all p xs ≡ true → list_all q xs ≡ true
+pub all_implies : {A : Type 0} (p q : A → Bool) → ((x : A) → p x ≡ true → q x ≡ true) → (xs : List A) → list_all p xs ≡ true → list_all q xs ≡ true
 all_implies p q f [] h = refl
 all_implies p q f (x ∷ xs) h =
     let r = both_true (p x) (list_all p xs) h in
