@@ -62,3 +62,97 @@ spec_passes test (x ∷ xs) t none abs = by (spec_passes test xs t q.1) (same_by
         (y : Sig_type) × (test y ≡ true) × (same_bytes y.name t ≡ true) × (y.manifest ≡ None)
     by more true e = (x, not_not (test x) q.0, e, is_none_there x.manifest (ap (λ b. is_abstract (elim b as (λ z. Option (Option Typ)) [ true ↦ Some x.manifest | false ↦ type_under t xs ])) (sym e) ∙ abs))
     by more false e = more (ap (λ b. is_abstract (elim b as (λ z. Option (Option Typ)) [ true ↦ Some x.manifest | false ↦ type_under t xs ])) (sym e) ∙ abs)
+
+-- something is there
+some_of : {A : Type 0} (o : Option A) → is_some o ≡ true → (x : A) × (o ≡ Some x)
+some_of None e = absurd (true≢false (sym e))
+some_of (Some x) e = (x, refl)
+
+none_of : {A : Type 0} (o : Option A) → is_none o ≡ true → o ≡ None
+none_of None e = refl
+none_of (Some x) e = absurd (true≢false (sym e))
+
+names_some : (o : Option Bytes) (n : Bytes) → names o n ≡ true → o ≡ Some n
+names_some None n e = absurd (true≢false (sym e))
+names_some (Some a) n e = ap Some (bytes_eq a n e)
+
+or_false : (b : Bool) → (b || false) ≡ true → b ≡ true
+or_false true e = refl
+or_false false e = e
+
+any_found : {A : Type 0} (p : A → Bool) (xs : List A) → list_any p xs ≡ true → (j : ℕ) × (x : A) × (slice_get xs j ≡ Some x) × (p x ≡ true)
+any_found p [] e = absurd (true≢false (sym e))
+any_found p (x ∷ xs) e = by (any_found p xs) (p x) refl e
+  where
+    by : (list_any p xs ≡ true → (j : ℕ) × (y : _) × (slice_get xs j ≡ Some y) × (p y ≡ true)) → (b : Bool) → p x ≡ b → (b || list_any p xs) ≡ true → (j : ℕ) × (y : _) × (slice_get (x ∷ xs) j ≡ Some y) × (p y ≡ true)
+    by more true q e = (0, x, refl, q)
+    by more false q e = let r = more e in (suc r.0, r.1, r.2, r.3)
+
+-- an abstract type is in the struct that covers its signature, and has a likespec
+covered : (m : Module) (t : Bytes) → uncovered m ≡ None → is_abstract (type_under t m.sig.types) ≡ true → (R : Typ) × (under t m.types ≡ Some R)
+covered m t u abs =
+    let x = spec_passes (covers_type m) m.sig.types t (or_none_left _ _ u) abs in
+    let there : covers_type m (record x.0 { manifest = None }) ≡ true = ap (λ o. covers_type m (record x.0 { manifest = o })) (sym x.3) ∙ x.1 in
+    some_of (under t m.types) (ap (λ n. is_some (under n m.types)) (sym (bytes_eq x.0.name t x.2)) ∙ there)
+
+liked : (m : Import) (t : Bytes) → like_missing m ≡ None → is_abstract (type_under t m.sig.types) ≡ true → (R : Typ) × (under t m.like ≡ Some R)
+liked m t u abs =
+    let x = spec_passes (λ (s : Sig_type). is_some s.manifest || is_some (under s.name m.like)) m.sig.types t u abs in
+    let there : (is_some {T = Typ} None || is_some (under x.0.name m.like)) ≡ true = ap (λ o. is_some o || is_some (under x.0.name m.like)) (sym x.3) ∙ x.1 in
+    some_of (under t m.like) (ap (λ n. is_some (under n m.like)) (sym (bytes_eq x.0.name t x.2)) ∙ there)
+
+-- and abstract in what an import by exact name is linked to
+abstract_there : (s : Signature) (w : Signature) (t : Bytes) → missing_spec true s w ≡ None → is_abstract (type_under t w.types) ≡ true → is_abstract (type_under t s.types) ≡ true
+abstract_there s w t u abs =
+    let x = spec_passes (has_type_spec true s) w.types t (or_none_left _ _ u) abs in
+    let there : has_type_spec true s (record x.0 { manifest = None }) ≡ true = ap (λ o. has_type_spec true s (record x.0 { manifest = o })) (sym x.3) ∙ x.1 in
+    ap (λ n. is_abstract (type_under n s.types)) (sym (bytes_eq x.0.name t x.2)) ∙ or_false (is_abstract (type_under x.0.name s.types)) there
+
+-- the module of a link by exact name
+exact_module : (E : Environment) (m : Import) (j : ℕ) (q : Bytes) → m.constraint ≡ Exact q → MayLink E m j → (o : Module) × (module_at E j ≡ Some o) × (missing_spec true o.sig m.sig ≡ None)
+exact_module E m j q c h = by (module_at E j) refl h
+  where
+    no_map : {A B : Type 0} (f : A → B) (o : Option A) → option_map f o ≡ None → o ≡ None
+    no_map f None e = refl
+    no_map f (Some a) e = absurd (none≢some (sym e))
+
+    by : (o : Option Module) → module_at E j ≡ o → fault_at E m j o ≡ None → (x : Module) × (module_at E j ≡ Some x) × (missing_spec true x.sig m.sig ≡ None)
+    by None p e = absurd (none≢some (sym e))
+    by (Some x) p e =
+        let r : first_some (conditions E m j x (Exact q)) ≡ None = ap (λ k. first_some (conditions E m j x k)) (sym c) ∙ e in
+        (x, p, no_map Link_fault.Spec (missing_spec true x.sig m.sig) (or_none_left _ _ (or_none _ _ r)))
+
+module _ (E : Environment) (coherent : IsCoherent E) where
+  -- an entry of a name, with a text and a signature in which t is abstract
+  record Shows (n t : Bytes) : Type 0 where
+    at : ℕ
+    entry : Entry
+    is_there : slice_get E at ≡ Some entry
+    keeps : names entry.name n ≡ true
+    text : Bytes
+    has_text : text_of_def E entry.def ≡ Some text
+    sig : Signature
+    has_sig : signature entry.def ≡ Some sig
+    is_abstract_there : is_abstract (type_under t sig.types) ≡ true
+
+  here : (i : ℕ) (e : Entry) (d : Def) → slice_get E i ≡ Some e → e.def ≡ d → def_of E i ≡ Some d
+  here i e d g p = ap (option_map (λ (x : Entry). x.def)) g ∙ ap Some p
+
+  -- an entry that keeps a name is no mark
+  no_mark : (i : ℕ) (e : Entry) (n s : Bytes) → slice_get E i ≡ Some e → names e.name n ≡ true → e.def ≡ AMark s → ⊥
+  no_mark i e n s g keeps d =
+      let none : names None n ≡ true = ap (λ o. names o n) (sym (keeps_name E coherent i e g ∙ ap (name_by sha256 E) d)) ∙ keeps in
+      true≢false (sym none)
+
+  -- entries of one name that have texts have one signature
+  one_signature : (i : ℕ) (e : Entry) (n s t : Bytes) (f : Signature) → slice_get E i ≡ Some e → names e.name n ≡ true → text_of_def E e.def ≡ Some s → signature e.def ≡ Some f →
+      (w : Shows n t) → f ≡ w.sig
+  one_signature i e n s t f g keeps x y w =
+      let name_i : name_at E i ≡ Some n = ap (option_and_then (λ (z : Entry). z.name)) g ∙ names_some e.name n keeps in
+      let name_w : name_at E w.at ≡ Some n = ap (option_and_then (λ (z : Entry). z.name)) w.is_there ∙ names_some w.entry.name n w.keeps in
+      let text_i : text_of_entry E i ≡ Some s = ap (option_and_then (text_of_def E)) (here i e e.def g refl) ∙ x in
+      let text_w : text_of_entry E w.at ≡ Some w.text = ap (option_and_then (text_of_def E)) (here w.at w.entry w.entry.def w.is_there refl) ∙ w.has_text in
+      let same : s ≡ w.text = coherent.one_text i w.at n s w.text name_i name_w text_i text_w in
+      one_text-one_signature (λ k. unwrap_or (name_at E k) []) e.def w.entry.def w.text f w.sig
+      (coherent.within_bounds i e.def (here i e e.def g refl)) (coherent.within_bounds w.at w.entry.def (here w.at w.entry w.entry.def w.is_there refl))
+      (x ∙ ap Some same) w.has_text y w.has_sig

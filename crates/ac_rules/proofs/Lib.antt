@@ -10,3 +10,4 @@ pub mod NeededLaws
 pub mod EarlierLaws
 pub mod ViewLaws
 pub mod BareLaws
+pub mod CoherentExample

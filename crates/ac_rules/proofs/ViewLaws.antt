@@ -55,6 +55,27 @@ pub names_eq : (o : Option Bytes) (q n : Bytes) → o ≡ Some q → names o n �
 names_eq o q n e h = bytes_eq q n (ap (λ x. names x n) (sym e) ∙ h)
 
 module _ (E : Environment) (coherent : IsCoherent E) where
+  -- an entry keeps the name of its definition
+  pub keeps_name : (i : ℕ) (e : Entry) → slice_get E i ≡ Some e → e.name ≡ name_by sha256 E e.def
+  keeps_name i e g =
+      sym (ap (option_and_then (λ (x : Entry). x.name)) g) ∙ coherent.named i (within E i e g) ∙
+      ap (option_and_then (name_by sha256 E)) (ap (option_map (λ (x : Entry). x.def)) g)
+
+  -- an import by exact name is linked to an earlier module of that name
+  pub exact_link : (n q : Bytes) (i : ℕ) (e : Entry) (m : Import) → slice_get E i ≡ Some e → names e.name n ≡ true → e.def ≡ AnImport m → m.constraint ≡ Exact q →
+      (j : ℕ) × (j < i) × (names (name_at E j) n ≡ true) × MayLink E m j
+  exact_link n q i e m g keeps p c =
+      let j = coherent.linked i (AnImport m) (ap (option_map (λ (x : Entry). x.def)) g ∙ ap Some p) in
+      let named : e.name ≡ Some q =
+            keeps_name i e g ∙ ap (name_by sha256 E) p ∙ ap (λ x. name_by sha256 E (AnImport (record m { constraint = x }))) c in
+      (j.0, j.2, subst (λ x. names (name_at E j.0) x ≡ true) (names_eq e.name q n named keeps) (exact_keeps E m j.0 q c j.3), j.3)
+
+  -- so it isn't the least entry of its name
+  pub exact_not_least : (n q : Bytes) (i : ℕ) (e : Entry) (m : Import) → find_name E n ≡ Some i → slice_get E i ≡ Some e → names e.name n ≡ true → e.def ≡ AnImport m → m.constraint ≡ Exact q → ⊥
+  exact_not_least n q i e m f g keeps p c =
+      let j = exact_link n q i e m g keeps p c in
+      true≢false (sym j.2 ∙ least E n i j.0 f j.1)
+
   -- what the type of an entry mentions is known before it
   type_known : (n t : Bytes) (i : ℕ) (e : Entry) (R : Typ) → find_name E n ≡ Some i → slice_get E i ≡ Some e → names e.name n ≡ true →
       (d : Def) (k : Option ℕ) → e.def ≡ d → e.link ≡ k → type_of_entry E t d k ≡ Some R → list_all (is_known (take i E)) (mentions R) ≡ true
@@ -74,18 +95,7 @@ module _ (E : Environment) (coherent : IsCoherent E) where
       by (Ranges rs star) c r =
           pass_under (is_known (take i E)) m.like t R
           (pass_right (is_known (take i E)) (map OfType (sig_types m.sig)) (map (λ (x : Typed_name). OfType x.ty) m.like) (coherent.mentions i (AnImport m) here)) r
-      by (Exact q) c r = absurd (true≢false (sym kept ∙ least E n i j.0 f j.2))
-        where
-          j : (j : ℕ) × (link_at E i ≡ Some j) × (j < i) × MayLink E m j
-          j = coherent.linked i (AnImport m) here
-
-          named : name_at E i ≡ Some q
-          named =
-              coherent.named i (within E i e g) ∙ ap (option_and_then (name_by sha256 E)) here ∙
-              ap (λ x. name_by sha256 E (AnImport (record m { constraint = x }))) c
-
-          kept : names (name_at E j.0) n ≡ true
-          kept = subst (λ x. names (name_at E j.0) x ≡ true) (names_eq (name_at E i) q n named (ap (λ o. names o n) (ap (option_and_then (λ (x : Entry). x.name)) g) ∙ keeps)) (exact_keeps E m j.0 q c j.3)
+      by (Exact q) c r = absurd (exact_not_least n q i e m f g keeps p c)
   type_known n t i e R f g keeps (AMark s) k p l h = absurd (none≢some h)
 
   -- what a representation mentions is known before its name's least entry
