@@ -1,5 +1,5 @@
 -- In a coherent environment a representation speaks of earlier names alone, so a view is its own view.
-use Rattle.std.proofs.Common.{◌≡◌, refl, sym, ap, ◌∙◌, subst, ℕ, zero, suc, ◌<◌, Bool, true, false, not, ◌&&◌, length, List, [], ◌∷◌, ◌++◌, map, flat_map, Option, Some, None, IsTrue, take}
+use Rattle.std.proofs.Common.{◌≡◌, refl, sym, ap, ◌∙◌, subst, ℕ, zero, suc, ◌<◌, Bool, true, false, not, length, List, [], ◌∷◌, ◌++◌, map, flat_map, Option, Some, None, take}
 use Rattle.std.specs.Prelude.{option_map, option_and_then, slice_get, unwrap_or}
 use Rattle.std.specs.List.{list_all}
 use mathlib.Core.Bool.{true≢false}
@@ -9,15 +9,15 @@ use Rattle.sha2.specs.Sha256.{sha256}
 use Rattle.ac_types.specs.First.{or_else, first_some}
 use Rattle.ac_types.proofs.Same.{both_true, and_true, bytes_eq}
 use Rattle.ac_types.proofs.FirstLaws.{none≢some, some_eq}
-use Rattle.ac_types.specs.Types.{Bytes, Typ, TInt, TBool, TStr, TUnit, TExn, TTuple, TList, TOpt, TFun, TAbs, TMine, Typs, no_types, typ, mentions, mentions_of_all, with_each, all_with_each, same_bytes}
+use Rattle.ac_types.specs.Types.{Bytes, Typ, TInt, TBool, TStr, TUnit, TExn, TTuple, TList, TOpt, TFun, TAbs, TMine, Typs, no_types, typ, mentions, mentions_of_all, with_each, all_with_each}
 use Rattle.ac_types.specs.Sigs.{Typed_name, Constraint, Ranges, Exact}
 use Rattle.ac_terms.specs.Terms.{Home, Main, In}
 use Rattle.ac_terms.specs.Defs.{Environment, Entry, Module, Import, Def, AModule, AnImport, AMark, Field, names, find_name, name_at, def_of, module_at}
-use Rattle.ac_terms.specs.Names.{name_of_entry, name_by}
-use Rattle.ac_terms.specs.Parts.{Part, OfType, def_parts, sig_types, term_parts}
-use Rattle.ac_rules.specs.Views.{Coloured, is_known, representation, type_of_entry, import_type, module_type, opened, opened_at_home, has_name, view}
+use Rattle.ac_terms.specs.Names.{name_by}
+use Rattle.ac_terms.specs.Parts.{OfType, sig_types, term_parts}
+use Rattle.ac_rules.specs.Views.{Coloured, is_known, representation, type_of_entry, import_type, opened, opened_at_home, has_name, view}
 use Rattle.ac_rules.specs.Links.{MayLink, Link_fault, fault_at, conditions, fails}
-use Rattle.ac_rules.specs.Coherent.{IsCoherent, IsLinked, link_at}
+use Rattle.ac_rules.specs.Coherent.{IsCoherent}
 use Rattle.ac_rules.proofs.Rules.{then_some}
 use Rattle.ac_rules.proofs.EarlierLaws.{known_earlier, found_keeps, least, all_left, all_right, pass_left, pass_right, pass_under}
 
@@ -67,7 +67,7 @@ module _ (E : Environment) (coherent : IsCoherent E) where
   exact_link n q i e m g keeps p c =
       let j = coherent.linked i (AnImport m) (ap (option_map (λ (x : Entry). x.def)) g ∙ ap Some p) in
       let named : e.name ≡ Some q =
-            keeps_name i e g ∙ ap (name_by sha256 E) p ∙ ap (λ x. name_by sha256 E (AnImport (record m { constraint = x }))) c in
+      keeps_name i e g ∙ ap (name_by sha256 E) p ∙ ap (λ x. name_by sha256 E (AnImport (record m { constraint = x }))) c in
       (j.0, j.2, subst (λ x. names (name_at E j.0) x ≡ true) (names_eq e.name q n named keeps) (exact_keeps E m j.0 q c j.3), j.3)
 
   -- so it isn't the least entry of its name
@@ -84,8 +84,8 @@ module _ (E : Environment) (coherent : IsCoherent E) where
       let known = coherent.mentions i (AModule m) here in
       pass_under (is_known (take i E)) m.types t R
       (pass_right (is_known (take i E)) (map OfType (sig_types m.sig)) (map (λ (x : Typed_name). OfType x.ty) m.types)
-        (pass_left (is_known (take i E)) (map OfType (sig_types m.sig) ++ map (λ (x : Typed_name). OfType x.ty) m.types)
-          (flat_map (λ (x : Field). OfType x.ty ∷ term_parts x.term) m.fields) known)) h
+      (pass_left (is_known (take i E)) (map OfType (sig_types m.sig) ++ map (λ (x : Typed_name). OfType x.ty) m.types)
+      (flat_map (λ (x : Field). OfType x.ty ∷ term_parts x.term) m.fields) known)) h
   type_known n t i e R f g keeps (AnImport m) k p l h = by m.constraint refl h
     where
       here : def_of E i ≡ Some (AnImport m)
@@ -104,7 +104,7 @@ module _ (E : Environment) (coherent : IsCoherent E) where
       let k = found_keeps E n i f in
       let e : Entry = k.0 in
       let at : option_and_then (λ (x : Entry). type_of_entry E t x.def x.link) (slice_get E i) ≡ Some R =
-            ap (option_and_then (λ a. option_and_then (λ (x : Entry). type_of_entry E t x.def x.link) (slice_get E a))) (sym f) ∙ h in
+      ap (option_and_then (λ a. option_and_then (λ (x : Entry). type_of_entry E t x.def x.link) (slice_get E a))) (sym f) ∙ h in
       let r : type_of_entry E t e.def e.link ≡ Some R = ap (option_and_then (λ (x : Entry). type_of_entry E t x.def x.link)) (sym k.1) ∙ at in
       type_known n t i e R f k.1 k.2 e.def e.link refl refl r
 
