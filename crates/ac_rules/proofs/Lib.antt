@@ -11,3 +11,4 @@ pub mod EarlierLaws
 pub mod ViewLaws
 pub mod BareLaws
 pub mod CoherentExample
+pub mod NeededEarly
