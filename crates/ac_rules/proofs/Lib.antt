@@ -12,3 +12,4 @@ pub mod ViewLaws
 pub mod BareLaws
 pub mod CoherentExample
 pub mod NeededEarly
+pub mod LinkLaws

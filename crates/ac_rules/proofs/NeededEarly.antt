@@ -144,8 +144,8 @@ module _ (E : Environment) (i : ℕ) where
   spoken_early : (ps : List Part) (j : ℕ) → homeless ps ≡ true → refers ps ≡ true → list_all (is_known (take i E)) (part_mentions ps) ≡ true → Contains (spoken_of E ps) j → j < i
   spoken_early ps j a b c h =
       ⊎_elim (λ u. ⊎_elim (λ v. absurd (contains_none j (subst (λ xs. Contains xs j) (no_homes ps a) v)))
-          (λ v. lt_true j i (both_true (nat_lt j i) (is_some (signature_at E j)) (all_contains (λ k. nat_lt k i && is_some (signature_at E k)) (part_refs ps) j b v)).0)
-          (Contains-append_cases (part_homes ps) (part_refs ps) j u))
+      (λ v. lt_true j i (both_true (nat_lt j i) (is_some (signature_at E j)) (all_contains (λ k. nat_lt k i && is_some (signature_at E k)) (part_refs ps) j b v)).0)
+      (Contains-append_cases (part_homes ps) (part_refs ps) j u))
       (λ u. mentioned (part_mentions ps) j c u)
       (Contains-append_cases (part_homes ps ++ part_refs ps) (filter_map (λ (p : Bytes × Bytes). find_name E p.0) (part_mentions ps)) j h)
 
@@ -167,9 +167,9 @@ module _ (E : Environment) (coherent : IsCoherent E) (mark : ℕ) where
       cut_form m n p h =
           let here : def_of E i ≡ Some (AModule m) = ap (option_map (λ (x : Entry). x.def)) g ∙ ap Some p in
           let shown : list_all (is_known (take i E)) (part_mentions (map OfType (sig_types m.sig))) ≡ true =
-                pass_left (is_known (take i E)) (map OfType (sig_types m.sig)) (map (λ (x : Typed_name). OfType x.ty) m.types)
-                (pass_left (is_known (take i E)) (map OfType (sig_types m.sig) ++ map (λ (x : Typed_name). OfType x.ty) m.types)
-                  (flat_map (λ (x : Field). OfType x.ty ∷ term_parts x.term) m.fields) (coherent.mentions i (AModule m) here)) in
+          pass_left (is_known (take i E)) (map OfType (sig_types m.sig)) (map (λ (x : Typed_name). OfType x.ty) m.types)
+          (pass_left (is_known (take i E)) (map OfType (sig_types m.sig) ++ map (λ (x : Typed_name). OfType x.ty) m.types)
+          (flat_map (λ (x : Field). OfType x.ty ∷ term_parts x.term) m.fields) (coherent.mentions i (AModule m) here)) in
           spoken_early E i (map OfType (sig_types m.sig) ++ []) j (join (map OfType (sig_types m.sig)) [] (types_only (sig_types m.sig)) refl) (no_refs E i (sig_types m.sig))
           (subst (λ ps. list_all (is_known (take i E)) (part_mentions ps) ≡ true) (sym (append-nil (map OfType (sig_types m.sig)))) shown) h
 
