@@ -1,23 +1,22 @@
 -- In a coherent environment each entry needs earlier ones alone: so the needed entries are those that are computed.
-use Rattle.std.proofs.Common.{◌≡◌, refl, sym, ap, ◌∙◌, subst, ℕ, zero, suc, ◌<◌, ◌≤◌, Bool, true, false, ◌&&◌, nat_lt, List, [], ◌∷◌, ◌++◌, length, map, flat_map, Option, Some, None, take, append-nil, ◌⊎◌, ⊎_elim}
+use Rattle.std.proofs.Common.{◌≡◌, refl, sym, ap, ◌∙◌, subst, ℕ, ◌<◌, Bool, true, false, ◌&&◌, nat_lt, List, [], ◌∷◌, ◌++◌, length, map, flat_map, Option, Some, None, take, append-nil, ⊎_elim}
 use Rattle.std.specs.Prelude.{Contains, ◌↔◌, slice_get, option_map, filter_map, is_some}
 use Rattle.std.specs.List.{list_all, cons_option}
 use Rattle.std.proofs.lemmas.List.Elements.{Contains-append_cases}
 use Rattle.std.proofs.lemmas.Bool.Decides.{nat_tests}
 use mathlib.Core.Bool.{true≢false}
 use native.Mathlib.Omega.{arith}
-use Rattle.ac_types.proofs.Same.{both_true, and_true}
-use Rattle.ac_types.proofs.FirstLaws.{none≢some, some_eq}
-use Rattle.ac_types.specs.Types.{Bytes, Typ, mentions}
+use Rattle.ac_types.proofs.Same.{both_true}
+use Rattle.ac_types.specs.Types.{Bytes, Typ}
 use Rattle.ac_types.specs.Sigs.{Typed_name}
-use Rattle.ac_terms.specs.Terms.{Home, Main, In, Pattern, Expr, Int, Boolean, Str, Unit', Exn, ExnOf, Tuple, Nil, Empty, Present, Cons, Var, Own, Ref, Lam, Rec, App, Let, If, Seq, Match, Try, Raise, Prim, Marshal, Unmarshal, Packed, Val, Bracket, Exprs, no_exprs, expr, Arms, no_arms, arm}
-use Rattle.ac_terms.specs.Defs.{Environment, Entry, Module, Import, Def, AModule, AnImport, AMark, Field, find_name, def_of, signature_at}
-use Rattle.ac_terms.specs.Parts.{Part, OfType, OfRef, OfHome, Captured, part_types, part_refs, part_homes, part_mentions, pattern_types, term_parts, all_term_parts, arm_parts, sig_types, def_parts}
+use Rattle.ac_terms.specs.Terms.{Expr, Int, Boolean, Str, Unit', Exn, ExnOf, Tuple, Nil, Empty, Present, Cons, Var, Own, Ref, Lam, Rec, App, Let, If, Seq, Match, Try, Raise, Prim, Marshal, Unmarshal, Packed, Val, Bracket, Exprs, no_exprs, expr, Arms, no_arms, arm}
+use Rattle.ac_terms.specs.Defs.{Environment, Entry, Module, Def, AModule, AnImport, AMark, Field, find_name, def_of, signature_at}
+use Rattle.ac_terms.specs.Parts.{Part, OfType, OfRef, OfHome, Captured, part_refs, part_homes, part_mentions, pattern_types, term_parts, all_term_parts, arm_parts, sig_types, def_parts}
 use Rattle.ac_terms.specs.Bounds.{fits_term, fit_terms, fit_arms, fits_type, fits_def, is_lower}
 use Rattle.ac_rules.specs.Views.{is_known}
 use Rattle.ac_rules.specs.Coherent.{IsCoherent}
 use Rattle.ac_rules.specs.Needed.{spoken_of, uses, packet_form, form_of, Needs, root, used, needed_by}
-use Rattle.ac_rules.proofs.EarlierLaws.{known_earlier, all_left, all_right, pass_left, pass_right}
+use Rattle.ac_rules.proofs.EarlierLaws.{known_earlier, pass_left}
 use Rattle.ac_rules.proofs.NeededLaws.{contains_cases, contains_none, needed_is_least}
 use Rattle.ac_rules.proofs.ViewLaws.{within}
 
