@@ -1,22 +1,19 @@
 -- In a coherent environment a representation speaks of earlier names alone.
-use Rattle.std.proofs.Common.{◌≡◌, refl, sym, ap, ◌∙◌, subst, ℕ, zero, suc, ◌+◌, ◌<◌, Bool, true, false, not, cond, nat_lt, ◌&&◌, List, [], ◌∷◌, ◌++◌, length, map, Option, Some, None, IsTrue, take}
-use Rattle.std.specs.Prelude.{position, option_map, option_and_then, slice_get, ◌||◌}
+use Rattle.std.proofs.Common.{◌≡◌, refl, sym, ap, ◌∙◌, subst, ℕ, zero, suc, ◌+◌, ◌<◌, Bool, true, false, not, cond, nat_lt, ◌&&◌, List, [], ◌∷◌, ◌++◌, length, map, Some, None, take}
+use Rattle.std.specs.Prelude.{position, option_map, slice_get, ◌||◌}
 use Rattle.std.specs.Option.{option_map_or}
-use Rattle.std.specs.List.{list_any, list_all, position_or_len}
+use Rattle.std.specs.List.{list_all, position_or_len}
 use Rattle.std.proofs.lemmas.Bool.Decides.{nat_tests}
 use mathlib.Core.Bool.{true≢false}
 use native.Mathlib.Omega.{arith}
-use Rattle.ac_types.specs.First.{or_else}
-use Rattle.ac_types.proofs.Same.{both_true, and_true, bytes_eq}
+use Rattle.ac_types.proofs.Same.{both_true, and_true}
 use Rattle.ac_types.proofs.FirstLaws.{none≢some, some_eq}
 use Rattle.ac_types.specs.Types.{Bytes, Typ, mentions, same_bytes}
 use Rattle.ac_types.specs.Sigs.{Typed_name, Signature, under, type_under, is_abstract}
 use Rattle.ac_terms.specs.Defs.{Environment, Entry, names, find_name, name_at, signature}
-use Rattle.ac_terms.specs.Parts.{Part, OfType, OfRef, OfHome, Captured, part_mentions, part_types, def_parts, sig_types, term_parts}
-use Rattle.ac_rules.specs.Views.{declares, is_known, representation, type_of_entry, import_type, module_type}
-use Rattle.ac_rules.specs.Links.{MayLink, link_fault, by_name, fails, Link_fault}
-use Rattle.ac_rules.specs.Coherent.{IsCoherent, IsLinked, link_at}
-use Rattle.ac_rules.proofs.Rules.{map_some, then_some}
+use Rattle.ac_terms.specs.Parts.{Part, OfType, OfRef, OfHome, Captured, part_mentions}
+use Rattle.ac_rules.specs.Views.{declares, is_known}
+use Rattle.ac_rules.proofs.Rules.{map_some}
 
 -- the place of the first that passes, a step at a time
 lt-zero : (n : ℕ) → nat_lt 0 (suc n) ≡ true

@@ -9,3 +9,7 @@ pub mod Rules
 pub mod NeededLaws
 pub mod EarlierLaws
 pub mod ViewLaws
+pub mod BareLaws
+pub mod CoherentExample
+pub mod NeededEarly
+pub mod LinkLaws

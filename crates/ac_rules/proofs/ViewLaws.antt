@@ -1,5 +1,5 @@
 -- In a coherent environment a representation speaks of earlier names alone, so a view is its own view.
-use Rattle.std.proofs.Common.{◌≡◌, refl, sym, ap, ◌∙◌, subst, ℕ, zero, suc, ◌<◌, Bool, true, false, not, ◌&&◌, length, List, [], ◌∷◌, ◌++◌, map, flat_map, Option, Some, None, IsTrue, take}
+use Rattle.std.proofs.Common.{◌≡◌, refl, sym, ap, ◌∙◌, subst, ℕ, zero, suc, ◌<◌, Bool, true, false, not, length, List, [], ◌∷◌, ◌++◌, map, flat_map, Option, Some, None, take}
 use Rattle.std.specs.Prelude.{option_map, option_and_then, slice_get, unwrap_or}
 use Rattle.std.specs.List.{list_all}
 use mathlib.Core.Bool.{true≢false}
@@ -9,24 +9,24 @@ use Rattle.sha2.specs.Sha256.{sha256}
 use Rattle.ac_types.specs.First.{or_else, first_some}
 use Rattle.ac_types.proofs.Same.{both_true, and_true, bytes_eq}
 use Rattle.ac_types.proofs.FirstLaws.{none≢some, some_eq}
-use Rattle.ac_types.specs.Types.{Bytes, Typ, TInt, TBool, TStr, TUnit, TExn, TTuple, TList, TOpt, TFun, TAbs, TMine, Typs, no_types, typ, mentions, mentions_of_all, with_each, all_with_each, same_bytes}
+use Rattle.ac_types.specs.Types.{Bytes, Typ, TInt, TBool, TStr, TUnit, TExn, TTuple, TList, TOpt, TFun, TAbs, TMine, Typs, no_types, typ, mentions, mentions_of_all, with_each, all_with_each}
 use Rattle.ac_types.specs.Sigs.{Typed_name, Constraint, Ranges, Exact}
 use Rattle.ac_terms.specs.Terms.{Home, Main, In}
 use Rattle.ac_terms.specs.Defs.{Environment, Entry, Module, Import, Def, AModule, AnImport, AMark, Field, names, find_name, name_at, def_of, module_at}
-use Rattle.ac_terms.specs.Names.{name_of_entry, name_by}
-use Rattle.ac_terms.specs.Parts.{Part, OfType, def_parts, sig_types, term_parts}
-use Rattle.ac_rules.specs.Views.{Coloured, is_known, representation, type_of_entry, import_type, module_type, opened, opened_at_home, has_name, view}
+use Rattle.ac_terms.specs.Names.{name_by}
+use Rattle.ac_terms.specs.Parts.{OfType, sig_types, term_parts}
+use Rattle.ac_rules.specs.Views.{Coloured, is_known, representation, type_of_entry, import_type, opened, opened_at_home, has_name, view}
 use Rattle.ac_rules.specs.Links.{MayLink, Link_fault, fault_at, conditions, fails}
-use Rattle.ac_rules.specs.Coherent.{IsCoherent, IsLinked, link_at}
+use Rattle.ac_rules.specs.Coherent.{IsCoherent}
 use Rattle.ac_rules.proofs.Rules.{then_some}
 use Rattle.ac_rules.proofs.EarlierLaws.{known_earlier, found_keeps, least, all_left, all_right, pass_left, pass_right, pass_under}
 
 -- where the first of some is none, each is none
-or_none : {A : Type 0} (a b : Option A) → or_else a b ≡ None → b ≡ None
+pub or_none : {A : Type 0} (a b : Option A) → or_else a b ≡ None → b ≡ None
 or_none None b e = e
 or_none (Some x) b e = absurd (none≢some (sym e))
 
-or_none_left : {A : Type 0} (a b : Option A) → or_else a b ≡ None → a ≡ None
+pub or_none_left : {A : Type 0} (a b : Option A) → or_else a b ≡ None → a ≡ None
 or_none_left None b e = refl
 or_none_left (Some x) b e = absurd (none≢some (sym e))
 
@@ -35,7 +35,7 @@ passes true f e = refl
 passes false f e = absurd (none≢some (sym e))
 
 -- a link by exact name goes to a module that keeps the name
-exact_keeps : (E : Environment) (m : Import) (j : ℕ) (q : Bytes) → m.constraint ≡ Exact q → MayLink E m j → names (name_at E j) q ≡ true
+pub exact_keeps : (E : Environment) (m : Import) (j : ℕ) (q : Bytes) → m.constraint ≡ Exact q → MayLink E m j → names (name_at E j) q ≡ true
 exact_keeps E m j q c h = by (module_at E j) h
   where
     by : (o : Option Module) → fault_at E m j o ≡ None → names (name_at E j) q ≡ true
@@ -45,16 +45,37 @@ exact_keeps E m j q c h = by (module_at E j) h
         passes (names (name_at E j) q) Link_fault.Name (or_none_left _ None (or_none _ _ (or_none _ _ r)))
 
 -- what is found is within
-within : {A : Type 0} (xs : List A) (i : ℕ) (x : A) → slice_get xs i ≡ Some x → i < length xs
+pub within : {A : Type 0} (xs : List A) (i : ℕ) (x : A) → slice_get xs i ≡ Some x → i < length xs
 within [] i x h = absurd (none≢some h)
 within (y ∷ xs) zero x h = omega arith
 within (y ∷ xs) (suc i) x h = let l : i < length xs = within xs i x h in omega arith
 
 -- equal names are one
-names_eq : (o : Option Bytes) (q n : Bytes) → o ≡ Some q → names o n ≡ true → q ≡ n
+pub names_eq : (o : Option Bytes) (q n : Bytes) → o ≡ Some q → names o n ≡ true → q ≡ n
 names_eq o q n e h = bytes_eq q n (ap (λ x. names x n) (sym e) ∙ h)
 
 module _ (E : Environment) (coherent : IsCoherent E) where
+  -- an entry keeps the name of its definition
+  pub keeps_name : (i : ℕ) (e : Entry) → slice_get E i ≡ Some e → e.name ≡ name_by sha256 E e.def
+  keeps_name i e g =
+      sym (ap (option_and_then (λ (x : Entry). x.name)) g) ∙ coherent.named i (within E i e g) ∙
+      ap (option_and_then (name_by sha256 E)) (ap (option_map (λ (x : Entry). x.def)) g)
+
+  -- an import by exact name is linked to an earlier module of that name
+  pub exact_link : (n q : Bytes) (i : ℕ) (e : Entry) (m : Import) → slice_get E i ≡ Some e → names e.name n ≡ true → e.def ≡ AnImport m → m.constraint ≡ Exact q →
+      (j : ℕ) × (j < i) × (names (name_at E j) n ≡ true) × MayLink E m j
+  exact_link n q i e m g keeps p c =
+      let j = coherent.linked i (AnImport m) (ap (option_map (λ (x : Entry). x.def)) g ∙ ap Some p) in
+      let named : e.name ≡ Some q =
+      keeps_name i e g ∙ ap (name_by sha256 E) p ∙ ap (λ x. name_by sha256 E (AnImport (record m { constraint = x }))) c in
+      (j.0, j.2, subst (λ x. names (name_at E j.0) x ≡ true) (names_eq e.name q n named keeps) (exact_keeps E m j.0 q c j.3), j.3)
+
+  -- so it isn't the least entry of its name
+  pub exact_not_least : (n q : Bytes) (i : ℕ) (e : Entry) (m : Import) → find_name E n ≡ Some i → slice_get E i ≡ Some e → names e.name n ≡ true → e.def ≡ AnImport m → m.constraint ≡ Exact q → ⊥
+  exact_not_least n q i e m f g keeps p c =
+      let j = exact_link n q i e m g keeps p c in
+      true≢false (sym j.2 ∙ least E n i j.0 f j.1)
+
   -- what the type of an entry mentions is known before it
   type_known : (n t : Bytes) (i : ℕ) (e : Entry) (R : Typ) → find_name E n ≡ Some i → slice_get E i ≡ Some e → names e.name n ≡ true →
       (d : Def) (k : Option ℕ) → e.def ≡ d → e.link ≡ k → type_of_entry E t d k ≡ Some R → list_all (is_known (take i E)) (mentions R) ≡ true
@@ -63,8 +84,8 @@ module _ (E : Environment) (coherent : IsCoherent E) where
       let known = coherent.mentions i (AModule m) here in
       pass_under (is_known (take i E)) m.types t R
       (pass_right (is_known (take i E)) (map OfType (sig_types m.sig)) (map (λ (x : Typed_name). OfType x.ty) m.types)
-        (pass_left (is_known (take i E)) (map OfType (sig_types m.sig) ++ map (λ (x : Typed_name). OfType x.ty) m.types)
-          (flat_map (λ (x : Field). OfType x.ty ∷ term_parts x.term) m.fields) known)) h
+      (pass_left (is_known (take i E)) (map OfType (sig_types m.sig) ++ map (λ (x : Typed_name). OfType x.ty) m.types)
+      (flat_map (λ (x : Field). OfType x.ty ∷ term_parts x.term) m.fields) known)) h
   type_known n t i e R f g keeps (AnImport m) k p l h = by m.constraint refl h
     where
       here : def_of E i ≡ Some (AnImport m)
@@ -74,18 +95,7 @@ module _ (E : Environment) (coherent : IsCoherent E) where
       by (Ranges rs star) c r =
           pass_under (is_known (take i E)) m.like t R
           (pass_right (is_known (take i E)) (map OfType (sig_types m.sig)) (map (λ (x : Typed_name). OfType x.ty) m.like) (coherent.mentions i (AnImport m) here)) r
-      by (Exact q) c r = absurd (true≢false (sym kept ∙ least E n i j.0 f j.2))
-        where
-          j : (j : ℕ) × (link_at E i ≡ Some j) × (j < i) × MayLink E m j
-          j = coherent.linked i (AnImport m) here
-
-          named : name_at E i ≡ Some q
-          named =
-              coherent.named i (within E i e g) ∙ ap (option_and_then (name_by sha256 E)) here ∙
-              ap (λ x. name_by sha256 E (AnImport (record m { constraint = x }))) c
-
-          kept : names (name_at E j.0) n ≡ true
-          kept = subst (λ x. names (name_at E j.0) x ≡ true) (names_eq (name_at E i) q n named (ap (λ o. names o n) (ap (option_and_then (λ (x : Entry). x.name)) g) ∙ keeps)) (exact_keeps E m j.0 q c j.3)
+      by (Exact q) c r = absurd (exact_not_least n q i e m f g keeps p c)
   type_known n t i e R f g keeps (AMark s) k p l h = absurd (none≢some h)
 
   -- what a representation mentions is known before its name's least entry
@@ -94,12 +104,12 @@ module _ (E : Environment) (coherent : IsCoherent E) where
       let k = found_keeps E n i f in
       let e : Entry = k.0 in
       let at : option_and_then (λ (x : Entry). type_of_entry E t x.def x.link) (slice_get E i) ≡ Some R =
-            ap (option_and_then (λ a. option_and_then (λ (x : Entry). type_of_entry E t x.def x.link) (slice_get E a))) (sym f) ∙ h in
+      ap (option_and_then (λ a. option_and_then (λ (x : Entry). type_of_entry E t x.def x.link) (slice_get E a))) (sym f) ∙ h in
       let r : type_of_entry E t e.def e.link ≡ Some R = ap (option_and_then (λ (x : Entry). type_of_entry E t x.def x.link)) (sym k.1) ∙ at in
       type_known n t i e R f k.1 k.2 e.def e.link refl refl r
 
 -- each that passes one test passes another
-all_implies : {A : Type 0} (p q : A → Bool) → ((x : A) → p x ≡ true → q x ≡ true) → (xs : List A) → list_all p xs ≡ true → list_all q xs ≡ true
+pub all_implies : {A : Type 0} (p q : A → Bool) → ((x : A) → p x ≡ true → q x ≡ true) → (xs : List A) → list_all p xs ≡ true → list_all q xs ≡ true
 all_implies p q f [] h = refl
 all_implies p q f (x ∷ xs) h =
     let r = both_true (p x) (list_all p xs) h in

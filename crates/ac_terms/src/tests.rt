@@ -66,6 +66,7 @@ fn sample(alloc: Global) -> Result<Env, Memory> {
 fn copies_an_environment(rt: HostRuntime) {
     let env = sample(rt.alloc()).expect(&rt, "memory");
     let copy = env.copy(rt.alloc()).expect(&rt, "memory");
+    assert!(rt; copy.entries.len() == 2);
     assert_eq!(rt; copy.find(&Name([7; 32])), Some(1));
     assert_eq!(rt; copy.find(&Name([8; 32])), None);
     assert!(rt; copy.entry(1).is_some());
