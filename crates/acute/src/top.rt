@@ -45,8 +45,8 @@ pub fn acute<F: Files, O: Sink, E: Sink>(
 {
     match read_words(alloc, words) {
         Ok(Some(command)) => {
-            let Run { file, steps } = run_of(command);
-            run_file(alloc, file, steps, files, output, errors)
+            let request = run_of(command);
+            run_file(alloc, request.file, request.steps, files, output, errors)
         }
         Ok(None) => say(errors, b"acute: words refused\n", 7),
         Err(_) => no_memory(errors),

@@ -10,7 +10,7 @@ returns-in-Ok-None-clause-ends g c =
 pub returns-in-Ok-Some-clause-ends : goal.returns-in-Ok-Some-clause-ends
 returns-in-Ok-Some-clause-ends g c =
     let some = rw c.in-Ok-Some.field-0-is at c.in-Ok-Some.ensures in
-    rw (sym some) (rw c.run_of.ensures c.run_file.ensures.ends)
+    rw (sym some) (rw c.run_of-request.ensures c.run_file.ensures.ends)
 
 pub returns-in-Err-clause-ends : goal.returns-in-Err-clause-ends
 returns-in-Err-clause-ends g c = end_early _ _ _ _ (record { same = refl }) _ c.no_memory.ensures
