@@ -63,9 +63,11 @@ fn ends(
     errors: &[u8],
 ) -> Result<bool, Fail> {
     let end = call(alloc, &["run", "a"], text, faults)?;
-    Ok(end.status == Status(status)
-        && end.output.bytes().as_slice() == output
-        && end.errors.bytes().as_slice() == errors)
+    Ok(
+        end.status == Status(status)
+            && end.output.bytes().as_slice() == output
+            && end.errors.bytes().as_slice() == errors,
+    )
 }
 
 fn prints(alloc: Global, text: &[u8], output: &[u8]) -> Result<bool, Fail> {
@@ -82,17 +84,41 @@ fn numbers_are_printed(rt: HostRuntime) -> Result<(), Fail> {
     assert!(rt; prints(alloc, b"IO.print_int (3 + 4)", b"7")?);
     assert!(rt; prints(alloc, b"IO.print_int (3 - 4)", b"-1")?);
     assert!(rt; prints(alloc, b"IO.print_int (2 * 3 + 4 * 5)", b"26")?);
-    assert!(rt; prints(alloc, b"IO.print_int (9223372036854775807 + 1)", b"-9223372036854775808")?);
-    assert!(rt; prints(alloc, b"IO.print_int (0 - 9223372036854775807 - 2)", b"9223372036854775807")?);
+    assert!(rt;
+        prints(
+            alloc,
+            b"IO.print_int (9223372036854775807 + 1)",
+            b"-9223372036854775808"
+        )?
+    );
+    assert!(rt;
+        prints(
+            alloc,
+            b"IO.print_int (0 - 9223372036854775807 - 2)",
+            b"9223372036854775807"
+        )?
+    );
     assert!(rt; prints(alloc, b"IO.print_int (9223372036854775807 * 2)", b"-2")?);
-    assert!(rt; prints(alloc, b"(* a (* b *) \" *) IO.print_int 1; IO.print_int 2", b"12")?);
+    assert!(rt;
+        prints(
+            alloc,
+            b"(* a (* b *) \" *) IO.print_int 1; IO.print_int 2",
+            b"12"
+        )?
+    );
     Ok(())
 }
 
 #[test]
 fn strings_are_printed(rt: HostRuntime) -> Result<(), Fail> {
     let alloc = rt.alloc();
-    assert!(rt; prints(alloc, b"IO.print_string \"\\\\\\\"\\n\\t\\r\\x00\\xfF\"", b"\\\"\n\t\r\x00\xff")?);
+    assert!(rt;
+        prints(
+            alloc,
+            b"IO.print_string \"\\\\\\\"\\n\\t\\r\\x00\\xfF\"",
+            b"\\\"\n\t\r\x00\xff"
+        )?
+    );
     assert!(rt; prints(alloc, b"IO.print_string \"a(*b\"", b"a(*b")?);
     Ok(())
 }
@@ -100,11 +126,41 @@ fn strings_are_printed(rt: HostRuntime) -> Result<(), Fail> {
 #[test]
 fn what_is_chosen_and_bound(rt: HostRuntime) -> Result<(), Fail> {
     let alloc = rt.alloc();
-    assert!(rt; prints(alloc, b"let x : int = 5 in if x < 6 then IO.print_string \"yes\" else IO.print_string \"no\"", b"yes")?);
-    assert!(rt; prints(alloc, b"let x : int = 1 in let x : int = x + 1 in IO.print_int x", b"2")?);
-    assert!(rt; prints(alloc, b"if false then () else let x : int = 1 in IO.print_int x; IO.print_int 2", b"12")?);
-    assert!(rt; prints(alloc, b"if true then () else IO.print_int 1; IO.print_int 2", b"2")?);
-    assert!(rt; prints(alloc, b"if \"a\" < \"ab\" then IO.print_int 1 else ()", b"1")?);
+    assert!(rt;
+        prints(
+            alloc,
+            b"let x : int = 5 in if x < 6 then IO.print_string \"yes\" else IO.print_string \"no\"",
+            b"yes"
+        )?
+    );
+    assert!(rt;
+        prints(
+            alloc,
+            b"let x : int = 1 in let x : int = x + 1 in IO.print_int x",
+            b"2"
+        )?
+    );
+    assert!(rt;
+        prints(
+            alloc,
+            b"if false then () else let x : int = 1 in IO.print_int x; IO.print_int 2",
+            b"12"
+        )?
+    );
+    assert!(rt;
+        prints(
+            alloc,
+            b"if true then () else IO.print_int 1; IO.print_int 2",
+            b"2"
+        )?
+    );
+    assert!(rt;
+        prints(
+            alloc,
+            b"if \"a\" < \"ab\" then IO.print_int 1 else ()",
+            b"1"
+        )?
+    );
     assert!(rt; prints(alloc, b"if true < false then IO.print_int 1 else ()", b"")?);
     Ok(())
 }
@@ -113,10 +169,28 @@ fn what_is_chosen_and_bound(rt: HostRuntime) -> Result<(), Fail> {
 fn what_has_no_tree_is_refused(rt: HostRuntime) -> Result<(), Fail> {
     let alloc = rt.alloc();
     assert!(rt; is_refused(alloc, b"", b"acute: refused: syntax at 0\n")?);
-    assert!(rt; is_refused(alloc, b"IO.print_string \"a", b"acute: refused: syntax at 16\n")?);
+    assert!(rt;
+        is_refused(
+            alloc,
+            b"IO.print_string \"a",
+            b"acute: refused: syntax at 16\n"
+        )?
+    );
     assert!(rt; is_refused(alloc, b"\"\\q\"", b"acute: refused: syntax at 0\n")?);
-    assert!(rt; is_refused(alloc, b"9223372036854775808", b"acute: refused: syntax at 0\n")?);
-    assert!(rt; is_refused(alloc, b"let name : int = 5 in name", b"acute: refused: syntax at 4\n")?);
+    assert!(rt;
+        is_refused(
+            alloc,
+            b"9223372036854775808",
+            b"acute: refused: syntax at 0\n"
+        )?
+    );
+    assert!(rt;
+        is_refused(
+            alloc,
+            b"let name : int = 5 in name",
+            b"acute: refused: syntax at 4\n"
+        )?
+    );
     Ok(())
 }
 
@@ -158,7 +232,13 @@ fn a_long_text_is_refused(rt: HostRuntime) -> Result<(), Fail> {
         text.extend(&[b' '; 1024])?;
     }
     text.extend(b"1")?;
-    assert!(rt; is_refused(alloc, text.as_slice(), b"acute: refused: too_long at 1048577\n")?);
+    assert!(rt;
+        is_refused(
+            alloc,
+            text.as_slice(),
+            b"acute: refused: too_long at 1048577\n"
+        )?
+    );
     Ok(())
 }
 
@@ -167,7 +247,10 @@ fn faults_are_told(rt: HostRuntime) -> Result<(), Fail> {
     let alloc = rt.alloc();
     let two = b"IO.print_int 1; IO.print_int 2";
     let write = b"acute: write fault\n";
-    let reads = Faults { reads: &[0], ..NONE };
+    let reads = Faults {
+        reads: &[0],
+        ..NONE
+    };
     let second = Faults {
         output: &[1],
         ..NONE
@@ -197,8 +280,14 @@ fn words_are_read(rt: HostRuntime) -> Result<(), Fail> {
     assert_eq!(rt; none.errors.bytes().as_slice(), line);
     assert_eq!(rt; call(alloc, &["run"], b"1", NONE)?.status, Status(7));
     assert_eq!(rt; call(alloc, &["fly"], b"1", NONE)?.status, Status(7));
-    assert_eq!(rt; call(alloc, &["run", "f", "g"], b"1", NONE)?.status, Status(7));
+    assert_eq!(rt;
+        call(alloc, &["run", "f", "g"], b"1", NONE)?.status,
+        Status(7)
+    );
     assert_eq!(rt; call(alloc, &["run", "b"], b"1", NONE)?.status, Status(5));
-    assert_eq!(rt; call(alloc, &["run", "--steps", "7", "a"], b"1", NONE)?.status, Status(0));
+    assert_eq!(rt;
+        call(alloc, &["run", "--steps", "7", "a"], b"1", NONE)?.status,
+        Status(0)
+    );
     Ok(())
 }
