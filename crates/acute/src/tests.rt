@@ -224,6 +224,41 @@ fn openers_are_bounded(rt: HostRuntime) -> Result<(), Fail> {
     Ok(())
 }
 
+// `1 + 1 + .. + 1` with so many operators.
+fn sum(alloc: Global, operators: u32) -> Result<Text, Fail> {
+    let mut text = Text::from_slice(alloc, b"1")?;
+    for _ in 0..operators {
+        text.extend(b" + 1")?;
+    }
+    Ok(text)
+}
+
+#[test]
+fn heights_are_bounded(rt: HostRuntime) -> Result<(), Fail> {
+    let alloc = rt.alloc();
+    assert!(rt; prints(alloc, sum(alloc, 499)?.as_slice(), b"")?);
+    assert!(rt;
+        is_refused(
+            alloc,
+            sum(alloc, 500)?.as_slice(),
+            b"acute: refused: syntax at 1998\n"
+        )?
+    );
+    Ok(())
+}
+
+#[test]
+fn the_examples_run(rt: HostRuntime) -> Result<(), Fail> {
+    let alloc = rt.alloc();
+    let hello =
+        b"(* Greets the world. *)\nlet who : string = \"world\" in\nIO.print_string \"Hello, \";\nIO.print_string who;\nIO.print_string \"!\\n\"\n";
+    let compare =
+        b"let a : int = 12 * 7 in let b : int = 100 - 9 in let less : bool = a < b in IO.print_string (if less then \"less by \" else \"not less, by \"); IO.print_int (if less then b - a else a - b)";
+    assert!(rt; prints(alloc, hello, b"Hello, world!\n")?);
+    assert!(rt; prints(alloc, compare, b"less by 7")?);
+    Ok(())
+}
+
 #[test]
 fn a_long_text_is_refused(rt: HostRuntime) -> Result<(), Fail> {
     let alloc = rt.alloc();
