@@ -7,7 +7,7 @@ use Rattle.ac_terms.specs.Reduction.{Ends}
 use Rattle.ac_terms.proofs.Reduces.{ends_once}
 use Rattle.ac_lexer.specs.Tokens.{Tokens}
 use Rattle.ac_lexer.specs.declared.tokens.Token.{Token}
-use Rattle.ac_lexer.proofs.Unique.{same_tokens}
+use Rattle.ac_lexer.proofs.Unique.{same_tokens, no_failure}
 use Rattle.ac_front.specs.Trees.{Tree}
 use Rattle.ac_front.proofs.Unique.{one_tree}
 use Rattle.ac_front.specs.Grammar.{HasTree}
@@ -18,7 +18,7 @@ use Rattle.acute.specs.Loading.{Grammar, Accepted, Refused, IsFaultOf, IsFaultOf
 use Rattle.acute.specs.declared.loading.LoadFault.{LoadFault}
 use Rattle.acute.specs.declared.loading.LoadFault.TheVariants as fault
 use Rattle.acute.specs.declared.loading.Refusal.{Refusal}
-use Rattle.acute.specs.declared.loading.Refusal.TheVariants.{TooLong, Syntax, IllTyped}
+use Rattle.acute.specs.declared.loading.Refusal.TheVariants.{TooLong, Lexical, Syntax, IllTyped}
 use Rattle.acute.specs.Meaning.{Answer, Means, refused, ends}
 
 pub accept : (text : List ℕ) (tokens : List Token) (e : Expr) → length text ≤ 1048576 → Tokens text tokens → Accepts (signs_of tokens) e → Accepted text e
@@ -30,11 +30,6 @@ accept text tokens e short lexed s = record {
   ty = s.ty;
   program = s.program;
 }
-
--- no tree of the tokens is no tree of the text, since it has no other tokens
-pub no_grammar : (text : List ℕ) (tokens : List Token) → ((others : List Token) → Tokens text others → others ≡ tokens) → ((tree : Tree) → HasTree (signs_of tokens) tree → ⊥)
-    → (tree : Tree) → Grammar text tree → ⊥
-no_grammar text tokens only none tree g = none tree (subst (λ (ts : List Token). HasTree (signs_of ts) tree) (only g.tokens g.lexed) g.parsed)
 
 pub one_grammar : (text : List ℕ) (s t : Tree) → Grammar text s → Grammar text t → s ≡ t
 one_grammar text s t g h =
@@ -50,7 +45,11 @@ none_some T p q = let e : None ≡ Some T = sym p ∙ q in cc
 
 not_both : (text : List ℕ) (r : Refusal) (e : Expr) → Refused text r → Accepted text e → ⊥
 not_both text (TooLong len) e r a = let le : length text ≤ 1048576 = a.short in let lt : 1048576 < length text = r.0 in omega arith
-not_both text (Syntax at) e r a = r.1 a.tree a.grammar
+not_both text (Lexical at) e r a = no_failure text a.grammar.tokens at a.grammar.lexed r.1
+not_both text (Syntax at) e r a =
+    let g = a.grammar in
+    let none = r.1 in
+    none.none a.tree (subst (λ (ts : List Token). HasTree (signs_of ts) a.tree) (same_tokens text g.tokens none.tokens g.lexed none.lexed) g.parsed)
 not_both text IllTyped e r a =
     let x = r.1 in
     let same = one_grammar text x.0 a.tree x.1 a.grammar in
@@ -70,9 +69,9 @@ one {text} (refused r x) (ends e o y z) = absurd (not_both text r e x y)
 one {text} (ends e o y z) (refused r x) = absurd (not_both text r e x y)
 one {text} (ends e o y z) (ends f p u v) = (refl, ends_once e o p z (subst (λ (t : Expr). Ends t p) (sym (one_term text e f y u)) v))
 
-pub fault_of : (text : List ℕ) (tokens : List Token) (fault : LoadFault) → length text ≤ 1048576 → Tokens text tokens → ((others : List Token) → Tokens text others → others ≡ tokens)
-    → IsFaultOfSigns (signs_of tokens) fault → IsFaultOf text fault
-fault_of text tokens fault.Memory short lexed only f = tt
-fault_of text tokens (fault.Refused (TooLong len)) short lexed only f = absurd f
-fault_of text tokens (fault.Refused (Syntax at)) short lexed only f = (short, no_grammar text tokens only f)
-fault_of text tokens (fault.Refused IllTyped) short lexed only f = (short, (f.tree, record { tokens = tokens; lexed = lexed; parsed = f.has }, f.untyped))
+pub fault_of : (text : List ℕ) (tokens : List Token) (fault : LoadFault) → length text ≤ 1048576 → Tokens text tokens → IsFaultOfSigns (signs_of tokens) fault → IsFaultOf text fault
+fault_of text tokens fault.Memory short lexed f = tt
+fault_of text tokens (fault.Refused (TooLong len)) short lexed f = absurd f
+fault_of text tokens (fault.Refused (Lexical at)) short lexed f = absurd f
+fault_of text tokens (fault.Refused (Syntax at)) short lexed f = (short, record { tokens = tokens; lexed = lexed; none = f })
+fault_of text tokens (fault.Refused IllTyped) short lexed f = (short, (f.tree, record { tokens = tokens; lexed = lexed; parsed = f.has }, f.untyped))

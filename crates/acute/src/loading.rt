@@ -15,7 +15,9 @@ use std::alloc::{AllocError, Global};
 pub enum Refusal {
     /// It has more than 1,048,576 bytes: so many.
     TooLong(usize),
-    /// It has no tree: a place in the text.
+    /// It has no tokens: the first place at which nothing begins.
+    Lexical(usize),
+    /// Its tokens have no tree: a place in the text.
     Syntax(usize),
     /// Its tree has no type.
     IllTyped,
@@ -28,6 +30,7 @@ impl Refusal {
     {
         match self {
             Refusal::TooLong(len) => format!(in alloc; "acute: refused: too_long at {len}\n"),
+            Refusal::Lexical(at) => format!(in alloc; "acute: refused: lexical at {at}\n"),
             Refusal::Syntax(at) => format!(in alloc; "acute: refused: syntax at {at}\n"),
             Refusal::IllTyped => format!(in alloc; "acute: refused: type at 0\n"),
         }
@@ -54,7 +57,7 @@ pub fn load(alloc: Global, text: &[u8]) -> Result<Term, LoadFault>
     match lex(alloc, text) {
         Ok(tokens) => term_of(alloc, tokens.as_slice(), text.len() as u32),
         Err(LexFault::TooLong { .. }) => Err(LoadFault::Refused(Refusal::TooLong(text.len()))),
-        Err(LexFault::Lexical { at }) => Err(no_tree(at)),
+        Err(LexFault::Lexical { at }) => Err(no_tokens(at)),
         Err(LexFault::Memory) => Err(LoadFault::Memory),
     }
 }
@@ -80,6 +83,12 @@ fn checked(alloc: Global, placed: &[Placed], end: u32) -> Result<Term, LoadFault
         Err(FrontFault::IllTyped) => Err(LoadFault::Refused(Refusal::IllTyped)),
         Err(FrontFault::Memory) => Err(LoadFault::Memory),
     }
+}
+
+fn no_tokens(at: u32) -> LoadFault
+    ensures { result ≡ LoadFault.Refused (Refusal.Lexical at) }
+{
+    LoadFault::Refused(Refusal::Lexical(at as usize))
 }
 
 fn no_tree(at: u32) -> LoadFault

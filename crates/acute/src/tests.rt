@@ -166,7 +166,7 @@ fn what_is_chosen_and_bound(rt: HostRuntime) -> Result<(), Fail> {
 }
 
 #[test]
-fn what_has_no_tree_is_refused(rt: HostRuntime) -> Result<(), Fail> {
+fn what_has_no_tokens_or_no_tree_is_refused(rt: HostRuntime) -> Result<(), Fail> {
     let alloc = rt.alloc();
     assert!(rt; is_refused(alloc, b"", b"acute: refused: syntax at 0\n")?);
     assert!(rt;

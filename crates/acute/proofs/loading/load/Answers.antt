@@ -16,4 +16,4 @@ returns-in-Ok-clause-accepted c =
 pub returns-in-Ok-clause-refused : goal.returns-in-Ok-clause-refused
 returns-in-Ok-clause-refused c =
     let t = c.in-Ok.ensures.tokens in
-    IfErr-weaker c.term_of.result _ _ (λ fault f. fault_of _ _ fault t.0 t.1 c.in-Ok.ensures.only (subst (λ (ts : List Token). IsFaultOfSigns (signs_of ts) fault) c.as_slice.ensures f)) c.term_of.ensures.refused
+    IfErr-weaker c.term_of.result _ _ (λ fault f. fault_of _ _ fault t.0 t.1 (subst (λ (ts : List Token). IsFaultOfSigns (signs_of ts) fault) c.as_slice.ensures f)) c.term_of.ensures.refused
