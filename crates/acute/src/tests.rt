@@ -173,15 +173,15 @@ fn what_has_no_tokens_or_no_tree_is_refused(rt: HostRuntime) -> Result<(), Fail>
         is_refused(
             alloc,
             b"IO.print_string \"a",
-            b"acute: refused: syntax at 16\n"
+            b"acute: refused: lexical at 16\n"
         )?
     );
-    assert!(rt; is_refused(alloc, b"\"\\q\"", b"acute: refused: syntax at 0\n")?);
+    assert!(rt; is_refused(alloc, b"\"\\q\"", b"acute: refused: lexical at 0\n")?);
     assert!(rt;
         is_refused(
             alloc,
             b"9223372036854775808",
-            b"acute: refused: syntax at 0\n"
+            b"acute: refused: lexical at 0\n"
         )?
     );
     assert!(rt;
