@@ -1,0 +1,4 @@
+pub mod Code
+pub mod Constants
+pub mod ReadCode
+pub mod Table

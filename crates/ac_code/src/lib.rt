@@ -1,0 +1,12 @@
+//! Stack code: instructions, blocks, and the table of all blocks.
+#![tactic(auto)]
+
+mod block;
+mod instr;
+mod table;
+#[cfg(test)]
+mod tests;
+
+pub use block::Block;
+pub use instr::{CodeId, Instr};
+pub use table::CodeTable;

@@ -1,0 +1,59 @@
+-- Laws of lists that share their tails.
+use Rattle.std.proofs.Common.{◌≡◌, ◌⊎◌, inl, inr, ℕ, zero, suc, ◌<◌, ◌≤◌, ◌+◌, List, [], ◌∷◌, ◌++◌, Option, Some, None, slice_get, length, get_or, refl, sym, ◌∙◌, ap, ap₂, arith, length-append, zero-add, subst}
+use Rattle.ac_values.specs.declared.chain.Cell.{Cell}
+use Rattle.ac_values.specs.Built.{built}
+use Rattle.ac_values.proofs.BuiltLaws.{built-push, length-built, built-keeps, built-at}
+use Rattle.ac_values.specs.Chains.{list_of, lists, AreEarlier}
+
+pub length_lists : {T : Type 0} (cs : List (Cell T)) → length (lists cs) ≡ suc (length cs)
+unfolding lists
+length_lists cs = omega (arith, length-built list_of ([] ∷ []) cs)
+
+pub lists_push : {T : Type 0} (cs : List (Cell T)) (c : Cell T) → lists (cs ++ c ∷ []) ≡ lists cs ++ (c.item ∷ get_or (lists cs) c.below []) ∷ []
+unfolding lists
+lists_push cs c = built-push list_of ([] ∷ []) cs c
+
+pub lists_none : {T : Type 0} → lists {T = T} [] ≡ [] ∷ []
+unfolding lists
+lists_none = refl
+
+pub list_zero : {T : Type 0} (cs : List (Cell T)) → get_or (lists cs) 0 [] ≡ []
+unfolding lists
+list_zero cs = built-keeps list_of ([] ∷ []) cs 0 [] (omega arith)
+
+-- a list is the item of its cell on the rest
+pub list_at : {T : Type 0} (cs : List (Cell T)) (k : ℕ) (c : Cell T) → AreEarlier cs → slice_get cs k ≡ Some c → get_or (lists cs) (suc k) [] ≡ c.item ∷ get_or (lists cs) c.below []
+unfolding lists
+list_at {T} cs k c o e =
+    let first : (j : ℕ) → 1 + j ≡ suc j = λ j. omega arith in
+    subst (λ i. get_or (lists cs) i [] ≡ c.item ∷ get_or (lists cs) c.below []) (first k)
+    (built-at list_of (λ n c. c.below < n) []
+    (λ bs cs n c h near. ap (λ (l : List T). c.item ∷ l) (near c.below h))
+    ([] ∷ []) cs k c (λ j x h. subst (λ i. x.below < i) (sym (first j)) (o j x h)) e)
+
+-- a list that isn't empty has a cell
+pub cell_at : {T : Type 0} (cs : List (Cell T)) (k : ℕ) (c : Cell T) → AreEarlier cs → slice_get cs k ≡ Some c → (n : ℕ) → n ≡ suc k → (c.below < n) × (get_or (lists cs) n [] ≡ c.item ∷ get_or (lists cs) c.below [])
+cell_at {T} cs k c o e n s =
+    subst (λ i. (c.below < i) × (get_or (lists cs) i [] ≡ c.item ∷ get_or (lists cs) c.below [])) (sym s) (o k c e, list_at cs k c o e)
+
+pub push_cases : {T : Type 0} (cs : List T) (d : T) (k : ℕ) (c : T) → slice_get (cs ++ d ∷ []) k ≡ Some c → (slice_get cs k ≡ Some c) ⊎ ((k ≡ length cs) × (d ≡ c))
+push_cases [] d zero c e = inr (refl, cc)
+push_cases [] d (suc k) c e = absurd (cc)
+push_cases (x ∷ xs) d zero c e = inl e
+push_cases (x ∷ xs) d (suc k) c e =
+    elim (push_cases xs d k c e) [ inl h ↦ inl h | inr h ↦ inr (ap suc h.0, h.1) ]
+
+pub earlier_push : {T : Type 0} (cs : List (Cell T)) (d : Cell T) → AreEarlier cs → d.below < length (lists cs) → AreEarlier (cs ++ d ∷ [])
+earlier_push cs d o h k c e =
+    elim (push_cases cs d k c e) [
+      | inl i ↦ o k c i
+      | inr i ↦ let l = length_lists cs in let n : k ≡ length cs = i.0 in let b : d.below < suc k = omega (arith, l) in subst (λ z. z.below < suc k) i.1 b
+    ]
+
+pub none_past : {T : Type 0} (cs : List T) (k : ℕ) → slice_get cs k ≡ None → length cs ≤ k
+none_past [] k e = omega arith
+none_past (x ∷ xs) zero e = absurd (cc)
+none_past (x ∷ xs) (suc k) e = omega (arith, none_past xs k e)
+
+pub length_pushed : {T : Type 0} (cs : List (Cell T)) (d : Cell T) → length (cs ++ d ∷ []) ≡ length (lists cs)
+length_pushed cs d = let l = length_lists cs in omega (arith, l, length-append cs (d ∷ []))

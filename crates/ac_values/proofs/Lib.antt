@@ -1,0 +1,4 @@
+pub mod BuiltLaws
+pub mod ChainLaws
+pub mod ReadLaws
+pub mod ValueLaws

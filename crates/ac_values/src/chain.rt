@@ -1,0 +1,72 @@
+ghost use Rattle.std.specs.Prelude.{◌≡◌, ◌++◌, ◌∷◌, [], ◌<◌, length, get_or, OnOk, OnErr, IfOk, MatchOption};
+
+use ac_types::{Many, Memory};
+use std::alloc::Global;
+use std::marker::Model;
+
+/// A list: its newest item and the number of the rest.
+#[derive(Clone, Copy)]
+struct Cell<T> {
+    item: T,
+    below: usize,
+}
+
+/// Lists that share their tails, each with a number. List 0 is empty.
+#[derive(Drop)]
+pub struct Chain<T> {
+    cells: Many<Cell<T>>,
+}
+
+impl<T> Model for Chain<T> {
+    ghost use Rattle.std.specs.Prelude.{List};
+    ghost use Rattle.std.specs.Coded.{coded_list};
+
+    ghost Value = { List (List T) };
+
+    ghost coded = { coded_list (coded_list T.code) };
+
+    ghost use Rattle.ac_values.specs.Chains.{lists, AreEarlier};
+
+    ghost view = { λ c. lists c.cells };
+
+    ghost invariant = { λ c. AreEarlier c.cells };
+}
+
+impl<T: Copy> Chain<T> {
+    #[tactic(auto, using(crate::proofs::ChainLaws::lists_none))]
+    pub fn new(alloc: Global) -> Chain<T>
+        ensures { result ≡ [] ∷ [] }
+    {
+        Chain {
+            cells: Many::new(alloc),
+        }
+    }
+
+    /// One more list: an item on an older one.
+    #[tactic(auto, using(crate::proofs::ChainLaws::lists_push, crate::proofs::ChainLaws::length_lists, crate::proofs::ChainLaws::earlier_push, crate::proofs::ChainLaws::length_pushed))]
+    pub fn push(&mut self, item: T, below: usize) -> Result<usize, Memory>
+        requires { below < length self.old }
+        ensures ok { OnOk result (self.new ≡ self.old ++ (item ∷ get_or self.old below []) ∷ []) }
+        ensures number { IfOk result (λ n. n ≡ length self.old) }
+        ensures err { OnErr result (self.new ≡ self.old) }
+    {
+        self.cells.push(Cell { item, below })?;
+        Ok(self.cells.len())
+    }
+
+    /// The newest item of a list, and the number of the rest.
+    #[tactic(auto, using(crate::proofs::ChainLaws::list_zero, crate::proofs::ChainLaws::none_past, crate::proofs::ChainLaws::cell_at, crate::proofs::ChainLaws::length_lists))]
+    pub fn top(&self, number: usize) -> Option<(T, usize)>
+        requires { number < length self.now }
+        ensures { MatchOption result (get_or self.now number [] ≡ []) (λ p. (p.1 < number) × (get_or self.now number [] ≡ p.0 ∷ get_or self.now p.1 [])) }
+    {
+        let cells = &self.cells;
+        if number == 0 {
+            return None;
+        }
+        match cells.get(number - 1) {
+            Some(cell) => Some((cell.item, cell.below)),
+            None => None,
+        }
+    }
+}

@@ -1,0 +1,13 @@
+//! Machine values: an append-only store of nodes, and lists that share their tails.
+#![tactic(auto)]
+
+mod chain;
+mod node;
+pub mod read;
+mod store;
+#[cfg(test)]
+mod tests;
+
+pub use chain::Chain;
+pub use node::{Node, Value};
+pub use store::Store;
