@@ -1,1 +1,3 @@
+pub mod Unique
+pub mod VersionSteps
 pub mod Examples

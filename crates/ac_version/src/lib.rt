@@ -1,2 +1,6 @@
-//! Versions and constraints. The definitions stand in `specs/`; this crate has no call yet.
+//! Versions and constraints: how they are read, and when one meets the other.
 #![tactic(auto)]
+
+mod read;
+
+pub use read::{VToken, VersionFault, read_version};

@@ -1,0 +1,13 @@
+pub mod UniqueTypes
+pub mod TypeSteps
+pub mod SigSteps
+pub mod LeftOver
+pub mod OnStop
+pub mod Exceptions
+pub mod SameSymbol
+pub mod Depth
+pub mod TypeLaws
+pub mod UniquePatterns
+pub mod Fronts
+pub mod UniqueExpressions
+pub mod UniquePrograms

@@ -1,0 +1,15 @@
+use Rattle.ac_syntax.proofs.OnStop.{refused}
+use Rattle.ac_syntax.proofs.SigSteps.{unnamed_val, no_colon, val_spec}
+use Rattle.ac_syntax.specs.ReadTrees.{name_of}
+use Rattle.ac_syntax.proofs.sigs.value_spec.Goals as goal
+
+pub returns-in_default-clause-none : goal.returns-in_default-clause-none
+returns-in_default-clause-none c = refused _ _ c.refused_at.ensures (λ a. unnamed_val a _ (rw c.in_default.is at c.in_ok-name.ensures.found))
+
+pub returns-in_default-after-clause-none : goal.returns-in_default-after-clause-none
+returns-in_default-after-clause-none c =
+    refused _ _ c.refused_at-in_default-after.ensures (λ a. no_colon a _ _ (name_of c.in-Some.name) (rw c.in-Some.is at c.in_ok-name.ensures.found) c.in_default-after.ensures.found)
+
+pub returns-clause-spec : goal.returns-clause-spec
+returns-clause-spec c a =
+    val_spec a _ _ (name_of c.in-Some.name) (rw c.in-Some.is at c.in_ok-name.ensures.found) _ _ _ c.in-Some-after.ensures.found c.in_ok-ty.ensures.tree

@@ -1,0 +1,10 @@
+pub mod Signs
+pub mod Openers
+pub mod ReadSigns
+pub mod Trees
+pub mod Types
+pub mod Patterns
+pub mod Expressions
+pub mod Programs
+pub mod ReadTrees
+pub mod Parsing

@@ -1,0 +1,194 @@
+-- Programs as they are written: trees in which each node has the place of the first byte of its first token.
+use Rattle.std.specs.Prelude.{ℕ, ◌+◌, ℤ, max, Bool, List, [], ◌∷◌, Option}
+use Rattle.ac_types.specs.Types.{Bytes}
+use Rattle.ac_types.specs.Sigs.{Atom, Constraint, Resolve}
+
+-- a name where it is written
+pub record NameAt : Type 0 where
+  pub at : ℕ
+  pub word : Bytes
+
+-- types; parentheses make no node
+mutual
+  pub data TypeTree : Type 0 where
+    TyInt : (at : ℕ) → TypeTree
+    TyBool : (at : ℕ) → TypeTree
+    TyStr : (at : ℕ) → TypeTree
+    TyUnit : (at : ℕ) → TypeTree
+    TyExn : (at : ℕ) → TypeTree
+    TyLocal : (at : ℕ) (word : Bytes) → TypeTree
+    TyOf : (at : ℕ) (module_name ty : NameAt) → TypeTree
+    TyTuple : (at : ℕ) (parts : TypeTrees) → TypeTree
+    TyList : (at : ℕ) (item : TypeTree) → TypeTree
+    TyOpt : (at : ℕ) (item : TypeTree) → TypeTree
+    TyFun : (at : ℕ) (from to : TypeTree) → TypeTree
+
+  pub data TypeTrees : Type 0 where
+    no_type_trees : TypeTrees
+    type_tree : TypeTree → TypeTrees → TypeTrees
+
+-- patterns
+mutual
+  pub data PatTree : Type 0 where
+    PatWild : (at : ℕ) → PatTree
+    PatVar : (at : ℕ) (name : NameAt) (ty : TypeTree) → PatTree
+    PatInt : (at : ℕ) (n : ℤ) → PatTree
+    PatBool : (at : ℕ) (b : Bool) → PatTree
+    PatStr : (at : ℕ) (text : Bytes) → PatTree
+    PatUnit : (at : ℕ) → PatTree
+    PatTuple : (at : ℕ) (parts : PatTrees) → PatTree
+    PatNil : (at : ℕ) → PatTree
+    PatCons : (at : ℕ) (head tail : PatTree) → PatTree
+    PatAbsent : (at : ℕ) → PatTree
+    PatPresent : (at : ℕ) (item : PatTree) → PatTree
+    PatExn : (at number : ℕ) → PatTree
+    PatExnOf : (at number : ℕ) (item : PatTree) → PatTree
+
+  pub data PatTrees : Type 0 where
+    no_pat_trees : PatTrees
+    pat_tree : PatTree → PatTrees → PatTrees
+
+-- expressions: a constant with its `-` is one `ExInt`; `ExOp` has the number of a primitive, `ExExn` that of an exception
+mutual
+  pub data Tree : Type 0 where
+    ExInt : (at : ℕ) (n : ℤ) → Tree
+    ExBool : (at : ℕ) (b : Bool) → Tree
+    ExStr : (at : ℕ) (text : Bytes) → Tree
+    ExUnit : (at : ℕ) → Tree
+    ExExn : (at number : ℕ) → Tree
+    ExExnOf : (at number : ℕ) (argument : Tree) → Tree
+    ExTuple : (at : ℕ) (parts : Trees) → Tree
+    ExNil : (at : ℕ) (ty : TypeTree) → Tree
+    ExAbsent : (at : ℕ) (ty : TypeTree) → Tree
+    ExPresent : (at : ℕ) (item : Tree) → Tree
+    ExCons : (at : ℕ) (head tail : Tree) → Tree
+    ExVar : (at : ℕ) (word : Bytes) → Tree
+    ExOf : (at : ℕ) (module_name field : NameAt) → Tree
+    ExFun : (at : ℕ) (name : NameAt) (ty : TypeTree) (body : Tree) → Tree
+    ExRec : (at : ℕ) (name argument : NameAt) (ty result : TypeTree) (body : Tree) → Tree
+    ExApp : (at : ℕ) (function argument : Tree) → Tree
+    ExLet : (at : ℕ) (name : NameAt) (ty : TypeTree) (bound body : Tree) → Tree
+    ExLetRec : (at : ℕ) (name argument : NameAt) (ty result : TypeTree) (bound body : Tree) → Tree
+    ExIf : (at : ℕ) (test so otherwise : Tree) → Tree
+    ExSeq : (at : ℕ) (parts : Trees) → Tree
+    ExMatch : (at : ℕ) (of : Tree) (arms : ArmTrees) → Tree
+    ExTry : (at : ℕ) (of : Tree) (arms : ArmTrees) → Tree
+    ExRaise : (at : ℕ) (exception : Tree) (ty : TypeTree) → Tree
+    ExAnd : (at : ℕ) (a b : Tree) → Tree
+    ExOr : (at : ℕ) (a b : Tree) → Tree
+    ExOp : (at number : ℕ) (parts : Trees) → Tree
+    ExMarshal : (at : ℕ) (mark value : Tree) (ty : TypeTree) → Tree
+    ExUnmarshal : (at : ℕ) (text : Tree) (ty : TypeTree) → Tree
+
+  pub data Trees : Type 0 where
+    no_trees : Trees
+    tree : Tree → Trees → Trees
+
+  pub data ArmTrees : Type 0 where
+    no_arm_trees : ArmTrees
+    arm_tree : PatTree → Tree → ArmTrees → ArmTrees
+
+-- an abbreviation: a type with a name of its own
+pub record AbbrevTree : Type 0 where
+  pub name : NameAt
+  pub ty : TypeTree
+
+pub data SpecTree : Type 0 where
+  AbstractSpec : (name : NameAt) → SpecTree
+  ManifestSpec : (abbreviation : AbbrevTree) → SpecTree
+  ValSpec : (name : NameAt) (ty : TypeTree) → SpecTree
+
+pub record SigTree : Type 0 where
+  pub at : ℕ
+  pub specs : List SpecTree
+
+pub data FieldTree : Type 0 where
+  AbbrevField : (abbreviation : AbbrevTree) → FieldTree
+  ValField : (name : NameAt) (ty : TypeTree) (body : Tree) → FieldTree
+
+-- what an import asks of its module: a version, or the name of a definition
+pub data WantsTree : Type 0 where
+  WantsVersion : (constraint : Constraint) → WantsTree
+  WantsName : (name : NameAt) → WantsTree
+
+pub data DefTree : Type 0 where
+  ModuleDef : (at : ℕ) (name : NameAt) (sig : SigTree) (version : Option (List Atom)) (fields : List FieldTree) → DefTree
+  ImportDef : (at : ℕ) (name : NameAt) (sig : SigTree) (wants : WantsTree) (like : Option (List AbbrevTree)) (by : List Resolve) → DefTree
+  MarkDef : (at text_at : ℕ) (text : Bytes) → DefTree
+
+-- a program has an expression; a module alone has none
+pub record ProgramTree : Type 0 where
+  pub defs : List DefTree
+  pub expr : Option Tree
+
+abbrev pub type_trees : List TypeTree → TypeTrees
+type_trees [] = no_type_trees
+type_trees (t ∷ ts) = type_tree t (type_trees ts)
+
+abbrev pub pat_trees : List PatTree → PatTrees
+pat_trees [] = no_pat_trees
+pat_trees (t ∷ ts) = pat_tree t (pat_trees ts)
+
+abbrev pub trees : List Tree → Trees
+trees [] = no_trees
+trees (t ∷ ts) = tree t (trees ts)
+
+abbrev pub arm_trees : List (PatTree × Tree) → ArmTrees
+arm_trees [] = no_arm_trees
+arm_trees (arm ∷ arms) = arm_tree arm.0 arm.1 (arm_trees arms)
+
+-- Heights: a leaf has 1, another node one more than its highest part. Types and patterns have heights of their own, which don't count in an expression's.
+abbrev mutual
+  pub type_height : TypeTree → ℕ
+  type_height (TyTuple at parts) = highest_type parts + 1
+  type_height (TyList at item) = type_height item + 1
+  type_height (TyOpt at item) = type_height item + 1
+  type_height (TyFun at from to) = max (type_height from) (type_height to) + 1
+  type_height leaf = 1
+
+  pub highest_type : TypeTrees → ℕ
+  highest_type no_type_trees = 0
+  highest_type (type_tree t ts) = max (type_height t) (highest_type ts)
+
+abbrev mutual
+  pub pat_height : PatTree → ℕ
+  pat_height (PatTuple at parts) = highest_pat parts + 1
+  pat_height (PatCons at head tail) = max (pat_height head) (pat_height tail) + 1
+  pat_height (PatPresent at item) = pat_height item + 1
+  pat_height (PatExnOf at number item) = pat_height item + 1
+  pat_height leaf = 1
+
+  pub highest_pat : PatTrees → ℕ
+  highest_pat no_pat_trees = 0
+  highest_pat (pat_tree t ts) = max (pat_height t) (highest_pat ts)
+
+abbrev mutual
+  pub height : Tree → ℕ
+  height (ExExnOf at number argument) = height argument + 1
+  height (ExTuple at parts) = highest parts + 1
+  height (ExPresent at item) = height item + 1
+  height (ExCons at head tail) = max (height head) (height tail) + 1
+  height (ExFun at name ty body) = height body + 1
+  height (ExRec at name argument ty result body) = height body + 1
+  height (ExApp at function argument) = max (height function) (height argument) + 1
+  height (ExLet at name ty bound body) = max (height bound) (height body) + 1
+  height (ExLetRec at name argument ty result bound body) = max (height bound) (height body) + 1
+  height (ExIf at test so otherwise) = max (height test) (max (height so) (height otherwise)) + 1
+  height (ExSeq at parts) = highest parts + 1
+  height (ExMatch at of arms) = max (height of) (highest_arm arms) + 1
+  height (ExTry at of arms) = max (height of) (highest_arm arms) + 1
+  height (ExRaise at exception ty) = height exception + 1
+  height (ExAnd at a b) = max (height a) (height b) + 1
+  height (ExOr at a b) = max (height a) (height b) + 1
+  height (ExOp at number parts) = highest parts + 1
+  height (ExMarshal at mark value ty) = max (height mark) (height value) + 1
+  height (ExUnmarshal at text ty) = height text + 1
+  height leaf = 1
+
+  pub highest : Trees → ℕ
+  highest no_trees = 0
+  highest (tree t ts) = max (height t) (highest ts)
+
+  pub highest_arm : ArmTrees → ℕ
+  highest_arm no_arm_trees = 0
+  highest_arm (arm_tree p t arms) = max (height t) (highest_arm arms)
