@@ -18,6 +18,7 @@ pub enum Constant {
 }
 
 impl Constant {
+    /// An equal constant with memory of its own.
     pub fn copy(&self, alloc: Global) -> Result<Constant, Memory>
         ensures { IfOk result (λ c. c ≡ self.now) }
     {
@@ -29,6 +30,7 @@ impl Constant {
         }
     }
 
+    /// The number, where it is one.
     pub fn as_int(&self) -> Option<i64>
         ensures { result ≡ int_at self.now }
     {
@@ -40,6 +42,7 @@ impl Constant {
         }
     }
 
+    /// The truth value, where it is one.
     pub fn as_bool(&self) -> Option<bool>
         ensures { result ≡ bool_at self.now }
     {
@@ -51,6 +54,7 @@ impl Constant {
         }
     }
 
+    /// The bytes of the string, where it is one.
     pub fn as_text(&self) -> Option<&Text>
         ensures { option_copied result ≡ text_at self.now }
     {

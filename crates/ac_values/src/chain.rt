@@ -33,6 +33,7 @@ impl<T> Model for Chain<T> {
 }
 
 impl<T: Copy> Chain<T> {
+    /// The empty list alone.
     #[tactic(auto, using(crate::proofs::ChainLaws::lists_none))]
     pub fn new(alloc: Global) -> Chain<T>
         ensures { result ≡ [] ∷ [] }

@@ -28,6 +28,7 @@ impl Model for Store {
 }
 
 impl Store {
+    /// A store without nodes.
     pub fn new(alloc: Global) -> Store
         ensures { result ≡ [] }
     {
@@ -36,12 +37,14 @@ impl Store {
         }
     }
 
+    /// How many nodes there are.
     pub fn len(&self) -> usize
         ensures { result ≡ length self.now }
     {
         self.nodes.len()
     }
 
+    /// One more node, whose parts have smaller numbers; its number. Nothing changes where memory ran out.
     pub fn push(&mut self, node: Node) -> Result<Value, Memory>
         requires { Below (length self.old) node }
         ensures ok { OnOk result (self.new ≡ self.old ++ node ∷ []) }
@@ -53,6 +56,7 @@ impl Store {
         Ok(Value(number))
     }
 
+    /// The node with this number, or none past the last.
     #[tactic(auto, using(crate::proofs::ValueLaws::stands_for, crate::proofs::ValueLaws::stands_past, crate::proofs::ValueLaws::none_past))]
     pub fn node(&self, v: Value) -> Option<&Node>
         ensures value { option_copied result ≡ slice_get self.now v.0 }
