@@ -10,6 +10,8 @@ mod sign;
 mod sigs;
 mod stop;
 mod surface;
+#[cfg(test)]
+mod tests;
 mod types;
 
 pub use fault::ParseFault;

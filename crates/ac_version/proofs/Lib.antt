@@ -1,3 +1,4 @@
 pub mod Unique
 pub mod VersionSteps
+pub mod RangeSteps
 pub mod Examples

@@ -79,6 +79,11 @@ pub record RangeRead (ts : List VToken) (r : Range) (rest : List VToken) : Type 
 abbrev pub NoRange : List VToken → Type 0
 NoRange ts = (q : Range) (other : List VToken) → RangeAt ts q other → Behind other → ⊥
 
+-- behind its ranges a constraint ends, with or without a star
+pub data EndAt : Bool → List VToken → Type 0 where
+  unstarred : EndAt false []
+  starred : EndAt true (Dot ∷ Star ∷ [])
+
 -- the first token is this atom
 pub record FirstAtom (ts : List VToken) (a : Atom) (rest : List VToken) : Type 0 where
   pub token : VToken

@@ -1,6 +1,9 @@
 //! Versions and constraints: how they are read, and when one meets the other.
 #![tactic(auto)]
 
+pub mod laws;
 mod read;
+#[cfg(test)]
+mod tests;
 
-pub use read::{VToken, VersionFault, read_version};
+pub use read::{VToken, VersionFault, read_constraint, read_version};

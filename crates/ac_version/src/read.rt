@@ -1,10 +1,10 @@
 // The tokens of versions and constraints.
 
-ghost use Rattle.std.specs.Prelude.{◌≡◌, ◌<◌, ◌∷◌, [], map, length, IfOk, IfErr, IfSome, MatchOption};
-ghost use Rattle.ac_types.specs.ReadTypes.{atom_of};
-ghost use Rattle.ac_version.specs.Reading.{AtomAt, FirstAtom, NoAtom, IsVersion, NoVersion, OnBad};
+ghost use Rattle.std.specs.Prelude.{◌≡◌, ◌<◌, ◌∷◌, [], map, length, IfOk, IfErr, IfSome, MatchOption, MatchBool};
+ghost use Rattle.ac_types.specs.ReadTypes.{atom_of, range_of, constraint_of};
+ghost use Rattle.ac_version.specs.Reading.{IsSmall, AtomAt, FirstAtom, NoAtom, IsVersion, NoVersion, OnBad, RangeRead, NoRange, EndAt, ReadsConstraint, NoConstraint};
 
-use ac_types::{Atom, Many, Memory, Version};
+use ac_types::{Atom, Constraint, Many, Memory, Range, Version};
 use std::alloc::Global;
 
 /// How many atoms a version or a constraint may have.
@@ -100,4 +100,93 @@ pub fn read_version(alloc: Global, tokens: &[VToken]) -> Result<Version, Version
         return Err(VersionFault::Bad);
     }
     Ok(Version { atoms })
+}
+
+/// A number below 2^32 at the front.
+fn next_number(tokens: &[VToken]) -> Option<(u32, &[VToken])>
+    ensures found { MatchOption result ((n : _) (rest : _) → tokens.now ≡ VToken.Number n ∷ rest → IsSmall n → ⊥) (λ x. tokens.now ≡ VToken.Number x.0 ∷ x.1.now) }
+    ensures small { IfSome result (λ x. IsSmall x.0) }
+    ensures shorter { IfSome result (λ x. length x.1.now < length tokens.now) }
+{
+    let (first, rest) = next(tokens)?;
+    let VToken::Number(n) = first else {
+        return None;
+    };
+    match u32::try_from(n) {
+        Ok(n) => Some((n, rest)),
+        Err(_) => None,
+    }
+}
+
+/// A range at the front, taken as long as it can be: a `-` behind a number takes a number that follows.
+fn next_range(tokens: &[VToken]) -> Option<(Range, &[VToken])>
+    ensures found { MatchOption result (NoRange tokens.now) (λ x. RangeRead tokens.now (range_of x.0) x.1.now) }
+    ensures shorter { IfSome result (λ x. length x.1.now < length tokens.now) }
+{
+    if let Some(behind) = after(VToken::Minus, tokens) {
+        let (most, rest) = next_number(behind)?;
+        return Some((Range::UpTo(most), rest));
+    }
+    let (first, rest) = next_number(tokens)?;
+    let Some(behind) = after(VToken::Minus, rest) else {
+        return Some((Range::One(first), rest));
+    };
+    match next_number(behind) {
+        Some((most, end)) => Some((Range::Between(first, most), end)),
+        None => Some((Range::From(first), behind)),
+    }
+}
+
+/// Whether the tokens are a star and no more.
+fn is_star(tokens: &[VToken]) -> bool
+    ensures { MatchBool result (tokens.now ≡ VToken.Star ∷ []) (tokens.now ≡ VToken.Star ∷ [] → ⊥) }
+{
+    match after(VToken::Star, tokens) {
+        Some(rest) => next(rest).is_none(),
+        None => false,
+    }
+}
+
+/// Whether a star ends the constraint, where its end stands behind a range.
+fn end(tokens: &[VToken]) -> Option<bool>
+    ensures { MatchOption result ((star : _) → EndAt star tokens.now → ⊥) (λ star. EndAt star tokens.now) }
+{
+    let Some(behind) = after(VToken::Dot, tokens) else {
+        return match next(tokens) {
+            Some(_) => None,
+            None => Some(false),
+        };
+    };
+    if is_star(behind) { Some(true) } else { None }
+}
+
+/// The constraint of these tokens, by ranges. `Bad` where they are none.
+pub fn read_constraint(alloc: Global, tokens: &[VToken]) -> Result<Constraint, VersionFault>
+    ensures constraint { IfOk result (λ c. ReadsConstraint tokens.now (constraint_of c)) }
+    ensures none { IfErr result (λ e. OnBad e (NoConstraint tokens.now)) }
+{
+    let mut atoms = Many::new(alloc);
+    if is_star(tokens) {
+        return Ok(Constraint::Ranges { atoms, star: true });
+    }
+    let Some((first, mut rest)) = next_range(tokens) else {
+        return Err(VersionFault::Bad);
+    };
+    atoms.push(first)?;
+    loop {
+        if let Some(star) = end(rest) {
+            if atoms.len() > MOST {
+                return Err(VersionFault::Bad);
+            }
+            return Ok(Constraint::Ranges { atoms, star });
+        }
+        let Some(behind) = after(VToken::Dot, rest) else {
+            return Err(VersionFault::Bad);
+        };
+        let Some((range, later)) = next_range(behind) else {
+            return Err(VersionFault::Bad);
+        };
+        atoms.push(range)?;
+        rest = later;
+    }
 }

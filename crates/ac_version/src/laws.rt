@@ -1,0 +1,16 @@
+// Tokens are at most one version and at most one constraint.
+
+ghost use Rattle.std.specs.Prelude.{◌≡◌, Bool, List};
+ghost use Rattle.ac_types.specs.Sigs.{Atom, Range};
+ghost use Rattle.ac_version.specs.declared.read.VToken.{VToken};
+ghost use Rattle.ac_version.specs.Reading.{IsVersion, IsConstraint};
+
+/// Tokens are at most one version.
+pub fn one_version()
+    ensures { (ts : List VToken) (xs ys : List Atom) → IsVersion ts xs → IsVersion ts ys → xs ≡ ys }
+{}
+
+/// Tokens are at most one constraint.
+pub fn one_constraint()
+    ensures { (ts : List VToken) (rs qs : List Range) (star other : Bool) → IsConstraint ts rs star → IsConstraint ts qs other → (rs ≡ qs) × (star ≡ other) }
+{}
