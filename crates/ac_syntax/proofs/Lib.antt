@@ -11,3 +11,4 @@ pub mod UniquePatterns
 pub mod Fronts
 pub mod UniqueExpressions
 pub mod UniquePrograms
+pub mod Spellings

@@ -1,7 +1,9 @@
-// The grammar is unambiguous: signs have at most one tree at each level.
+// The grammar is unambiguous: signs have at most one tree at each level. It knows each token that a text may have.
 
-ghost use Rattle.std.specs.Prelude.{◌≡◌, List};
-ghost use Rattle.ac_syntax.specs.Signs.{Sign};
+ghost use Rattle.std.specs.Prelude.{◌≡◌, ℕ, List};
+ghost use Rattle.ac_lexer.specs.declared.tokens.TokenKind.{TokenKind};
+ghost use Rattle.ac_lexer.specs.Spellings.{Spells};
+ghost use Rattle.ac_syntax.specs.Signs.{Sign, Other, sign_at};
 ghost use Rattle.ac_syntax.specs.Trees.{TypeTree, PatTree, Tree, SigTree, ProgramTree};
 ghost use Rattle.ac_syntax.specs.Types.{TypeLevel, ParsesType, TypeStops};
 ghost use Rattle.ac_syntax.specs.Patterns.{PatLevel, ParsesPat, PatStops};
@@ -36,4 +38,9 @@ pub fn one_program()
 /// Signs are at most one module.
 pub fn one_module()
     ensures { (ts : List Sign) (p q : ProgramTree) → IsModule ts p → IsModule ts q → p ≡ q }
+{}
+
+/// No token of a text reads as `Other`.
+pub fn no_other()
+    ensures { (at n : ℕ) (bytes : List ℕ) (kind : TokenKind) → Spells bytes kind → sign_at at kind ≡ Other n → ⊥ }
 {}
