@@ -1,16 +1,16 @@
 -- The spellings are the lexer's symbols and then the reserved words, so no token of a text reads as `Other`.
-use Rattle.std.proofs.Common.{◌≡◌, ℕ, Bool, true, false, ◌||◌, List, [], ◌∷◌, ◌++◌, map, refl, sym, ◌∙◌, ap, Option, Some, None, if◌then◌else◌}
+use Rattle.std.proofs.Common.{◌≡◌, ℕ, Bool, true, false, ◌||◌, List, [], ◌∷◌, ◌++◌, map, refl, ◌∙◌, ap, Option, Some, None, if◌then◌else◌}
 use Rattle.std.specs.Prelude.{bytes_eq}
 use Rattle.std.specs.List.{list_any}
 use Rattle.std.proofs.lemmas.Bool.{false≢true}
 use Rattle.std.proofs.lemmas.List.Folds.{list_any-append}
 use Rattle.ac_types.specs.Types.{Bytes}
-use Rattle.ac_types.specs.Words.{is_between, reserved, is_reserved}
+use Rattle.ac_types.specs.Words.{reserved, is_reserved}
 use Rattle.ac_types.proofs.FirstLaws.{none≢some}
 use Rattle.ac_lexer.specs.declared.tokens.TokenKind.{TokenKind}
 use Rattle.ac_lexer.specs.declared.tokens.TokenKind.TheVariants as kind
 use Rattle.ac_lexer.specs.Spellings.{symbols, is_symbol, Spells, number, name, symbol, string}
-use Rattle.ac_syntax.specs.Signs.{Sign, Other, spellings, spelled, symbol_of, fixed, sign_at}
+use Rattle.ac_syntax.specs.Signs.{Other, spellings, spelled, symbol_of, fixed, sign_at}
 use Rattle.ac_syntax.specs.declared.sign.Symbol.{Symbol}
 
 pub same_spellings : map (λ (x : Bytes × Symbol). x.0) spellings ≡ symbols ++ reserved

@@ -143,10 +143,22 @@ const HEIGHTS: [(&[(&[u8], u32)], Option<u32>); 14] = [
 ];
 
 const SIGNATURE_HEIGHTS: [(&[(&[u8], u32)], Option<u32>); 4] = [
-    (&[(b"sig type t = ", 1), (b"int -> ", 99), (b"int end", 1)], Some(204)),
-    (&[(b"sig type t = ", 1), (b"int -> ", 100), (b"int end", 1)], None),
-    (&[(b"sig val x : int", 1), (b" list", 99), (b" end", 1)], Some(105)),
-    (&[(b"sig val x : int", 1), (b" list", 100), (b" end", 1)], None),
+    (
+        &[(b"sig type t = ", 1), (b"int -> ", 99), (b"int end", 1)],
+        Some(204),
+    ),
+    (
+        &[(b"sig type t = ", 1), (b"int -> ", 100), (b"int end", 1)],
+        None,
+    ),
+    (
+        &[(b"sig val x : int", 1), (b" list", 99), (b" end", 1)],
+        Some(105),
+    ),
+    (
+        &[(b"sig val x : int", 1), (b" list", 100), (b" end", 1)],
+        None,
+    ),
 ];
 
 // Texts of pieces, with the place at which too many are unclosed.

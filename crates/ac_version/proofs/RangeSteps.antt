@@ -137,10 +137,6 @@ next_absent : {done rs : List Range} {rest behind : List VToken} {star : Bool} �
 next_absent is no_end none (all end same) = no_end end
 next_absent is no_end none (others after qs dotted same w) = first_of_ranges (ranged_at (tail_eq (sym is ∙ dotted)) w) none
 
-no_more : {done rs : List Range} {rest : List VToken} {star : Bool} {P : Type 0} → ((behind : List VToken) → rest ≡ Dot ∷ behind → ⊥) → Remain done rest rs star → (EndAt star rest → P) → P
-no_more none (all end same) f = f end
-no_more none (others behind qs dotted same w) f = absurd (none behind dotted)
-
 -- what ends the constraint begins no further range
 all_done : {done rs : List Range} {rest : List VToken} {star other : Bool} → EndAt other rest → Remain done rest rs star → rs ≡ done
 all_done e (all end same) = same
@@ -161,9 +157,6 @@ module _ (ts : List VToken) (done : List Range) (rest : List VToken) (r : Ranges
 
   pub next_none : (behind : List VToken) → (ts ≡ Star ∷ [] → ⊥) → rest ≡ Dot ∷ behind → ((star : Bool) → EndAt star rest → ⊥) → NoRange behind → NoConstraint ts
   next_none behind no_star is no_end none rs star c = constraint_cases c no_star (λ w few. next_absent is (no_end star) none (r.forth rs star w))
-
-  pub unended_none : (ts ≡ Star ∷ [] → ⊥) → ((behind : List VToken) → rest ≡ Dot ∷ behind → ⊥) → ((star : Bool) → EndAt star rest → ⊥) → NoConstraint ts
-  unended_none no_star none no_end rs star c = constraint_cases c no_star (λ w few. no_more none (r.forth rs star w) (no_end star))
 
   pub many_none : (other : Bool) → (ts ≡ Star ∷ [] → ⊥) → EndAt other rest → 8 < length done → NoConstraint ts
   many_none other no_star e many rs star c =

@@ -1,12 +1,9 @@
 -- Tokens are at most one version and at most one constraint.
-use Rattle.std.proofs.Common.{◌≡◌, Bool, true, false, List, [], ◌∷◌, refl, sym, ap, subst}
+use Rattle.std.proofs.Common.{◌≡◌, Bool, List, [], ◌∷◌, refl, sym, ap, subst}
 use Rattle.ac_types.specs.Sigs.{Atom, Range}
 use Rattle.ac_version.specs.Reading.{AtomAt, numbered, own, Atoms, last_atom, more_atoms, IsVersion, RangeAt, one, between, up_to, from, Ranged, last_range, starred_range, more_ranges, IsConstraint, any, ranged, Behind, nothing, dot}
 use Rattle.ac_version.specs.declared.read.VToken.{VToken}
 use Rattle.ac_version.specs.declared.read.VToken.TheVariants.{Dot, Star}
-
-apart : {P : Type 0} → false ≡ true → P
-apart e = cc
 
 pub same_atom : {t : VToken} {a b : Atom} → AtomAt t a → AtomAt t b → a ≡ b
 same_atom (numbered h) (numbered i) = refl

@@ -1,7 +1,7 @@
 -- The steps of the reading of versions, over lists of tokens.
-use Rattle.std.proofs.Common.{◌≡◌, ◌<◌, ◌≤◌, ℕ, List, [], ◌∷◌, ◌++◌, length, refl, sym, ◌∙◌, ap, subst, append_assoc, arith}
+use Rattle.std.proofs.Common.{◌≡◌, ◌<◌, ℕ, List, [], ◌∷◌, ◌++◌, refl, sym, ◌∙◌, ap, subst, append_assoc}
 use Rattle.ac_types.specs.Sigs.{Atom, Number as Numbered, MyName as Own}
-use Rattle.ac_version.specs.Reading.{AtomAt, numbered, own, Atoms, last_atom, more_atoms, IsVersion, NoVersion, FirstAtom, NoAtom}
+use Rattle.ac_version.specs.Reading.{AtomAt, numbered, own, Atoms, last_atom, more_atoms, NoVersion, FirstAtom, NoAtom}
 use Rattle.ac_version.specs.declared.read.VToken.{VToken}
 use Rattle.ac_version.specs.declared.read.VToken.TheVariants.{Number, Dot, MyName}
 use Rattle.ac_version.proofs.Unique.{same_atom}
@@ -12,23 +12,11 @@ number_atom t n m is small same = subst (λ (k : ℕ). AtomAt t (Numbered k)) (s
 pub own_atom : (t : VToken) → t ≡ MyName → AtomAt t Own
 own_atom t is = subst (λ (x : VToken). AtomAt x Own) (sym is) own
 
-head_eq : {x y : VToken} {r s : List VToken} → x ∷ r ≡ y ∷ s → x ≡ y
-head_eq e = cc
-
 tail_eq : {x y : VToken} {r s : List VToken} → x ∷ r ≡ y ∷ s → r ≡ s
 tail_eq e = cc
 
 nothing_is_none : {P : Type 0} {x : VToken} {r : List VToken} → [] ≡ x ∷ r → P
 nothing_is_none e = cc
-
-pub first_of : (ts rest : List VToken) (t : VToken) (a : Atom) → ts ≡ t ∷ rest → AtomAt t a → FirstAtom ts a rest
-first_of ts rest t a is at = record { token = t; is = is; atom = at }
-
-pub nothing_first : (ts : List VToken) → ts ≡ [] → NoAtom ts
-nothing_first ts is a rest f = nothing_is_none (sym is ∙ f.is)
-
-pub other_first : (ts rest : List VToken) (t : VToken) → ts ≡ t ∷ rest → ((a : Atom) → AtomAt t a → ⊥) → NoAtom ts
-other_first ts rest t is none a other f = none a (subst (λ (x : VToken). AtomAt x a) (head_eq (sym f.is ∙ is)) f.atom)
 
 -- a list of atoms goes on behind those done, or has no more
 pub data Remain (done : List Atom) (rest : List VToken) (xs : List Atom) : Type 0 where
@@ -74,10 +62,6 @@ next_absent : {done xs : List Atom} {rest behind : List VToken} → rest ≡ Dot
 next_absent is none (all end same) = nothing_is_none (sym end ∙ is)
 next_absent is none (others behind ys dot same p) = first_of_atoms (atoms_at (tail_eq (sym is ∙ dot)) p) (λ a rest f. none a rest f)
 
-no_more : {done xs : List Atom} {rest : List VToken} {P : Type 0} → ((behind : List VToken) → rest ≡ Dot ∷ behind → ⊥) → Remain done rest xs → (rest ≡ [] → xs ≡ done → P) → P
-no_more none (all end same) f = f end same
-no_more none (others behind ys dot same p) f = absurd (none behind dot)
-
 module _ (ts : List VToken) (done : List Atom) (rest : List VToken) (r : AtomsRead ts done rest) where
   pub next_read : (behind later : List VToken) (a : Atom) → rest ≡ Dot ∷ behind → FirstAtom behind a later → AtomsRead ts (done ++ a ∷ []) later
   next_read behind later a is f =
@@ -88,16 +72,5 @@ module _ (ts : List VToken) (done : List Atom) (rest : List VToken) (r : AtomsRe
         forth = λ xs p. next_forth is one.forth (r.forth xs p);
       }
 
-  pub version : rest ≡ [] → length done ≤ 8 → IsVersion ts done
-  version end few = record { atoms = r.ended end; few = few }
-
   pub next_none : (behind : List VToken) → rest ≡ Dot ∷ behind → NoAtom behind → NoVersion ts
   next_none behind is none xs v = next_absent is none (r.forth xs v.atoms)
-
-  pub unended_none : ((behind : List VToken) → rest ≡ Dot ∷ behind → ⊥) → (rest ≡ [] → ⊥) → NoVersion ts
-  unended_none none open_ xs v = no_more none (r.forth xs v.atoms) (λ end same. open_ end)
-
-  pub many_none : ((behind : List VToken) → rest ≡ Dot ∷ behind → ⊥) → 8 < length done → NoVersion ts
-  many_none none many xs v =
-      let few : length xs ≤ 8 = v.few in
-      no_more none (r.forth xs v.atoms) (λ end same. absurd (omega (arith, ap (λ (l : List Atom). length l) same)))
