@@ -123,6 +123,37 @@ fn strings_are_printed(rt: HostRuntime) -> Result<(), Fail> {
     Ok(())
 }
 
+// A program that prints one string, written so.
+fn print_of(alloc: Global, written: &[u8]) -> Result<Text, Fail> {
+    let mut text = Text::from_slice(alloc, b"IO.print_string \"")?;
+    text.extend(written)?;
+    text.extend(b"\"")?;
+    Ok(text)
+}
+
+#[test]
+fn each_byte_is_printed(rt: HostRuntime) -> Result<(), Fail> {
+    let alloc = rt.alloc();
+    let digits = b"0123456789abcdef";
+    let mut raw = Text::new(alloc);
+    let mut all = Text::new(alloc);
+    let mut escaped = Text::new(alloc);
+    for byte in 0..=255u8 {
+        all.extend(&[byte])?;
+        let (high, low) = ((byte / 16) as usize, (byte % 16) as usize);
+        escaped.extend(&[b'\\', b'x', digits[high], digits[low]])?;
+        if byte != b'"' && byte != b'\\' && byte != b'\n' {
+            raw.extend(&[byte])?;
+        }
+    }
+    assert_eq!(rt; raw.as_slice().len(), 253);
+    let text = print_of(alloc, raw.as_slice())?;
+    assert!(rt; prints(alloc, text.as_slice(), raw.as_slice())?);
+    let text = print_of(alloc, escaped.as_slice())?;
+    assert!(rt; prints(alloc, text.as_slice(), all.as_slice())?);
+    Ok(())
+}
+
 #[test]
 fn what_is_chosen_and_bound(rt: HostRuntime) -> Result<(), Fail> {
     let alloc = rt.alloc();
