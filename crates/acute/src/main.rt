@@ -9,8 +9,10 @@ mod tests;
 mod top;
 
 use ac_outside::{RealFiles, RealSink};
-use std::alloc::{AllocFailed, Global};
+use ac_types::Memory;
+use std::alloc::Global;
 use std::env;
+use std::io::ErrorKind;
 use std::process::ExitCode;
 use top::{Status, acute};
 
@@ -28,14 +30,18 @@ fn main(rt: HostRuntime) -> ExitCode {
 }
 
 // The words after the program's own name. Words that are no text count as none.
-fn words_of(alloc: Global, rt: &HostRuntime) -> Result<Vec<String>, AllocFailed<String>> {
+fn words_of(alloc: Global, rt: &HostRuntime) -> Result<Vec<String>, Memory> {
     let mut words = Vec::new(alloc);
-    if let Ok(args) = env::args(rt) {
-        for (i, word) in args.enumerate() {
-            if i > 0 {
-                words.push(word)?;
+    match env::args(rt) {
+        Ok(args) => {
+            for (i, word) in args.enumerate() {
+                if i > 0 && words.push(word).is_err() {
+                    return Err(Memory);
+                }
             }
         }
+        Err(fault) if fault.kind() == ErrorKind::OutOfMemory => return Err(Memory),
+        Err(_) => {}
     }
     Ok(words)
 }
