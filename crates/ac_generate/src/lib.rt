@@ -1,0 +1,2 @@
+//! Generation of stack code from core terms.
+#![tactic(auto)]
