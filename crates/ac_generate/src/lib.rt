@@ -1,2 +1,5 @@
 //! Generation of stack code from core terms.
 #![tactic(auto)]
+
+mod scope;
+mod writer;

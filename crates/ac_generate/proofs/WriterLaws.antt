@@ -1,0 +1,26 @@
+-- What the writing of instructions needs of lists.
+use Rattle.std.proofs.Common.{◌≡◌, ℕ, zero, suc, List, [], ◌∷◌, ◌++◌, map, refl}
+use Rattle.std.proofs.lemmas.Grind.{common_steps}
+use Rattle.std.proofs.lemmas.List.{append-nil, append_assoc, map-append, map-set, set_past, reverse-append, reverse-reverse}
+use Rattle.ac_code.specs.Code as instr
+use Rattle.ac_generate.specs.Drafts.{Draft, put, put_all}
+use Rattle.ac_generate.specs.Sizes.{unbind}
+use Rattle.ac_generate.proofs.FormLaws.{typ_of-Fun, pattern_forms, scope_forms}
+
+pub ruleset writer_laws = (append-nil, map-append, map-set, set_past)
+
+pub ruleset scope_laws = (scope_forms, append-nil, append_assoc, map-append, reverse-append, reverse-reverse)
+
+pub ruleset pattern_laws = (pattern_forms, append-nil, append_assoc, map-append, common_steps)
+
+pub ruleset type_laws = (typ_of-Fun)
+
+pub put_none : (d : Draft) → put_all (unbind 0) d ≡ d
+unfolding put_all
+put_none d = rw (append-nil d.instrs) refl
+
+pub put_unbind : (k : ℕ) (d : Draft) → put_all (unbind (suc k)) d ≡ put (instr.Unbind (suc k)) d
+unfolding put_all put
+put_unbind k d = refl
+
+pub ruleset unbind_laws = (put_none, put_unbind)
