@@ -1,5 +1,5 @@
 -- What the writing of instructions needs of lists.
-use Rattle.std.proofs.Common.{◌≡◌, ℕ, zero, suc, List, [], ◌∷◌, ◌++◌, map, refl}
+use Rattle.std.proofs.Common.{◌≡◌, ℕ, zero, suc, List, [], ◌∷◌, ◌++◌, map, reverse, refl, sym, ap, ◌∙◌}
 use Rattle.std.proofs.lemmas.Grind.{common_steps}
 use Rattle.std.proofs.lemmas.List.{append-nil, append_assoc, map-append, map-set, set_past, reverse-append, reverse-reverse}
 use Rattle.ac_code.specs.Code as instr
@@ -9,7 +9,14 @@ use Rattle.ac_generate.proofs.FormLaws.{typ_of-Fun, pattern_forms, scope_forms}
 
 pub ruleset writer_laws = (append-nil, map-append, map-set, set_past)
 
-pub ruleset scope_laws = (scope_forms, append-nil, append_assoc, map-append, reverse-append, reverse-reverse)
+pub reverse_cons : {A : Type 0} (x : A) (xs : List A) → reverse (x ∷ xs) ≡ reverse xs ++ x ∷ []
+reverse_cons x xs = reverse-append (x ∷ []) xs
+
+pub map_reverse : {A B : Type 0} (f : A → B) (xs : List A) → map f (reverse xs) ≡ reverse (map f xs)
+map_reverse f [] = refl
+map_reverse f (x ∷ xs) = ap (map f) (reverse_cons x xs) ∙ map-append f (reverse xs) (x ∷ []) ∙ ap (λ ys. ys ++ f x ∷ []) (map_reverse f xs) ∙ sym (reverse_cons (f x) (map f xs))
+
+pub ruleset scope_laws = (scope_forms, append-nil, append_assoc, map-append, reverse-append, reverse-reverse, reverse_cons, map_reverse)
 
 pub ruleset pattern_laws = (pattern_forms, append-nil, append_assoc, map-append, common_steps)
 
