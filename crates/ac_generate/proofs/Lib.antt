@@ -1,3 +1,5 @@
 pub mod Examples
 pub mod FormLaws
+pub mod DraftLaws
+pub mod SizeLaws
 pub mod WriterLaws

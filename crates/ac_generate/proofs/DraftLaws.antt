@@ -1,0 +1,143 @@
+-- How the code of a term is written: the equations that its writing follows, form by form.
+use Rattle.std.proofs.Common.{◌≡◌, ℕ, ℤ, zero, suc, ◌+◌, Bool, List, [], ◌∷◌, ◌++◌, length, map, reverse, set, replicate, Option, None, Some, refl, sym, ap, ap₂, ◌∙◌, arith, length-append, append_assoc}
+use Rattle.std.proofs.lemmas.List.{append-nil, set_at as set_in}
+use Rattle.ac_types.specs.Types.{Bytes, Typ, TFun}
+use Rattle.ac_terms.specs.Terms.{Home, Pattern, Expr, Int, Boolean, Str, Unit', Exn, ExnOf, Tuple, Nil, Empty, Present, Cons, Var, Own, Ref, Lam, Rec, App, Let, If, Seq, Match, Try, Raise, Prim, Marshal, Unmarshal, Packed, Exprs, no_exprs, expr, Arms, no_arms, arm, PValue, KInt, KBool, KStr, KUnit, KExn, KTuple, KList, KAbsent, KPresent, KFun, PValues, no_pvalues, pvalue}
+use Rattle.ac_terms.specs.Parts.{pattern_types}
+use Rattle.ac_terms.specs.Spelling.{term_count, value_count}
+use Rattle.ac_code.specs.Code as instr
+use Rattle.ac_code.specs.Code.{Instr, Block}
+use Rattle.ac_generate.specs.Sizes.{lambdas, all_lambdas, arm_lambdas, value_lambdas, all_value_lambdas, bound, unbind, push_text, size, all_size, seq_size, rest_size, arm_size, value_size, all_value_size}
+use Rattle.ac_generate.specs.Generate.{code, all_code, seq_code, rest_code, arm_code, value_code, all_value_code, blocks, all_blocks, arm_blocks, value_blocks, all_value_blocks, lambda_block}
+use Rattle.ac_generate.specs.Drafts.{Draft, place, count, put, put_all, set_at, jumps_at, begun, ended, wrote, wrote_all, wrote_seq, wrote_rest, wrote_arms, ends, wrote_value, wrote_values}
+use Rattle.ac_generate.proofs.SizeLaws.{code_size, all_code_size, arm_code_size, value_code_size, all_value_code_size, block_count, all_block_count, arm_block_count, value_block_count, all_value_block_count}
+
+-- with more instructions and blocks
+abbrev more : List Instr → List Block → Draft → Draft
+more is bs d = record { first = d.first; instrs = d.instrs ++ is; blocks = d.blocks ++ bs }
+
+more_same : (d : Draft) (is js : List Instr) (bs cs : List Block) → is ≡ js → bs ≡ cs → more is bs d ≡ more js cs d
+more_same d is js bs cs e h = ap₂ (λ (x : List Instr) (y : List Block). more x y d) e h
+
+leaf : (i : Instr) (d : Draft) → put i d ≡ more (i ∷ []) [] d
+unfolding put
+leaf i d = ap (λ (bs : List Block). record { first = d.first; instrs = d.instrs ++ i ∷ []; blocks = bs }) (sym (append-nil d.blocks))
+
+put_more : (i : Instr) (is : List Instr) (bs : List Block) (d : Draft) → put i (more is bs d) ≡ more (is ++ i ∷ []) bs d
+unfolding put
+put_more i is bs d = ap (λ (js : List Instr). record { first = d.first; instrs = js; blocks = d.blocks ++ bs }) (append_assoc d.instrs is (i ∷ []))
+
+put_all_more : (js is : List Instr) (bs : List Block) (d : Draft) → put_all js (more is bs d) ≡ more (is ++ js) bs d
+unfolding put_all
+put_all_more js is bs d = ap (λ (ks : List Instr). record { first = d.first; instrs = ks; blocks = d.blocks ++ bs }) (append_assoc d.instrs is js)
+
+-- what is written where is and bs stand already
+further : (f : ℕ → ℕ → List Instr) (g : ℕ → List Block) (is : List Instr) (bs : List Block) (d : Draft) (p n : ℕ) → place d + length is ≡ p → count d + length bs ≡ n →
+    more (f (place (more is bs d)) (count (more is bs d))) (g (count (more is bs d))) (more is bs d) ≡ more (is ++ f p n) (bs ++ g n) d
+further f g is bs d p n e h =
+    let e' : place (more is bs d) ≡ p = length-append d.instrs is ∙ e in
+    let h' : count (more is bs d) ≡ n = omega (arith, length-append d.blocks bs, h) in
+    ap₂ (λ (q m : ℕ). more (f q m) (g m) (more is bs d)) e' h'
+    ∙ ap₂ (λ (x : List Instr) (y : List Block). record { first = d.first; instrs = x; blocks = y }) (append_assoc d.instrs is (f p n)) (append_assoc d.blocks bs (g n))
+
+module _ (c : Home) (G : List Typ) where
+  wrote_more : (e : Expr) (is : List Instr) (bs : List Block) (d : Draft) (p n : ℕ) → place d + length is ≡ p → count d + length bs ≡ n → wrote c G e (more is bs d) ≡ more (is ++ code e p n) (bs ++ blocks c G e n) d
+  unfolding wrote
+  wrote_more e is bs d p n h k = further (code e) (blocks c G e) is bs d p n h k
+
+  pub wrote_Int : (k : ℤ) (d : Draft) → wrote c G (Int k) d ≡ put (instr.PushInt k) d
+  unfolding wrote
+  wrote_Int k d = sym (leaf _ d)
+
+  pub wrote_Boolean : (b : Bool) (d : Draft) → wrote c G (Boolean b) d ≡ put (instr.PushBool b) d
+  unfolding wrote
+  wrote_Boolean b d = sym (leaf _ d)
+
+  pub wrote_Str : (s : Bytes) (d : Draft) → wrote c G (Str s) d ≡ put (instr.PushStr s) d
+  unfolding wrote
+  wrote_Str s d = sym (leaf _ d)
+
+  pub wrote_Unit : (d : Draft) → wrote c G Unit' d ≡ put instr.PushUnit d
+  unfolding wrote
+  wrote_Unit d = sym (leaf _ d)
+
+  pub wrote_Exn : (k : ℕ) (d : Draft) → wrote c G (Exn k) d ≡ put (instr.MakeExn k) d
+  unfolding wrote
+  wrote_Exn k d = sym (leaf _ d)
+
+  pub wrote_Nil : (T : Typ) (d : Draft) → wrote c G (Nil T) d ≡ put instr.PushNil d
+  unfolding wrote
+  wrote_Nil T d = sym (leaf _ d)
+
+  pub wrote_Empty : (T : Typ) (d : Draft) → wrote c G (Empty T) d ≡ put instr.PushNone d
+  unfolding wrote
+  wrote_Empty T d = sym (leaf _ d)
+
+  pub wrote_Var : (i : ℕ) (d : Draft) → wrote c G (Var i) d ≡ put (instr.Var i) d
+  unfolding wrote
+  wrote_Var i d = sym (leaf _ d)
+
+  pub wrote_Own : (f : ℕ) (d : Draft) → wrote c G (Own f) d ≡ put (instr.Own f) d
+  unfolding wrote
+  wrote_Own f d = sym (leaf _ d)
+
+  pub wrote_Ref : (j : ℕ) (x : Bytes) (d : Draft) → wrote c G (Ref j x) d ≡ put (instr.Ref j x) d
+  unfolding wrote
+  wrote_Ref j x d = sym (leaf _ d)
+
+  -- a part, and then an instruction
+  pub wrote_ExnOf : (k : ℕ) (e : Expr) (d : Draft) → wrote c G (ExnOf k e) d ≡ put (instr.MakeExn k) (wrote c G e d)
+  unfolding wrote
+  wrote_ExnOf k e d = sym (put_more _ _ _ d)
+
+  pub wrote_Tuple : (es : Exprs) (d : Draft) → wrote c G (Tuple es) d ≡ put (instr.MakeTuple (term_count es)) (wrote_all c G es d)
+  unfolding wrote wrote_all
+  wrote_Tuple es d = sym (put_more _ _ _ d)
+
+  pub wrote_Prim : (k : ℕ) (es : Exprs) (d : Draft) → wrote c G (Prim k es) d ≡ put (instr.Prim k) (wrote_all c G es d)
+  unfolding wrote wrote_all
+  wrote_Prim k es d = sym (put_more _ _ _ d)
+
+  pub wrote_Present : (e : Expr) (d : Draft) → wrote c G (Present e) d ≡ put instr.MakeSome (wrote c G e d)
+  unfolding wrote
+  wrote_Present e d = sym (put_more _ _ _ d)
+
+  pub wrote_Raise : (T : Typ) (e : Expr) (d : Draft) → wrote c G (Raise T e) d ≡ put instr.Raise (wrote c G e d)
+  unfolding wrote
+  wrote_Raise T e d = sym (put_more _ _ _ d)
+
+  pub wrote_Unmarshal : (T : Typ) (e : Expr) (d : Draft) → wrote c G (Unmarshal T e) d ≡ put (instr.Unmarshal T) (wrote c G e d)
+  unfolding wrote
+  wrote_Unmarshal T e d = sym (put_more _ _ _ d)
+
+  pub wrote_Packed : (T : Typ) (v : PValue) (d : Draft) → wrote c G (Packed T v) d ≡ wrote_value v d
+  unfolding wrote wrote_value
+  wrote_Packed T v d = refl
+
+  pub wrote_Seq : (es : Exprs) (d : Draft) → wrote c G (Seq es) d ≡ wrote_seq c G es d
+  unfolding wrote wrote_seq
+  wrote_Seq es d = refl
+
+  -- two parts, and then an instruction
+  paired : (a b : Expr) (i : Instr) (d : Draft) →
+      put i (wrote c G b (wrote c G a d))
+      ≡ more (code a (place d) (count d) ++ (code b (place d + size a) (count d + lambdas a) ++ i ∷ [])) (blocks c G a (count d) ++ blocks c G b (count d + lambdas a)) d
+  unfolding wrote
+  paired a b i d =
+      let p = place d in
+      let n = count d in
+      ap (put i) (wrote_more b (code a p n) (blocks c G a n) d (p + size a) (n + lambdas a) (ap (λ k. p + k) (code_size a p n)) (ap (λ k. n + k) (block_count c G a n)))
+      ∙ put_more i _ _ d
+      ∙ more_same d _ _ _ _ (append_assoc (code a p n) _ (i ∷ [])) refl
+
+  pub wrote_Cons : (a b : Expr) (d : Draft) → wrote c G (Cons a b) d ≡ put instr.MakeCons (wrote c G b (wrote c G a d))
+  unfolding wrote
+  wrote_Cons a b d = sym (paired a b instr.MakeCons d)
+
+  pub wrote_App : (f a : Expr) (d : Draft) → wrote c G (App f a) d ≡ put instr.Apply (wrote c G a (wrote c G f d))
+  unfolding wrote
+  wrote_App f a d = sym (paired f a instr.Apply d)
+
+  pub wrote_Marshal : (T : Typ) (m e : Expr) (d : Draft) → wrote c G (Marshal T m e) d ≡ put (instr.Marshal T) (wrote c G e (wrote c G m d))
+  unfolding wrote
+  wrote_Marshal T m e d = sym (paired m e (instr.Marshal T) d)
