@@ -13,26 +13,26 @@ use Rattle.ac_generate.specs.Drafts.{Draft, place, count, put, put_all, set_at, 
 use Rattle.ac_generate.proofs.SizeLaws.{code_size, all_code_size, arm_code_size, value_code_size, all_value_code_size, block_count, all_block_count, arm_block_count, value_block_count, all_value_block_count}
 
 -- with more instructions and blocks
-abbrev more : List Instr → List Block → Draft → Draft
+abbrev pub more : List Instr → List Block → Draft → Draft
 more is bs d = record { first = d.first; instrs = d.instrs ++ is; blocks = d.blocks ++ bs }
 
-more_same : (d : Draft) (is js : List Instr) (bs cs : List Block) → is ≡ js → bs ≡ cs → more is bs d ≡ more js cs d
+pub more_same : (d : Draft) (is js : List Instr) (bs cs : List Block) → is ≡ js → bs ≡ cs → more is bs d ≡ more js cs d
 more_same d is js bs cs e h = ap₂ (λ (x : List Instr) (y : List Block). more x y d) e h
 
-leaf : (i : Instr) (d : Draft) → put i d ≡ more (i ∷ []) [] d
+pub leaf : (i : Instr) (d : Draft) → put i d ≡ more (i ∷ []) [] d
 unfolding put
 leaf i d = ap (λ (bs : List Block). record { first = d.first; instrs = d.instrs ++ i ∷ []; blocks = bs }) (sym (append-nil d.blocks))
 
-put_more : (i : Instr) (is : List Instr) (bs : List Block) (d : Draft) → put i (more is bs d) ≡ more (is ++ i ∷ []) bs d
+pub put_more : (i : Instr) (is : List Instr) (bs : List Block) (d : Draft) → put i (more is bs d) ≡ more (is ++ i ∷ []) bs d
 unfolding put
 put_more i is bs d = ap (λ (js : List Instr). record { first = d.first; instrs = js; blocks = d.blocks ++ bs }) (append_assoc d.instrs is (i ∷ []))
 
-put_all_more : (js is : List Instr) (bs : List Block) (d : Draft) → put_all js (more is bs d) ≡ more (is ++ js) bs d
+pub put_all_more : (js is : List Instr) (bs : List Block) (d : Draft) → put_all js (more is bs d) ≡ more (is ++ js) bs d
 unfolding put_all
 put_all_more js is bs d = ap (λ (ks : List Instr). record { first = d.first; instrs = ks; blocks = d.blocks ++ bs }) (append_assoc d.instrs is js)
 
 -- what is written where is and bs stand already
-further : (f : ℕ → ℕ → List Instr) (g : ℕ → List Block) (is : List Instr) (bs : List Block) (d : Draft) (p n : ℕ) → place d + length is ≡ p → count d + length bs ≡ n →
+pub further : (f : ℕ → ℕ → List Instr) (g : ℕ → List Block) (is : List Instr) (bs : List Block) (d : Draft) (p n : ℕ) → place d + length is ≡ p → count d + length bs ≡ n →
     more (f (place (more is bs d)) (count (more is bs d))) (g (count (more is bs d))) (more is bs d) ≡ more (is ++ f p n) (bs ++ g n) d
 further f g is bs d p n e h =
     let e' : place (more is bs d) ≡ p = length-append d.instrs is ∙ e in
@@ -41,7 +41,7 @@ further f g is bs d p n e h =
     ∙ ap₂ (λ (x : List Instr) (y : List Block). record { first = d.first; instrs = x; blocks = y }) (append_assoc d.instrs is (f p n)) (append_assoc d.blocks bs (g n))
 
 module _ (c : Home) (G : List Typ) where
-  wrote_more : (e : Expr) (is : List Instr) (bs : List Block) (d : Draft) (p n : ℕ) → place d + length is ≡ p → count d + length bs ≡ n → wrote c G e (more is bs d) ≡ more (is ++ code e p n) (bs ++ blocks c G e n) d
+  pub wrote_more : (e : Expr) (is : List Instr) (bs : List Block) (d : Draft) (p n : ℕ) → place d + length is ≡ p → count d + length bs ≡ n → wrote c G e (more is bs d) ≡ more (is ++ code e p n) (bs ++ blocks c G e n) d
   unfolding wrote
   wrote_more e is bs d p n h k = further (code e) (blocks c G e) is bs d p n h k
 

@@ -1,5 +1,6 @@
 pub mod Examples
 pub mod FormLaws
 pub mod DraftLaws
+pub mod JumpLaws
 pub mod SizeLaws
 pub mod WriterLaws

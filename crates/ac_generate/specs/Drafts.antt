@@ -62,13 +62,20 @@ wrote_seq c G es d = record { first = d.first; instrs = d.instrs ++ seq_code es 
 unfoldable pub wrote_rest : Home → List Typ → Exprs → Draft → Draft
 wrote_rest c G es d = record { first = d.first; instrs = d.instrs ++ rest_code es (place d) (count d); blocks = d.blocks ++ all_blocks c G es (count d) }
 
--- with the code of some arms, whose jumps to the end are still open, and the places of these
+-- with the code of an arm, of some arms, whose jumps to the end are still open
+unfoldable pub wrote_arm : Home → List Typ → Pattern → Expr → Draft → Draft
+wrote_arm c G q b d = record { first = d.first; instrs = d.instrs ++ arm_code 0 (arm q b no_arms) (place d) (count d); blocks = d.blocks ++ arm_blocks c G (arm q b no_arms) (count d) }
+
 unfoldable pub wrote_arms : Home → List Typ → Arms → Draft → Draft
 wrote_arms c G cases d = record { first = d.first; instrs = d.instrs ++ arm_code 0 cases (place d) (count d); blocks = d.blocks ++ arm_blocks c G cases (count d) }
 
+-- where the jump of an arm that begins at place p stands, and those of some arms
+abbrev pub end_of : Pattern → Expr → ℕ → ℕ
+end_of q b p = suc p + size b + length (unbind (bound q))
+
 abbrev pub ends : Arms → ℕ → List ℕ
 ends no_arms p = []
-ends (arm q b rest) p = let jump = suc p + size b + length (unbind (bound q)) in jump ∷ ends rest (suc jump)
+ends (arm q b rest) p = end_of q b p ∷ ends rest (suc (end_of q b p))
 
 -- with the code of a packed value, of packed values
 unfoldable pub wrote_value : PValue → Draft → Draft
