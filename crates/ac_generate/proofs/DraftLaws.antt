@@ -141,3 +141,151 @@ module _ (c : Home) (G : List Typ) where
   pub wrote_Marshal : (T : Typ) (m e : Expr) (d : Draft) → wrote c G (Marshal T m e) d ≡ put (instr.Marshal T) (wrote c G e (wrote c G m d))
   unfolding wrote
   wrote_Marshal T m e d = sym (paired m e (instr.Marshal T) d)
+
+abbrev nothing_more : (d : Draft) → more [] [] d ≡ d
+nothing_more d = ap₂ (λ (x : List Instr) (y : List Block). record { first = d.first; instrs = x; blocks = y }) (append-nil d.instrs) (append-nil d.blocks)
+
+pub wrote_Let : (c : Home) (G : List Typ) (T : Typ) (e b : Expr) (d : Draft) → wrote c G (Let T e b) d ≡ put (instr.Unbind 1) (wrote c (T ∷ G) b (put instr.Bind (wrote c G e d)))
+unfolding wrote
+wrote_Let c G T e b d =
+    let p = place d in
+    let n = count d in
+    let ce = code e p n in
+    let be = blocks c G e n in
+    let first = suc (p + size e) in
+    let cb = code b first (n + lambdas e) in
+    sym (
+      ap (λ x. put (instr.Unbind 1) (wrote c (T ∷ G) b x)) (put_more instr.Bind ce be d)
+      ∙ ap (put (instr.Unbind 1)) (wrote_more c (T ∷ G) b (ce ++ instr.Bind ∷ []) be d first (n + lambdas e) (omega (arith, length-append ce (instr.Bind ∷ []), code_size e p n)) (ap (λ k. n + k) (block_count c G e n)))
+      ∙ put_more (instr.Unbind 1) _ _ d
+      ∙ more_same d _ _ _ _ (append_assoc (ce ++ instr.Bind ∷ []) cb (instr.Unbind 1 ∷ []) ∙ append_assoc ce (instr.Bind ∷ []) (cb ++ instr.Unbind 1 ∷ [])) refl
+    )
+
+-- the block of a lambda with that body, and then the instruction of its number
+lambda_written : (c h : Home) (G H : List Typ) (l e : Expr) (make : ℕ → Instr) (d : Draft) →
+    more (make (count d + lambdas e) ∷ []) (blocks h H e (count d) ++ lambda_block h l G (code e 0 (count d)) ∷ []) d
+    ≡ put (make (count (wrote h H e (begun d)))) (ended h l G d.instrs (wrote h H e (begun d)))
+unfolding wrote begun ended put
+lambda_written c h G H l e make d =
+    let bs = blocks h H e (count d) in
+    let same : count d + lambdas e ≡ d.first + length (d.blocks ++ bs) = omega (arith, length-append d.blocks bs, block_count h H e (count d)) in
+    ap₂ (λ (k : ℕ) (y : List Block). record { first = d.first; instrs = d.instrs ++ make k ∷ []; blocks = y }) same (sym (append_assoc d.blocks bs (lambda_block h l G (code e 0 (count d)) ∷ [])))
+
+pub wrote_Lam : (c : Home) (G : List Typ) (T : Typ) (e : Expr) (d : Draft) →
+    wrote c G (Lam T e) d ≡ put (instr.Closure (count (wrote c (T ∷ G) e (begun d)))) (ended c (Lam T e) G d.instrs (wrote c (T ∷ G) e (begun d)))
+unfolding wrote
+wrote_Lam c G T e d = lambda_written c c G (T ∷ G) (Lam T e) e instr.Closure d
+
+pub wrote_Rec : (c : Home) (G : List Typ) (T U : Typ) (e : Expr) (d : Draft) →
+    wrote c G (Rec T U e) d ≡ put (instr.RecClosure (count (wrote c (T ∷ TFun T U ∷ G) e (begun d)))) (ended c (Rec T U e) G d.instrs (wrote c (T ∷ TFun T U ∷ G) e (begun d)))
+unfolding wrote
+wrote_Rec c G T U e d = lambda_written c c G (T ∷ TFun T U ∷ G) (Rec T U e) e instr.RecClosure d
+
+-- lists of terms
+pub wrote_none : (c : Home) (G : List Typ) (d : Draft) → wrote_all c G no_exprs d ≡ d
+unfolding wrote_all
+wrote_none c G d = nothing_more d
+
+pub wrote_next : (c : Home) (G : List Typ) (e : Expr) (es : Exprs) (d : Draft) → wrote_all c G (expr e es) d ≡ wrote_all c G es (wrote c G e d)
+unfolding wrote_all wrote
+wrote_next c G e es d = sym (further (all_code es) (all_blocks c G es) _ _ d _ _ (ap (λ k. place d + k) (code_size e (place d) (count d))) (ap (λ k. count d + k) (block_count c G e (count d))))
+
+pub wrote_no_parts : (c : Home) (G : List Typ) (d : Draft) → wrote_seq c G no_exprs d ≡ d
+unfolding wrote_seq
+wrote_no_parts c G d = nothing_more d
+
+pub wrote_first : (c : Home) (G : List Typ) (e : Expr) (es : Exprs) (d : Draft) → wrote_seq c G (expr e es) d ≡ wrote_rest c G es (wrote c G e d)
+unfolding wrote_seq wrote_rest wrote
+wrote_first c G e es d = sym (further (rest_code es) (all_blocks c G es) _ _ d _ _ (ap (λ k. place d + k) (code_size e (place d) (count d))) (ap (λ k. count d + k) (block_count c G e (count d))))
+
+pub wrote_no_rest : (c : Home) (G : List Typ) (d : Draft) → wrote_rest c G no_exprs d ≡ d
+unfolding wrote_rest
+wrote_no_rest c G d = nothing_more d
+
+pub wrote_later : (c : Home) (G : List Typ) (e : Expr) (es : Exprs) (d : Draft) → wrote_rest c G (expr e es) d ≡ wrote_rest c G es (wrote c G e (put instr.Drop d))
+unfolding wrote_rest
+wrote_later c G e es d =
+    let p = place d in
+    let n = count d in
+    sym (
+      ap (λ x. wrote_rest c G es (wrote c G e x)) (leaf instr.Drop d)
+      ∙ ap (wrote_rest c G es) (wrote_more c G e (instr.Drop ∷ []) [] d (suc p) n (omega arith) (omega arith))
+      ∙ further (rest_code es) (all_blocks c G es) (instr.Drop ∷ code e (suc p) n) (blocks c G e n) d (suc p + size e) (n + lambdas e) (omega (arith, code_size e (suc p) n)) (ap (λ k. n + k) (block_count c G e n))
+    )
+
+-- packed values
+pub wrote_KInt : (k : ℤ) (d : Draft) → wrote_value (KInt k) d ≡ put (instr.PushInt k) d
+unfolding wrote_value
+wrote_KInt k d = sym (leaf _ d)
+
+pub wrote_KBool : (b : Bool) (d : Draft) → wrote_value (KBool b) d ≡ put (instr.PushBool b) d
+unfolding wrote_value
+wrote_KBool b d = sym (leaf _ d)
+
+pub wrote_KStr : (s : Bytes) (d : Draft) → wrote_value (KStr s) d ≡ put (instr.PushStr s) d
+unfolding wrote_value
+wrote_KStr s d = sym (leaf _ d)
+
+pub wrote_KUnit : (d : Draft) → wrote_value KUnit d ≡ put instr.PushUnit d
+unfolding wrote_value
+wrote_KUnit d = sym (leaf _ d)
+
+pub wrote_KAbsent : (d : Draft) → wrote_value KAbsent d ≡ put instr.PushNone d
+unfolding wrote_value
+wrote_KAbsent d = sym (leaf _ d)
+
+put_all_on : (is : List Instr) (d : Draft) → put_all is d ≡ more is [] d
+unfolding put_all
+put_all_on is d = ap (λ (bs : List Block). record { first = d.first; instrs = d.instrs ++ is; blocks = bs }) (sym (append-nil d.blocks))
+
+pub wrote_KExn : (k : ℕ) (s : Option Bytes) (d : Draft) → wrote_value (KExn k s) d ≡ put (instr.MakeExn k) (put_all (push_text s) d)
+unfolding wrote_value
+wrote_KExn k s d = sym (ap (put (instr.MakeExn k)) (put_all_on (push_text s) d) ∙ put_more _ (push_text s) [] d)
+
+pub text_none : (d : Draft) → put_all (push_text None) d ≡ d
+text_none d = put_all_on [] d ∙ nothing_more d
+
+pub text_some : (s : Bytes) (d : Draft) → put_all (push_text (Some s)) d ≡ put (instr.PushStr s) d
+text_some s d = put_all_on _ d ∙ sym (leaf _ d)
+
+pub wrote_KPresent : (v : PValue) (d : Draft) → wrote_value (KPresent v) d ≡ put instr.MakeSome (wrote_value v d)
+unfolding wrote_value
+wrote_KPresent v d = sym (put_more _ _ _ d)
+
+pub wrote_KTuple : (vs : PValues) (d : Draft) → wrote_value (KTuple vs) d ≡ put (instr.MakeTuple (value_count vs)) (wrote_values vs d)
+unfolding wrote_value wrote_values
+wrote_KTuple vs d = sym (put_more _ _ _ d)
+
+pub wrote_KList : (vs : PValues) (d : Draft) → wrote_value (KList vs) d ≡ put_all (replicate (value_count vs) instr.MakeCons) (put instr.PushNil (wrote_values vs d))
+unfolding wrote_value wrote_values
+wrote_KList vs d =
+    let made = all_value_code vs (count d) in
+    let conses = replicate (value_count vs) instr.MakeCons in
+    sym (ap (put_all conses) (put_more instr.PushNil made _ d) ∙ put_all_more conses _ _ d ∙ more_same d _ _ _ _ (append_assoc made (instr.PushNil ∷ []) conses) refl)
+
+pub wrote_KLam : (h : Home) (T : Typ) (e : Expr) (d : Draft) →
+    wrote_value (KFun h (Lam T e)) d ≡ put (instr.Constant (count (wrote h (T ∷ []) e (begun d)))) (ended h (Lam T e) [] d.instrs (wrote h (T ∷ []) e (begun d)))
+unfolding wrote_value
+wrote_KLam h T e d = lambda_written h h [] (T ∷ []) (Lam T e) e instr.Constant d
+
+pub wrote_KRec : (h : Home) (T U : Typ) (e : Expr) (d : Draft) →
+    wrote_value (KFun h (Rec T U e)) d ≡ put (instr.RecConstant (count (wrote h (T ∷ TFun T U ∷ []) e (begun d)))) (ended h (Rec T U e) [] d.instrs (wrote h (T ∷ TFun T U ∷ []) e (begun d)))
+unfolding wrote_value
+wrote_KRec h T U e d = lambda_written h h [] (T ∷ TFun T U ∷ []) (Rec T U e) e instr.RecConstant d
+
+pub wrote_no_values : (d : Draft) → wrote_values no_pvalues d ≡ d
+unfolding wrote_values
+wrote_no_values d = nothing_more d
+
+pub wrote_next_value : (v : PValue) (vs : PValues) (d : Draft) → wrote_values (pvalue v vs) d ≡ wrote_values vs (wrote_value v d)
+unfolding wrote_values wrote_value
+wrote_next_value v vs d =
+    let n = count d in
+    sym (further (λ p. all_value_code vs) (all_value_blocks vs) (value_code v n) (value_blocks v n) d (place d + length (value_code v n)) (n + value_lambdas v) refl (ap (λ k. n + k) (value_block_count v n)))
+
+-- the equations of the forms
+pub ruleset draft_laws = (wrote_Int, wrote_Boolean, wrote_Str, wrote_Unit, wrote_Exn, wrote_ExnOf, wrote_Tuple, wrote_Nil, wrote_Empty, wrote_Present, wrote_Cons, wrote_Var, wrote_Own, wrote_Ref, wrote_Lam, wrote_Rec, wrote_App, wrote_Let, wrote_Seq, wrote_Raise, wrote_Prim, wrote_Marshal, wrote_Unmarshal, wrote_Packed)
+
+pub ruleset list_laws = (wrote_none, wrote_next, wrote_no_parts, wrote_first, wrote_no_rest, wrote_later)
+
+pub ruleset value_laws = (wrote_KInt, wrote_KBool, wrote_KStr, wrote_KUnit, wrote_KAbsent, wrote_KExn, text_none, text_some, wrote_KPresent, wrote_KTuple, wrote_KList, wrote_KLam, wrote_KRec, wrote_no_values, wrote_next_value)
