@@ -142,7 +142,7 @@ module _ (c : Home) (G : List Typ) where
   unfolding wrote
   wrote_Marshal T m e d = sym (paired m e (instr.Marshal T) d)
 
-abbrev nothing_more : (d : Draft) → more [] [] d ≡ d
+abbrev pub nothing_more : (d : Draft) → more [] [] d ≡ d
 nothing_more d = ap₂ (λ (x : List Instr) (y : List Block). record { first = d.first; instrs = x; blocks = y }) (append-nil d.instrs) (append-nil d.blocks)
 
 pub wrote_Let : (c : Home) (G : List Typ) (T : Typ) (e b : Expr) (d : Draft) → wrote c G (Let T e b) d ≡ put (instr.Unbind 1) (wrote c (T ∷ G) b (put instr.Bind (wrote c G e d)))

@@ -1,5 +1,5 @@
 -- The reading of each form of types, patterns, terms, packed values and scopes.
-use Rattle.std.proofs.Common.{◌≡◌, ◌∙◌, ap, refl, ℕ, ℤ, Bool, Bor, List, [], ◌∷◌, ◌++◌, map, reverse, Option, None, Some, option_map}
+use Rattle.std.proofs.Common.{◌≡◌, ◌∙◌, ap, refl, sym, ℕ, ℤ, Bool, Bor, List, [], ◌∷◌, ◌++◌, map, reverse, Option, None, Some, option_map}
 use Rattle.ac_types.specs.Types.{Typ, TFun}
 use Rattle.ac_types.specs.ReadTypes.{typ_of, typ_layer}
 use Rattle.ac_types.specs.declared.text.Text.{Text}
@@ -17,7 +17,7 @@ use Rattle.ac_terms.specs.declared.term.PVal.{PVal}
 use Rattle.ac_terms.specs.declared.term.PVal.TheVariants as value
 use Rattle.ac_terms.specs.declared.term.Arm.{Arm}
 use Rattle.ac_terms.specs.declared.term.PVal.TheOpen.{Term-F, PVal-F}
-use Rattle.ac_terms.specs.declared.term.PVal.TheFolds.{map-PVal, fold_out-PVal}
+use Rattle.ac_terms.specs.declared.term.PVal.TheFolds.{map-PVal, fold_out-PVal, fold_out-Arm}
 use Rattle.ac_terms.specs.declared.term.PVal.TheViews.{out-PVal}
 use Rattle.ac_terms.specs.Terms.{Pattern, PWild, PVar, PInt, PBool, PStr, PUnit, PTuple, PNil, PCons, PAbsent, PPresent, PExn, PExnOf, patterns, Expr, Int, Boolean, Str, Unit', Exn, ExnOf, Tuple, Nil, Empty, Present, Cons, Var, Own, Ref, Lam, Rec, App, Let, If, Seq, Match, Try, Raise, Prim, Marshal, Unmarshal, Packed, exprs, arms, PValue, KInt, KBool, KStr, KUnit, KExn, KTuple, KList, KAbsent, KPresent, KFun, pvalues}
 use Rattle.ac_terms.specs.Read.{pattern_of, pattern_layer, home_of, bytes_of, expr_of, value_of, value_layer, expr_layer, arm_layer}
@@ -216,3 +216,24 @@ pub types_of-Variables : (outer : Bor Scope) (ts : Bor (List Ty)) → types_of (
 types_of-Variables outer ts = scope_out (scope.Variables outer ts) ∙ ap scope_layer (scope.outs-Variables outer ts)
 
 pub ruleset scope_forms = (types_of-Empty, types_of-Variable, types_of-Variables)
+
+pub arm_fields : (a : Arm) → arm_of a ≡ (pattern_of a.pat, expr_of a.body)
+unfolding arm_of expr_of value_of
+arm_fields a = fold_out-Arm PValue Expr (Pattern × Expr) value_layer expr_layer arm_layer a
+
+-- the forms, where their parts are known by equations
+pub lam_is : (e : Term) (t : Ty) (b b' : Term) → e ≡ term.Lam t b → b' ≡ b → expr_of e ≡ Lam (typ_of t) (expr_of b')
+lam_is e t b b' is h = ap expr_of is ∙ expr_of-Lam t b ∙ ap (λ x. Lam (typ_of t) (expr_of x)) (sym h)
+
+pub rec_is : (e : Term) (t u : Ty) (b b' : Term) → e ≡ term.Rec t u b → b' ≡ b → expr_of e ≡ Rec (typ_of t) (typ_of u) (expr_of b')
+rec_is e t u b b' is h = ap expr_of is ∙ expr_of-Rec t u b ∙ ap (λ x. Rec (typ_of t) (typ_of u) (expr_of x)) (sym h)
+
+pub if_is : (e c a b c' a' b' : Term) → e ≡ term.If c a b → c' ≡ c → a' ≡ a → b' ≡ b → expr_of e ≡ If (expr_of c') (expr_of a') (expr_of b')
+if_is e c a b c' a' b' is hc ha hb =
+    ap expr_of is ∙ expr_of-If c a b ∙ ap (λ x. If (expr_of x) (expr_of a) (expr_of b)) (sym hc) ∙ ap (λ x. If (expr_of c') (expr_of x) (expr_of b)) (sym ha) ∙ ap (λ x. If (expr_of c') (expr_of a') (expr_of x)) (sym hb)
+
+pub match_is : (e a a' : Term) (cases cases' : List Arm) → e ≡ term.Match a cases → a' ≡ a → cases' ≡ cases → expr_of e ≡ Match (expr_of a') (arms (map arm_of cases'))
+match_is e a a' cases cases' is ha hc = ap expr_of is ∙ expr_of-Match a cases ∙ ap (λ x. Match (expr_of x) (arms (map arm_of cases))) (sym ha) ∙ ap (λ xs. Match (expr_of a') (arms (map arm_of xs))) (sym hc)
+
+pub try_is : (e a a' : Term) (cases cases' : List Arm) → e ≡ term.Try a cases → a' ≡ a → cases' ≡ cases → expr_of e ≡ Try (expr_of a') (arms (map arm_of cases'))
+try_is e a a' cases cases' is ha hc = ap expr_of is ∙ expr_of-Try a cases ∙ ap (λ x. Try (expr_of x) (arms (map arm_of cases))) (sym ha) ∙ ap (λ xs. Try (expr_of a') (arms (map arm_of xs))) (sym hc)

@@ -27,7 +27,7 @@ set_more is xs ys y z k bs d e h =
     )
 
 -- a jump that is still open
-abbrev open_jump : Instr
+abbrev pub open_jump : Instr
 open_jump = instr.Jump 0
 
 pub wrote_If : (c : Home) (G : List Typ) (t a b : Expr) (d d1 d3 d4 d6 : Draft) → d1 ≡ wrote c G t d → d3 ≡ wrote c G a (put open_jump d1) → d4 ≡ put open_jump d3 → d6 ≡ wrote c G b d4 →

@@ -1,7 +1,7 @@
 -- What the writing of instructions needs of lists.
-use Rattle.std.proofs.Common.{◌≡◌, ℕ, zero, suc, List, [], ◌∷◌, ◌++◌, map, reverse, refl, sym, ap, ◌∙◌}
+use Rattle.std.proofs.Common.{◌≡◌, ℕ, zero, suc, List, [], ◌∷◌, ◌++◌, ◌+◌, map, reverse, replicate, refl, sym, ap, ◌∙◌}
 use Rattle.std.proofs.lemmas.Grind.{common_steps}
-use Rattle.std.proofs.lemmas.List.{append-nil, append_assoc, map-append, map-set, set_past, reverse-append, reverse-reverse}
+use Rattle.std.proofs.lemmas.List.{append-nil, append_assoc, map-append, map-set, set_past, reverse-append, reverse-reverse, replicate-append-replicate}
 use Rattle.ac_code.specs.Code as instr
 use Rattle.ac_generate.specs.Drafts.{Draft, put, put_all}
 use Rattle.ac_generate.specs.Sizes.{unbind}
@@ -31,3 +31,14 @@ unfolding put_all put
 put_unbind k d = refl
 
 pub ruleset unbind_laws = (put_none, put_unbind)
+
+pub put_nothing : (d : Draft) → put_all [] d ≡ d
+unfolding put_all
+put_nothing d = put_none d
+
+-- one more of the same
+pub put_again : (i : instr.Instr) (n : ℕ) (d : Draft) → put i (put_all (replicate n i) d) ≡ put_all (replicate (n + 1) i) d
+unfolding put put_all
+put_again i n d = ap (λ (is : List instr.Instr). record { first = d.first; instrs = is; blocks = d.blocks }) (append_assoc d.instrs (replicate n i) (i ∷ []) ∙ ap (λ (is : List instr.Instr). d.instrs ++ is) (replicate-append-replicate n 1 i))
+
+pub ruleset again_laws = (put_nothing, put_again)

@@ -2,4 +2,5 @@
 #![tactic(auto)]
 
 mod scope;
+mod terms;
 mod writer;

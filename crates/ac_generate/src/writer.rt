@@ -1,16 +1,17 @@
 // A block that is being written, and the blocks that are finished.
 
-ghost use Rattle.std.specs.Prelude.{◌≡◌, ◌+◌, ◌++◌, ◌∷◌, [], length, map, OnOk, IfOk};
-ghost use Rattle.ac_terms.specs.Read.{home_of, expr_of};
-ghost use Rattle.ac_code.specs.Code.{Jump};
+ghost use Rattle.std.specs.Prelude.{◌≡◌, ◌+◌, ◌++◌, ◌∷◌, [], length, map, replicate, OnOk, IfOk, option_map};
+ghost use Rattle.ac_terms.specs.Terms.{KExn};
+ghost use Rattle.ac_terms.specs.Read.{home_of, expr_of, bytes_of};
+ghost use Rattle.ac_code.specs.Code.{Jump, MakeCons};
 ghost use Rattle.ac_code.specs.ReadCode.{instr_of, block_of};
 ghost use Rattle.ac_generate.specs.Sizes.{unbind};
 ghost use Rattle.ac_generate.specs.Scopes.{types_of};
-ghost use Rattle.ac_generate.specs.Drafts.{draft_of, place, count, put, put_all, set_at, jumps_at, begun, ended};
+ghost use Rattle.ac_generate.specs.Drafts.{draft_of, place, count, put, put_all, set_at, jumps_at, begun, ended, wrote_value};
 
 use crate::scope::{Scope, context};
 use ac_code::{Block, CodeId, Instr};
-use ac_terms::{Home, Term};
+use ac_terms::{Exn, Home, Term};
 use ac_types::{Many, Memory};
 use std::alloc::Global;
 use std::mem;
@@ -97,6 +98,29 @@ impl Writer {
             return Ok(());
         }
         self.put(Instr::Unbind(variables))
+    }
+
+    /// Writes the text of an exception, where it has one, and what makes the exception.
+    #[tactic(auto, using(crate::proofs::DraftLaws::value_laws))]
+    pub fn exception(&mut self, exn: &Exn) -> Result<(), Memory>
+        ensures { OnOk result (draft_of self.new ≡ wrote_value (KExn exn.now.number (option_map bytes_of exn.now.text)) (draft_of self.old)) }
+    {
+        if let Some(text) = &exn.text {
+            let text = text.copy(self.alloc)?;
+            self.put(Instr::PushStr(text))?;
+        }
+        self.put(Instr::MakeExn(exn.number))
+    }
+
+    /// Writes what puts some values before a list.
+    #[tactic(auto, using(crate::proofs::WriterLaws::again_laws))]
+    pub fn conses(&mut self, values: usize) -> Result<(), Memory>
+        ensures { OnOk result (draft_of self.new ≡ put_all (replicate values MakeCons) (draft_of self.old)) }
+    {
+        for _ in 0..values {
+            self.put(Instr::MakeCons)?;
+        }
+        Ok(())
     }
 
     /// Begins another block, and gives the instructions of the one before.
