@@ -32,7 +32,9 @@ pub struct Writer {
 impl Writer {
     /// Nothing is written yet.
     pub fn new(alloc: Global, first: usize) -> Writer
-        ensures { (result.first ≡ first) × (result.instrs.items ≡ []) × (result.finished.items ≡ []) }
+        ensures first { result.first ≡ first }
+        ensures finished { result.finished.items ≡ [] }
+        ensures instrs { result.instrs.items ≡ [] }
     {
         Writer {
             alloc,
