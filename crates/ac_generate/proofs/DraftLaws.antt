@@ -155,10 +155,10 @@ wrote_Let c G T e b d =
     let first = suc (p + size e) in
     let cb = code b first (n + lambdas e) in
     sym (
-      ap (λ x. put (instr.Unbind 1) (wrote c (T ∷ G) b x)) (put_more instr.Bind ce be d)
-      ∙ ap (put (instr.Unbind 1)) (wrote_more c (T ∷ G) b (ce ++ instr.Bind ∷ []) be d first (n + lambdas e) (omega (arith, length-append ce (instr.Bind ∷ []), code_size e p n)) (ap (λ k. n + k) (block_count c G e n)))
-      ∙ put_more (instr.Unbind 1) _ _ d
-      ∙ more_same d _ _ _ _ (append_assoc (ce ++ instr.Bind ∷ []) cb (instr.Unbind 1 ∷ []) ∙ append_assoc ce (instr.Bind ∷ []) (cb ++ instr.Unbind 1 ∷ [])) refl
+    ap (λ x. put (instr.Unbind 1) (wrote c (T ∷ G) b x)) (put_more instr.Bind ce be d)
+    ∙ ap (put (instr.Unbind 1)) (wrote_more c (T ∷ G) b (ce ++ instr.Bind ∷ []) be d first (n + lambdas e) (omega (arith, length-append ce (instr.Bind ∷ []), code_size e p n)) (ap (λ k. n + k) (block_count c G e n)))
+    ∙ put_more (instr.Unbind 1) _ _ d
+    ∙ more_same d _ _ _ _ (append_assoc (ce ++ instr.Bind ∷ []) cb (instr.Unbind 1 ∷ []) ∙ append_assoc ce (instr.Bind ∷ []) (cb ++ instr.Unbind 1 ∷ [])) refl
     )
 
 -- the block of a lambda with that body, and then the instruction of its number
@@ -208,9 +208,9 @@ wrote_later c G e es d =
     let p = place d in
     let n = count d in
     sym (
-      ap (λ x. wrote_rest c G es (wrote c G e x)) (leaf instr.Drop d)
-      ∙ ap (wrote_rest c G es) (wrote_more c G e (instr.Drop ∷ []) [] d (suc p) n (omega arith) (omega arith))
-      ∙ further (rest_code es) (all_blocks c G es) (instr.Drop ∷ code e (suc p) n) (blocks c G e n) d (suc p + size e) (n + lambdas e) (omega (arith, code_size e (suc p) n)) (ap (λ k. n + k) (block_count c G e n))
+    ap (λ x. wrote_rest c G es (wrote c G e x)) (leaf instr.Drop d)
+    ∙ ap (wrote_rest c G es) (wrote_more c G e (instr.Drop ∷ []) [] d (suc p) n (omega arith) (omega arith))
+    ∙ further (rest_code es) (all_blocks c G es) (instr.Drop ∷ code e (suc p) n) (blocks c G e n) d (suc p + size e) (n + lambdas e) (omega (arith, code_size e (suc p) n)) (ap (λ k. n + k) (block_count c G e n))
     )
 
 -- packed values

@@ -20,10 +20,10 @@ set_more : (is xs ys : List Instr) (y z : Instr) (k : ℕ) (bs : List Block) (d 
 unfolding set_at
 set_more is xs ys y z k bs d e h =
     ap (λ (js : List Instr). record { first = d.first; instrs = js; blocks = d.blocks ++ bs }) (
-      ap (λ (js : List Instr). set (d.instrs ++ js) k z) e
-      ∙ ap (λ (js : List Instr). set js k z) (sym (append_assoc d.instrs xs (y ∷ ys)))
-      ∙ set_in (d.instrs ++ xs) y ys z k (length-append d.instrs xs ∙ sym h)
-      ∙ append_assoc d.instrs xs (z ∷ ys)
+    ap (λ (js : List Instr). set (d.instrs ++ js) k z) e
+    ∙ ap (λ (js : List Instr). set js k z) (sym (append_assoc d.instrs xs (y ∷ ys)))
+    ∙ set_in (d.instrs ++ xs) y ys z k (length-append d.instrs xs ∙ sym h)
+    ∙ append_assoc d.instrs xs (z ∷ ys)
     )
 
 -- a jump that is still open
@@ -68,8 +68,8 @@ wrote_If c G t a b d d1 d3 d4 d6 h1 h3 h4 h6 =
     let q3 : place d3 ≡ p + length (ct ++ (instr.JumpIfNot second ∷ ca)) = ap place e3 ∙ place_more _ (bt ++ ba) d ∙ omega (arith, n3, length-append ct (instr.JumpIfNot second ∷ ca)) in
     let front = ct ++ (instr.JumpIfNot second ∷ ca) in
     ap₂ (λ (x : ℕ) (y : Draft). set_at (place d3) (instr.Jump x) y) q6 (
-      ap₂ (λ (x : ℕ) (y : Draft). set_at (place d1) (instr.JumpIfNot x) y) q4 e6
-      ∙ set_more _ ct (ca ++ (open_jump ∷ cb)) open_jump (instr.JumpIfNot second) (place d1) bs d (append_assoc ct (open_jump ∷ ca) (open_jump ∷ cb)) q1
+    ap₂ (λ (x : ℕ) (y : Draft). set_at (place d1) (instr.JumpIfNot x) y) q4 e6
+    ∙ set_more _ ct (ca ++ (open_jump ∷ cb)) open_jump (instr.JumpIfNot second) (place d1) bs d (append_assoc ct (open_jump ∷ ca) (open_jump ∷ cb)) q1
     )
     ∙ set_more _ front cb open_jump (instr.Jump (second + size b)) (place d3) bs d (sym (append_assoc ct (instr.JumpIfNot second ∷ ca) (open_jump ∷ cb))) q3
     ∙ more_same d _ _ _ _ (append_assoc ct (instr.JumpIfNot second ∷ ca) (instr.Jump (second + size b) ∷ cb)) (append_assoc bt ba bb)
@@ -148,8 +148,8 @@ landed (arm q b rest) to p n xs ys bs d h =
     let at : end_of q b p ≡ place d + length front = omega (arith, h, length-append xs (test ∷ (cb ++ ub)), length-append cb ub, code_size b (suc p) n) in
     let rests = λ (l : List Instr). sym (append_assoc front (instr.Jump to ∷ []) (l ++ ys)) in
     ap (jumps_at (ends rest next) to) (
-      set_more _ front (later ++ ys) open_jump (instr.Jump to) (end_of q b p) bs d (arm_cut xs test open_jump cb ub later ys) at
-      ∙ more_same d _ _ bs bs (rests later) refl
+    set_more _ front (later ++ ys) open_jump (instr.Jump to) (end_of q b p) bs d (arm_cut xs test open_jump cb ub later ys) at
+    ∙ more_same d _ _ bs bs (rests later) refl
     )
     ∙ landed rest to next m (front ++ instr.Jump to ∷ []) ys bs d (omega (arith, at, length-append front (instr.Jump to ∷ [])))
     ∙ more_same d _ _ bs bs (sym (rests (arm_code to rest next m)) ∙ sym (arm_cut xs test (instr.Jump to) cb ub (arm_code to rest next m) ys)) refl

@@ -32,14 +32,14 @@ stored t0 t1 t2 bs b hb hf h =
     ap code_of h
     ∙ ap₂ (λ (x : List code_block.Block) (y : List (List CodeId)). code_of (record { blocks = x ++ b ∷ []; fields = y })) hb hf
     ∙ ap (λ (x : List Block). record { blocks = x; fields = map (map number_of) t0.fields }) (
-      map-append block_of (t0.blocks ++ bs) (b ∷ []) ∙ ap (λ (x : List Block). x ++ block_of b ∷ []) (map-append block_of t0.blocks bs) ∙ append_assoc (map block_of t0.blocks) (map block_of bs) (block_of b ∷ [])
+    map-append block_of (t0.blocks ++ bs) (b ∷ []) ∙ ap (λ (x : List Block). x ++ block_of b ∷ []) (map-append block_of t0.blocks bs) ∙ append_assoc (map block_of t0.blocks) (map block_of bs) (block_of b ∷ [])
     )
 
 abbrev entry_code : ℕ → Code → Option Module → Code
 entry_code i K o = elim o [
-    None ↦ K
+  | None ↦ K
   | Some m ↦ record { blocks = (fields_generated (In i) m.fields K).blocks; fields = placed i (field_numbers (In i) m.fields K) K.fields }
-  ]
+]
 
 -- nothing is written yet
 abbrev pub fresh : ℕ → Draft

@@ -57,8 +57,8 @@ pub try_written : (c : Home) (G : List Typ) (a e : Expr) (cases : Arms) (d d1 d2
 try_written c G a e cases d d1 d2 d3 d4 d5 d6 d7 d8 new k1 k2 handler end places is q1 h1 h2 h3 q2 h4 qh h5 hp h6 qe h7 h8 hn =
     hn ∙ ap₂ (λ (k n : ℕ). set_at k (instr.Try n) d8) q1 qh
     ∙ ap (set_at (place d) (instr.Try (place d4))) (
-      h8 ∙ ap₂ (λ (k n : ℕ). set_at k (instr.Jump n) d7) q2 qe
-      ∙ ap (set_at (place d3) (instr.Jump (place d6))) (h7 ∙ ap (λ (ks : List ℕ). jumps_at ks (place d6) d6) hp)
+    h8 ∙ ap₂ (λ (k n : ℕ). set_at k (instr.Jump n) d7) q2 qe
+    ∙ ap (set_at (place d3) (instr.Jump (place d6))) (h7 ∙ ap (λ (ks : List ℕ). jumps_at ks (place d6) d6) hp)
     )
     ∙ wrote_Try c G a cases d d3 d4 d6 (h3 ∙ ap (put instr.EndTry) (h2 ∙ ap (wrote c G a) h1)) h4 (h6 ∙ ap (put instr.Raise) h5) ∙ ap (λ (x : Expr). wrote c G x d) (sym is)
 

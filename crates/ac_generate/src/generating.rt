@@ -56,12 +56,7 @@ pub fn generate_value(
 /// Adds the code of the fields of entry `i` to the table, in order, and keeps their numbers. Only
 /// a module has fields. Blocks that were there stay, also after an `Err`, and after an `Err` each
 /// field has the block that it had.
-pub fn generate_entry(
-    alloc: Global,
-    env: &Env,
-    i: u32,
-    table: &mut CodeTable,
-) -> Result<(), Memory>
+pub fn generate_entry(alloc: Global, env: &Env, i: u32, table: &mut CodeTable) -> Result<(), Memory>
     ensures ok { OnOk result (code_of table.new ≡ entry_generated (environment_of env.now) i (code_of table.old)) }
     ensures blocks { KeepsBlocks table.new table.old }
     ensures err { OnErr result (KeepsFields table.new table.old) }

@@ -5,6 +5,8 @@
 mod generating;
 mod scope;
 mod terms;
+#[cfg(test)]
+mod tests;
 mod writer;
 
 pub use generating::{generate, generate_entry, generate_value};

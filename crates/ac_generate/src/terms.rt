@@ -17,12 +17,7 @@ impl Writer {
     /// Writes the code of a term, and the blocks of its lambdas.
     #[cycle(term)]
     #[tactic(auto, using(crate::proofs::TermLaws::term_laws))]
-    pub fn term(
-        &mut self,
-        home: Home,
-        scope: &Scope,
-        term: &Term,
-    ) -> Result<(), Memory>
+    pub fn term(&mut self, home: Home, scope: &Scope, term: &Term) -> Result<(), Memory>
         ensures { OnOk result (draft_of self.new ≡ wrote (home_of home) (types_of scope.now) (expr_of term.now) (draft_of self.old)) }
     {
         match term {
@@ -147,12 +142,7 @@ impl Writer {
     // Writes the code of each term.
     #[cycle(term)]
     #[tactic(auto, using(crate::proofs::TermLaws::all_laws))]
-    fn all(
-        &mut self,
-        home: Home,
-        scope: &Scope,
-        terms: &[Term],
-    ) -> Result<(), Memory>
+    fn all(&mut self, home: Home, scope: &Scope, terms: &[Term]) -> Result<(), Memory>
         ensures { OnOk result (draft_of self.new ≡ wrote_all (home_of home) (types_of scope.now) (exprs (map expr_of terms.now)) (draft_of self.old)) }
     {
         for term in terms {
@@ -164,12 +154,7 @@ impl Writer {
     // Writes the code of a sequence.
     #[cycle(term)]
     #[tactic(auto, using(crate::proofs::TermLaws::all_laws))]
-    fn parts(
-        &mut self,
-        home: Home,
-        scope: &Scope,
-        parts: &[Term],
-    ) -> Result<(), Memory>
+    fn parts(&mut self, home: Home, scope: &Scope, parts: &[Term]) -> Result<(), Memory>
         ensures { OnOk result (draft_of self.new ≡ wrote_seq (home_of home) (types_of scope.now) (exprs (map expr_of parts.now)) (draft_of self.old)) }
     {
         if parts.is_empty() {
@@ -186,12 +171,7 @@ impl Writer {
     // Writes the code of some arms, and gives the places of their jumps to the end.
     #[cycle(term)]
     #[tactic(auto, using(crate::proofs::TermLaws::arm_laws))]
-    fn arms(
-        &mut self,
-        home: Home,
-        scope: &Scope,
-        cases: &[Arm],
-    ) -> Result<Vec<usize>, Memory>
+    fn arms(&mut self, home: Home, scope: &Scope, cases: &[Arm]) -> Result<Vec<usize>, Memory>
         ensures ok { OnOk result (draft_of self.new ≡ wrote_arms (home_of home) (types_of scope.now) (arms (map arm_of cases.now)) (draft_of self.old)) }
         ensures places { IfOk result (λ v. v.items ≡ ends (arms (map arm_of cases.now)) (place (draft_of self.old))) }
     {
@@ -206,19 +186,18 @@ impl Writer {
     // Writes the code of an arm, and gives the place of its jump to the end.
     #[cycle(term)]
     #[tactic(auto, using(crate::proofs::TermLaws::arm_laws))]
-    fn arm(
-        &mut self,
-        home: Home,
-        scope: &Scope,
-        case: &Arm,
-    ) -> Result<usize, Memory>
+    fn arm(&mut self, home: Home, scope: &Scope, case: &Arm) -> Result<usize, Memory>
         ensures ok { OnOk result (draft_of self.new ≡ wrote_arm (home_of home) (types_of scope.now) (arm_of case.now).0 (arm_of case.now).1 (draft_of self.old)) }
         ensures place { IfOk result (λ at. at ≡ end_of (arm_of case.now).0 (arm_of case.now).1 (place (draft_of self.old))) }
     {
         let bound = variables(self.alloc, &case.pat)?;
         let pat = case.pat.copy(self.alloc)?;
         let test = self.hold()?;
-        self.term(home, &Scope::Variables(&*scope, bound.as_slice()), &case.body)?;
+        self.term(
+            home,
+            &Scope::Variables(&*scope, bound.as_slice()),
+            &case.body,
+        )?;
         self.unbind(bound.len())?;
         let end = self.hold()?;
         let next = self.place();

@@ -13,12 +13,12 @@ returns-in_ok-numbers-in-Module-clause-ok c =
     let K = code_of c.args.table.now in
     let m = module_of_code c.in-Module.module in
     on_ok c.set_fields.result (λ h. module_generated (environment_of c.args.env.now) c.args.i m K _
-      (entry_module c.args.env.now c.args.i c.in-Some.entry.now (AModule m) c.in-Some.ensures (ap def_of_code c.in-Module.is))
-      (fields_kept c.args.i c.in_ok-numbers-in-Module.numbers c.args.table.now c.fields.new.table c.set_fields.new.self (fields_generated (In c.args.i) m.fields K) (field_numbers (In c.args.i) m.fields K)
-      (c.in_ok-numbers-in-Module.ensures.ok ∙ ap (λ fs. fields_generated (In c.args.i) (map field_of fs) K) c.as_slice.ensures)
-      c.in_ok-numbers-in-Module.ensures.fields
-      (c.in_ok-numbers-in-Module.ensures.numbers ∙ ap (λ fs. field_numbers (In c.args.i) (map field_of fs) K) c.as_slice.ensures)
-      h)) c.set_fields.ensures.ok
+    (entry_module c.args.env.now c.args.i c.in-Some.entry.now (AModule m) c.in-Some.ensures (ap def_of_code c.in-Module.is))
+    (fields_kept c.args.i c.in_ok-numbers-in-Module.numbers c.args.table.now c.fields.new.table c.set_fields.new.self (fields_generated (In c.args.i) m.fields K) (field_numbers (In c.args.i) m.fields K)
+    (c.in_ok-numbers-in-Module.ensures.ok ∙ ap (λ fs. fields_generated (In c.args.i) (map field_of fs) K) c.as_slice.ensures)
+    c.in_ok-numbers-in-Module.ensures.fields
+    (c.in_ok-numbers-in-Module.ensures.numbers ∙ ap (λ fs. field_numbers (In c.args.i) (map field_of fs) K) c.as_slice.ensures)
+    h)) c.set_fields.ensures.ok
 
 pub returns-in-Import-clause-ok : goal.returns-in-Import-clause-ok
 returns-in-Import-clause-ok c =
