@@ -1,16 +1,15 @@
 -- How the code of a term is written: the equations that its writing follows, form by form.
-use Rattle.std.proofs.Common.{◌≡◌, ℕ, ℤ, zero, suc, ◌+◌, Bool, List, [], ◌∷◌, ◌++◌, length, map, reverse, set, replicate, Option, None, Some, refl, sym, ap, ap₂, ◌∙◌, arith, length-append, append_assoc}
-use Rattle.std.proofs.lemmas.List.{append-nil, set_at as set_in}
+use Rattle.std.proofs.Common.{◌≡◌, ℕ, ℤ, suc, ◌+◌, Bool, List, [], ◌∷◌, ◌++◌, length, replicate, Option, None, Some, refl, sym, ap, ap₂, ◌∙◌, arith, length-append, append_assoc}
+use Rattle.std.proofs.lemmas.List.{append-nil}
 use Rattle.ac_types.specs.Types.{Bytes, Typ, TFun}
-use Rattle.ac_terms.specs.Terms.{Home, Pattern, Expr, Int, Boolean, Str, Unit', Exn, ExnOf, Tuple, Nil, Empty, Present, Cons, Var, Own, Ref, Lam, Rec, App, Let, If, Seq, Match, Try, Raise, Prim, Marshal, Unmarshal, Packed, Exprs, no_exprs, expr, Arms, no_arms, arm, PValue, KInt, KBool, KStr, KUnit, KExn, KTuple, KList, KAbsent, KPresent, KFun, PValues, no_pvalues, pvalue}
-use Rattle.ac_terms.specs.Parts.{pattern_types}
+use Rattle.ac_terms.specs.Terms.{Home, Expr, Int, Boolean, Str, Unit', Exn, ExnOf, Tuple, Nil, Empty, Present, Cons, Var, Own, Ref, Lam, Rec, App, Let, Seq, Raise, Prim, Marshal, Unmarshal, Packed, Exprs, no_exprs, expr, PValue, KInt, KBool, KStr, KUnit, KExn, KTuple, KList, KAbsent, KPresent, KFun, PValues, no_pvalues, pvalue}
 use Rattle.ac_terms.specs.Spelling.{term_count, value_count}
 use Rattle.ac_code.specs.Code as instr
 use Rattle.ac_code.specs.Code.{Instr, Block}
-use Rattle.ac_generate.specs.Sizes.{lambdas, all_lambdas, arm_lambdas, value_lambdas, all_value_lambdas, bound, unbind, push_text, size, all_size, seq_size, rest_size, arm_size, value_size, all_value_size}
-use Rattle.ac_generate.specs.Generate.{code, all_code, seq_code, rest_code, arm_code, value_code, all_value_code, blocks, all_blocks, arm_blocks, value_blocks, all_value_blocks, lambda_block}
-use Rattle.ac_generate.specs.Drafts.{Draft, place, count, put, put_all, set_at, jumps_at, begun, ended, wrote, wrote_all, wrote_seq, wrote_rest, wrote_arms, ends, wrote_value, wrote_values}
-use Rattle.ac_generate.proofs.SizeLaws.{code_size, all_code_size, arm_code_size, value_code_size, all_value_code_size, block_count, all_block_count, arm_block_count, value_block_count, all_value_block_count}
+use Rattle.ac_generate.specs.Sizes.{lambdas, value_lambdas, push_text, size}
+use Rattle.ac_generate.specs.Generate.{code, all_code, rest_code, value_code, all_value_code, blocks, all_blocks, value_blocks, all_value_blocks, lambda_block}
+use Rattle.ac_generate.specs.Drafts.{Draft, place, count, put, put_all, begun, ended, wrote, wrote_all, wrote_seq, wrote_rest, wrote_value, wrote_values}
+use Rattle.ac_generate.proofs.SizeLaws.{code_size, block_count, value_block_count}
 
 -- with more instructions and blocks
 abbrev pub more : List Instr → List Block → Draft → Draft

@@ -1,5 +1,5 @@
 -- The reading of each form of types, patterns, terms, packed values and scopes.
-use Rattle.std.proofs.Common.{◌≡◌, ◌∙◌, ap, refl, sym, ℕ, ℤ, Bool, Bor, List, [], ◌∷◌, ◌++◌, map, reverse, Option, None, Some, option_map}
+use Rattle.std.proofs.Common.{◌≡◌, ◌∙◌, ap, refl, sym, ℕ, ℤ, Bool, Bor, List, [], ◌∷◌, ◌++◌, map, reverse, None, Some, option_map}
 use Rattle.ac_types.specs.Types.{Typ, TFun}
 use Rattle.ac_types.specs.ReadTypes.{typ_of, typ_layer}
 use Rattle.ac_types.specs.declared.text.Text.{Text}
@@ -19,7 +19,7 @@ use Rattle.ac_terms.specs.declared.term.Arm.{Arm}
 use Rattle.ac_terms.specs.declared.term.PVal.TheOpen.{Term-F, PVal-F}
 use Rattle.ac_terms.specs.declared.term.PVal.TheFolds.{map-PVal, fold_out-PVal, fold_out-Arm}
 use Rattle.ac_terms.specs.declared.term.PVal.TheViews.{out-PVal}
-use Rattle.ac_terms.specs.Terms.{Pattern, PWild, PVar, PInt, PBool, PStr, PUnit, PTuple, PNil, PCons, PAbsent, PPresent, PExn, PExnOf, patterns, Expr, Int, Boolean, Str, Unit', Exn, ExnOf, Tuple, Nil, Empty, Present, Cons, Var, Own, Ref, Lam, Rec, App, Let, If, Seq, Match, Try, Raise, Prim, Marshal, Unmarshal, Packed, exprs, arms, PValue, KInt, KBool, KStr, KUnit, KExn, KTuple, KList, KAbsent, KPresent, KFun, pvalues}
+use Rattle.ac_terms.specs.Terms.{Pattern, PWild, PVar, PInt, PBool, PStr, PUnit, PTuple, PNil, PCons, PAbsent, PPresent, PExn, PExnOf, patterns, Expr, Int, Boolean, Str, Unit', Exn, ExnOf, Nil, Empty, Present, Cons, Var, Own, Ref, Lam, Rec, App, Let, If, Match, Try, Raise, Prim, Marshal, Unmarshal, Packed, arms, PValue, KInt, KBool, KStr, KUnit, KExn, KTuple, KList, KAbsent, KPresent, KFun, pvalues}
 use Rattle.ac_terms.specs.Read.{pattern_of, pattern_layer, home_of, bytes_of, expr_of, value_of, value_layer, expr_layer, arm_layer}
 use Rattle.ac_terms.proofs.ReadLaws.{read_arm, read_parts, expr_out, expr_of-Tuple, expr_of-Seq, expr_of-Prim}
 use Rattle.ac_generate.specs.Arms.{arm_of}

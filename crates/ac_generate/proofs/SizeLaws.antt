@@ -1,8 +1,8 @@
 -- The code of a term has as many instructions as its size says, and its lambdas make as many blocks as they are.
-use Rattle.std.proofs.Common.{◌≡◌, ℕ, zero, suc, ◌+◌, List, [], ◌∷◌, ◌++◌, length, replicate, None, Some, refl, ap, ap₂, ◌∙◌, arith, length-append}
+use Rattle.std.proofs.Common.{◌≡◌, ℕ, suc, ◌+◌, List, [], ◌∷◌, ◌++◌, length, refl, ap₂, ◌∙◌, arith, length-append}
 use Rattle.std.proofs.lemmas.List.{length-replicate}
 use Rattle.ac_types.specs.Types.{Typ, TFun}
-use Rattle.ac_terms.specs.Terms.{Home, Expr, Int, Boolean, Str, Unit', Exn, ExnOf, Tuple, Nil, Empty, Present, Cons, Var, Own, Ref, Lam, Rec, App, Let, If, Seq, Match, Try, Raise, Prim, Marshal, Unmarshal, Packed, Val, Bracket, Exprs, no_exprs, expr, Arms, no_arms, arm, PValue, KInt, KBool, KStr, KUnit, KExn, KTuple, KList, KAbsent, KPresent, KFun, PValues, no_pvalues, pvalue}
+use Rattle.ac_terms.specs.Terms.{Home, Expr, ExnOf, Tuple, Present, Cons, Lam, Rec, App, Let, If, Seq, Match, Try, Raise, Prim, Marshal, Unmarshal, Packed, Exprs, no_exprs, expr, Arms, no_arms, arm, PValue, KExn, KTuple, KList, KPresent, KFun, PValues, no_pvalues, pvalue}
 use Rattle.ac_terms.specs.Spelling.{value_count}
 use Rattle.ac_code.specs.Code as instr
 use Rattle.ac_generate.specs.Sizes.{lambdas, all_lambdas, arm_lambdas, value_lambdas, all_value_lambdas, size, all_size, seq_size, rest_size, arm_size, value_size, all_value_size}

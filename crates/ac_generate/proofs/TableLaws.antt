@@ -1,6 +1,6 @@
 -- What the adding of blocks to a table needs.
-use Rattle.std.proofs.Common.{◌≡◌, ℕ, zero, suc, ◌+◌, ◌<◌, List, [], ◌∷◌, ◌++◌, length, map, drop, drop-cons, get_or, add-one, Option, None, Some, Result, Ok, Err, IfOk, refl, sym, ap, ap₂, ◌∙◌, arith, append_assoc, length-append}
-use Rattle.std.proofs.lemmas.List.{append-nil, map-append, length-map}
+use Rattle.std.proofs.Common.{◌≡◌, ℕ, zero, suc, ◌+◌, ◌<◌, List, [], ◌∷◌, ◌++◌, length, map, drop, drop-cons, get_or, add-one, Option, None, Some, Result, Ok, Err, IfOk, refl, sym, ap, ap₂, ◌∙◌, arith, append_assoc}
+use Rattle.std.proofs.lemmas.List.{map-append}
 use Rattle.std.specs.Prelude.{option_map, option_and_then, slice_get}
 use Rattle.ac_types.specs.Types.{Typ}
 use Rattle.ac_types.specs.ReadTypes.{typ_of}
@@ -13,17 +13,16 @@ use Rattle.ac_generate.specs.declared.writer.Writer as code_writer
 use Rattle.ac_terms.proofs.EnvLaws.{entry_get}
 use Rattle.ac_terms.specs.declared.def.Field as code_field
 use Rattle.ac_terms.specs.Terms.{Home, In, Expr, PValue}
-use Rattle.ac_terms.specs.Defs.{Field, Module, Def, Entry, Environment, module_of, module_at}
+use Rattle.ac_terms.specs.Defs.{Module, Def, Entry, Environment, module_of, module_at}
 use Rattle.ac_terms.specs.Read.{home_of, field_of, expr_of, def_of_code, entry_of, environment_of}
 use Rattle.ac_code.specs.declared.block.Block as code_block
 use Rattle.ac_code.specs.declared.instr.CodeId.{CodeId}
 use Rattle.ac_code.specs.Code.{Instr, Block, Code}
 use Rattle.ac_code.specs.Table.{Table, pushed, placed, with_fields}
 use Rattle.ac_code.specs.ReadCode.{instr_of, block_of, code_of, number_of}
-use Rattle.ac_generate.specs.Sizes.{lambdas, value_lambdas}
 use Rattle.ac_generate.specs.Drafts.{Draft, draft_of, wrote, wrote_value}
 use Rattle.ac_generate.specs.Generate.{code, blocks, value_code, value_blocks}
-use Rattle.ac_generate.specs.Programs.{own_block, ending, with_blocks, generated, number, value_generated, value_number, fields_generated, field_numbers, entry_generated}
+use Rattle.ac_generate.specs.Programs.{own_block, ending, with_blocks, generated, number, value_number, fields_generated, field_numbers, entry_generated}
 use Rattle.ac_generate.proofs.SizeLaws.{block_count, value_block_count}
 
 -- some blocks, and one more

@@ -1,16 +1,15 @@
 -- The equations of the forms whose writing has many steps, with an equation for each step.
-use Rattle.std.proofs.Common.{◌≡◌, ℕ, suc, ◌+◌, ◌<◌, List, [], ◌∷◌, ◌++◌, length, map, drop, drop-cons, get_or, add-one, reverse, Result, Ok, Err, OnOk, refl, sym, ap, ap₂, ◌∙◌, subst}
+use Rattle.std.proofs.Common.{◌≡◌, ℕ, ◌+◌, ◌<◌, List, [], ◌∷◌, ◌++◌, length, map, drop, drop-cons, get_or, add-one, reverse, Result, Ok, Err, OnOk, refl, sym, ap, ap₂, ◌∙◌}
 use Rattle.ac_types.specs.Types.{Typ, TFun}
-use Rattle.ac_types.specs.declared.ty.Ty.{Ty}
 use Rattle.ac_terms.specs.declared.term.Term.{Term}
 use Rattle.ac_terms.specs.Read.{expr_of}
-use Rattle.ac_terms.specs.Terms.{Home, Pattern, Expr, Lam, Rec, If, Match, Try, exprs, Arms, PValue, KFun}
+use Rattle.ac_terms.specs.Terms.{Home, Pattern, Expr, Lam, Rec, If, Match, Try, exprs, Arms, KFun}
 use Rattle.ac_terms.specs.Parts.{pattern_types}
 use Rattle.ac_code.specs.Code as instr
 use Rattle.ac_code.specs.Code.{Instr}
 use Rattle.ac_generate.specs.Sizes.{bound, unbind}
-use Rattle.ac_generate.specs.Drafts.{Draft, place, count, put, put_all, set_at, jumps_at, begun, ended, wrote, wrote_seq, wrote_rest, wrote_arm, wrote_arms, end_of, ends, wrote_value}
-use Rattle.ac_generate.proofs.DraftLaws.{wrote_Lam, wrote_Rec, wrote_KLam, wrote_KRec, wrote_first, wrote_later}
+use Rattle.ac_generate.specs.Drafts.{Draft, place, count, put, put_all, set_at, jumps_at, begun, ended, wrote, wrote_rest, wrote_arm, wrote_arms, end_of, ends, wrote_value}
+use Rattle.ac_generate.proofs.DraftLaws.{wrote_Rec, wrote_KLam, wrote_KRec, wrote_later}
 use Rattle.ac_generate.proofs.JumpLaws.{open_jump, wrote_If, wrote_Match, wrote_Try, wrote_one_arm, arm_place}
 
 pub on_ok : {A E P Q : Type 0} (r : Result A E) → (P → Q) → OnOk r P → OnOk r Q

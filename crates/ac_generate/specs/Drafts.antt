@@ -1,15 +1,13 @@
 -- What is written so far: the instructions of a block, and the blocks that are finished.
-use Rattle.std.specs.Prelude.{ℕ, suc, ◌+◌, List, [], ◌∷◌, ◌++◌, map, length, set, replicate, reverse}
+use Rattle.std.specs.Prelude.{ℕ, suc, ◌+◌, List, [], ◌∷◌, ◌++◌, map, length, set}
 use Rattle.ac_types.specs.Types.{Typ}
 use Rattle.ac_terms.specs.Terms.{Home, Pattern, Expr, Exprs, Arms, no_arms, arm, PValue, PValues}
-use Rattle.ac_terms.specs.Parts.{pattern_types}
 use Rattle.ac_code.specs.Code as instr
 use Rattle.ac_code.specs.Code.{Instr, Block}
 use Rattle.ac_code.specs.ReadCode.{instr_of, block_of}
 use Rattle.ac_generate.specs.declared.writer.Writer as code
 use Rattle.ac_generate.specs.Sizes.{size, bound, unbind}
 use Rattle.ac_generate.specs.Generate.{code as code_at, all_code, seq_code, rest_code, arm_code, value_code, all_value_code, lambda_block, blocks, all_blocks, arm_blocks, value_blocks, all_value_blocks}
-use Rattle.ac_generate.specs.Programs.{own_block}
 
 -- with the number of the first block that is new
 pub record Draft : Type 0 where

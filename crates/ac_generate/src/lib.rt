@@ -5,8 +5,6 @@
 mod generating;
 mod scope;
 mod terms;
-#[cfg(test)]
-mod tests;
 mod writer;
 
 pub use generating::{generate, generate_entry, generate_value};

@@ -1,4 +1,4 @@
-use Rattle.std.proofs.Common.{◌≡◌, ◌∙◌, length, sym}
+use Rattle.std.proofs.Common.{◌∙◌, length, sym}
 use Rattle.std.proofs.lemmas.List.{length-map}
 use Rattle.ac_terms.specs.Read.{home_of, expr_of}
 use Rattle.ac_code.specs.ReadCode.{instr_of, block_of, code_of}

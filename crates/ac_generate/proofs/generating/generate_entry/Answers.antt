@@ -1,4 +1,4 @@
-use Rattle.std.proofs.Common.{◌≡◌, ◌∙◌, map, ap}
+use Rattle.std.proofs.Common.{◌∙◌, map, ap}
 use Rattle.ac_terms.specs.Terms.{In}
 use Rattle.ac_terms.specs.Defs.{AModule, AnImport, AMark}
 use Rattle.ac_terms.specs.Read.{environment_of, field_of, def_of_code, module_of_code, import_of_code}

@@ -1,4 +1,4 @@
-use Rattle.std.proofs.Common.{rules, ◌≡◌, ◌∙◌, ◌++◌, ◌∷◌, map, reverse, sym, ap, ap₂}
+use Rattle.std.proofs.Common.{rules, ◌∙◌, ◌++◌, ◌∷◌, map, reverse, sym, ap, ap₂}
 use Rattle.ac_types.specs.Types.{Typ}
 use Rattle.ac_types.specs.ReadTypes.{typ_of}
 use Rattle.ac_terms.specs.Read.{home_of, pattern_of, expr_of}

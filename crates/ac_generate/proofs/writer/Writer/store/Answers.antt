@@ -1,4 +1,4 @@
-use Rattle.std.proofs.Common.{◌≡◌, ◌∙◌, ◌+◌, length, length-append, sym, ap}
+use Rattle.std.proofs.Common.{◌∙◌, ◌+◌, length, length-append, sym, ap}
 use Rattle.std.proofs.lemmas.List.{length-map}
 use Rattle.ac_code.specs.ReadCode.{block_of}
 use Rattle.ac_generate.specs.Drafts.{draft_of}
