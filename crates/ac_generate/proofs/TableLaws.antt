@@ -1,0 +1,145 @@
+-- What the adding of blocks to a table needs.
+use Rattle.std.proofs.Common.{◌≡◌, ℕ, zero, suc, ◌+◌, ◌<◌, List, [], ◌∷◌, ◌++◌, length, map, drop, drop-cons, get_or, add-one, Option, None, Some, Result, Ok, Err, IfOk, refl, sym, ap, ap₂, ◌∙◌, arith, append_assoc}
+use Rattle.std.proofs.lemmas.List.{map-append}
+use Rattle.std.specs.Prelude.{option_map, option_and_then, slice_get}
+use Rattle.ac_types.specs.Types.{Typ}
+use Rattle.ac_types.specs.ReadTypes.{typ_of}
+use Rattle.ac_types.specs.declared.ty.Ty.{Ty}
+use Rattle.ac_terms.specs.declared.term.Home as code_home
+use Rattle.ac_terms.specs.declared.def.Entry as code_entry
+use Rattle.ac_terms.specs.declared.env.Env as code_env
+use Rattle.ac_code.specs.declared.instr.Instr as code_instr
+use Rattle.ac_generate.specs.declared.writer.Writer as code_writer
+use Rattle.ac_terms.proofs.EnvLaws.{entry_get}
+use Rattle.ac_terms.specs.declared.def.Field as code_field
+use Rattle.ac_terms.specs.Terms.{Home, In, Expr, PValue}
+use Rattle.ac_terms.specs.Defs.{Module, Def, Entry, Environment, module_of, module_at}
+use Rattle.ac_terms.specs.Read.{home_of, field_of, expr_of, def_of_code, entry_of, environment_of}
+use Rattle.ac_code.specs.declared.block.Block as code_block
+use Rattle.ac_code.specs.declared.instr.CodeId.{CodeId}
+use Rattle.ac_code.specs.Code.{Instr, Block, Code}
+use Rattle.ac_code.specs.Table.{Table, pushed, placed, with_fields}
+use Rattle.ac_code.specs.ReadCode.{instr_of, block_of, code_of, number_of}
+use Rattle.ac_generate.specs.Drafts.{Draft, draft_of, wrote, wrote_value}
+use Rattle.ac_generate.specs.Generate.{code, blocks, value_code, value_blocks}
+use Rattle.ac_generate.specs.Programs.{own_block, ending, with_blocks, generated, number, value_number, fields_generated, field_numbers, entry_generated}
+use Rattle.ac_generate.proofs.SizeLaws.{block_count, value_block_count}
+
+-- some blocks, and one more
+pub stored : (t0 t1 t2 : Table) (bs : List code_block.Block) (b : code_block.Block) → t1.blocks ≡ t0.blocks ++ bs → t1.fields ≡ t0.fields → t2 ≡ pushed b t1 → code_of t2 ≡ with_blocks (map block_of bs ++ block_of b ∷ []) (code_of t0)
+stored t0 t1 t2 bs b hb hf h =
+    ap code_of h
+    ∙ ap₂ (λ (x : List code_block.Block) (y : List (List CodeId)). code_of (record { blocks = x ++ b ∷ []; fields = y })) hb hf
+    ∙ ap (λ (x : List Block). record { blocks = x; fields = map (map number_of) t0.fields }) (
+    map-append block_of (t0.blocks ++ bs) (b ∷ []) ∙ ap (λ (x : List Block). x ++ block_of b ∷ []) (map-append block_of t0.blocks bs) ∙ append_assoc (map block_of t0.blocks) (map block_of bs) (block_of b ∷ [])
+    )
+
+abbrev entry_code : ℕ → Code → Option Module → Code
+entry_code i K o = elim o [
+  | None ↦ K
+  | Some m ↦ record { blocks = (fields_generated (In i) m.fields K).blocks; fields = placed i (field_numbers (In i) m.fields K) K.fields }
+]
+
+-- nothing is written yet
+abbrev pub fresh : ℕ → Draft
+fresh n = record { first = n; instrs = []; blocks = [] }
+
+pub whole_stored : (t0 t1 t2 : Table) (bs : List code_block.Block) (h : code_home.Home) (types : List Ty) (is xs : List code_instr.Instr) (last : code_instr.Instr) → t1.blocks ≡ t0.blocks ++ bs → t1.fields ≡ t0.fields → types ≡ [] → is ≡ xs ++ last ∷ [] →
+    t2 ≡ pushed (record { home = h; lambda = None; context = types; instrs = is }) t1 → code_of t2 ≡ with_blocks (map block_of bs ++ own_block (home_of h) (map instr_of xs ++ instr_of last ∷ []) ∷ []) (code_of t0)
+whole_stored t0 t1 t2 bs h types is xs last hb hf ht hi h2 =
+    stored t0 t1 t2 bs (record { home = h; lambda = None; context = types; instrs = is }) hb hf h2
+    ∙ ap₂ (λ (ts : List Typ) (l : List Instr). with_blocks (map block_of bs ++ record { home = home_of h; lambda = None; context = ts; instrs = l } ∷ []) (code_of t0)) (ap (map typ_of) ht) (ap (map instr_of) hi ∙ map-append instr_of xs (last ∷ []))
+
+pub if_ok : {A E : Type 0} {P Q : A → Type 0} (r : Result A E) → ((a : A) → P a → Q a) → IfOk r P → IfOk r Q
+if_ok (Ok a) f h = f a h
+if_ok (Err e) f h = tt
+
+pub fresh_written : (w : code_writer.Writer) (n : ℕ) → w.first ≡ n → w.instrs.items ≡ [] → w.finished.items ≡ [] → draft_of w ≡ fresh n
+unfolding draft_of
+fresh_written w n hn hi hf =
+    ap (λ (x : ℕ). record { first = x; instrs = map instr_of w.instrs.items; blocks = map block_of w.finished.items }) hn
+    ∙ ap₂ (λ (x : List code_instr.Instr) (y : List code_block.Block). record { first = n; instrs = map instr_of x; blocks = map block_of y }) hi hf
+
+-- an entry that is a module, and one that is none
+pub entry_module : (e : code_env.Env) (i : ℕ) (x : code_entry.Entry) (d : Def) → Some x ≡ slice_get e.entries i → def_of_code x.def ≡ d → module_at (environment_of e) i ≡ module_of d
+entry_module e i x d h is =
+    ap (λ (o : Option Entry). option_and_then module_of (option_map (λ (y : Entry). y.def) o)) (entry_get e i ∙ ap (option_map entry_of) (sym h)) ∙ ap module_of is
+
+pub module_generated : (E : Environment) (i : ℕ) (m : Module) (K X : Code) → module_at E i ≡ Some m → X ≡ record { blocks = (fields_generated (In i) m.fields K).blocks; fields = placed i (field_numbers (In i) m.fields K) K.fields } → X ≡ entry_generated E i K
+module_generated E i m K X e h = h ∙ sym (ap (entry_code i K) e)
+
+pub nothing_generated : (E : Environment) (i : ℕ) (K : Code) → module_at E i ≡ None → K ≡ entry_generated E i K
+nothing_generated E i K e = sym (ap (entry_code i K) e)
+
+plus_none : (n : ℕ) → n + 0 ≡ n
+plus_none n = omega arith
+
+module _ (c : Home) (e : Expr) (G : List Typ) (d0 d : Draft) (K : Code) (n : ℕ) (hG : G ≡ []) (h0 : d0 ≡ fresh n) (hn : n ≡ length K.blocks) (hd : d ≡ wrote c G e d0) where
+  same : d ≡ wrote c [] e (fresh (length K.blocks))
+  same = hd ∙ ap₂ (λ (x : List Typ) (y : Draft). wrote c x e y) hG (h0 ∙ ap fresh hn)
+
+  wrote_blocks : d.blocks ≡ blocks c [] e (length K.blocks)
+  unfolding wrote
+  wrote_blocks = ap (λ (x : Draft). x.blocks) same ∙ ap (blocks c [] e) (plus_none (length K.blocks))
+
+  wrote_instrs : d.instrs ≡ code e 0 (length K.blocks)
+  unfolding wrote
+  wrote_instrs = ap (λ (x : Draft). x.instrs) same ∙ ap (code e 0) (plus_none (length K.blocks))
+
+  pub term_stored : (K' : Code) (i : Instr) → i ≡ ending c → K' ≡ with_blocks (d.blocks ++ own_block c (d.instrs ++ i ∷ []) ∷ []) K → K' ≡ generated c e K
+  term_stored K' i hi h =
+      h ∙ ap₂ (λ (x : List Block) (y : List Instr). with_blocks (x ++ own_block c (y ++ i ∷ []) ∷ []) K) wrote_blocks wrote_instrs
+      ∙ ap (λ (x : Instr). with_blocks (blocks c [] e (length K.blocks) ++ own_block c (code e 0 (length K.blocks) ++ x ∷ []) ∷ []) K) hi
+
+  pub term_numbered : (k m : ℕ) → m ≡ n → k ≡ m + length d.blocks → k ≡ number e K
+  term_numbered k m hm h = h ∙ ap₂ ◌+◌ (hm ∙ hn) (ap length wrote_blocks ∙ block_count c [] e (length K.blocks))
+
+module _ (v : PValue) (d0 d : Draft) (K : Code) (n : ℕ) (h0 : d0 ≡ fresh n) (hn : n ≡ length K.blocks) (hd : d ≡ wrote_value v d0) where
+  same' : d ≡ wrote_value v (fresh (length K.blocks))
+  same' = hd ∙ ap (wrote_value v) (h0 ∙ ap fresh hn)
+
+  value_blocks_are : d.blocks ≡ value_blocks v (length K.blocks)
+  unfolding wrote_value
+  value_blocks_are = ap (λ (x : Draft). x.blocks) same' ∙ ap (value_blocks v) (plus_none (length K.blocks))
+
+  value_instrs_are : d.instrs ≡ value_code v (length K.blocks)
+  unfolding wrote_value
+  value_instrs_are = ap (λ (x : Draft). x.instrs) same' ∙ ap (value_code v) (plus_none (length K.blocks))
+
+  pub value_stored : (K' : Code) (c : Home) (i : Instr) → K' ≡ with_blocks (d.blocks ++ own_block c (d.instrs ++ i ∷ []) ∷ []) K → K' ≡ with_blocks (value_blocks v (length K.blocks) ++ own_block c (value_code v (length K.blocks) ++ i ∷ []) ∷ []) K
+  value_stored K' c i h = h ∙ ap₂ (λ (x : List Block) (y : List Instr). with_blocks (x ++ own_block c (y ++ i ∷ []) ∷ []) K) value_blocks_are value_instrs_are
+
+  pub value_numbered : (k m : ℕ) → m ≡ n → k ≡ m + length d.blocks → k ≡ value_number v K
+  value_numbered k m hm h = h ∙ ap₂ ◌+◌ (hm ∙ hn) (ap length value_blocks_are ∙ value_block_count v (length K.blocks))
+
+-- one more field
+pub field_next : (c : Home) (fs : List code_field.Field) (i : ℕ) (f : code_field.Field) (K K' whole : Code) → i < length fs → f ≡ get_or fs i f → K' ≡ generated c (expr_of f.term) K → fields_generated c (map field_of (drop i fs)) K ≡ whole → fields_generated c (map field_of (drop (i + 1) fs)) K' ≡ whole
+field_next c fs i f K K' whole lt is h inv =
+    let rest = drop (i + 1) fs in
+    let e : drop i fs ≡ f ∷ rest = drop-cons fs i f lt ∙ ap₂ (λ x k. x ∷ drop k fs) (sym is) (sym (add-one i)) in
+    ap (fields_generated c (map field_of rest)) h ∙ ap (λ (l : List code_field.Field). fields_generated c (map field_of l) K) (sym e) ∙ inv
+
+pub number_next : (c : Home) (fs : List code_field.Field) (i : ℕ) (f : code_field.Field) (K K' : Code) (ids new : List CodeId) (id : CodeId) (whole : List ℕ) → i < length fs → f ≡ get_or fs i f → K' ≡ generated c (expr_of f.term) K → id.0 ≡ number (expr_of f.term) K → new ≡ ids ++ id ∷ [] →
+    map number_of ids ++ field_numbers c (map field_of (drop i fs)) K ≡ whole → map number_of new ++ field_numbers c (map field_of (drop (i + 1) fs)) K' ≡ whole
+number_next c fs i f K K' ids new id whole lt is h hid hnew inv =
+    let rest = drop (i + 1) fs in
+    let e : drop i fs ≡ f ∷ rest = drop-cons fs i f lt ∙ ap₂ (λ x k. x ∷ drop k fs) (sym is) (sym (add-one i)) in
+    let grown = generated c (expr_of f.term) K in
+    ap₂ (λ (l : List CodeId) (X : Code). map number_of l ++ field_numbers c (map field_of rest) X) hnew h
+    ∙ ap (λ (l : List ℕ). l ++ field_numbers c (map field_of rest) grown) (map-append number_of ids (id ∷ []))
+    ∙ append_assoc (map number_of ids) (number_of id ∷ []) (field_numbers c (map field_of rest) grown)
+    ∙ ap (λ (k : ℕ). map number_of ids ++ (k ∷ field_numbers c (map field_of rest) grown)) hid
+    ∙ ap (λ (l : List code_field.Field). map number_of ids ++ field_numbers c (map field_of l) K) (sym e) ∙ inv
+
+-- the numbers of an entry's fields, kept
+pub placed_map : (i : ℕ) (ids : List CodeId) (fs : List (List CodeId)) → map (map number_of) (placed i ids fs) ≡ placed i (map number_of ids) (map (map number_of) fs)
+placed_map zero ids [] = refl
+placed_map zero ids (x ∷ fs) = refl
+placed_map (suc i) ids [] = ap (λ (l : List (List ℕ)). [] ∷ l) (placed_map i ids [])
+placed_map (suc i) ids (x ∷ fs) = ap (λ (l : List (List ℕ)). map number_of x ∷ l) (placed_map i ids fs)
+
+pub fields_kept : (i : ℕ) (ids : List CodeId) (t0 t1 t2 : Table) (K : Code) (numbers : List ℕ) → code_of t1 ≡ K → t1.fields ≡ t0.fields → map number_of ids ≡ numbers → t2 ≡ with_fields i ids t1 →
+    code_of t2 ≡ record { blocks = K.blocks; fields = placed i numbers (map (map number_of) t0.fields) }
+fields_kept i ids t0 t1 t2 K numbers hK hf hi h =
+    ap code_of h ∙ ap₂ (λ (x : List Block) (y : List (List ℕ)). record { blocks = x; fields = y }) (ap (λ (X : Code). X.blocks) hK)
+    (placed_map i ids t1.fields ∙ ap₂ (λ (x : List ℕ) (y : List (List CodeId)). placed i x (map (map number_of) y)) hi hf)

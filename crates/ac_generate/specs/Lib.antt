@@ -1,0 +1,6 @@
+pub mod Sizes
+pub mod Generate
+pub mod Programs
+pub mod Scopes
+pub mod Drafts
+pub mod Arms

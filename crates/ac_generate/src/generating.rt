@@ -1,0 +1,143 @@
+// The blocks of terms, packed values and entries.
+
+ghost use Rattle.std.specs.Prelude.{◌≡◌, ◌+◌, ◌++◌, ◌∷◌, [], length, map, OnOk, OnErr, IfOk};
+ghost use Rattle.ac_terms.specs.Read.{home_of, expr_of, value_of, environment_of, field_of};
+ghost use Rattle.ac_code.specs.ReadCode.{instr_of, code_of, number_of};
+ghost use Rattle.ac_code.specs.Table.{pushed};
+ghost use Rattle.ac_generate.specs.Drafts.{draft_of};
+ghost use Rattle.ac_generate.specs.Programs.{own_block, ending, with_blocks, generated, number, value_generated, value_number, fields_generated, field_numbers, entry_generated, KeepsBlocks, KeepsFields};
+
+use crate::scope::Scope;
+use crate::writer::Writer;
+use ac_code::{Block, CodeId, CodeTable, Instr};
+use ac_terms::{Def, Env, Field, Home, PVal, Term};
+use ac_types::{Many, Memory};
+use std::alloc::Global;
+
+/// Adds the code of a term at that home to the table: the blocks of its lambdas, and a last one,
+/// which returns the value of a field, or stops at the end of the main program. Gives the number
+/// of the last. Blocks that were there stay, also after an `Err`.
+pub fn generate(
+    alloc: Global,
+    _env: &Env,
+    home: Home,
+    term: &Term,
+    table: &mut CodeTable,
+) -> Result<CodeId, Memory>
+    ensures ok { OnOk result (code_of table.new ≡ generated (home_of home) (expr_of term.now) (code_of table.old)) }
+    ensures number { IfOk result (λ id. id.0 ≡ number (expr_of term.now) (code_of table.old)) }
+    ensures blocks { KeepsBlocks table.new table.old }
+    ensures fields { table.new.fields ≡ table.old.fields }
+{
+    let mut writer = Writer::new(alloc, table.len());
+    writer.term(home, &Scope::Empty, term)?;
+    writer.store(home, ending(home), table)
+}
+
+/// Adds the code of a packed value to the table: the blocks of its functions, and a last one at
+/// home in the main program, which returns the value. Gives the number of the last. Blocks that
+/// were there stay, also after an `Err`.
+pub fn generate_value(
+    alloc: Global,
+    _env: &Env,
+    value: &PVal,
+    table: &mut CodeTable,
+) -> Result<CodeId, Memory>
+    ensures ok { OnOk result (code_of table.new ≡ value_generated (value_of value.now) (code_of table.old)) }
+    ensures number { IfOk result (λ id. id.0 ≡ value_number (value_of value.now) (code_of table.old)) }
+    ensures blocks { KeepsBlocks table.new table.old }
+    ensures fields { table.new.fields ≡ table.old.fields }
+{
+    let mut writer = Writer::new(alloc, table.len());
+    writer.value(value)?;
+    writer.store(Home::Main, Instr::Return, table)
+}
+
+/// Adds the code of the fields of entry `i` to the table, in order, and keeps their numbers. Only
+/// a module has fields. Blocks that were there stay, also after an `Err`, and after an `Err` each
+/// field has the block that it had.
+pub fn generate_entry(alloc: Global, env: &Env, i: u32, table: &mut CodeTable) -> Result<(), Memory>
+    ensures ok { OnOk result (code_of table.new ≡ entry_generated (environment_of env.now) i (code_of table.old)) }
+    ensures blocks { KeepsBlocks table.new table.old }
+    ensures err { OnErr result (KeepsFields table.new table.old) }
+{
+    let Some(entry) = env.entry(i) else {
+        return Ok(());
+    };
+    match &entry.def {
+        Def::Module(module) => {
+            let numbers = fields(alloc, env, Home::In(i), module.fields.as_slice(), table)?;
+            table.set_fields(i as usize, numbers)
+        }
+        Def::Import(_) => Ok(()),
+        Def::Mark(_) => Ok(()),
+    }
+}
+
+// Adds the code of each field, and gives the numbers of their own blocks.
+fn fields(
+    alloc: Global,
+    env: &Env,
+    home: Home,
+    fields: &[Field],
+    table: &mut CodeTable,
+) -> Result<Many<CodeId>, Memory>
+    ensures ok { OnOk result (code_of table.new ≡ fields_generated (home_of home) (map field_of fields.now) (code_of table.old)) }
+    ensures numbers { IfOk result (λ ids. map number_of ids ≡ field_numbers (home_of home) (map field_of fields.now) (code_of table.old)) }
+    ensures blocks { KeepsBlocks table.new table.old }
+    ensures fields { table.new.fields ≡ table.old.fields }
+{
+    let mut numbers = Many::new(alloc);
+    for field in fields {
+        let id = generate(alloc, env, home, &field.term, table)?;
+        numbers.push(id)?;
+    }
+    Ok(numbers)
+}
+
+// The last instruction of a block of that home.
+fn ending(home: Home) -> Instr
+    ensures { instr_of result ≡ ending (home_of home) }
+{
+    match home {
+        Home::Main => Instr::Stop,
+        Home::In(_) => Instr::Return,
+    }
+}
+
+impl Writer {
+    // Ends the block that is being written, and adds all blocks to a table. Gives the number of the last.
+    fn store(self, home: Home, last: Instr, table: &mut CodeTable) -> Result<CodeId, Memory>
+        ensures ok { OnOk result (code_of table.new ≡ with_blocks ((draft_of self).blocks ++ own_block (home_of home) ((draft_of self).instrs ++ instr_of last ∷ []) ∷ []) (code_of table.old)) }
+        ensures number { IfOk result (λ id. id.0 ≡ length table.old.blocks + length (draft_of self).blocks) }
+        ensures blocks { KeepsBlocks table.new table.old }
+        ensures fields { table.new.fields ≡ table.old.fields }
+    {
+        let Writer {
+            alloc,
+            first: _,
+            finished,
+            mut instrs,
+        } = self;
+        instrs.push(last)?;
+        add_blocks(table, finished)?;
+        table.push(Block {
+            home,
+            lambda: None,
+            context: Many::new(alloc),
+            instrs: Many::from_vec(instrs),
+        })
+    }
+}
+
+// Adds blocks at the end of a table.
+fn add_blocks(table: &mut CodeTable, blocks: Vec<Block>) -> Result<(), Memory>
+    ensures ok { OnOk result (table.new.blocks ≡ table.old.blocks ++ blocks.items) }
+    ensures blocks { KeepsBlocks table.new table.old }
+    ensures fields { table.new.fields ≡ table.old.fields }
+{
+    for block in blocks {
+        table.push(block)?;
+    }
+    Ok(())
+}

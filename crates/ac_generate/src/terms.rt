@@ -1,0 +1,278 @@
+// The code of terms, arms and packed values.
+
+ghost use Rattle.std.specs.Prelude.{◌≡◌, map, OnOk, IfOk};
+ghost use Rattle.ac_terms.specs.Terms.{exprs, arms, pvalues, KFun};
+ghost use Rattle.ac_terms.specs.Read.{home_of, expr_of, value_of};
+ghost use Rattle.ac_generate.specs.Arms.{arm_of};
+ghost use Rattle.ac_generate.specs.Scopes.{types_of};
+ghost use Rattle.ac_generate.specs.Drafts.{draft_of, place, wrote, wrote_all, wrote_seq, wrote_arm, wrote_arms, end_of, ends, wrote_value, wrote_values};
+
+use crate::scope::{Scope, function_type, variables};
+use crate::writer::Writer;
+use ac_code::Instr;
+use ac_terms::{Arm, Home, PVal, Term};
+use ac_types::Memory;
+
+impl Writer {
+    /// Writes the code of a term, and the blocks of its lambdas.
+    #[cycle(term)]
+    #[tactic(auto, using(crate::proofs::TermLaws::term_laws))]
+    pub fn term(&mut self, home: Home, scope: &Scope, term: &Term) -> Result<(), Memory>
+        ensures { OnOk result (draft_of self.new ≡ wrote (home_of home) (types_of scope.now) (expr_of term.now) (draft_of self.old)) }
+    {
+        match term {
+            Term::Int(n) => self.put(Instr::PushInt(*n)),
+            Term::Bool(b) => self.put(Instr::PushBool(*b)),
+            Term::Str(text) => {
+                let text = text.copy(self.alloc)?;
+                self.put(Instr::PushStr(text))
+            }
+            Term::Unit => self.put(Instr::PushUnit),
+            Term::ExnVal(number, text) => {
+                match text {
+                    None => {}
+                    Some(text) => self.term(home, scope, text)?,
+                }
+                self.put(Instr::MakeExn(*number))
+            }
+            Term::Tuple(parts) => {
+                self.all(home, scope, parts.as_slice())?;
+                self.put(Instr::MakeTuple(parts.len()))
+            }
+            Term::Nil(_) => self.put(Instr::PushNil),
+            Term::Empty(_) => self.put(Instr::PushNone),
+            Term::Present(inner) => {
+                self.term(home, scope, inner)?;
+                self.put(Instr::MakeSome)
+            }
+            Term::Cons(head, tail) => {
+                self.term(home, scope, head)?;
+                self.term(home, scope, tail)?;
+                self.put(Instr::MakeCons)
+            }
+            Term::Var(i) => self.put(Instr::Var(*i)),
+            Term::Own(field) => self.put(Instr::Own(*field)),
+            Term::Ref(entry, field) => {
+                let field = field.copy(self.alloc)?;
+                self.put(Instr::Ref(*entry, field))
+            }
+            Term::Lam(ty, body) => {
+                let before = self.begin();
+                self.term(home, &Scope::Variable(&*scope, &*ty), body)?;
+                let id = self.end(before, home, scope, term)?;
+                self.put(Instr::Closure(id))
+            }
+            Term::Rec(from, to, body) => {
+                let function = function_type(self.alloc, from, to)?;
+                let outer = Scope::Variable(&*scope, &function);
+                let before = self.begin();
+                self.term(home, &Scope::Variable(&outer, &*from), body)?;
+                let id = self.end(before, home, scope, term)?;
+                self.put(Instr::RecClosure(id))
+            }
+            Term::App(function, argument) => {
+                self.term(home, scope, function)?;
+                self.term(home, scope, argument)?;
+                self.put(Instr::Apply)
+            }
+            Term::Let(ty, bound, body) => {
+                self.term(home, scope, bound)?;
+                self.put(Instr::Bind)?;
+                self.term(home, &Scope::Variable(&*scope, &*ty), body)?;
+                self.put(Instr::Unbind(1))
+            }
+            // an open jump gets its address once what it skips stands there
+            Term::If(test, so, otherwise) => {
+                self.term(home, scope, test)?;
+                let to_second = self.hold()?;
+                self.term(home, scope, so)?;
+                let to_end = self.hold()?;
+                let second = self.place();
+                self.term(home, scope, otherwise)?;
+                let end = self.place();
+                self.set(to_second, Instr::JumpIfNot(second));
+                self.set(to_end, Instr::Jump(end));
+                Ok(())
+            }
+            Term::Seq(parts) => self.parts(home, scope, parts.as_slice()),
+            Term::Match(of, cases) => {
+                self.term(home, scope, of)?;
+                let ends = self.arms(home, scope, cases.as_slice())?;
+                self.put(Instr::NoMatch)?;
+                self.land(ends.as_slice());
+                Ok(())
+            }
+            Term::Try(of, cases) => {
+                let to_handler = self.hold()?;
+                self.term(home, scope, of)?;
+                self.put(Instr::EndTry)?;
+                let to_end = self.hold()?;
+                let handler = self.place();
+                let ends = self.arms(home, scope, cases.as_slice())?;
+                self.put(Instr::Raise)?;
+                let end = self.place();
+                self.land(ends.as_slice());
+                self.set(to_end, Instr::Jump(end));
+                self.set(to_handler, Instr::Try(handler));
+                Ok(())
+            }
+            Term::Raise(_, inner) => {
+                self.term(home, scope, inner)?;
+                self.put(Instr::Raise)
+            }
+            Term::Prim(number, args) => {
+                self.all(home, scope, args.as_slice())?;
+                self.put(Instr::Prim(*number))
+            }
+            Term::Marshal(ty, mark, inner) => {
+                self.term(home, scope, mark)?;
+                self.term(home, scope, inner)?;
+                let ty = ty.copy(self.alloc)?;
+                self.put(Instr::Marshal(ty))
+            }
+            Term::Unmarshal(ty, inner) => {
+                self.term(home, scope, inner)?;
+                let ty = ty.copy(self.alloc)?;
+                self.put(Instr::Unmarshal(ty))
+            }
+            Term::Val(_, value) => self.value(value),
+        }
+    }
+
+    // Writes the code of each term.
+    #[cycle(term)]
+    #[tactic(auto, using(crate::proofs::TermLaws::all_laws))]
+    fn all(&mut self, home: Home, scope: &Scope, terms: &[Term]) -> Result<(), Memory>
+        ensures { OnOk result (draft_of self.new ≡ wrote_all (home_of home) (types_of scope.now) (exprs (map expr_of terms.now)) (draft_of self.old)) }
+    {
+        for term in terms {
+            self.term(home, scope, term)?;
+        }
+        Ok(())
+    }
+
+    // Writes the code of a sequence.
+    #[cycle(term)]
+    #[tactic(auto, using(crate::proofs::TermLaws::all_laws))]
+    fn parts(&mut self, home: Home, scope: &Scope, parts: &[Term]) -> Result<(), Memory>
+        ensures { OnOk result (draft_of self.new ≡ wrote_seq (home_of home) (types_of scope.now) (exprs (map expr_of parts.now)) (draft_of self.old)) }
+    {
+        if parts.is_empty() {
+            return Ok(());
+        }
+        self.term(home, scope, &parts[0])?;
+        for part in &parts[1..] {
+            self.put(Instr::Drop)?;
+            self.term(home, scope, part)?;
+        }
+        Ok(())
+    }
+
+    // Writes the code of some arms, and gives the places of their jumps to the end.
+    #[cycle(term)]
+    #[tactic(auto, using(crate::proofs::TermLaws::arm_laws))]
+    fn arms(&mut self, home: Home, scope: &Scope, cases: &[Arm]) -> Result<Vec<usize>, Memory>
+        ensures ok { OnOk result (draft_of self.new ≡ wrote_arms (home_of home) (types_of scope.now) (arms (map arm_of cases.now)) (draft_of self.old)) }
+        ensures places { IfOk result (λ v. v.items ≡ ends (arms (map arm_of cases.now)) (place (draft_of self.old))) }
+    {
+        let mut ends = Vec::new(self.alloc);
+        for case in cases {
+            let end = self.arm(home, scope, case)?;
+            ends.push(end)?;
+        }
+        Ok(ends)
+    }
+
+    // Writes the code of an arm, and gives the place of its jump to the end.
+    #[cycle(term)]
+    #[tactic(auto, using(crate::proofs::TermLaws::arm_laws))]
+    fn arm(&mut self, home: Home, scope: &Scope, case: &Arm) -> Result<usize, Memory>
+        ensures ok { OnOk result (draft_of self.new ≡ wrote_arm (home_of home) (types_of scope.now) (arm_of case.now).0 (arm_of case.now).1 (draft_of self.old)) }
+        ensures place { IfOk result (λ at. at ≡ end_of (arm_of case.now).0 (arm_of case.now).1 (place (draft_of self.old))) }
+    {
+        let bound = variables(self.alloc, &case.pat)?;
+        let pat = case.pat.copy(self.alloc)?;
+        let test = self.hold()?;
+        self.term(
+            home,
+            &Scope::Variables(&*scope, bound.as_slice()),
+            &case.body,
+        )?;
+        self.unbind(bound.len())?;
+        let end = self.hold()?;
+        let next = self.place();
+        self.set(test, Instr::Test(pat, next));
+        Ok(end)
+    }
+
+    /// Writes what builds a packed value, and the blocks of its functions.
+    #[cycle(term)]
+    #[tactic(auto, using(crate::proofs::TermLaws::value_laws))]
+    pub fn value(&mut self, value: &PVal) -> Result<(), Memory>
+        ensures { OnOk result (draft_of self.new ≡ wrote_value (value_of value.now) (draft_of self.old)) }
+    {
+        match value {
+            PVal::Int(n) => self.put(Instr::PushInt(*n)),
+            PVal::Bool(b) => self.put(Instr::PushBool(*b)),
+            PVal::Str(text) => {
+                let text = text.copy(self.alloc)?;
+                self.put(Instr::PushStr(text))
+            }
+            PVal::Unit => self.put(Instr::PushUnit),
+            PVal::Exn(exn) => self.exception(exn),
+            PVal::Tuple(parts) => {
+                self.values(parts.as_slice())?;
+                self.put(Instr::MakeTuple(parts.len()))
+            }
+            PVal::List(parts) => {
+                self.values(parts.as_slice())?;
+                self.put(Instr::PushNil)?;
+                self.conses(parts.len())
+            }
+            PVal::Absent => self.put(Instr::PushNone),
+            PVal::Present(inner) => {
+                self.value(inner)?;
+                self.put(Instr::MakeSome)
+            }
+            PVal::Fun(home, function) => self.function(*home, function),
+        }
+    }
+
+    // Writes the code of each packed value.
+    #[cycle(term)]
+    #[tactic(auto, using(crate::proofs::TermLaws::value_laws))]
+    fn values(&mut self, values: &[PVal]) -> Result<(), Memory>
+        ensures { OnOk result (draft_of self.new ≡ wrote_values (pvalues (map value_of values.now)) (draft_of self.old)) }
+    {
+        for value in values {
+            self.value(value)?;
+        }
+        Ok(())
+    }
+
+    // Writes the block of a packed function, around which there is no variable.
+    #[cycle(term)]
+    #[tactic(auto, using(crate::proofs::TermLaws::value_laws))]
+    fn function(&mut self, home: Home, function: &Term) -> Result<(), Memory>
+        ensures { OnOk result (draft_of self.new ≡ wrote_value (KFun (home_of home) (expr_of function.now)) (draft_of self.old)) }
+    {
+        let around = Scope::Empty;
+        match function {
+            Term::Lam(ty, body) => {
+                let before = self.begin();
+                self.term(home, &Scope::Variable(&around, &*ty), body)?;
+                let id = self.end(before, home, &around, function)?;
+                self.put(Instr::Constant(id))
+            }
+            Term::Rec(from, to, body) => {
+                let own = function_type(self.alloc, from, to)?;
+                let outer = Scope::Variable(&around, &own);
+                let before = self.begin();
+                self.term(home, &Scope::Variable(&outer, &*from), body)?;
+                let id = self.end(before, home, &around, function)?;
+                self.put(Instr::RecConstant(id))
+            }
+            _ => Ok(()),
+        }
+    }
+}

@@ -1,0 +1,164 @@
+// A block that is being written, and the blocks that are finished.
+
+ghost use Rattle.std.specs.Prelude.{◌≡◌, ◌+◌, ◌++◌, ◌∷◌, [], length, map, replicate, OnOk, IfOk, option_map};
+ghost use Rattle.ac_terms.specs.Terms.{KExn};
+ghost use Rattle.ac_terms.specs.Read.{home_of, expr_of, bytes_of};
+ghost use Rattle.ac_code.specs.Code.{Jump, MakeCons};
+ghost use Rattle.ac_code.specs.ReadCode.{instr_of, block_of};
+ghost use Rattle.ac_generate.specs.Sizes.{unbind};
+ghost use Rattle.ac_generate.specs.Scopes.{types_of};
+ghost use Rattle.ac_generate.specs.Drafts.{draft_of, place, count, put, put_all, set_at, jumps_at, begun, ended, wrote_value};
+
+use crate::scope::{Scope, context};
+use ac_code::{Block, CodeId, Instr};
+use ac_terms::{Exn, Home, Term};
+use ac_types::{Many, Memory};
+use std::alloc::Global;
+use std::mem;
+
+/// What is written so far.
+#[derive(Drop)]
+pub struct Writer {
+    /// Where memory comes from.
+    pub alloc: Global,
+    /// The number of the first finished block.
+    pub first: usize,
+    /// The blocks that are finished, in order.
+    pub finished: Vec<Block>,
+    /// The instructions of the block that is being written.
+    pub instrs: Vec<Instr>,
+}
+
+impl Writer {
+    /// Nothing is written yet.
+    pub fn new(alloc: Global, first: usize) -> Writer
+        ensures first { result.first ≡ first }
+        ensures finished { result.finished.items ≡ [] }
+        ensures instrs { result.instrs.items ≡ [] }
+    {
+        Writer {
+            alloc,
+            first,
+            finished: Vec::new(alloc),
+            instrs: Vec::new(alloc),
+        }
+    }
+
+    /// Where the next instruction stands.
+    #[tactic(auto, unfolding(crate::specs::Drafts::draft_of))]
+    pub fn place(&self) -> usize
+        ensures { result ≡ place (draft_of self.now) }
+    {
+        self.instrs.len()
+    }
+
+    /// Writes an instruction.
+    #[tactic(auto, using(crate::proofs::WriterLaws::writer_laws), unfolding(crate::specs::Drafts::draft_of, crate::specs::Drafts::put))]
+    pub fn put(&mut self, instr: Instr) -> Result<(), Memory>
+        ensures { OnOk result (draft_of self.new ≡ put (instr_of instr) (draft_of self.old)) }
+    {
+        self.instrs.push(instr)?;
+        Ok(())
+    }
+
+    /// Writes a jump that is still open, and gives its place.
+    pub fn hold(&mut self) -> Result<usize, Memory>
+        ensures place { IfOk result (λ at. at ≡ place (draft_of self.old)) }
+        ensures ok { OnOk result (draft_of self.new ≡ put (Jump 0) (draft_of self.old)) }
+    {
+        let at = self.place();
+        self.put(Instr::Jump(0))?;
+        Ok(at)
+    }
+
+    /// Puts another instruction at a place that is written.
+    #[tactic(auto, using(crate::proofs::WriterLaws::writer_laws), unfolding(crate::specs::Drafts::draft_of, crate::specs::Drafts::set_at))]
+    pub fn set(&mut self, at: usize, instr: Instr)
+        ensures { draft_of self.new ≡ set_at at (instr_of instr) (draft_of self.old) }
+    {
+        if at < self.instrs.len() {
+            self.instrs[at] = instr;
+        }
+    }
+
+    /// Lets open jumps go to the next instruction.
+    pub fn land(&mut self, jumps: &[usize])
+        ensures { draft_of self.new ≡ jumps_at jumps.now (place (draft_of self.old)) (draft_of self.old) }
+    {
+        let to = self.place();
+        for at in jumps {
+            self.set(*at, Instr::Jump(to));
+        }
+    }
+
+    /// Writes what drops some variables.
+    #[tactic(auto, using(crate::proofs::WriterLaws::unbind_laws))]
+    pub fn unbind(&mut self, variables: usize) -> Result<(), Memory>
+        ensures { OnOk result (draft_of self.new ≡ put_all (unbind variables) (draft_of self.old)) }
+    {
+        if variables == 0 {
+            return Ok(());
+        }
+        self.put(Instr::Unbind(variables))
+    }
+
+    /// Writes the text of an exception, where it has one, and what makes the exception.
+    #[tactic(auto, using(crate::proofs::DraftLaws::value_laws))]
+    pub fn exception(&mut self, exn: &Exn) -> Result<(), Memory>
+        ensures { OnOk result (draft_of self.new ≡ wrote_value (KExn exn.now.number (option_map bytes_of exn.now.text)) (draft_of self.old)) }
+    {
+        if let Some(text) = &exn.text {
+            let text = text.copy(self.alloc)?;
+            self.put(Instr::PushStr(text))?;
+        }
+        self.put(Instr::MakeExn(exn.number))
+    }
+
+    /// Writes what puts some values before a list.
+    #[tactic(auto, using(crate::proofs::WriterLaws::again_laws))]
+    pub fn conses(&mut self, values: usize) -> Result<(), Memory>
+        ensures { OnOk result (draft_of self.new ≡ put_all (replicate values MakeCons) (draft_of self.old)) }
+    {
+        for _ in 0..values {
+            self.put(Instr::MakeCons)?;
+        }
+        Ok(())
+    }
+
+    /// Begins another block, and gives the instructions of the one before.
+    #[tactic(auto, unfolding(crate::specs::Drafts::draft_of, crate::specs::Drafts::begun))]
+    pub fn begin(&mut self) -> Vec<Instr>
+        ensures before { map instr_of result.items ≡ (draft_of self.old).instrs }
+        ensures after { draft_of self.new ≡ begun (draft_of self.old) }
+    {
+        mem::replace(&mut self.instrs, Vec::new(self.alloc))
+    }
+
+    /// Ends the block of a lambda, goes on with the one before, and gives the number of the block.
+    #[tactic(auto, using(crate::proofs::WriterLaws::writer_laws), unfolding(crate::specs::Drafts::draft_of, crate::specs::Drafts::ended))]
+    pub fn end(
+        &mut self,
+        before: Vec<Instr>,
+        home: Home,
+        scope: &Scope,
+        lambda: &Term,
+    ) -> Result<CodeId, Memory>
+        ensures number { IfOk result (λ id. id.0 ≡ count (draft_of self.old)) }
+        ensures ok { OnOk result (draft_of self.new ≡ ended (home_of home) (expr_of lambda.now) (types_of scope.now) (map instr_of before.items) (draft_of self.old)) }
+    {
+        let Some(number) = self.first.checked_add(self.finished.len()) else {
+            return Err(Memory);
+        };
+        let context = context(self.alloc, scope)?;
+        let lambda = lambda.copy(self.alloc)?;
+        self.instrs.push(Instr::Return)?;
+        let instrs = mem::replace(&mut self.instrs, before);
+        self.finished.push(Block {
+            home,
+            lambda: Some(lambda),
+            context,
+            instrs: Many::from_vec(instrs),
+        })?;
+        Ok(CodeId(number))
+    }
+}
