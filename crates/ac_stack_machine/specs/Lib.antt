@@ -5,3 +5,4 @@ pub mod Resumes
 pub mod Runs
 pub mod Seen
 pub mod States
+pub mod Steps
