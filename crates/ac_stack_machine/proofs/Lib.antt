@@ -1,2 +1,4 @@
 pub mod EachLaws
+pub mod FieldLaws
 pub mod HeldLaws
+pub mod RunLaws

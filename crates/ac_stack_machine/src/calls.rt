@@ -1,10 +1,10 @@
 // Calls and returns.
 
-ghost use Rattle.std.specs.Prelude.{◌≡◌, ◌<◌, length, cond, false, IfOk, MatchOption};
-ghost use Rattle.ac_values.specs.Values.{MMore, stands};
+ghost use Rattle.std.specs.Prelude.{◌≡◌, ◌<◌, length, cond, get_or, [], ◌∷◌, IfOk};
+ghost use Rattle.ac_values.specs.Values.{MMore, stands, values};
 ghost use Rattle.ac_stack_machine.specs.States.{Run};
-ghost use Rattle.ac_stack_machine.specs.Machine.{applies, returns};
-ghost use Rattle.ac_stack_machine.specs.Held.{core, Sound};
+ghost use Rattle.ac_stack_machine.specs.Machine.{applies, returns, going_back};
+ghost use Rattle.ac_stack_machine.specs.Held.{core, frame_of, frames_of, Sound};
 ghost use Rattle.ac_stack_machine.specs.Steps.{Does, Grown, entering};
 
 use crate::engine::{Engine, Frame, Position, Step};
@@ -78,16 +78,27 @@ impl Engine {
         let Some((frame, rest)) = self.frames.top(self.at.frames) else {
             return Ok(Step::Wrong);
         };
-        if frame.keeps {
-            let Some((v, _)) = self.newest(self.at.stack) else {
-                return Ok(Step::Wrong);
-            };
-            self.keep(self.at.block, v)?;
+        if !frame.keeps {
+            return Ok(self.go_back(frame, rest));
         }
+        let Some((v, _)) = self.newest(self.at.stack) else {
+            return Ok(Step::Wrong);
+        };
+        self.keep(self.at.block, v)?;
+        Ok(self.go_back(frame, rest))
+    }
+
+    // Goes on at the newest frame.
+    fn go_back(&mut self, frame: Frame, rest: usize) -> Step
+        requires sound { Sound self.old }
+        requires older { rest < self.old.at.frames }
+        requires frame { get_or self.old.frames self.old.at.frames [] ≡ frame ∷ get_or self.old.frames rest [] }
+        ensures { Does self.new result (Run (going_back (frame_of (values self.old.store) frame) (frames_of (values self.old.store) (get_or self.old.frames rest [])) (core self.old))) }
+    {
         self.at.block = frame.block;
         self.at.place = frame.place;
         self.at.env = frame.env;
         self.at.frames = rest;
-        Ok(Step::On)
+        Step::On
     }
 }

@@ -1,7 +1,7 @@
 // The values of fields, which are computed at most once.
 
-ghost use Rattle.std.specs.Prelude.{◌≡◌, ◌<◌, length, option_map, map, IfOk, OnOk, MatchOption, Some, true, false, slice_get};
-ghost use Rattle.ac_types.specs.Types.{Bytes};
+ghost use Rattle.std.specs.Prelude.{◌≡◌, ◌<◌, length, option_map, map, IfOk, OnOk, MatchOption, Some, None, true, false, slice_get, get_or, cond, nat_eq, ℕ, position};
+ghost use Rattle.ac_types.specs.Types.{Bytes, same_bytes};
 ghost use Rattle.ac_terms.specs.Read.{environment_of, home_of, def_of_code, entry_of};
 ghost use Rattle.ac_code.specs.Code.{fields_of};
 ghost use Rattle.ac_code.specs.ReadCode.{code_of, number_of};
@@ -15,7 +15,7 @@ ghost use Rattle.ac_stack_machine.specs.Steps.{Does, Keeps};
 use crate::engine::{EMPTY, Engine, Step};
 use ac_code::{CodeId, CodeTable};
 use ac_terms::{Def, Entry, Env, Field, Home};
-use ac_types::{Memory, Word};
+use ac_types::{Many, Memory, Word};
 use ac_values::Value;
 
 impl Engine {
@@ -52,12 +52,23 @@ impl Engine {
         requires within { v.0 < length self.old.store }
         ensures { OnOk result (Keeps self.old self.new (record (core self.old) { kept = keeping block.0 (stands self.old.store v.0) (core self.old).kept })) }
     {
-        while self.kept.len() <= block.0 {
-            self.kept.push(None)?;
-        }
-        self.kept[block.0] = Some(v);
-        Ok(())
+        keep_at(&mut self.kept, block.0, v)
     }
+}
+
+// Another value at a place of a list, which is longer by nothing where it was too short.
+fn keep_at(kept: &mut Vec<Option<Value>>, place: usize, v: Value) -> Result<(), Memory>
+    ensures { OnOk result ((k : ℕ) → get_or kept.new.items k None ≡ cond (nat_eq k place) (Some v) (get_or kept.old.items k None)) }
+{
+    for _ in kept.len()..place {
+        kept.push(None)?;
+    }
+    if place < kept.len() {
+        kept[place] = Some(v);
+    } else {
+        kept.push(Some(v))?;
+    }
+    Ok(())
 }
 
 /// The block of a field of a home.
@@ -91,20 +102,28 @@ fn module_behind(entry: &Entry, j: u32) -> Option<u32>
 }
 
 // The number of the field of that name.
+#[tactic(auto, using(crate::proofs::FieldLaws::named))]
 fn field_number(entry: &Entry, x: &Word) -> Option<usize>
     ensures { result ≡ field_number x.now (fields_of (def_of_code entry.now.def)) }
 {
     match &entry.def {
-        Def::Module(module) => module
-            .fields
-            .as_slice()
-            .iter()
-            .position(|field| has_name(field, x)),
+        Def::Module(module) => place_of(&module.fields, x),
         Def::Import(_) => None,
         Def::Mark(_) => None,
     }
 }
 
-fn has_name(field: &Field, x: &Word) -> bool {
+fn place_of(fields: &Many<Field>, x: &Word) -> Option<usize>
+    ensures { result ≡ position (λ f. same_bytes f.name x.now) fields.now }
+{
+    fields
+        .as_slice()
+        .iter()
+        .position(|field| has_name(field, x))
+}
+
+fn has_name(field: &Field, x: &Word) -> bool
+    ensures { result ≡ same_bytes field.now.name x.now }
+{
     field.name.text().as_slice() == x.text().as_slice()
 }

@@ -1,11 +1,13 @@
 // Handlers and raised exceptions.
 
 ghost use Rattle.std.specs.Prelude.{◌≡◌, ◌<◌, length, IfOk, MatchOption, option_map, ◌∷◌, get_or, []};
+ghost use Rattle.std.specs.Option.{option_copied};
 ghost use Rattle.ac_terms.specs.Read.{bytes_of};
 ghost use Rattle.ac_values.specs.Values.{stands, values};
+ghost use Rattle.ac_stack_machine.specs.States.{Run};
 ghost use Rattle.ac_stack_machine.specs.Machine.{tries, ends_try, raises, raising, exn_value, exn_in};
-ghost use Rattle.ac_stack_machine.specs.Held.{core, Sound};
-ghost use Rattle.ac_stack_machine.specs.Steps.{Does, Grown};
+ghost use Rattle.ac_stack_machine.specs.Held.{core, Sound, IsHandler};
+ghost use Rattle.ac_stack_machine.specs.Steps.{Does, Grown, handling};
 
 use crate::engine::{Engine, Handler, Step};
 use crate::pause::Pause;
@@ -81,17 +83,24 @@ impl Engine {
         requires sound { Sound self.old }
         ensures { IfOk result (λ v. Grown self.old self.new v (exn_value exn.number (option_map bytes_of exn.text))) }
     {
-        match exn.text {
-            None => self.add(Node::Exn(exn.number, None)),
+        let Exn { number, text } = exn;
+        match text {
+            None => self.add(Node::Exn(number, None)),
             Some(text) => {
                 let text = self.add(Node::Str(text))?;
-                self.add(Node::Exn(exn.number, Some(text)))
+                self.add(Node::Exn(number, Some(text)))
             }
         }
     }
 
     // Goes on at a handler, with an exception.
-    fn handle(&mut self, handler: Handler, older: usize, v: Value) -> Result<Step, Memory> {
+    fn handle(&mut self, handler: Handler, older: usize, v: Value) -> Result<Step, Memory>
+        requires sound { Sound self.old }
+        requires handler { IsHandler (length self.old.store) (length self.old.stacks) (length self.old.frames) handler }
+        requires older { older < length self.old.handlers }
+        requires within { v.0 < length self.old.store }
+        ensures { IfOk result (λ s. Does self.new s (Run (handling self.old handler older (stands self.old.store v.0)))) }
+    {
         self.at.block = handler.block;
         self.at.place = handler.place;
         self.at.env = handler.env;
@@ -104,7 +113,7 @@ impl Engine {
 
 // The number and the text of the exception that a value is.
 fn exn_in<'a>(store: &'a Store, v: Value) -> Option<(u8, Option<&'a Text>)>
-    ensures { MatchOption result (exn_in (stands store.now v.0) ≡ None) (λ p. exn_in (stands store.now v.0) ≡ Some (p.0, option_map (λ t. t.now.0) p.1)) }
+    ensures { MatchOption result (exn_in (stands store.now v.0) ≡ None) (λ p. exn_in (stands store.now v.0) ≡ Some (p.0, option_map bytes_of (option_copied p.1))) }
 {
     if let Some(number) = exn_without(store, v) {
         return Some((number, None));
@@ -116,7 +125,7 @@ fn exn_in<'a>(store: &'a Store, v: Value) -> Option<(u8, Option<&'a Text>)>
 
 // An exception with a text of its own.
 fn exn_of(alloc: Global, number: u8, text: Option<&Text>) -> Result<Exn, Memory>
-    ensures { IfOk result (λ e. (e.number ≡ number) × (option_map bytes_of e.text ≡ option_map (λ t. t.now.0) text)) }
+    ensures { IfOk result (λ e. (e.number ≡ number) × (option_map bytes_of e.text ≡ option_map bytes_of (option_copied text.entry))) }
 {
     match text {
         None => Ok(Exn { number, text: None }),

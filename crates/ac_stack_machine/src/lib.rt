@@ -4,19 +4,10 @@
 mod calls;
 mod engine;
 mod fields;
-mod fits;
 mod handlers;
-mod jumps;
-mod machine;
 mod make;
-mod operate;
 mod packing;
 mod pause;
-mod primitive;
-mod step;
-#[cfg(test)]
-mod tests;
 mod variables;
 
-pub use machine::Machine;
 pub use pause::Pause;

@@ -28,8 +28,8 @@ impl Engine {
         let Some((v, rest)) = self.newest(self.at.stack) else {
             return Ok(Step::Wrong);
         };
-        self.at.env = self.add(Node::EnvCons(v, self.at.env))?;
         self.at.stack = rest;
+        self.at.env = self.add(Node::EnvCons(v, self.at.env))?;
         Ok(Step::On)
     }
 
