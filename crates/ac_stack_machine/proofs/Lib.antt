@@ -1,4 +1,6 @@
+pub mod CallLaws
 pub mod EachLaws
 pub mod FieldLaws
 pub mod HeldLaws
 pub mod RunLaws
+pub mod TakenLaws

@@ -35,7 +35,8 @@ impl Engine {
         let full = self.add(Node::EnvCons(argument, own))?;
         self.at.stack = rest;
         self.at.made += 1;
-        self.enter(block, full, false)
+        let step = self.enter(block, full, false)?;
+        Ok(step)
     }
 
     // The environment of a closure, in which a recursive one stands itself.

@@ -52,7 +52,8 @@ impl Engine {
         requires within { v.0 < length self.old.store }
         ensures { OnOk result (Keeps self.old self.new (record (core self.old) { kept = keeping block.0 (stands self.old.store v.0) (core self.old).kept })) }
     {
-        keep_at(&mut self.kept, block.0, v)
+        keep_at(&mut self.kept, block.0, v)?;
+        Ok(())
     }
 }
 

@@ -112,6 +112,7 @@ impl Engine {
         }
         parts.reverse();
         self.at.stack = rest;
-        self.push_node(Node::Tuple(Many::from_vec(parts)))
+        let step = self.push_node(Node::Tuple(Many::from_vec(parts)))?;
+        Ok(step)
     }
 }
