@@ -4,10 +4,15 @@
 mod calls;
 mod engine;
 mod fields;
+mod fits;
 mod handlers;
+mod jumps;
 mod make;
+mod operate;
 mod packing;
 mod pause;
+mod primitive;
+mod step;
 mod variables;
 
 pub use pause::Pause;
