@@ -1,3 +1,4 @@
+pub mod BindLaws
 pub mod CallLaws
 pub mod EachLaws
 pub mod FieldLaws

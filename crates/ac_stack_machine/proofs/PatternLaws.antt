@@ -26,6 +26,12 @@ pattern_of-Tuple ps = pattern_out (code.Tuple ps) ∙ ap (λ x. pattern_layer (m
 
 pub ruleset form_laws = (pattern_out, pattern_of-Tuple, the_lemmas)
 
+-- an item that is there, whatever stands for one that isn't
+pub same_item : {X : Type 0} (xs : List X) (i : ℕ) (d e : X) → i < length xs → get_or xs i d ≡ get_or xs i e
+same_item [] i d e h = absurd (omega arith)
+same_item (x ∷ xs) zero d e h = refl
+same_item (x ∷ xs) (suc i) d e h = same_item xs i d e (omega arith)
+
 -- what is bound where a reader finds this
 abbrev pub found_then : {A B : Type 0} → Option A → (A → Option B) → Option B
 found_then None f = None
@@ -123,3 +129,80 @@ module _ (ns : List Node) where
         ≡ all_bound (patterns (map pattern_of (drop i ps))) (values_at (values ns) (drop i vs)) (under ns ws es)
     pub fails : ((es : MValue) → all_bound (patterns (map pattern_of (drop i ps))) (values_at (values ns) (drop i vs)) es ≡ None) →
         (es : MValue) → all_bound (patterns (map pattern_of ps)) (values_at (values ns) vs) es ≡ None
+
+  next_at : {X : Type 0} (xs : List X) (i : ℕ) (d : X) → i < length xs → drop i xs ≡ get_or xs i d ∷ drop (i + 1) xs
+  next_at [] i d h = absurd (omega arith)
+  next_at (y ∷ xs) zero d h = refl
+  next_at (y ∷ xs) (suc i) d h = let s : suc i + 1 ≡ suc (i + 1) = omega arith in next_at xs i d (omega arith) ∙ ap (λ n. get_or xs i d ∷ drop n (y ∷ xs)) (sym s)
+
+  module _ (ps : List Pat) (vs us ws : List Value) (i : ℕ) (p : Pat) (v : Value) (h : i < length ps) (k : i < length vs) (e : p ≡ get_or ps i p) (d : v ≡ get_or vs i v) (l : Left ps vs us ws i) where
+    here : (es : MValue) → all_bound (patterns (map pattern_of (drop i ps))) (values_at (values ns) (drop i vs)) es
+        ≡ option_and_then (all_bound (patterns (map pattern_of (drop (i + 1) ps))) (values_at (values ns) (drop (i + 1) vs))) (bound (pattern_of p) (stands ns v.0) es)
+    here es =
+        ap₂ (λ (x : List Pat) (y : List Value). all_bound (patterns (map pattern_of x)) (values_at (values ns) y) es)
+        (next_at ps i p h ∙ ap (λ (x : Pat). x ∷ drop (i + 1) ps) (sym e)) (next_at vs i v k ∙ ap (λ (x : Value). x ∷ drop (i + 1) vs) (sym d))
+
+    pub left_on : (xs : List Value) → Fitted ns (bound (pattern_of p) (stands ns v.0)) ws xs true → Left ps vs us xs (i + 1)
+    left_on xs f = record {
+      fits = λ es. l.fits es ∙ here (under ns ws es) ∙ ap (option_and_then (all_bound (patterns (map pattern_of (drop (i + 1) ps))) (values_at (values ns) (drop (i + 1) vs)))) (f.1 es);
+      fails = λ n es. l.fails (λ x. here x ∙ none_then (all_bound (patterns (map pattern_of (drop (i + 1) ps))) (values_at (values ns) (drop (i + 1) vs))) (bound (pattern_of p) (stands ns v.0) x) n) es;
+    }
+
+    pub left_not : (xs : List Value) → Fitted ns (bound (pattern_of p) (stands ns v.0)) ws xs false → (es : MValue) → all_bound (patterns (map pattern_of ps)) (values_at (values ns) vs) es ≡ None
+    left_not xs f es = l.fails (λ x. here x ∙ ap (option_and_then (all_bound (patterns (map pattern_of (drop (i + 1) ps))) (values_at (values ns) (drop (i + 1) vs)))) (f x)) es
+
+  pub other_lengths : (ps : List Pat) (vs : List Value) → length ps ≢ length vs → (es : MValue) → all_bound (patterns (map pattern_of ps)) (values_at (values ns) vs) es ≡ None
+  other_lengths [] [] h es = absurd (h refl)
+  other_lengths [] (v ∷ vs) h es = refl
+  other_lengths (p ∷ ps) [] h es = refl
+  other_lengths (p ∷ ps) (v ∷ vs) h es = none_then (all_bound (patterns (map pattern_of ps)) (values_at (values ns) vs)) (bound (pattern_of p) (stands ns v.0) es) (other_lengths ps vs (λ e. h (ap suc e)))
+
+  module _ (p : Pattern) (v : Value) where
+    pub no_tuple : (ps : Patterns) → p ≡ PTuple ps → tuple_in (stands ns v.0) ≡ None → (es : MValue) → bound p (stands ns v.0) es ≡ None
+    no_tuple ps e f es = ap (λ q. bound q (stands ns v.0) es) e ∙ at_tuple ps (stands ns v.0) es ∙ ap (λ o. found_then o (λ ms. all_bound ps ms es)) f
+
+    pub no_cons : (x y : Pattern) → p ≡ PCons x y → cons_in (stands ns v.0) ≡ None → (es : MValue) → bound p (stands ns v.0) es ≡ None
+    no_cons x y e f es = ap (λ q. bound q (stands ns v.0) es) e ∙ at_cons x y (stands ns v.0) es ∙ ap (λ o. found_then o (λ c. option_and_then (bound y c.1) (bound x c.0 es))) f
+
+    pub no_present : (x : Pattern) → p ≡ PPresent x → present_in (stands ns v.0) ≡ None → (es : MValue) → bound p (stands ns v.0) es ≡ None
+    no_present x e f es = ap (λ q. bound q (stands ns v.0) es) e ∙ at_present x (stands ns v.0) es ∙ ap (λ o. found_then o (λ a. bound x a es)) f
+
+    pub no_exn : (k : ℕ) (x : Pattern) → p ≡ PExnOf k x → exn_with (stands ns v.0) ≡ None → (es : MValue) → bound p (stands ns v.0) es ≡ None
+    no_exn k x e f es = ap (λ q. bound q (stands ns v.0) es) e ∙ at_exn_of k x (stands ns v.0) es ∙ ap (λ o. found_then o (λ y. where_true (nat_eq k y.0) (bound x y.1 es))) f
+
+    pub other_exn : (k j : ℕ) (x : Pattern) (a : Value) → p ≡ PExnOf k x → exn_with (stands ns v.0) ≡ Some (j, stands ns a.0) → nat_eq k j ≡ false → (es : MValue) → bound p (stands ns v.0) es ≡ None
+    other_exn k j x a e f n es =
+        ap (λ q. bound q (stands ns v.0) es) e ∙ at_exn_of k x (stands ns v.0) es ∙ ap (λ o. found_then o (λ y. where_true (nat_eq k y.0) (bound x y.1 es))) f
+        ∙ ap (λ t. where_true t (bound x (stands ns a.0) es)) n
+
+    module _ (us ws : List Value) (b : Bool) where
+      pub tuple_fits : (ps as' : List Pat) (vs bs : List Value) → p ≡ PTuple (patterns (map pattern_of ps)) → as' ≡ ps → bs ≡ vs → tuple_in (stands ns v.0) ≡ Some (values_at (values ns) vs) →
+          Fitted ns (all_bound (patterns (map pattern_of as')) (values_at (values ns) bs)) us ws b → Fitted ns (bound p (stands ns v.0)) us ws b
+      tuple_fits ps as' vs bs e f g t h =
+          fitted_as (bound p (stands ns v.0)) (all_bound (patterns (map pattern_of as')) (values_at (values ns) bs)) us ws b
+          (λ es. ap (λ q. bound q (stands ns v.0) es) e ∙ at_tuple (patterns (map pattern_of ps)) (stands ns v.0) es ∙ ap (λ o. found_then o (λ ms. all_bound (patterns (map pattern_of ps)) ms es)) t
+          ∙ sym (ap₂ (λ (x : List Pat) (y : List Value). all_bound (patterns (map pattern_of x)) (values_at (values ns) y) es) f g))
+          h
+
+      pub present_fits : (x : Pattern) (a : Value) → p ≡ PPresent x → present_in (stands ns v.0) ≡ Some (stands ns a.0) → Fitted ns (bound x (stands ns a.0)) us ws b → Fitted ns (bound p (stands ns v.0)) us ws b
+      present_fits x a e f h =
+          fitted_as (bound p (stands ns v.0)) (bound x (stands ns a.0)) us ws b
+          (λ es. ap (λ q. bound q (stands ns v.0) es) e ∙ at_present x (stands ns v.0) es ∙ ap (λ o. found_then o (λ a. bound x a es)) f) h
+
+      pub exn_fits : (k j : ℕ) (x : Pattern) (a : Value) → p ≡ PExnOf k x → exn_with (stands ns v.0) ≡ Some (j, stands ns a.0) → nat_eq k j ≡ true → Fitted ns (bound x (stands ns a.0)) us ws b → Fitted ns (bound p (stands ns v.0)) us ws b
+      exn_fits k j x a e f n h =
+          fitted_as (bound p (stands ns v.0)) (bound x (stands ns a.0)) us ws b
+          (λ es. ap (λ q. bound q (stands ns v.0) es) e ∙ at_exn_of k x (stands ns v.0) es ∙ ap (λ o. found_then o (λ y. where_true (nat_eq k y.0) (bound x y.1 es))) f
+          ∙ ap (λ t. where_true t (bound x (stands ns a.0) es)) n) h
+
+    module _ (x y : Pattern) (a c : Value) (us vs : List Value) (e : p ≡ PCons x y) (f : cons_in (stands ns v.0) ≡ Some (stands ns a.0, stands ns c.0)) where
+      both : (es : MValue) → bound p (stands ns v.0) es ≡ option_and_then (bound y (stands ns c.0)) (bound x (stands ns a.0) es)
+      both es = ap (λ q. bound q (stands ns v.0) es) e ∙ at_cons x y (stands ns v.0) es ∙ ap (λ o. found_then o (λ z. option_and_then (bound y z.1) (bound x z.0 es))) f
+
+      pub cons_fits : (ws : List Value) (b : Bool) → Fitted ns (bound x (stands ns a.0)) us vs true → Fitted ns (bound y (stands ns c.0)) vs ws b → Fitted ns (bound p (stands ns v.0)) us ws b
+      cons_fits ws b h k =
+          fitted_as (bound p (stands ns v.0)) (λ es. option_and_then (bound y (stands ns c.0)) (bound x (stands ns a.0) es)) us ws b both
+          (fitted_then (bound x (stands ns a.0)) (bound y (stands ns c.0)) us vs ws b h k)
+
+      pub cons_not : Fitted ns (bound x (stands ns a.0)) us vs false → (es : MValue) → bound p (stands ns v.0) es ≡ None
+      cons_not h es = both es ∙ ap (option_and_then (bound y (stands ns c.0))) (h es)

@@ -15,12 +15,12 @@ use ac_values::read::{
 };
 use ac_values::{Store, Value};
 
-fn is_int(store: &Store, v: Value, n: i64) -> bool
-    ensures { Tested (bound (PInt n) (stands store.now v.0)) result }
+fn is_int(store: &Store, v: Value, n: &i64) -> bool
+    ensures { Tested (bound (PInt n.now) (stands store.now v.0)) result }
 {
     match int_in(store, v) {
         None => false,
-        Some(k) => n == k,
+        Some(k) => *n == k,
     }
 }
 
@@ -69,13 +69,16 @@ pub fn fits(
             found.push(v)?;
             Ok(true)
         }
-        Pat::Int(n) => Ok(is_int(store, v, *n)),
+        Pat::Int(n) => Ok(is_int(store, v, n)),
         Pat::Bool(b) => Ok(is_bool(store, v, *b)),
         Pat::Str(text) => Ok(is_text(store, v, text)),
         Pat::Unit => Ok(is_unit(store, v)),
         Pat::Tuple(parts) => match tuple_in(store, v) {
             None => Ok(false),
-            Some(values) => fits_all(store, parts.as_slice(), values.as_slice(), found),
+            Some(values) => {
+                let fit = fits_all(store, parts.as_slice(), values.as_slice(), found)?;
+                Ok(fit)
+            }
         },
         Pat::Nil => Ok(is_nil(store, v)),
         Pat::Cons(head, tail) => match cons_in(store, v) {
@@ -84,13 +87,17 @@ pub fn fits(
                 if !fits(store, head, first, found)? {
                     return Ok(false);
                 }
-                fits(store, tail, rest, found)
+                let fit = fits(store, tail, rest, found)?;
+                Ok(fit)
             }
         },
         Pat::Absent => Ok(is_absent(store, v)),
         Pat::Present(inner) => match present_in(store, v) {
             None => Ok(false),
-            Some(value) => fits(store, inner, value, found),
+            Some(value) => {
+                let fit = fits(store, inner, value, found)?;
+                Ok(fit)
+            }
         },
         Pat::Exn(number, None) => Ok(is_exn(store, v, *number)),
         Pat::Exn(number, Some(inner)) => match exn_with(store, v) {
@@ -99,7 +106,8 @@ pub fn fits(
                 if *number != of {
                     return Ok(false);
                 }
-                fits(store, inner, value, found)
+                let fit = fits(store, inner, value, found)?;
+                Ok(fit)
             }
         },
     }

@@ -1,16 +1,19 @@
 // Jumps, and tests of patterns.
 
-ghost use Rattle.std.specs.Prelude.{◌≡◌, IfOk};
+ghost use Rattle.std.specs.Prelude.{◌≡◌, ◌<◌, length, IfOk, OnOk};
+ghost use Rattle.std.specs.List.{All};
+ghost use Rattle.ac_values.specs.Fits.{under};
+ghost use Rattle.ac_stack_machine.specs.States.{Run};
 ghost use Rattle.ac_terms.specs.Read.{pattern_of};
 ghost use Rattle.ac_stack_machine.specs.Machine.{jumps, jumps_if_not, tests};
 ghost use Rattle.ac_stack_machine.specs.Held.{core, Sound};
-ghost use Rattle.ac_stack_machine.specs.Steps.{Does};
+ghost use Rattle.ac_stack_machine.specs.Steps.{Does, Goes};
 
 use crate::engine::{Engine, Step};
 use crate::fits::fits;
 use ac_terms::Pat;
 use ac_types::Memory;
-use ac_values::Node;
+use ac_values::{Node, Value};
 use ac_values::read::bool_in;
 
 impl Engine {
@@ -53,11 +56,21 @@ impl Engine {
             self.at.place = a;
             return Ok(Step::On);
         }
-        for value in found.as_slice() {
+        self.at.stack = rest;
+        self.bind_all(&found)?;
+        Ok(Step::On)
+    }
+
+    // Binds values, the last as the newest.
+    fn bind_all(&mut self, found: &[Value]) -> Result<(), Memory>
+        requires sound { Sound self.old }
+        requires within { All (λ v. v.0 < length self.old.store) found.now }
+        ensures { OnOk result (Goes self.new (Run (record (core self.old) { env = under self.old.store found.now (core self.old).env }))) }
+    {
+        for value in found {
             let value = *value;
             self.at.env = self.add(Node::EnvCons(value, self.at.env))?;
         }
-        self.at.stack = rest;
-        Ok(Step::On)
+        Ok(())
     }
 }

@@ -12,4 +12,4 @@ returns c =
     let x = to_z-of_z w64 c.args.x c.ranges.x in
     let y = to_z-of_z w64 c.args.y c.ranges.y in
     let z = not_zero c.args.y (λ e. c.if-y-eq0.false (rw e refl)) in
-    rw z (ap (λ (n : ℤ). Gives (CInt n)) (c.wrapping_rem.ensures ∙ ap₂ int_rem x y))
+    rw z (ap (λ (n : ℤ). Gives (CInt n)) (to_z-of_z w64 c.wrapping_rem.result (record { sfits = c.wrapping_rem.type_inv }) ∙ c.wrapping_rem.ensures ∙ ap₂ int_rem x y))
