@@ -16,6 +16,7 @@ use Rattle.ac_values.specs.Values.{MValue, MInt, MBool, MStr, MExn, MExnOf, MTup
 use Rattle.ac_values.specs.Readers.{int_in, bool_in, text_in, cons_in, present_in, tuple_in, exn_with, exn_without, is_unit, is_nil, is_absent}
 use Rattle.ac_values.specs.Fits.{where_true, bound, all_bound, under, Fitted, Tested}
 use Rattle.ac_values.proofs.ReadLaws.{all_one}
+use Rattle.ac_stack_machine.proofs.EachLaws.{next_at}
 
 pub pattern_out : (p : Pat) → pattern_of p ≡ pattern_layer (map-Pat Pat Pattern pattern_of (out-Pat p))
 unfolding pattern_of
@@ -129,11 +130,6 @@ module _ (ns : List Node) where
         ≡ all_bound (patterns (map pattern_of (drop i ps))) (values_at (values ns) (drop i vs)) (under ns ws es)
     pub fails : ((es : MValue) → all_bound (patterns (map pattern_of (drop i ps))) (values_at (values ns) (drop i vs)) es ≡ None) →
         (es : MValue) → all_bound (patterns (map pattern_of ps)) (values_at (values ns) vs) es ≡ None
-
-  next_at : {X : Type 0} (xs : List X) (i : ℕ) (d : X) → i < length xs → drop i xs ≡ get_or xs i d ∷ drop (i + 1) xs
-  next_at [] i d h = absurd (omega arith)
-  next_at (y ∷ xs) zero d h = refl
-  next_at (y ∷ xs) (suc i) d h = let s : suc i + 1 ≡ suc (i + 1) = omega arith in next_at xs i d (omega arith) ∙ ap (λ n. get_or xs i d ∷ drop n (y ∷ xs)) (sym s)
 
   module _ (ps : List Pat) (vs us ws : List Value) (i : ℕ) (p : Pat) (v : Value) (h : i < length ps) (k : i < length vs) (e : p ≡ get_or ps i p) (d : v ≡ get_or vs i v) (l : Left ps vs us ws i) where
     here : (es : MValue) → all_bound (patterns (map pattern_of (drop i ps))) (values_at (values ns) (drop i vs)) es

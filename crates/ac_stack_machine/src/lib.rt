@@ -7,6 +7,7 @@ mod fields;
 mod fits;
 mod handlers;
 mod jumps;
+mod machine;
 mod make;
 mod operate;
 mod packing;
@@ -15,4 +16,5 @@ mod primitive;
 mod step;
 mod variables;
 
+pub use machine::Machine;
 pub use pause::Pause;
