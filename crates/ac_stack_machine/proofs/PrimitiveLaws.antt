@@ -1,8 +1,10 @@
 -- What the primitives answer, by the constants that they are given.
-use Rattle.std.proofs.Common.{◌≡◌, ◌≢◌, ℕ, zero, suc, ℤ, Bool, true, false, List, [], ◌∷◌, length, get_or, Option, Some, None, refl, ap, ◌∙◌, arith}
+use Rattle.std.proofs.Common.{◌<◌, ◌≤◌, ◌≡◌, ◌≢◌, ℕ, zero, suc, ℤ, Bool, true, false, List, [], ◌∷◌, length, get_or, Option, Some, None, refl, ap, ◌∙◌, arith}
 use lib.IntN.{pos, negsuc}
-use Rattle.std.specs.Prelude.{not, ◌&&◌, int_lt}
+use Rattle.std.specs.Prelude.{not, ◌&&◌, int_lt, int_div, neg_ℤ, ◌/◌}
 use Rattle.std.proofs.lemmas.Bool.{lt-ltb}
+use Rattle.std.proofs.Math.Nat.{div-le_self, div-lt_self}
+use lib.Signed.{mag}
 use Rattle.std.proofs.lemmas.Int.{wraps}
 use Rattle.std.proofs.lemmas.Grind.{common_steps}
 use Rattle.std.specs.Prelude.{option_and_then, option_map}
@@ -42,5 +44,23 @@ not_zero (pos (suc n)) h =
     let e : int_lt (pos 0) (pos (suc n)) ≡ true = lt-ltb 0 (suc n) (omega arith) in
     ap (λ (t : Bool). not (int_lt (pos (suc n)) (pos 0)) && not t) e ∙ and_false (not (int_lt (pos (suc n)) (pos 0)))
 not_zero (negsuc n) h = refl
+
+pub by_minus_one : (x : ℤ) → int_div x (negsuc 0) ≡ neg_ℤ x
+by_minus_one (pos n) = let e : n / 1 ≡ n = omega arith in ap (λ (k : ℕ). neg_ℤ (pos k)) e
+by_minus_one (negsuc n) = let e : suc n / 1 ≡ suc n = omega arith in ap pos e
+
+neg_fits : (k : ℕ) → k ≤ 9223372036854775808 → mag (neg_ℤ (pos k)) < 9223372036854775808
+neg_fits zero h = omega arith
+neg_fits (suc k) h = omega arith
+
+-- a quotient fits, but that of the least number by -1
+pub fits_div : (x y : ℤ) → mag x < 9223372036854775808 → (y ≡ negsuc 0 → ⊥) → mag (int_div x y) < 9223372036854775808
+fits_div (pos a) (pos b) h n = omega (arith, div-le_self a b)
+fits_div (pos a) (negsuc b) h n = neg_fits (a / suc b) (omega (arith, div-le_self a (suc b)))
+fits_div (negsuc a) (pos b) h n = neg_fits (suc a / b) (omega (arith, div-le_self (suc a) b))
+fits_div (negsuc a) (negsuc zero) h n = absurd (n refl)
+fits_div (negsuc a) (negsuc (suc b)) h n =
+    let l : suc a / suc (suc b) < suc a = div-lt_self (omega arith) (omega arith) in
+    omega arith
 
 pub ruleset operator_laws = (wraps, common_steps)

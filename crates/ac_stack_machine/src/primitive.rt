@@ -169,7 +169,10 @@ fn quotient(x: i64, y: i64) -> Answer
     if y == 0 {
         return Answer::ByZero;
     }
-    Answer::Int(x.wrapping_div(y))
+    if y == -1 {
+        return Answer::Int(x.wrapping_neg());
+    }
+    Answer::Int(x / y)
 }
 
 fn remainder(x: i64, y: i64) -> Answer
