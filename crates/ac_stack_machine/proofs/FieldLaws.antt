@@ -1,5 +1,5 @@
 -- Laws of the fields of a module, and of what is kept of them.
-use Rattle.std.proofs.Common.{◌≡◌, ℕ, zero, suc, ◌<◌, ◌≤◌, ◌+◌, List, [], ◌∷◌, ◌++◌, Option, Some, None, length, get_or, cond, nat_eq, map, refl, ap, arith}
+use Rattle.std.proofs.Common.{◌≡◌, ℕ, zero, suc, List, [], ◌∷◌, ◌++◌, Option, None, get_or, map, refl}
 use Rattle.std.specs.Prelude.{position}
 use Rattle.ac_types.specs.Types.{Bytes, same_bytes}
 use Rattle.ac_terms.specs.declared.def.Field as code_field

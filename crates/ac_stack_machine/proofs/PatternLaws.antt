@@ -5,14 +5,14 @@ use Rattle.std.specs.List.{All}
 use Rattle.std.proofs.lemmas.List.Elements.{All-append}
 use Rattle.ac_types.specs.Types.{Bytes, Typ, same_bytes}
 use Rattle.ac_code.specs.Constants.{same_int, same_bool}
-use Rattle.ac_terms.specs.Terms.{Pattern, PWild, PVar, PInt, PBool, PStr, PUnit, PTuple, PNil, PCons, PAbsent, PPresent, PExn, PExnOf, Patterns, no_patterns, pattern', patterns}
+use Rattle.ac_terms.specs.Terms.{Pattern, PVar, PInt, PBool, PStr, PUnit, PTuple, PNil, PCons, PAbsent, PPresent, PExn, PExnOf, Patterns, patterns}
 use Rattle.ac_terms.specs.Read.{pattern_of, pattern_layer}
 use Rattle.ac_terms.specs.declared.pat.Pat.{Pat, out-Pat, map-Pat, fold_out-Pat}
 use Rattle.ac_terms.specs.declared.pat.Pat.TheViews.{the_lemmas}
 use Rattle.ac_terms.specs.declared.pat.Pat.TheVariants as code
 use Rattle.ac_values.specs.declared.node.Node.{Node}
 use Rattle.ac_values.specs.declared.node.Value.{Value}
-use Rattle.ac_values.specs.Values.{MValue, MInt, MBool, MStr, MExn, MExnOf, MTuple, MUnit, MNil, MAbsent, MCons, MPresent, MMore, MValues, nothing, also, stands, value_at, values_at, values}
+use Rattle.ac_values.specs.Values.{MValue, MInt, MBool, MStr, MExn, MExnOf, MTuple, MUnit, MNil, MAbsent, MCons, MPresent, MMore, stands, values_at, values}
 use Rattle.ac_values.specs.Readers.{int_in, bool_in, text_in, cons_in, present_in, tuple_in, exn_with, exn_without, is_unit, is_nil, is_absent}
 use Rattle.ac_values.specs.Fits.{where_true, bound, all_bound, under, Fitted, Tested}
 use Rattle.ac_values.proofs.ReadLaws.{all_one}
@@ -108,9 +108,10 @@ module _ (ns : List Node) where
   under_more (x ∷ vs) v es = under_more vs v (MMore (stands ns x.0) es)
 
   pub fitted_var : (T : Typ) (v : Value) (vs ws : List Value) → v.0 < length ns → Values vs → ws ≡ vs ++ v ∷ [] → Fitted ns (bound (PVar T) (stands ns v.0)) vs ws true
-  fitted_var T v vs ws l h e =
-      (subst Values (sym e) (All-append (λ (x : Value). x.0 < length ns) vs (v ∷ []) h (all_one (λ (x : Value). x.0 < length ns) v l)),
-      λ es. ap Some (sym (ap (λ (x : List Value). under ns x es) e ∙ under_more vs v es)))
+  fitted_var T v vs ws l h e = (
+    subst Values (sym e) (All-append (λ (x : Value). x.0 < length ns) vs (v ∷ []) h (all_one (λ (x : Value). x.0 < length ns) v l)),
+    λ es. ap Some (sym (ap (λ (x : List Value). under ns x es) e ∙ under_more vs v es)),
+  )
 
   none_then : (g : MValue → Option MValue) (o : Option MValue) → ((es : MValue) → g es ≡ None) → option_and_then g o ≡ None
   none_then g None h = refl

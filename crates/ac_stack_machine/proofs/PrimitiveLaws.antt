@@ -1,5 +1,5 @@
 -- What the primitives answer, by the constants that they are given.
-use Rattle.std.proofs.Common.{◌<◌, ◌≤◌, ◌≡◌, ◌≢◌, ℕ, zero, suc, ℤ, Bool, true, false, List, [], ◌∷◌, length, get_or, Option, Some, None, refl, ap, ◌∙◌, arith}
+use Rattle.std.proofs.Common.{◌<◌, ◌≤◌, ◌≡◌, ◌≢◌, ℕ, zero, suc, ℤ, Bool, true, false, List, [], ◌∷◌, length, get_or, Option, None, refl, ap, ◌∙◌, arith}
 use lib.IntN.{pos, negsuc}
 use Rattle.std.specs.Prelude.{not, ◌&&◌, int_lt, int_div, neg_ℤ, ◌/◌}
 use Rattle.std.proofs.lemmas.Bool.{lt-ltb}
@@ -11,7 +11,7 @@ use Rattle.std.specs.Prelude.{option_and_then, option_map}
 use Rattle.ac_types.specs.Types.{Bytes}
 use Rattle.ac_code.specs.Constants.{Const, CPart, same_int}
 use Rattle.ac_values.specs.declared.node.Value.{Value}
-use Rattle.ac_values.specs.Values.{MValue, MValues, nothing, also, value_at, values_at}
+use Rattle.ac_values.specs.Values.{MValue, value_at, values_at}
 use Rattle.ac_values.specs.Readers.{text_in, int_in}
 use Rattle.ac_stack_machine.specs.Machine.{part_in}
 

@@ -53,12 +53,7 @@ fn is_exn(store: &Store, v: Value, number: u8) -> bool
 
 /// Whether the pattern fits the value. The values of its variables are added from left to right.
 #[cycle(fits)]
-pub fn fits(
-    store: &Store,
-    pat: &Pat,
-    v: Value,
-    found: &mut Vec<Value>,
-) -> Result<bool, Memory>
+pub fn fits(store: &Store, pat: &Pat, v: Value, found: &mut Vec<Value>) -> Result<bool, Memory>
     requires within { v.0 < length store.now }
     requires found { All (λ v. v.0 < length store.now) found.old.items }
     ensures { IfOk result (λ b. Fitted store.now (bound (pattern_of pat.now) (stands store.now v.0)) found.old.items found.new.items b) }

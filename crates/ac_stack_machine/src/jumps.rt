@@ -13,8 +13,8 @@ use crate::engine::{Engine, Step};
 use crate::fits::fits;
 use ac_terms::Pat;
 use ac_types::Memory;
-use ac_values::{Node, Value};
 use ac_values::read::bool_in;
+use ac_values::{Node, Value};
 
 impl Engine {
     pub fn jump(&mut self, a: usize) -> Step

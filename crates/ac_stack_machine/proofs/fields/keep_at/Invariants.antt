@@ -1,4 +1,4 @@
-use Rattle.std.proofs.Common.{◌≡◌, ◌≤◌, ℕ, length, get_or, None}
+use Rattle.std.proofs.Common.{◌≡◌, ℕ, length, get_or, None}
 use Rattle.ac_stack_machine.proofs.fields.keep_at.Given as goal
 
 abbrev pub invariant-loop : goal.invariant-loop

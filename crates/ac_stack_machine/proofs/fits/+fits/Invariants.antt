@@ -1,9 +1,5 @@
-use Rattle.std.proofs.Common.{◌≡◌, ◌<◌, length, drop, map, None}
+use Rattle.std.proofs.Common.{◌≡◌, ◌<◌, length}
 use Rattle.std.specs.List.{All}
-use Rattle.ac_terms.specs.Terms.{patterns}
-use Rattle.ac_terms.specs.Read.{pattern_of}
-use Rattle.ac_values.specs.Values.{values, values_at}
-use Rattle.ac_values.specs.Fits.{all_bound, under}
 use Rattle.ac_stack_machine.proofs.PatternLaws.{Left}
 use Rattle.ac_stack_machine.proofs.fits.+fits.Given as goal
 

@@ -1,4 +1,4 @@
-use Rattle.std.proofs.Common.{◌≡◌, ap, ap₂, refl, sym, ◌∙◌}
+use Rattle.std.proofs.Common.{ap, refl}
 use Rattle.std.specs.Prelude.{Some, option_map}
 use Rattle.ac_terms.specs.Read.{environment_of, bytes_of}
 use Rattle.ac_terms.specs.declared.term.Exn.{Exn}

@@ -1,4 +1,4 @@
-use Rattle.std.proofs.Common.{◌≡◌, ◌∙◌, ap, ap₂, refl}
+use Rattle.std.proofs.Common.{◌∙◌, ap, ap₂, refl}
 use lib.IntN.{ℤ}
 use Rattle.std.specs.Int.{w64}
 use Rattle.std.specs.Prelude.{int_rem}

@@ -1,4 +1,4 @@
-use Rattle.std.proofs.Common.{subst, drop, ◌+◌, List, arith}
+use Rattle.std.proofs.Common.{subst, drop, ◌+◌, List}
 use Rattle.ac_values.specs.declared.node.Value.{Value}
 use Rattle.ac_stack_machine.specs.Steps.{Binding}
 use Rattle.ac_stack_machine.proofs.EachLaws.{next_at, drop_past}

@@ -3,7 +3,7 @@ use Rattle.std.specs.List.{All}
 use Rattle.std.proofs.lemmas.List.Elements.{All-append}
 use Rattle.ac_values.specs.declared.node.Value.{Value}
 use Rattle.ac_values.specs.Values.{MValue, values, values_at}
-use Rattle.ac_values.proofs.ReadLaws.{all_one, all_reverse}
+use Rattle.ac_values.proofs.ReadLaws.{all_one}
 use Rattle.ac_stack_machine.specs.Machine.{taken, parts}
 use Rattle.ac_stack_machine.specs.Held.{stack_of}
 use Rattle.ac_stack_machine.specs.Steps.{stack_at}
