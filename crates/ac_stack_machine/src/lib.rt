@@ -1,0 +1,20 @@
+//! The stack machine: it runs the code of blocks over a store of nodes, from pause to pause.
+#![tactic(auto)]
+
+mod calls;
+mod engine;
+mod fields;
+mod fits;
+mod handlers;
+mod jumps;
+mod machine;
+mod make;
+mod operate;
+mod packing;
+mod pause;
+mod primitive;
+mod step;
+mod variables;
+
+pub use machine::Machine;
+pub use pause::Pause;
