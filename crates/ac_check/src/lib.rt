@@ -1,0 +1,19 @@
+//! The type of a term, exactly where the rules of typing give one.
+#![tactic(auto)]
+
+mod arms;
+mod data;
+mod exceptions;
+mod fault;
+mod functions;
+mod patterns;
+mod primitives;
+mod scope;
+#[cfg(test)]
+mod tests;
+mod seen;
+mod types;
+mod typing;
+
+pub use fault::CheckFault;
+pub use typing::type_of;
