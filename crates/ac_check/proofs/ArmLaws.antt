@@ -66,3 +66,5 @@ pub last_end : (ts : List Ty) (t : Ty) (i : ℕ) → i ≡ length ts → last_fr
 last_end ts t i e = ap (λ (us : List Ty). last_from us t) (from_end ts i e)
 
 pub ruleset go_laws = (go_first, go_same, go_other)
+
+pub ruleset last_laws = (last_is, last_next, last_end)

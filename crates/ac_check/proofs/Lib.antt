@@ -7,3 +7,4 @@ pub mod SeenLaws
 pub mod PatternLaws
 pub mod TermLaws
 pub mod ArmLaws
+pub mod FormLaws

@@ -1,8 +1,9 @@
 -- Tests of types and numbers.
-use Rattle.std.proofs.Common.{◌≡◌, refl, sym, ap, ◌∙◌, Bool, true, false}
+use Rattle.std.proofs.Common.{◌≡◌, refl, sym, ap, ◌∙◌, Bool, true, false, Option, Some}
 use Rattle.std.specs.Prelude.{IsTrue, ◌↔◌}
 use Rattle.std.proofs.lemmas.Bool.Decides.{nat_tests}
 use mathlib.Core.Bool.{true≢false}
+use Rattle.ac_types.specs.First.{given}
 use Rattle.ac_types.specs.Types.{Typ, TTuple, TStr, TInt, no_types, typ, same}
 use Rattle.ac_types.specs.ReadTypes.{typ_of}
 use Rattle.ac_types.specs.declared.ty.Ty.{Ty}
@@ -25,3 +26,7 @@ pub ruleset same_laws = (equal_is_same)
 -- what a part of a text is taken of
 abbrev pub slice_argument : Typ
 slice_argument = TTuple (typ TStr (typ TInt (typ TInt no_types)))
+
+-- a list whose first element is of the type of the others
+pub cons_same : (T U : Typ) → same U T ≡ true → Some U ≡ given (same U T) (Some T)
+cons_same T U e = ap Some (same_eq U T e) ∙ sym (ap (λ (b : Bool). given b (Some T)) e)

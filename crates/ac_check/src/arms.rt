@@ -1,6 +1,6 @@
 // Arms, whose bodies have one type, choices and sequences.
 
-ghost use Rattle.std.specs.Prelude.{◌≡◌, Option, Some, option_map};
+ghost use Rattle.std.specs.Prelude.{◌≡◌, Option, Some, option_map, option_and_then};
 ghost use Rattle.ac_types.specs.ReadTypes.{typ_of};
 ghost use Rattle.ac_terms.specs.Typing.{both_same, has, also, last_of};
 ghost use Rattle.ac_types.specs.First.{given};
@@ -49,7 +49,7 @@ pub fn go_on(before: Option<Ty>, found: Ty) -> Option<Ty>
 }
 
 /// The type of the last of a sequence's parts, where those before it are unit.
-pub fn last_type(types: Many<Ty>) -> Option<Ty>
+fn last_type(types: Many<Ty>) -> Option<Ty>
     ensures { option_map typ_of result ≡ last_of (typs_of types) }
 {
     let mut types = types.into_vec();
@@ -60,4 +60,14 @@ pub fn last_type(types: Many<Ty>) -> Option<Ty>
         }
     }
     Some(last)
+}
+
+/// The type of a sequence whose parts have these types.
+pub fn sequence_type(types: Option<Many<Ty>>) -> Option<Ty>
+    ensures { option_map typ_of result ≡ option_and_then last_of (option_map typs_of types) }
+{
+    match types {
+        None => None,
+        Some(types) => last_type(types),
+    }
 }

@@ -7,6 +7,7 @@ mod exceptions;
 mod fault;
 mod functions;
 mod patterns;
+mod plain;
 mod primitives;
 mod scope;
 #[cfg(test)]
@@ -16,4 +17,5 @@ mod types;
 mod typing;
 
 pub use fault::CheckFault;
+pub use plain::is_plain;
 pub use typing::type_of;

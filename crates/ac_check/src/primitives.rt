@@ -1,13 +1,13 @@
 // Primitives.
 
-ghost use Rattle.std.specs.Prelude.{◌≡◌, [], ◌∷◌, length, map, option_map, MatchOption};
+ghost use Rattle.std.specs.Prelude.{◌≡◌, [], ◌∷◌, length, map, option_map, option_and_then, MatchOption};
 ghost use Rattle.ac_types.specs.Types.{TInt, TStr, TTuple, no_types, typ, typs, same_all};
 ghost use Rattle.ac_types.specs.ReadTypes.{typ_of};
 ghost use Rattle.ac_terms.specs.Primitives.{primitive_type, by_rules, takes_one, takes_two, comparison};
 ghost use Rattle.ac_check.specs.Checking.{base_typ, typs_of};
 
 use crate::types::{Base, is_base, tuple_parts};
-use ac_types::Ty;
+use ac_types::{Many, Ty};
 
 /// Whether the types are these, in order.
 fn are(args: &[Ty], bases: &[Base]) -> bool
@@ -78,9 +78,9 @@ fn slice_type(args: &[Ty]) -> Option<Ty>
     }
 }
 
-/// The type of a primitive's result, where its arguments have these types.
+/// The type of the primitive of that number at such arguments.
 #[tactic(auto, using(ac_types::proofs::SizeLaws::type_laws))]
-pub fn primitive_type(number: u8, args: &[Ty]) -> Option<Ty>
+fn primitive_type(number: u8, args: &[Ty]) -> Option<Ty>
     ensures { option_map typ_of result ≡ primitive_type number (typs_of args.now) }
 {
     match number {
@@ -102,5 +102,15 @@ pub fn primitive_type(number: u8, args: &[Ty]) -> Option<Ty>
         15 => slice_type(args),
         16 => of_one(args, Base::Int, Ty::Str),
         _ => None,
+    }
+}
+
+/// The type of a primitive's result, where its arguments have these types.
+pub fn result_type(number: u8, args: Option<Many<Ty>>) -> Option<Ty>
+    ensures { option_map typ_of result ≡ option_and_then (primitive_type number) (option_map typs_of args) }
+{
+    match args {
+        None => None,
+        Some(args) => primitive_type(number, args.as_slice()),
     }
 }

@@ -12,13 +12,13 @@ ghost use Rattle.ac_rules.specs.Typing.{type_of, types_of, arm_types, one_of, ke
 ghost use Rattle.ac_check.specs.PlainTerms.{IsPlainTerm, are_plain, arms_plain};
 ghost use Rattle.ac_check.specs.Checking.{Answers, entries_of, scope_of, types_in, typs_of, arm_of, arm_type};
 
-use crate::arms::{both_same, go_on, if_type, last_type};
+use crate::arms::{both_same, go_on, if_type, sequence_type};
 use crate::data::{cons_type, empty_type, nil_type, present_type, tuple_type};
 use crate::exceptions::{exception_type, raise_type, text_exception_type};
 use crate::fault::CheckFault;
 use crate::functions::{applied, function_type, recursive_type};
 use crate::patterns::variables;
-use crate::primitives::primitive_type;
+use crate::primitives::result_type;
 use crate::scope::{Place, Variables, variable_type};
 use crate::seen::{is_seen_as, seen_type};
 use ac_terms::{Arm, Env, Home, Term};
@@ -73,74 +73,56 @@ fn typed<'a>(
         Term::Unit => Ok(Some(Ty::Unit)),
         Term::ExnVal(number, None) => Ok(exception_type(*number)),
         Term::ExnVal(number, Some(text)) => {
-            let text = typed(alloc, text, place, vars)?;
-            Ok(text_exception_type(*number, text))
+            typed(alloc, text, place, vars).map(|text| text_exception_type(*number, text))
         }
-        Term::Tuple(parts) => {
-            let parts = types_of(alloc, parts.as_slice(), place, vars)?;
-            Ok(tuple_type(parts))
-        }
+        Term::Tuple(parts) => types_of(alloc, parts.as_slice(), place, vars).map(tuple_type),
         Term::Nil(ty) => nil_type(alloc, ty, place),
         Term::Empty(ty) => empty_type(alloc, ty, place),
-        Term::Present(inner) => {
-            let inner = typed(alloc, inner, place, vars)?;
-            present_type(alloc, inner)
-        }
+        Term::Present(inner) => present_type(alloc, typed(alloc, inner, place, vars)?),
         Term::Cons(head, tail) => {
-            let head = typed(alloc, head, place, vars)?;
-            let tail = typed(alloc, tail, place, vars)?;
-            Ok(cons_type(head, tail))
+            let parts = both(typed(alloc, head, place, vars), typed(alloc, tail, place, vars));
+            parts.map(|(head, tail)| cons_type(head, tail))
         }
         Term::Var(i) => variable_type(alloc, vars, *i),
         Term::Lam(ty, body) => function(alloc, ty, body, place, vars),
         Term::Rec(from, to, body) => recursive(alloc, from, to, body, place, vars),
         Term::App(f, a) => {
-            let f = typed(alloc, f, place, vars)?;
-            let a = typed(alloc, a, place, vars)?;
-            Ok(applied(f, a))
+            let parts = both(typed(alloc, f, place, vars), typed(alloc, a, place, vars));
+            parts.map(|(f, a)| applied(f, a))
         }
         Term::Let(ty, bound, body) => {
             let Some(found) = typed(alloc, bound, place, vars)? else {
                 return Ok(None);
             };
-            if !is_seen_as(ty, &found, place) {
+            if !is_seen_as(ty, &found, &*place) {
                 return Ok(None);
             }
             typed(alloc, &*body, &*place, &Variables::One(&*vars, &found))
         }
         Term::If(test, so, otherwise) => {
-            let test = typed(alloc, test, place, vars)?;
-            let so = typed(alloc, so, place, vars)?;
-            let otherwise = typed(alloc, otherwise, place, vars)?;
-            Ok(if_type(test, so, otherwise))
+            let sides = both(typed(alloc, so, place, vars), typed(alloc, otherwise, place, vars));
+            both(typed(alloc, test, place, vars), sides).map(|(test, (so, otherwise))| if_type(
+                test, so, otherwise,
+            ))
         }
-        Term::Seq(parts) => {
-            let Some(parts) = types_of(alloc, parts.as_slice(), place, vars)? else {
-                return Ok(None);
-            };
-            Ok(last_type(parts))
-        }
+        Term::Seq(parts) => types_of(alloc, parts.as_slice(), place, vars).map(sequence_type),
         Term::Match(of, cases) => {
             let Some(ty) = typed(alloc, of, place, vars)? else {
                 return Ok(None);
             };
-            arms_type(alloc, cases.as_slice(), &ty, place, vars)
+            arms_type(alloc, cases.as_slice(), &ty, &*place, &*vars)
         }
         Term::Try(of, cases) => {
             let exn = Ty::Exn;
             let of = typed(alloc, of, place, vars)?;
-            let found = arms_type(alloc, cases.as_slice(), &exn, place, vars)?;
+            let found = arms_type(alloc, cases.as_slice(), &exn, &*place, &*vars)?;
             Ok(both_same(of, found))
         }
         Term::Raise(ty, inner) => {
-            let inner = typed(alloc, inner, place, vars)?;
-            raise_type(alloc, ty, inner, place)
+            raise_type(alloc, ty, typed(alloc, inner, place, vars)?, place)
         }
         Term::Prim(number, args) => {
-            let Some(args) = types_of(alloc, args.as_slice(), place, vars)? else {
-                return Ok(None);
-            };
-            Ok(primitive_type(*number, args.as_slice()))
+            types_of(alloc, args.as_slice(), place, vars).map(|args| result_type(*number, args))
         }
         Term::Own(_) => Ok(None),
         Term::Ref(_, _) => Ok(None),

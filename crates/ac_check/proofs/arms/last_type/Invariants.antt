@@ -5,4 +5,4 @@ use Rattle.ac_check.proofs.ArmLaws.{last_from}
 use Rattle.ac_check.proofs.arms.last_type.Given as goal
 
 abbrev pub invariant-loop-ty : goal.invariant-loop-ty
-invariant-loop-ty l = last_of (typs_of l.fn.types) ≡ last_from (drop l.ty-index l.types.items) l.last
+invariant-loop-ty l = last_of (typs_of l.fn.types) ≡ last_from (drop l.ty-index l.ty-items) l.last
