@@ -1,6 +1,6 @@
 -- Small types: a type is small only where its parts are.
 use Rattle.std.proofs.Common.{ℕ, ◌≡◌, ◌+◌, ◌<◌, ◌≤◌, ◌⊎◌, inl, inr, max, refl, sym, ap, ap₂, ◌∙◌, arith, Bool, true, false, ◌&&◌, Option, Some, None}
-use Rattle.std.specs.Prelude.{option_map, option_and_then, nat_le}
+use Rattle.std.specs.Prelude.{option_map, option_and_then, is_some, nat_le}
 use Rattle.std.proofs.lemmas.Bool.Decides.{nat_tests}
 use mathlib.Core.Bool.{true≢false}
 use Rattle.ac_types.specs.First.{given}
@@ -9,7 +9,7 @@ use Rattle.ac_types.proofs.FirstLaws.{none≢some, some_eq, given_some}
 use Rattle.ac_types.proofs.Same.{same_eq, same_refl}
 use Rattle.ac_terms.specs.Typing.{has}
 use Rattle.ac_rules.specs.Views.{Coloured}
-use Rattle.ac_rules.specs.Typing.{kept_in, a_list, an_option}
+use Rattle.ac_rules.specs.Typing.{kept_in, a_list, an_option, list_item, option_item}
 use Rattle.ac_check.specs.Checking.{kept_all}
 
 abbrev pub K : Option Typ → Option Typ
@@ -214,3 +214,19 @@ let_same (Some A) F f e =
 pub fun_viewed : (V W X : Typ) (o : Option Typ) → Some X ≡ K (Some V) → o ≡ K (Some W) → K (option_map (TFun X) o) ≡ K (Some (TFun V W))
 fun_viewed V W X o p q =
     ap (λ (Y : Typ). K (option_map (TFun Y) o)) (kept_is V X (sym p)) ∙ ap (λ (z : Option Typ). K (option_map (TFun V) z)) q ∙ kept_fun V W
+
+-- a type that is written and is no list, or no option
+
+no_list : (T : Typ) → is_some (list_item T) ≡ false → a_list T ≡ None
+no_list (TList T) e = absurd (true≢false e)
+no_list T e = refl
+
+no_option : (T : Typ) → is_some (option_item T) ≡ false → an_option T ≡ None
+no_option (TOpt T) e = absurd (true≢false e)
+no_option T e = refl
+
+pub nil_none : (s : Option Typ) (T : Typ) → Some T ≡ K s → is_some (list_item T) ≡ false → None ≡ K (option_and_then a_list s)
+nil_none s T h e = sym (sym (kept_a_list s) ∙ ap (option_and_then a_list) (sym h) ∙ no_list T e)
+
+pub empty_none : (s : Option Typ) (T : Typ) → Some T ≡ K s → is_some (option_item T) ≡ false → None ≡ K (option_and_then an_option s)
+empty_none s T h e = sym (sym (kept_an_option s) ∙ ap (option_and_then an_option) (sym h) ∙ no_option T e)

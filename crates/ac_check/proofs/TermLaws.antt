@@ -2,6 +2,7 @@
 use Rattle.std.proofs.Common.{◌≡◌, refl, sym, ap, ap₂, ◌∙◌, arith, ℕ, zero, suc, ◌+◌, ◌<◌, Bool, true, false, ◌&&◌, List, [], ◌∷◌, map, length, get_or, drop, Option, Some, None}
 use Rattle.std.specs.Prelude.{option_map, option_and_then}
 use Rattle.ac_types.proofs.Same.{both_true}
+use Rattle.ac_types.proofs.SizeLaws.{type_laws}
 use Rattle.ac_types.specs.First.{given}
 use Rattle.ac_types.specs.Types.{Typ, TUnit, Typs, no_types, typ, typs, same}
 use Rattle.ac_types.specs.ReadTypes.{typ_of}
@@ -71,4 +72,6 @@ plain_arm cs i a h e p = by cs i h e p
     by (d ∷ ds) zero h e p = ap (λ (x : Arm). is_plain (expr_of x.body)) e ∙ (both_true _ _ p).0
     by (d ∷ ds) (suc k) h e p = by ds k (omega arith) e (both_true _ _ p).1
 
-pub ruleset typing_laws = (term_laws, expr_of-Match, expr_of-Try)
+pub ruleset form_laws = (term_laws, expr_of-Match, expr_of-Try)
+
+pub ruleset typing_laws = (form_laws, type_laws)

@@ -26,6 +26,7 @@ use ac_types::{Many, Memory, Ty, both};
 use std::alloc::Global;
 
 /// The type of a term, where the variables have the types `ctx`, the newest first.
+#[tactic(auto, using(crate::proofs::ScopeLaws::scope_laws))]
 pub fn type_of(
     alloc: Global,
     env: &Env,
@@ -84,8 +85,8 @@ fn typed<'a>(
             parts.map(|(head, tail)| cons_type(head, tail))
         }
         Term::Var(i) => variable_type(alloc, vars, *i),
-        Term::Lam(ty, body) => function(alloc, ty, body, place, vars),
-        Term::Rec(from, to, body) => recursive(alloc, from, to, body, place, vars),
+        Term::Lam(ty, body) => function(alloc, body, ty, place, vars),
+        Term::Rec(from, to, body) => recursive(alloc, body, from, to, place, vars),
         Term::App(f, a) => {
             let parts = both(typed(alloc, f, place, vars), typed(alloc, a, place, vars));
             parts.map(|(f, a)| applied(f, a))
@@ -100,10 +101,10 @@ fn typed<'a>(
             typed(alloc, &*body, &*place, &Variables::One(&*vars, &found))
         }
         Term::If(test, so, otherwise) => {
-            let sides = both(typed(alloc, so, place, vars), typed(alloc, otherwise, place, vars));
-            both(typed(alloc, test, place, vars), sides).map(|(test, (so, otherwise))| if_type(
-                test, so, otherwise,
-            ))
+            let test = typed(alloc, test, place, vars)?;
+            let so = typed(alloc, so, place, vars)?;
+            let otherwise = typed(alloc, otherwise, place, vars)?;
+            Ok(if_type(test, so, otherwise))
         }
         Term::Seq(parts) => types_of(alloc, parts.as_slice(), place, vars).map(sequence_type),
         Term::Match(of, cases) => {
@@ -136,8 +137,8 @@ fn typed<'a>(
 #[cycle(typing)]
 fn function<'a>(
     alloc: Global,
-    ty: &'a Ty,
     body: &'a Term,
+    ty: &'a Ty,
     place: &'a Place<'a>,
     vars: &'a Variables<'a>,
 ) -> Result<Option<Ty>, Memory>
@@ -156,9 +157,9 @@ fn function<'a>(
 #[cycle(typing)]
 fn recursive<'a>(
     alloc: Global,
+    body: &'a Term,
     from: &'a Ty,
     to: &'a Ty,
-    body: &'a Term,
     place: &'a Place<'a>,
     vars: &'a Variables<'a>,
 ) -> Result<Option<Ty>, Memory>

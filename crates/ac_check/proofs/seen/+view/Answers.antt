@@ -40,6 +40,6 @@ viewed-returns-in_ok-to-in-Fun t c =
     let f = opened_at_home (entries_of c.args.place.now) (home_of c.args.place.now.home) in
     let is : typ_of c.args.ty.now ≡ TFun (typ_of c.deref-in-Fun.result.now) (typ_of c.deref-in-Fun-2.result.now) = grind (arith, type_laws) in
     subst (λ (o : Option Typ). IfOk c.function_type.result (λ r. option_map typ_of r ≡ o))
-    (fun_viewed _ _ _ _ (ap (option_map typ_of) (sym c.in-Some.is) ∙ c.in_ok-from-in-Fun.ensures) c.in_ok-to-in-Fun.ensures
+    (fun_viewed (with_each f (typ_of c.deref-in-Fun.result.now)) (with_each f (typ_of c.deref-in-Fun-2.result.now)) _ _ (ap (option_map typ_of) (sym c.in-Some.is) ∙ c.in_ok-from-in-Fun.ensures) c.in_ok-to-in-Fun.ensures
         ∙ ap (λ (T : Typ). K (Some (with_each f T))) (sym is))
     c.function_type.ensures

@@ -26,11 +26,6 @@ types_of-loop-t-init t c =
     let S = scope_of c.args.place.now (types_in c.args.vars.now) in
     types_collected E S c.args.terms.now ∙ ap (λ (ts : List Ty). ahead ts (collected (λ (u : Term). type_of Coloured false E S (expr_of u)) c.args.terms.now)) (sym c.new-found.ensures)
 
-pub types_of-typed-requires : goal.types_of-typed-requires
-types_of-typed-requires t c =
-    let p : is_plain (expr_of c.t-item.result) ≡ true = plain_item c.args.terms.now c.loop-t.t-index c.t-item.result c.loop-t-test.true c.t-item.is c.requires.plain in
-    search rules
-
 pub types_of-returns-in_default : goal.types_of-returns-in_default
 types_of-returns-in_default t c =
     let E = entries_of c.args.place.now in
@@ -58,11 +53,6 @@ pub arms_type-loop-arm-init : goal.arms_type-loop-arm-init
 arms_type-loop-arm-init t c =
     ap (option_and_then one_of) (arms_collected (entries_of c.args.place.now) (scope_of c.args.place.now (types_in c.args.vars.now)) (typ_of c.args.ty.now) c.args.cases.now)
 
-pub arms_type-arm_type-requires : goal.arms_type-arm_type-requires
-arms_type-arm_type-requires t c =
-    let p : is_plain (expr_of c.arm-item.result.body) ≡ true = plain_arm c.args.cases.now c.loop-arm.arm-index c.arm-item.result c.loop-arm-test.true c.arm-item.is c.requires.plain in
-    search rules
-
 pub arms_type-returns-in_default : goal.arms_type-returns-in_default
 arms_type-returns-in_default t c =
     let E = entries_of c.args.place.now in
@@ -70,23 +60,71 @@ arms_type-returns-in_default t c =
     sym (arm_none (λ (a : Arm). arm_type E S (typ_of c.args.ty.now) (pattern_of a.pat) (expr_of a.body)) c.args.cases.now _ _ c.loop-arm-test.true c.arm-item.is _ (option_map typ_of c.loop-arm.first) c.loop-arm.invariant
         (sym c.in_ok-found.ensures ∙ ap (option_map typ_of) c.in_default.is))
 
-pub arms_type-returns-in_default-2 : goal.arms_type-returns-in_default-2
-arms_type-returns-in_default-2 t c =
-    let E = entries_of c.args.place.now in
-    let S = scope_of c.args.place.now (types_in c.args.vars.now) in
-    sym (arm_some (λ (a : Arm). arm_type E S (typ_of c.args.ty.now) (pattern_of a.pat) (expr_of a.body)) c.args.cases.now _ _ c.loop-arm-test.true c.arm-item.is _ (option_map typ_of c.loop-arm.first) c.loop-arm.invariant
-        (typ_of c.in-Some.found) None (sym c.in_ok-found.ensures ∙ ap (option_map typ_of) c.in-Some.is) c.in_default-2.ensures)
-
-pub arms_type-loop-arm-preserved : goal.arms_type-loop-arm-preserved
-arms_type-loop-arm-preserved t c =
-    let E = entries_of c.args.place.now in
-    let S = scope_of c.args.place.now (types_in c.args.vars.now) in
-    arm_some (λ (a : Arm). arm_type E S (typ_of c.args.ty.now) (pattern_of a.pat) (expr_of a.body)) c.args.cases.now _ _ c.loop-arm-test.true c.arm-item.is _ (option_map typ_of c.loop-arm.first) c.loop-arm.invariant
-    (typ_of c.in-Some.found) (Some (typ_of c.in-Some-2.one)) (sym c.in_ok-found.ensures ∙ ap (option_map typ_of) c.in-Some.is) c.in-Some-2.ensures
-
 pub arms_type-returns : goal.arms_type-returns
 arms_type-returns t c =
     let E = entries_of c.args.place.now in
     let S = scope_of c.args.place.now (types_in c.args.vars.now) in
     let e : c.loop-arm.arm-index ≡ length c.args.cases.now = omega arith in
     sym (arms_all (λ (a : Arm). arm_type E S (typ_of c.args.ty.now) (pattern_of a.pat) (expr_of a.body)) c.args.cases.now _ _ (option_map typ_of c.loop-arm.first) e c.loop-arm.invariant)
+
+-- open
+
+pub types_of-typed-requires-clause-plain : goal.types_of-typed-requires-clause-plain
+types_of-typed-requires-clause-plain t c = ?
+
+pub arms_type-arm_type-requires-clause-plain : goal.arms_type-arm_type-requires-clause-plain
+arms_type-arm_type-requires-clause-plain t c = ?
+
+pub arms_type-returns-in_default-go_on : goal.arms_type-returns-in_default-go_on
+arms_type-returns-in_default-go_on t c = ?
+
+pub arms_type-loop-arm-preserved : goal.arms_type-loop-arm-preserved
+arms_type-loop-arm-preserved t c = ?
+
+pub typed-returns-in-Lam : goal.typed-returns-in-Lam
+typed-returns-in-Lam t c = ?
+
+pub typed-returns-in-Rec : goal.typed-returns-in-Rec
+typed-returns-in-Rec t c = ?
+
+pub typed-returns-then-not-is_seen_as : goal.typed-returns-then-not-is_seen_as
+typed-returns-then-not-is_seen_as t c = ?
+
+pub typed-returns-else-not-is_seen_as : goal.typed-returns-else-not-is_seen_as
+typed-returns-else-not-is_seen_as t c = ?
+
+pub typed-typed-requires-in-Cons-2-clause-plain : goal.typed-typed-requires-in-Cons-2-clause-plain
+typed-typed-requires-in-Cons-2-clause-plain t c = ?
+
+pub typed-typed-requires-in-App-2-clause-plain : goal.typed-typed-requires-in-App-2-clause-plain
+typed-typed-requires-in-App-2-clause-plain t c = ?
+
+pub typed-typed-requires-in-Let-2-clause-plain : goal.typed-typed-requires-in-Let-2-clause-plain
+typed-typed-requires-in-Let-2-clause-plain t c = ?
+
+pub typed-typed-requires-in-If-2-clause-plain : goal.typed-typed-requires-in-If-2-clause-plain
+typed-typed-requires-in-If-2-clause-plain t c = ?
+
+pub typed-typed-requires-in-If-3-clause-plain : goal.typed-typed-requires-in-If-3-clause-plain
+typed-typed-requires-in-If-3-clause-plain t c = ?
+
+pub typed-arms_type-requires-clause-plain : goal.typed-arms_type-requires-clause-plain
+typed-arms_type-requires-clause-plain t c = ?
+
+pub typed-arms_type-requires-in-Try-clause-plain : goal.typed-arms_type-requires-in-Try-clause-plain
+typed-arms_type-requires-in-Try-clause-plain t c = ?
+
+pub arm_type-returns : goal.arm_type-returns
+arm_type-returns t c = ?
+
+pub function-returns : goal.function-returns
+function-returns t c = ?
+
+pub recursive-returns-in_default-2 : goal.recursive-returns-in_default-2
+recursive-returns-in_default-2 t c = ?
+
+pub recursive-returns-in_default-3 : goal.recursive-returns-in_default-3
+recursive-returns-in_default-3 t c = ?
+
+pub recursive-returns : goal.recursive-returns
+recursive-returns t c = ?
