@@ -173,7 +173,8 @@ fn recursive<'a>(
     let Some(to) = seen_type(alloc, to, place)? else {
         return Ok(None);
     };
-    let (first, second) = both(from.copy(alloc), to.copy(alloc))?;
+    let first = from.copy(alloc)?;
+    let second = to.copy(alloc)?;
     let Some(own) = function_type(alloc, first, Some(second))? else {
         return Ok(None);
     };
