@@ -14,6 +14,7 @@ struct Row {
 }
 
 /// Rows, and what builds them.
+#[derive(Drop)]
 struct Rows {
     alloc: Global,
     rows: Many<Row>,
