@@ -18,8 +18,8 @@ use Rattle.ac_check.specs.declared.scope.Place.{Place}
 use Rattle.ac_check.proofs.KeptLaws.{K, kept_is, lam_none, lam_some, rec, rec_none, rec_no_result, rec_some, rec_big, rec_small, let_none, let_other, let_same}
 
 -- the same answer, of an equal type
-pub carry : {r : Result (Option Ty) Memory} {x y : Option Typ} → x ≡ y → IfOk r (λ o. option_map typ_of o ≡ x) → IfOk r (λ o. option_map typ_of o ≡ y)
-carry {r} e h = subst (λ (z : Option Typ). IfOk r (λ o. option_map typ_of o ≡ z)) e h
+pub carry : (r : Result (Option Ty) Memory) (x y : Option Typ) → x ≡ y → IfOk r (λ o. option_map typ_of o ≡ x) → IfOk r (λ o. option_map typ_of o ≡ y)
+carry r x y e h = subst (λ (z : Option Typ). IfOk r (λ o. option_map typ_of o ≡ z)) e h
 
 pub choice_is : {c a b x y z : Option Typ} → c ≡ x → a ≡ y → b ≡ z → given (has c TBool) (both_same a b) ≡ given (has x TBool) (both_same y z)
 choice_is {c} {a} {b} {x} {y} p q r =

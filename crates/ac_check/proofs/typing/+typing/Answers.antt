@@ -90,12 +90,12 @@ arms_type-loop-arm-preserved t c =
 pub typed-returns-in-Lam : goal.typed-returns-in-Lam
 typed-returns-in-Lam t c =
     let is : expr_of c.args.t.now ≡ Lam (typ_of c.in-Lam.ty) (expr_of c.deref-in-Lam.result.now) = grind (arith, form_laws) in
-    carry (ap (λ (e : Expr). type_of Coloured false (entries_of c.args.place.now) (scope_of c.args.place.now (types_in c.args.vars.now)) e) (sym is)) c.function.ensures
+    carry c.function.result _ _ (ap (λ (e : Expr). type_of Coloured false (entries_of c.args.place.now) (scope_of c.args.place.now (types_in c.args.vars.now)) e) (sym is)) c.function.ensures
 
 pub typed-returns-in-Rec : goal.typed-returns-in-Rec
 typed-returns-in-Rec t c =
     let is : expr_of c.args.t.now ≡ Rec (typ_of c.in-Rec.from) (typ_of c.in-Rec.to) (expr_of c.deref-in-Rec.result.now) = grind (arith, form_laws) in
-    carry (ap (λ (e : Expr). type_of Coloured false (entries_of c.args.place.now) (scope_of c.args.place.now (types_in c.args.vars.now)) e) (sym is)) c.recursive.ensures
+    carry c.recursive.result _ _ (ap (λ (e : Expr). type_of Coloured false (entries_of c.args.place.now) (scope_of c.args.place.now (types_in c.args.vars.now)) e) (sym is)) c.recursive.ensures
 
 pub typed-returns-then-not-is_seen_as : goal.typed-returns-then-not-is_seen_as
 typed-returns-then-not-is_seen_as t c =
@@ -107,7 +107,7 @@ typed-returns-then-not-is_seen_as t c =
 pub typed-returns-else-not-is_seen_as : goal.typed-returns-else-not-is_seen_as
 typed-returns-else-not-is_seen_as t c =
     let is : expr_of c.args.t.now ≡ Let (typ_of c.in-Let.ty) (expr_of c.deref-in-Let.result.now) (expr_of c.deref-in-Let-2.result.now) = grind (arith, form_laws) in
-    carry
+    carry c.typed-in-Let-2.result _ _
     (binding_some (entries_of c.args.place.now) c.args.place.now (types_in c.args.vars.now) (typ_of c.in-Let.ty) (typ_of c.in-Some.found) (expr_of c.deref-in-Let.result.now) (expr_of c.deref-in-Let-2.result.now) _
         (ap (option_map typ_of) (sym c.in-Some.is) ∙ c.in_ok-found-in-Let.ensures) c.if-not-is_seen_as.ensures (types_in-One c.args.vars _)
         ∙ ap (λ (e : Expr). type_of Coloured false (entries_of c.args.place.now) (scope_of c.args.place.now (types_in c.args.vars.now)) e) (sym is))
@@ -121,7 +121,7 @@ typed-returns-in_ok-otherwise-in-If t c =
 
 pub arm_type-returns : goal.arm_type-returns
 arm_type-returns t c =
-    carry
+    carry c.typed.result _ _
     (body_some (entries_of c.args.place.now) c.args.place.now (types_in c.args.vars.now) (typ_of c.args.ty.now) (pattern_of c.args.arm.now.pat) (expr_of c.args.arm.now.body) c.new.result c.in-Some.bound _
         c.new.ensures (ap (option_map newest_first) (sym c.in-Some.is) ∙ c.in_ok-bound.ensures)
         (types_in-More c.args.vars c.as_slice.result ∙ ap (λ (ts : List Ty). newest_first ts ++ types_in c.args.vars.now) c.as_slice.ensures))
@@ -129,7 +129,7 @@ arm_type-returns t c =
 
 pub function-returns : goal.function-returns
 function-returns t c =
-    carry
+    carry c.function_type.result _ _
     (function_some (entries_of c.args.place.now) c.args.place.now (types_in c.args.vars.now) (typ_of c.args.ty.now) (typ_of c.in-Some.from) (expr_of c.args.body.now) (option_map typ_of c.in_ok-to.to) _
         (ap (option_map typ_of) (sym c.in-Some.is) ∙ c.in_ok-from.ensures) c.in_ok-to.ensures (types_in-One c.args.vars _))
     c.function_type.ensures
