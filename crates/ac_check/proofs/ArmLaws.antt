@@ -1,13 +1,12 @@
 -- Arms of one type, and the last part of a sequence.
-use Rattle.std.proofs.Common.{ℕ, ◌≡◌, ◌+◌, ◌<◌, refl, sym, ap, ◌∙◌, Bool, true, false, ◌&&◌, List, [], ◌∷◌, ◌++◌, length, map, get_or, drop, Option, Some, None}
-use Rattle.std.specs.Prelude.{option_map, option_and_then}
+use Rattle.std.proofs.Common.{ℕ, ◌≡◌, ◌+◌, ◌<◌, refl, ap, ◌∙◌, Bool, true, false, ◌&&◌, List, [], ◌∷◌, ◌++◌, length, map, get_or, drop, Option, Some, None}
 use Rattle.std.proofs.lemmas.List.{map-append}
 use Rattle.ac_types.specs.First.{given}
-use Rattle.ac_types.specs.Types.{Typ, TUnit, Typs, no_types, typ, typs, same}
+use Rattle.ac_types.specs.Types.{Typ, TUnit, Typs, no_types, typs, same}
 use Rattle.ac_types.specs.ReadTypes.{typ_of}
 use Rattle.ac_types.specs.declared.ty.Ty.{Ty}
 use Rattle.ac_terms.specs.Typing.{also, last_of}
-use Rattle.ac_rules.specs.Typing.{one_of, are_all}
+use Rattle.ac_rules.specs.Typing.{are_all}
 use Rattle.ac_check.specs.Checking.{arms_after, arms_from, typs_of}
 use Rattle.ac_check.proofs.PairLaws.{from_item, from_end}
 use Rattle.ac_check.proofs.Collected.{collected, next_item}
@@ -66,5 +65,3 @@ pub last_end : (ts : List Ty) (t : Ty) (i : ℕ) → i ≡ length ts → last_fr
 last_end ts t i e = ap (λ (us : List Ty). last_from us t) (from_end ts i e)
 
 pub ruleset go_laws = (go_first, go_same, go_other)
-
-pub ruleset last_laws = (last_is, last_next, last_end)

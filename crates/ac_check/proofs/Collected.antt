@@ -1,7 +1,6 @@
 -- The types of a list's items, one after the other.
 use Rattle.std.proofs.Common.{ℕ, ◌≡◌, ◌+◌, ◌<◌, refl, sym, ap, ◌∙◌, List, [], ◌∷◌, ◌++◌, length, map, get_or, drop, Option, Some, None}
-use Rattle.std.specs.Prelude.{option_map}
-use Rattle.ac_types.specs.Types.{Typ, Typs, no_types, typ, typs}
+use Rattle.ac_types.specs.Types.{Typ, Typs, no_types, typs}
 use Rattle.ac_types.specs.ReadTypes.{typ_of}
 use Rattle.ac_types.specs.declared.ty.Ty.{Ty}
 use Rattle.ac_terms.specs.Typing.{also}

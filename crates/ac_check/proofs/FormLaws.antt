@@ -1,5 +1,5 @@
 -- The types of the forms that bind variables or write types, from those of their parts.
-use Rattle.std.proofs.Common.{◌≡◌, refl, sym, ap, ap₂, ◌∙◌, subst, Bool, true, false, List, [], ◌∷◌, ◌++◌, Option, Some, None}
+use Rattle.std.proofs.Common.{◌≡◌, refl, sym, ap, ap₂, ◌∙◌, subst, true, false, List, [], ◌∷◌, ◌++◌, Option, Some, None}
 use Rattle.std.specs.Prelude.{option_map, option_and_then, Result, IfOk}
 use Rattle.std.proofs.lemmas.List.{append-nil}
 use Rattle.ac_types.specs.First.{given}
@@ -15,7 +15,7 @@ use Rattle.ac_rules.specs.Views.{Coloured}
 use Rattle.ac_rules.specs.Typing.{type_of, variables, joined, seen}
 use Rattle.ac_check.specs.Checking.{scope_of, arm_type, newest_first}
 use Rattle.ac_check.specs.declared.scope.Place.{Place}
-use Rattle.ac_check.proofs.KeptLaws.{K, kept_is, lam_none, lam_some, rec, rec_none, rec_no_result, rec_some, rec_big, rec_small, let_none, let_other, let_same}
+use Rattle.ac_check.proofs.KeptLaws.{K, kept_is, lam_some, rec_no_result, rec_some, rec_big, rec_small, let_other, let_same}
 
 -- the same answer, of an equal type
 pub carry : (r : Result (Option Ty) Memory) (x y : Option Typ) → x ≡ y → IfOk r (λ o. option_map typ_of o ≡ x) → IfOk r (λ o. option_map typ_of o ≡ y)
@@ -33,16 +33,10 @@ module _ (E : Environment) (p : Place) (v : List Typ) where
   abbrev pub written : Typ → Option Typ
   written T = seen Coloured false E (home_of p.home) T
 
-  pub function_none : (T : Typ) (e : Expr) → None ≡ K (written T) → None ≡ typed v (Lam T e)
-  function_none T e h = sym (lam_none (written T) (λ A. typed (A ∷ v) e) (sym h))
-
   pub function_some : (T A : Typ) (e : Expr) (o : Option Typ) (G : List Typ) → Some A ≡ K (written T) → o ≡ typed G e → G ≡ A ∷ v → K (option_map (TFun A) o) ≡ typed v (Lam T e)
   function_some T A e o G h q g =
       ap (λ (x : Option Typ). K (option_map (TFun A) x)) (q ∙ ap (λ (H : List Typ). typed H e) g)
       ∙ sym (lam_some (written T) (λ X. typed (X ∷ v) e) A (sym h))
-
-  pub recursive_none : (T U : Typ) (e : Expr) → None ≡ K (written T) → None ≡ typed v (Rec T U e)
-  recursive_none T U e h = sym (rec_none (λ A B. typed (A ∷ TFun A B ∷ v) e) (written T) (written U) (sym h))
 
   pub recursive_no_result : (T U : Typ) (e : Expr) → None ≡ K (written U) → None ≡ typed v (Rec T U e)
   recursive_no_result T U e h = sym (rec_no_result (λ A B. typed (A ∷ TFun A B ∷ v) e) (written T) (written U) (sym h))
@@ -60,9 +54,6 @@ module _ (E : Environment) (p : Place) (v : List Typ) where
   abbrev bound : Typ → Expr → Option Typ → Option Typ
   bound T b o = option_and_then (λ A. given (has o A) (typed (A ∷ v) b)) (written T)
 
-  pub binding_none : (T : Typ) (e b : Expr) → None ≡ typed v e → None ≡ typed v (Let T e b)
-  binding_none T e b h = sym (ap (bound T b) (sym h) ∙ let_none (written T) (λ A. typed (A ∷ v) b))
-
   pub binding_other : (T F : Typ) (e b : Expr) → Some F ≡ typed v e → false ≡ has (written T) F → None ≡ typed v (Let T e b)
   binding_other T F e b h q = sym (ap (bound T b) (sym h) ∙ let_other (written T) F (λ A. typed (A ∷ v) b) (sym q))
 
@@ -78,9 +69,6 @@ module _ (E : Environment) (p : Place) (v : List Typ) where
 
   found_is : (b : List Ty) (o x : Option (List Typ)) → b ≡ [] → o ≡ joined (Some (newest_first b)) x → o ≡ x
   found_is b o x n h = h ∙ ap (λ (ts : List Ty). joined (Some (newest_first ts)) x) n ∙ joined_nil x
-
-  pub body_none : (T : Typ) (q : Pattern) (e : Expr) (b : List Ty) → b ≡ [] → None ≡ joined (Some (newest_first b)) (vars q T) → None ≡ arm_type E (scope_of p v) T q e
-  body_none T q e b n h = ap (option_and_then (λ (Us : List Typ). typed (Us ++ v) e)) (found_is b None (vars q T) n h)
 
   pub body_some : (T : Typ) (q : Pattern) (e : Expr) (b us : List Ty) (G : List Typ) → b ≡ [] → Some (newest_first us) ≡ joined (Some (newest_first b)) (vars q T)
       → G ≡ newest_first us ++ v → typed G e ≡ arm_type E (scope_of p v) T q e

@@ -138,14 +138,6 @@ kept_an_option (Some T) = by (is_small T) refl
 
 -- a function whose argument's type is written: without a small one it has no type
 
-pub lam_none : (s : Option Typ) (f : Typ → Option Typ) → K s ≡ None → option_and_then (λ A. K (option_map (TFun A) (f A))) s ≡ None
-lam_none None f e = refl
-lam_none (Some A) f e = by (f A)
-  where
-    by : (o : Option Typ) → K (option_map (TFun A) o) ≡ None
-    by None = refl
-    by (Some B) = no_kept_fun A B e
-
 pub kept_some_is : (s : Option Typ) (A : Typ) → K s ≡ Some A → s ≡ Some A
 kept_some_is None A e = absurd (none≢some e)
 kept_some_is (Some T) A e = ap Some (sym (kept_is T A e))
@@ -160,11 +152,6 @@ rec f s r = option_and_then (λ A. option_and_then (λ B. K (given (has (f A B) 
 no_given : (b : Bool) (A B : Typ) → K (Some (TFun A B)) ≡ None → K (given b (Some (TFun A B))) ≡ None
 no_given true A B e = e
 no_given false A B e = refl
-
-pub rec_none : (f : Typ → Typ → Option Typ) (s r : Option Typ) → K s ≡ None → rec f s r ≡ None
-rec_none f None r e = refl
-rec_none f (Some A) None e = refl
-rec_none f (Some A) (Some B) e = no_given (has (f A B) B) A B (no_kept_fun A B e)
 
 to_none : (A B : Typ) → K (Some B) ≡ None → K (Some (TFun A B)) ≡ None
 to_none A B e = kept_none (TFun A B) (to_not_small A B (none_not_small B e))
@@ -188,10 +175,6 @@ rec_small o A B F e = by (has o B) ∙ ap (λ X. given (has o B) (Some X)) (sym 
     by false = refl
 
 -- a binding whose type is written
-
-pub let_none : (s : Option Typ) (f : Typ → Option Typ) → option_and_then (λ A. given (has None A) (f A)) s ≡ None
-let_none None f = refl
-let_none (Some A) f = refl
 
 same_turned : (T U : Typ) → same T U ≡ false → same U T ≡ false
 same_turned T U e = by (same U T) refl

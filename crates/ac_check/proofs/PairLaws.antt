@@ -1,5 +1,5 @@
 -- Two lists of types, compared in order.
-use Rattle.std.proofs.Common.{ℕ, zero, suc, ◌≡◌, ◌+◌, ◌<◌, refl, sym, ap, ap₂, ◌∙◌, arith, Bool, true, false, ◌&&◌, List, [], ◌∷◌, length, map, get_or, drop, drop-cons, add-one}
+use Rattle.std.proofs.Common.{ℕ, suc, ◌≡◌, ◌+◌, ◌<◌, refl, ap, ap₂, ◌∙◌, Bool, true, false, ◌&&◌, List, [], ◌∷◌, length, map, get_or, drop, drop-cons, add-one}
 use Rattle.std.proofs.Math.Seq.{drop-length}
 use Rattle.ac_types.specs.Types.{Typ, typs, same, same_all}
 

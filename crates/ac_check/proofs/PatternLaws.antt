@@ -1,9 +1,9 @@
 -- The variables of patterns, form by form, and those of a list of patterns.
 use Rattle.std.proofs.Common.{ℕ, ◌≡◌, ◌+◌, ◌<◌, suc, refl, sym, ap, ap₂, ◌∙◌, append_assoc, Bool, true, false, ◌&&◌, List, [], ◌∷◌, ◌++◌, length, map, reverse, get_or, drop, Option, Some, None}
-use Rattle.std.specs.Prelude.{option_map, option_and_then, is_some, ℤ}
+use Rattle.std.specs.Prelude.{is_some}
 use Rattle.std.proofs.lemmas.List.{reverse-append, map-append}
 use Rattle.ac_types.specs.First.{given}
-use Rattle.ac_types.specs.Types.{Bytes, Typ, TStr, TExn, TTuple, TList, TOpt, typs, same}
+use Rattle.ac_types.specs.Types.{Typ, TStr, TExn, TTuple, TList, TOpt, same}
 use Rattle.ac_types.specs.ReadTypes.{typ_of}
 use Rattle.ac_types.specs.declared.ty.Ty.{Ty}
 use Rattle.ac_terms.specs.Terms.{Home, Pattern, PTuple, PNil, PCons, PAbsent, PPresent, PExn, PExnOf, Patterns, patterns}

@@ -1,18 +1,16 @@
 -- Types as a home sees them: what is known, compared and built part by part.
-use Rattle.std.proofs.Common.{ℕ, ◌≡◌, ◌+◌, ◌<◌, ◌≤◌, max, refl, sym, ap, ap₂, ◌∙◌, arith, Bool, true, false, ◌&&◌, List, [], ◌∷◌, ◌++◌, length, map, get_or, drop, Option, Some, None}
-use Rattle.std.specs.Prelude.{option_map, option_and_then, nat_le}
-use Rattle.std.specs.List.{list_all}
+use Rattle.std.proofs.Common.{ℕ, ◌≡◌, ◌+◌, ◌<◌, refl, ap, ◌∙◌, Bool, true, false, ◌&&◌, List, [], ◌∷◌, length, map, get_or, drop, Option, Some, None}
+use Rattle.std.specs.Prelude.{option_map}
 use Rattle.std.proofs.lemmas.List.Folds.{list_all-append}
-use Rattle.std.proofs.lemmas.Bool.Decides.{nat_tests}
 use Rattle.ac_types.specs.First.{given}
-use Rattle.ac_types.specs.Types.{Bytes, Typ, TInt, TBool, TStr, TUnit, TExn, TTuple, TList, TOpt, TFun, TAbs, TMine, Typs, no_types, typ, typs, same, same_all, with_each, all_with_each, mentions, mentions_of_all, parts, parts_of_all, height, height_of_all, is_small}
+use Rattle.ac_types.specs.Types.{Bytes, Typ, TTuple, TList, TOpt, TFun, TAbs, Typs, typ, typs, same, same_all, with_each, all_with_each, mentions, mentions_of_all, is_small}
 use Rattle.ac_types.specs.ReadTypes.{typ_of}
 use Rattle.ac_types.specs.declared.ty.Ty.{Ty}
 use Rattle.ac_types.proofs.SizeLaws.{type_laws}
 use Rattle.ac_terms.specs.Defs.{Environment}
 use Rattle.ac_terms.specs.Typing.{also}
-use Rattle.ac_rules.specs.Views.{Coloured, is_known, are_known}
-use Rattle.ac_rules.specs.Typing.{kept_in, list_item, option_item, tuple_parts}
+use Rattle.ac_rules.specs.Views.{is_known, are_known}
+use Rattle.ac_rules.specs.Typing.{list_item, option_item, tuple_parts}
 use Rattle.ac_check.specs.Checking.{typs_of, are_known_in, kept_all, ends_of}
 use Rattle.ac_check.proofs.PairLaws.{from_item, from_end}
 use Rattle.ac_check.proofs.KeptLaws.{K, kept_list, kept_option, kept_fun, no_kept_fun, kept_tuple}

@@ -1,15 +1,11 @@
 -- The reading of terms, form by form, and lists of terms and of arms.
-use Rattle.std.proofs.Common.{◌≡◌, refl, sym, ap, ap₂, ◌∙◌, arith, ℕ, zero, suc, ◌+◌, ◌<◌, Bool, true, false, ◌&&◌, List, [], ◌∷◌, map, length, get_or, drop, Option, Some, None}
-use Rattle.std.specs.Prelude.{option_map, option_and_then}
+use Rattle.std.proofs.Common.{◌≡◌, refl, ap, ap₂, ◌∙◌, arith, ℕ, zero, suc, ◌<◌, true, false, List, [], ◌∷◌, map, length, get_or}
 use Rattle.ac_types.proofs.Same.{both_true}
 use Rattle.ac_types.proofs.SizeLaws.{type_laws}
-use Rattle.ac_types.specs.First.{given}
-use Rattle.ac_types.specs.Types.{Typ, TUnit, Typs, no_types, typ, typs, same}
-use Rattle.ac_types.specs.ReadTypes.{typ_of}
-use Rattle.ac_types.specs.declared.ty.Ty.{Ty}
-use Rattle.ac_terms.specs.Terms.{Pattern, Expr, Match, Try, exprs, arms}
-use Rattle.ac_terms.specs.Read.{expr_of, value_of, pattern_of, value_layer, expr_layer, arm_layer}
-use Rattle.ac_terms.specs.Typing.{also, last_of}
+use Rattle.ac_types.specs.Types.{Typ}
+use Rattle.ac_terms.specs.Terms.{Expr, Match, Try, exprs, arms}
+use Rattle.ac_terms.specs.Read.{expr_of, pattern_of, value_layer, expr_layer, arm_layer}
+use Rattle.ac_terms.specs.Typing.{also}
 use Rattle.ac_terms.specs.Defs.{Environment}
 use Rattle.ac_terms.specs.declared.term.Term.{Term}
 use Rattle.ac_terms.specs.declared.term.PVal.{PVal}
@@ -20,9 +16,8 @@ use Rattle.ac_terms.specs.declared.term.Term.TheVariants as term
 use Rattle.ac_terms.proofs.ReadLaws.{read_arm, read_parts, expr_out, term_laws}
 use Rattle.ac_rules.specs.Views.{Coloured}
 use Rattle.ac_rules.specs.Typing.{Scope, type_of, types_of, arm_types}
-use Rattle.ac_check.specs.Checking.{arm_of, arm_type, typs_of}
-use Rattle.ac_check.specs.PlainTerms.{IsPlainTerm, is_plain, are_plain, arms_plain}
-use Rattle.ac_check.proofs.PairLaws.{from_item}
+use Rattle.ac_check.specs.Checking.{arm_of, arm_type}
+use Rattle.ac_check.specs.PlainTerms.{is_plain, are_plain, arms_plain}
 use Rattle.ac_check.proofs.Collected.{collected}
 
 arm_read : (a : Arm) → read_arm a ≡ arm_of a

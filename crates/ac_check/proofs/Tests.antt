@@ -1,8 +1,7 @@
 -- Tests of types and numbers.
-use Rattle.std.proofs.Common.{◌≡◌, refl, sym, ap, ◌∙◌, Bool, true, false, Option, Some}
+use Rattle.std.proofs.Common.{◌≡◌, refl, sym, ap, ◌∙◌, Bool, true, false, Some}
 use Rattle.std.specs.Prelude.{IsTrue, ◌↔◌}
 use Rattle.std.proofs.lemmas.Bool.Decides.{nat_tests}
-use mathlib.Core.Bool.{true≢false}
 use Rattle.ac_types.specs.First.{given}
 use Rattle.ac_types.specs.Types.{Typ, TTuple, TStr, TInt, no_types, typ, same}
 use Rattle.ac_types.specs.ReadTypes.{typ_of}
@@ -20,8 +19,6 @@ equal_is_same false a b e = by (same (typ_of a) (typ_of b)) refl
     by : (s : Bool) → same (typ_of a) (typ_of b) ≡ s → false ≡ s
     by false p = refl
     by true p = e.1 (typ_of-injective a b (same_eq (typ_of a) (typ_of b) p))
-
-pub ruleset same_laws = (equal_is_same)
 
 -- what a part of a text is taken of
 abbrev pub slice_argument : Typ

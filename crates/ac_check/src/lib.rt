@@ -10,9 +10,9 @@ mod patterns;
 mod plain;
 mod primitives;
 mod scope;
+mod seen;
 #[cfg(test)]
 mod tests;
-mod seen;
 mod types;
 mod typing;
 

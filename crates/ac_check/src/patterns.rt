@@ -79,9 +79,7 @@ pub fn variables<'a>(
             None => Ok(None),
             Some(item) => variables(alloc, inner, item, place, before),
         },
-        Pat::Exn(number, None) => {
-            Ok(given(is_base(ty, Base::Exn) && is_bare(*number), before))
-        }
+        Pat::Exn(number, None) => { Ok(given(is_base(ty, Base::Exn) && is_bare(*number), before)) }
         Pat::Exn(number, Some(inner)) => {
             if !is_base(ty, Base::Exn) || !has_text(*number) {
                 return Ok(None);

@@ -37,7 +37,11 @@ fn of_one(args: &[Ty], base: Base, to: Ty) -> Option<Ty>
 fn of_two(args: &[Ty], base: Base, to: Ty) -> Option<Ty>
     ensures { option_map typ_of result ≡ by_rules (takes_two (base_typ base) (typ_of to) ∷ []) (typs_of args.now) }
 {
-    if are(args, &[base, base]) { Some(to) } else { None }
+    if are(args, &[base, base]) {
+        Some(to)
+    } else {
+        None
+    }
 }
 
 /// The type of an equation or a comparison.
@@ -59,7 +63,11 @@ fn comparison_type(args: &[Ty]) -> Option<Ty>
 fn only(args: &[Ty]) -> Option<&Ty>
     ensures { MatchOption result (length args.now ≡ 1 → ⊥) (λ t. args.now ≡ t.now ∷ []) }
 {
-    if args.len() == 1 { Some(&args[0]) } else { None }
+    if args.len() == 1 {
+        Some(&args[0])
+    } else {
+        None
+    }
 }
 
 /// The type of a part of a text.

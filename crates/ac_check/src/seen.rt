@@ -11,9 +11,9 @@ ghost use Rattle.ac_rules.specs.Views.{Coloured, declares, is_known, are_known, 
 ghost use Rattle.ac_rules.specs.Typing.{kept_in, seen};
 ghost use Rattle.ac_check.specs.Checking.{typs_of, entries_of, are_known_in, kept_all};
 
-use crate::scope::Place;
 use crate::data::{list_type, present_type, tuple_type};
 use crate::functions::{ends, function_type};
+use crate::scope::Place;
 use crate::types::{Base, is_base, list_item, option_item, same_types, small_copy, tuple_parts};
 use ac_rules::rep;
 use ac_terms::{Def, Entry, Env, Home};
@@ -241,11 +241,7 @@ fn all_viewed<'a>(
 }
 
 /// A type that is written, as the place's home sees it, where its names are known and it is small.
-pub fn seen_type<'a>(
-    alloc: Global,
-    ty: &'a Ty,
-    place: &'a Place<'a>,
-) -> Result<Option<Ty>, Memory>
+pub fn seen_type<'a>(alloc: Global, ty: &'a Ty, place: &'a Place<'a>) -> Result<Option<Ty>, Memory>
     requires { length place.now.env.now.entries < 2 ^ 32 }
     ensures { IfOk result (λ o. option_map typ_of o ≡ kept_in Coloured (seen Coloured false (entries_of place.now) (home_of place.now.home) (typ_of ty.now))) }
 {

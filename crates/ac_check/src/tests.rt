@@ -110,11 +110,7 @@ fn choice(
     a: Result<Term, Memory>,
     b: Result<Term, Memory>,
 ) -> Result<Term, Memory> {
-    Ok(Term::If(
-        boxed(alloc, test)?,
-        boxed(alloc, a)?,
-        boxed(alloc, b)?,
-    ))
+    Ok(Term::If(boxed(alloc, test)?, boxed(alloc, a)?, boxed(alloc, b)?))
 }
 
 fn arms(
@@ -324,11 +320,17 @@ fn handlers(rows: &mut Rows) -> Result<(), Memory> {
     rows.none(matched(alloc, int(1), var_pat(Ty::Str), int(0), int(0)))?;
     rows.none(Ok(Term::Match(boxed(alloc, unit())?, Many::new(alloc))))?;
     let failure = exn_pat(alloc, 0, Pat::Var(Ty::Str));
-    rows.has(tried(alloc, text(alloc), failure, var(0), text(alloc)), Ty::Str)?;
+    rows.has(
+        tried(alloc, text(alloc), failure, var(0), text(alloc)),
+        Ty::Str,
+    )?;
     rows.none(tried(alloc, unit(), Ok(Pat::Exn(2, None)), int(1), int(1)))?;
     rows.none(tried(alloc, int(1), Ok(Pat::Exn(2, None)), int(1), unit()))?;
     rows.none(tried(alloc, int(1), Ok(Pat::Exn(0, None)), int(1), int(1)))?;
-    rows.has(raise(alloc, ints.copy(alloc)?, Ok(Term::ExnVal(3, None))), ints)?;
+    rows.has(
+        raise(alloc, ints.copy(alloc)?, Ok(Term::ExnVal(3, None))),
+        ints,
+    )?;
     rows.none(raise(alloc, Ty::Int, int(1)))
 }
 

@@ -81,7 +81,10 @@ fn typed<'a>(
         Term::Empty(ty) => empty_type(alloc, ty, place),
         Term::Present(inner) => present_type(alloc, typed(alloc, inner, place, vars)?),
         Term::Cons(head, tail) => {
-            let parts = both(typed(alloc, head, place, vars), typed(alloc, tail, place, vars));
+            let parts = both(
+                typed(alloc, head, place, vars),
+                typed(alloc, tail, place, vars),
+            );
             parts.map(|(head, tail)| cons_type(head, tail))
         }
         Term::Var(i) => variable_type(alloc, vars, *i),
@@ -247,5 +250,10 @@ fn arm_type<'a>(
     let Some(bound) = variables(alloc, &arm.pat, ty, place, Many::new(alloc))? else {
         return Ok(None);
     };
-    typed(alloc, &arm.body, &*place, &Variables::More(&*vars, bound.as_slice()))
+    typed(
+        alloc,
+        &arm.body,
+        &*place,
+        &Variables::More(&*vars, bound.as_slice()),
+    )
 }

@@ -1,4 +1,4 @@
-use Rattle.std.proofs.Common.{◌≡◌, sym, ap₂, ◌∙◌, Option}
+use Rattle.std.proofs.Common.{sym, ap₂, ◌∙◌, Option}
 use Rattle.std.specs.Prelude.{option_map}
 use Rattle.ac_types.specs.Types.{TList}
 use Rattle.ac_types.specs.ReadTypes.{typ_of}

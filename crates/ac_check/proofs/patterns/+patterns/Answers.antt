@@ -1,4 +1,4 @@
-use Rattle.std.proofs.Common.{◌≡◌, ◌<◌, sym, ap, ◌∙◌, subst, arith, rules, length, List, Bool, true, Option, Some}
+use Rattle.std.proofs.Common.{◌≡◌, ◌<◌, sym, ap, ◌∙◌, subst, arith, rules, length, List, true, Option, Some}
 use Rattle.std.specs.Prelude.{IfOk, option_map}
 use Rattle.ac_types.specs.Types.{Typ, TStr, TExn, same}
 use Rattle.ac_types.specs.ReadTypes.{typ_of}
@@ -38,8 +38,8 @@ variables-returns-in-Some-2 t c =
     let is : pattern_of c.args.pat.now ≡ PCons (pattern_of c.deref.result.now) (pattern_of c.deref-in-Cons.result.now) = grind (arith, form_laws) in
     subst (λ (o : Option (List Typ)). IfOk c.variables-in-Cons.result (λ r. option_map newest_first r ≡ o))
     (cons_some (entries_of c.args.place.now) (home_of c.args.place.now.home) (pattern_of c.deref.result.now) (pattern_of c.deref-in-Cons.result.now) (typ_of c.args.ty.now) _
-        (newest_first c.args.before) (newest_first c.in-Some-2.found) c.in-Some-list_item.ensures (ap (option_map newest_first) (sym c.in-Some-2.is) ∙ c.in_ok-found-in-Cons.ensures)
-        ∙ ap (λ (p : Pattern). joined (Some (newest_first c.args.before)) (vars (entries_of c.args.place.now) (home_of c.args.place.now.home) p (typ_of c.args.ty.now))) (sym is))
+    (newest_first c.args.before) (newest_first c.in-Some-2.found) c.in-Some-list_item.ensures (ap (option_map newest_first) (sym c.in-Some-2.is) ∙ c.in_ok-found-in-Cons.ensures)
+    ∙ ap (λ (p : Pattern). joined (Some (newest_first c.args.before)) (vars (entries_of c.args.place.now) (home_of c.args.place.now.home) p (typ_of c.args.ty.now))) (sym is))
     c.variables-in-Cons.ensures
 
 pub variables-returns-else-not-has_text : goal.variables-returns-else-not-has_text
@@ -50,6 +50,6 @@ variables-returns-else-not-has_text t c =
     let h : has_text c.in-Exn-default-Some.number ≡ true = search rules in
     subst (λ (o : Option (List Typ)). IfOk c.variables-in-Exn-default-Some.result (λ r. option_map newest_first r ≡ o))
     (text_some (entries_of c.args.place.now) (home_of c.args.place.now.home) c.in-Exn-default-Some.number (pattern_of c.deref-in-Exn-default-Some.result.now) (typ_of c.args.ty.now) (typ_of ty.Str)
-        (newest_first c.args.before) s e h
-        ∙ ap (λ (p : Pattern). joined (Some (newest_first c.args.before)) (vars (entries_of c.args.place.now) (home_of c.args.place.now.home) p (typ_of c.args.ty.now))) (sym is))
+    (newest_first c.args.before) s e h
+    ∙ ap (λ (p : Pattern). joined (Some (newest_first c.args.before)) (vars (entries_of c.args.place.now) (home_of c.args.place.now.home) p (typ_of c.args.ty.now))) (sym is))
     c.variables-in-Exn-default-Some.ensures

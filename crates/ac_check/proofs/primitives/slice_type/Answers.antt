@@ -1,4 +1,4 @@
-use Rattle.std.proofs.Common.{◌≡◌, ap, sym, Bool, List, [], ◌∷◌, Option, Some, None, true, false}
+use Rattle.std.proofs.Common.{ap, sym, Bool, [], ◌∷◌, Some, None, true, false}
 use Rattle.ac_types.specs.Types.{Typ, TStr}
 use Rattle.ac_types.specs.ReadTypes.{typ_of}
 use Rattle.ac_check.proofs.PairLaws.{unlike_lengths}

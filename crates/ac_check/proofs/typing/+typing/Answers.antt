@@ -1,4 +1,4 @@
-use Rattle.std.proofs.Common.{◌≡◌, sym, ap, ap₂, ◌∙◌, arith, rules, length, map, List, ◌∷◌, ◌++◌, true, false, Option, Some, None}
+use Rattle.std.proofs.Common.{◌≡◌, sym, ap, ap₂, ◌∙◌, arith, rules, length, map, List, ◌∷◌, ◌++◌, true, false, Some, None}
 use Rattle.std.specs.Prelude.{option_map, option_and_then}
 use Rattle.std.proofs.lemmas.Grind.{common_steps}
 use Rattle.ac_types.specs.Types.{Typ, TFun}
@@ -35,7 +35,7 @@ types_of-returns-in_default t c =
     let E = entries_of c.args.place.now in
     let S = scope_of c.args.place.now (types_in c.args.vars.now) in
     sym (item_none (λ (u : Term). type_of Coloured false E S (expr_of u)) c.args.terms.now _ _ c.loop-t-test.true c.t-item.is _ c.loop-t.found c.loop-t.invariant
-        (sym c.in_ok-ty.ensures ∙ ap (option_map typ_of) c.in_default.is))
+    (sym c.in_ok-ty.ensures ∙ ap (option_map typ_of) c.in_default.is))
 
 pub types_of-loop-t-preserved : goal.types_of-loop-t-preserved
 types_of-loop-t-preserved t c =
@@ -62,7 +62,7 @@ arms_type-returns-in_default t c =
     let E = entries_of c.args.place.now in
     let S = scope_of c.args.place.now (types_in c.args.vars.now) in
     sym (arm_none (λ (a : Arm). arm_type E S (typ_of c.args.ty.now) (pattern_of a.pat) (expr_of a.body)) c.args.cases.now _ _ c.loop-arm-test.true c.arm-item.is _ (option_map typ_of c.loop-arm.first) c.loop-arm.invariant
-        (sym c.in_ok-found.ensures ∙ ap (option_map typ_of) c.in_default.is))
+    (sym c.in_ok-found.ensures ∙ ap (option_map typ_of) c.in_default.is))
 
 pub arms_type-returns : goal.arms_type-returns
 arms_type-returns t c =
@@ -78,7 +78,7 @@ arms_type-returns-in_default-go_on t c =
     let E = entries_of c.args.place.now in
     let S = scope_of c.args.place.now (types_in c.args.vars.now) in
     sym (arm_some (λ (a : Arm). arm_type E S (typ_of c.args.ty.now) (pattern_of a.pat) (expr_of a.body)) c.args.cases.now _ _ c.loop-arm-test.true c.arm-item.is _ (option_map typ_of c.loop-arm.first) c.loop-arm.invariant
-        (typ_of c.in-Some.found) None (sym c.in_ok-found.ensures ∙ ap (option_map typ_of) c.in-Some.is) c.in_default-go_on.ensures)
+    (typ_of c.in-Some.found) None (sym c.in_ok-found.ensures ∙ ap (option_map typ_of) c.in-Some.is) c.in_default-go_on.ensures)
 
 pub arms_type-loop-arm-preserved : goal.arms_type-loop-arm-preserved
 arms_type-loop-arm-preserved t c =
@@ -109,8 +109,8 @@ typed-returns-else-not-is_seen_as t c =
     let is : expr_of c.args.t.now ≡ Let (typ_of c.in-Let.ty) (expr_of c.deref-in-Let.result.now) (expr_of c.deref-in-Let-2.result.now) = grind (arith, form_laws) in
     carry c.typed-in-Let-2.result _ _
     (binding_some (entries_of c.args.place.now) c.args.place.now (types_in c.args.vars.now) (typ_of c.in-Let.ty) (typ_of c.in-Some.found) (expr_of c.deref-in-Let.result.now) (expr_of c.deref-in-Let-2.result.now) _
-        (ap (option_map typ_of) (sym c.in-Some.is) ∙ c.in_ok-found-in-Let.ensures) c.if-not-is_seen_as.ensures (types_in-One c.args.vars _)
-        ∙ ap (λ (e : Expr). type_of Coloured false (entries_of c.args.place.now) (scope_of c.args.place.now (types_in c.args.vars.now)) e) (sym is))
+    (ap (option_map typ_of) (sym c.in-Some.is) ∙ c.in_ok-found-in-Let.ensures) c.if-not-is_seen_as.ensures (types_in-One c.args.vars _)
+    ∙ ap (λ (e : Expr). type_of Coloured false (entries_of c.args.place.now) (scope_of c.args.place.now (types_in c.args.vars.now)) e) (sym is))
     c.typed-in-Let-2.ensures
 
 pub typed-returns-in_ok-otherwise-in-If : goal.typed-returns-in_ok-otherwise-in-If
@@ -123,15 +123,15 @@ pub arm_type-returns : goal.arm_type-returns
 arm_type-returns t c =
     carry c.typed.result _ _
     (body_some (entries_of c.args.place.now) c.args.place.now (types_in c.args.vars.now) (typ_of c.args.ty.now) (pattern_of c.args.arm.now.pat) (expr_of c.args.arm.now.body) c.new.result c.in-Some.bound _
-        c.new.ensures (ap (option_map newest_first) (sym c.in-Some.is) ∙ c.in_ok-bound.ensures)
-        (types_in-More c.args.vars c.as_slice.result ∙ ap (λ (ts : List Ty). newest_first ts ++ types_in c.args.vars.now) c.as_slice.ensures))
+    c.new.ensures (ap (option_map newest_first) (sym c.in-Some.is) ∙ c.in_ok-bound.ensures)
+    (types_in-More c.args.vars c.as_slice.result ∙ ap (λ (ts : List Ty). newest_first ts ++ types_in c.args.vars.now) c.as_slice.ensures))
     c.typed.ensures
 
 pub function-returns : goal.function-returns
 function-returns t c =
     carry c.function_type.result _ _
     (function_some (entries_of c.args.place.now) c.args.place.now (types_in c.args.vars.now) (typ_of c.args.ty.now) (typ_of c.in-Some.from) (expr_of c.args.body.now) (option_map typ_of c.in_ok-to.to) _
-        (ap (option_map typ_of) (sym c.in-Some.is) ∙ c.in_ok-from.ensures) c.in_ok-to.ensures (types_in-One c.args.vars _))
+    (ap (option_map typ_of) (sym c.in-Some.is) ∙ c.in_ok-from.ensures) c.in_ok-to.ensures (types_in-One c.args.vars _))
     c.function_type.ensures
 
 pub recursive-returns-in_default-2 : goal.recursive-returns-in_default-2
@@ -200,12 +200,12 @@ pub typed-arms_type-requires : goal.typed-arms_type-requires
 typed-arms_type-requires t c =
     let is : expr_of c.args.t.now ≡ Match (expr_of c.deref-in-Match.result.now) (arms (map arm_of c.in-Match.cases)) = grind (arith, form_laws) in
     let p : arms_plain (arms (map arm_of c.as_slice-in-Match.result.now)) ≡ true =
-        ap (λ (cs : List Arm). arms_plain (arms (map arm_of cs))) c.as_slice-in-Match.ensures ∙ (both_true _ _ (ap is_plain (sym is) ∙ c.requires.plain)).1 in
+    ap (λ (cs : List Arm). arms_plain (arms (map arm_of cs))) c.as_slice-in-Match.ensures ∙ (both_true _ _ (ap is_plain (sym is) ∙ c.requires.plain)).1 in
     search (rules, the_lemmas)
 
 pub typed-arms_type-requires-in-Try : goal.typed-arms_type-requires-in-Try
 typed-arms_type-requires-in-Try t c =
     let is : expr_of c.args.t.now ≡ Try (expr_of c.deref-in-Try.result.now) (arms (map arm_of c.in-Try.cases)) = grind (arith, form_laws) in
     let p : arms_plain (arms (map arm_of c.as_slice-in-Try.result.now)) ≡ true =
-        ap (λ (cs : List Arm). arms_plain (arms (map arm_of cs))) c.as_slice-in-Try.ensures ∙ (both_true _ _ (ap is_plain (sym is) ∙ c.requires.plain)).1 in
+    ap (λ (cs : List Arm). arms_plain (arms (map arm_of cs))) c.as_slice-in-Try.ensures ∙ (both_true _ _ (ap is_plain (sym is) ∙ c.requires.plain)).1 in
     search (rules, the_lemmas)
