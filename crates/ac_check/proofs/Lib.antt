@@ -1,0 +1,10 @@
+pub mod Tests
+pub mod ScopeLaws
+pub mod PairLaws
+pub mod Collected
+pub mod KeptLaws
+pub mod SeenLaws
+pub mod PatternLaws
+pub mod TermLaws
+pub mod ArmLaws
+pub mod FormLaws

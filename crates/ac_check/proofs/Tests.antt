@@ -1,0 +1,29 @@
+-- Tests of types and numbers.
+use Rattle.std.proofs.Common.{◌≡◌, refl, sym, ap, ◌∙◌, Bool, true, false, Some}
+use Rattle.std.specs.Prelude.{IsTrue, ◌↔◌}
+use Rattle.std.proofs.lemmas.Bool.Decides.{nat_tests}
+use Rattle.ac_types.specs.First.{given}
+use Rattle.ac_types.specs.Types.{Typ, TTuple, TStr, TInt, no_types, typ, same}
+use Rattle.ac_types.specs.ReadTypes.{typ_of}
+use Rattle.ac_types.specs.declared.ty.Ty.{Ty}
+use Rattle.ac_types.proofs.Same.{same_eq, same_refl}
+use Rattle.ac_types.proofs.TypeReading.{typ_of-injective}
+
+pub ruleset number_tests = (nat_tests)
+
+-- what is equal exactly where the types are is the test of the types
+pub equal_is_same : (r : Bool) (a b : Ty) → (IsTrue r ↔ (a ≡ b)) → r ≡ same (typ_of a) (typ_of b)
+equal_is_same true a b e = sym (ap (λ x. same (typ_of a) (typ_of x)) (sym (e.0 refl)) ∙ same_refl (typ_of a))
+equal_is_same false a b e = by (same (typ_of a) (typ_of b)) refl
+  where
+    by : (s : Bool) → same (typ_of a) (typ_of b) ≡ s → false ≡ s
+    by false p = refl
+    by true p = e.1 (typ_of-injective a b (same_eq (typ_of a) (typ_of b) p))
+
+-- what a part of a text is taken of
+abbrev pub slice_argument : Typ
+slice_argument = TTuple (typ TStr (typ TInt (typ TInt no_types)))
+
+-- a list whose first element is of the type of the others
+pub cons_same : (T U : Typ) → same U T ≡ true → Some U ≡ given (same U T) (Some T)
+cons_same T U e = ap Some (same_eq U T e) ∙ sym (ap (λ (b : Bool). given b (Some T)) e)

@@ -1,0 +1,13 @@
+use Rattle.std.proofs.Common.{sym, ap₂, ◌∙◌, Option}
+use Rattle.std.specs.Prelude.{option_map}
+use Rattle.ac_types.specs.Types.{TList}
+use Rattle.ac_types.specs.ReadTypes.{typ_of}
+use Rattle.ac_types.specs.declared.ty.Ty.{Ty}
+use Rattle.ac_terms.specs.Typing.{both_same}
+use Rattle.ac_check.proofs.Tests.{cons_same}
+use Rattle.ac_check.proofs.data.cons_type.Goals as goal
+
+pub returns-then-is_list_of : goal.returns-then-is_list_of
+returns-then-is_list_of c =
+    cons_same (TList (typ_of c.in_ok-head.head)) (typ_of c.in_ok-tail.tail) (sym c.is_list_of.ensures ∙ c.if-is_list_of.true)
+    ∙ ap₂ (λ (a b : Option Ty). both_same (option_map TList (option_map typ_of a)) (option_map typ_of b)) (sym c.in_ok-head.was) (sym c.in_ok-tail.was)

@@ -1,0 +1,2 @@
+pub mod PlainTerms
+pub mod Checking

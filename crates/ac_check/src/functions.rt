@@ -1,0 +1,87 @@
+// Functions.
+
+ghost use Rattle.std.specs.Prelude.{◌≡◌, IfOk, Some, option_map};
+ghost use Rattle.ac_types.specs.First.{given};
+ghost use Rattle.ac_types.specs.Types.{TFun};
+ghost use Rattle.ac_types.specs.ReadTypes.{typ_of};
+ghost use Rattle.ac_terms.specs.Typing.{has};
+ghost use Rattle.ac_rules.specs.Views.{Coloured};
+ghost use Rattle.ac_rules.specs.Typing.{kept_in, applied};
+ghost use Rattle.ac_check.specs.Checking.{ends_of, read_ends};
+
+use crate::types::{kept, same_types};
+use ac_types::{Box, Memory, Ty};
+use std::alloc::Global;
+
+/// The type of a function whose argument and result have these types.
+#[tactic(auto, using(ac_types::proofs::SizeLaws::type_laws))]
+pub fn function_type(alloc: Global, from: Ty, to: Option<Ty>) -> Result<Option<Ty>, Memory>
+    ensures { IfOk result (λ o. option_map typ_of o ≡ kept_in Coloured (option_map (TFun (typ_of from)) (option_map typ_of to))) }
+{
+    let Some(to) = to else {
+        return Ok(None);
+    };
+    let from = Box::new(alloc, from)?;
+    let to = Box::new(alloc, to)?;
+    Ok(kept(Ty::Fun(from, to)))
+}
+
+/// The type of an application, where the function and its argument have these types.
+#[tactic(auto, using(ac_types::proofs::SizeLaws::type_laws))]
+pub fn applied(function: Option<Ty>, argument: Option<Ty>) -> Option<Ty>
+    ensures { option_map typ_of result ≡ applied (option_map typ_of function) (option_map typ_of argument) }
+{
+    let function = function?;
+    let argument = argument?;
+    match function {
+        Ty::Fun(from, to) => {
+            if same_types(&argument, &from) {
+                Some(to.into_inner())
+            } else {
+                None
+            }
+        }
+        Ty::Int => None,
+        Ty::Bool => None,
+        Ty::Str => None,
+        Ty::Unit => None,
+        Ty::Exn => None,
+        Ty::Tuple(_) => None,
+        Ty::List(_) => None,
+        Ty::Opt(_) => None,
+        Ty::Abs(_, _) => None,
+        Ty::Mine(_) => None,
+    }
+}
+
+/// The type of a recursive function of this type, whose body has the type `found`.
+pub fn recursive_type(own: Ty, to: &Ty, found: Option<Ty>) -> Option<Ty>
+    ensures { option_map typ_of result ≡ given (has (option_map typ_of found) (typ_of to.now)) (Some (typ_of own)) }
+{
+    let found = found?;
+    if same_types(&found, to) {
+        Some(own)
+    } else {
+        None
+    }
+}
+
+/// The argument's and the result's type of a function type.
+#[tactic(auto, using(ac_types::proofs::SizeLaws::type_laws))]
+pub fn ends(ty: &Ty) -> Option<(&Ty, &Ty)>
+    ensures { option_map read_ends result ≡ ends_of (typ_of ty.now) }
+{
+    match ty {
+        Ty::Fun(from, to) => Some((from, to)),
+        Ty::Int => None,
+        Ty::Bool => None,
+        Ty::Str => None,
+        Ty::Unit => None,
+        Ty::Exn => None,
+        Ty::Tuple(_) => None,
+        Ty::List(_) => None,
+        Ty::Opt(_) => None,
+        Ty::Abs(_, _) => None,
+        Ty::Mine(_) => None,
+    }
+}

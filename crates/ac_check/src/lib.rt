@@ -1,0 +1,21 @@
+//! The type of a term, exactly where the rules of typing give one.
+#![tactic(auto)]
+
+mod arms;
+mod data;
+mod exceptions;
+mod fault;
+mod functions;
+mod patterns;
+mod plain;
+mod primitives;
+mod scope;
+mod seen;
+#[cfg(test)]
+mod tests;
+mod types;
+mod typing;
+
+pub use fault::CheckFault;
+pub use plain::is_plain;
+pub use typing::type_of;

@@ -1,0 +1,259 @@
+// The type of a term.
+
+ghost use Rattle.std.specs.Prelude.{◌≡◌, ◌<◌, ◌^◌, IfOk, IsTrue, Some, false, length, map, option_map, option_and_then};
+ghost use Rattle.ac_types.specs.ReadTypes.{typ_of};
+ghost use Rattle.ac_terms.specs.Terms.{Lam, Rec, exprs, arms};
+ghost use Rattle.ac_terms.specs.Read.{environment_of, home_of, expr_of, pattern_of};
+ghost use Rattle.ac_terms.specs.Typing.{has, last_of};
+ghost use Rattle.ac_types.specs.First.{given};
+ghost use Rattle.ac_types.specs.Types.{TExn};
+ghost use Rattle.ac_rules.specs.Views.{Coloured};
+ghost use Rattle.ac_rules.specs.Typing.{type_of, types_of, arm_types, one_of, kept_in, seen};
+ghost use Rattle.ac_check.specs.PlainTerms.{IsPlainTerm, are_plain, arms_plain};
+ghost use Rattle.ac_check.specs.Checking.{Answers, entries_of, scope_of, types_in, typs_of, arm_of, arm_type};
+
+use crate::arms::{both_same, go_on, if_type, sequence_type};
+use crate::data::{cons_type, empty_type, nil_type, present_type, tuple_type};
+use crate::exceptions::{exception_type, raise_type, text_exception_type};
+use crate::fault::CheckFault;
+use crate::functions::{applied, function_type, recursive_type};
+use crate::patterns::variables;
+use crate::primitives::result_type;
+use crate::scope::{Place, Variables, variable_type};
+use crate::seen::{is_seen_as, seen_type};
+use ac_terms::{Arm, Env, Home, Term};
+use ac_types::{Many, Memory, Ty, both};
+use std::alloc::Global;
+
+/// The type of a term, where the variables have the types `ctx`, the newest first.
+#[tactic(auto, using(crate::proofs::ScopeLaws::scope_laws))]
+pub fn type_of(
+    alloc: Global,
+    env: &Env,
+    home: Home,
+    own: u32,
+    refs: u32,
+    ctx: &Many<Ty>,
+    t: &Term,
+) -> Result<Ty, CheckFault>
+    requires entries { length env.now.entries < 2 ^ 32 }
+    requires plain { IsPlainTerm (expr_of t.now) }
+    ensures { Answers result (type_of Coloured false (environment_of env.now) (record { home = home_of home; own = own; refs = refs; vars = map typ_of ctx.now }) (expr_of t.now)) }
+{
+    let place = Place {
+        env,
+        home,
+        own,
+        refs,
+    };
+    let vars = Variables::Given(ctx.as_slice());
+    match typed(alloc, t, &place, &vars) {
+        Ok(Some(ty)) => Ok(ty),
+        Ok(None) => Err(CheckFault::IllTyped),
+        Err(_) => Err(CheckFault::Memory),
+    }
+}
+
+/// The type of a term, where it has one.
+#[cycle(typing)]
+#[tactic(auto, using(crate::proofs::TermLaws::typing_laws))]
+fn typed<'a>(
+    alloc: Global,
+    t: &'a Term,
+    place: &'a Place<'a>,
+    vars: &'a Variables<'a>,
+) -> Result<Option<Ty>, Memory>
+    requires entries { length place.now.env.now.entries < 2 ^ 32 }
+    requires plain { IsPlainTerm (expr_of t.now) }
+    ensures { IfOk result (λ o. option_map typ_of o ≡ type_of Coloured false (entries_of place.now) (scope_of place.now (types_in vars.now)) (expr_of t.now)) }
+{
+    match t {
+        Term::Int(_) => Ok(Some(Ty::Int)),
+        Term::Bool(_) => Ok(Some(Ty::Bool)),
+        Term::Str(_) => Ok(Some(Ty::Str)),
+        Term::Unit => Ok(Some(Ty::Unit)),
+        Term::ExnVal(number, None) => Ok(exception_type(*number)),
+        Term::ExnVal(number, Some(text)) => {
+            typed(alloc, text, place, vars).map(|text| text_exception_type(*number, text))
+        }
+        Term::Tuple(parts) => types_of(alloc, parts.as_slice(), place, vars).map(tuple_type),
+        Term::Nil(ty) => nil_type(alloc, ty, place),
+        Term::Empty(ty) => empty_type(alloc, ty, place),
+        Term::Present(inner) => present_type(alloc, typed(alloc, inner, place, vars)?),
+        Term::Cons(head, tail) => {
+            let parts = both(
+                typed(alloc, head, place, vars),
+                typed(alloc, tail, place, vars),
+            );
+            parts.map(|(head, tail)| cons_type(head, tail))
+        }
+        Term::Var(i) => variable_type(alloc, vars, *i),
+        Term::Lam(ty, body) => function(alloc, body, ty, place, vars),
+        Term::Rec(from, to, body) => recursive(alloc, body, from, to, place, vars),
+        Term::App(f, a) => {
+            let parts = both(typed(alloc, f, place, vars), typed(alloc, a, place, vars));
+            parts.map(|(f, a)| applied(f, a))
+        }
+        Term::Let(ty, bound, body) => {
+            let Some(found) = typed(alloc, bound, place, vars)? else {
+                return Ok(None);
+            };
+            if !is_seen_as(ty, &found, &*place) {
+                return Ok(None);
+            }
+            typed(alloc, &*body, &*place, &Variables::One(&*vars, &found))
+        }
+        Term::If(test, so, otherwise) => {
+            let test = typed(alloc, test, place, vars)?;
+            let so = typed(alloc, so, place, vars)?;
+            let otherwise = typed(alloc, otherwise, place, vars)?;
+            Ok(if_type(test, so, otherwise))
+        }
+        Term::Seq(parts) => types_of(alloc, parts.as_slice(), place, vars).map(sequence_type),
+        Term::Match(of, cases) => {
+            let Some(ty) = typed(alloc, of, place, vars)? else {
+                return Ok(None);
+            };
+            arms_type(alloc, cases.as_slice(), &ty, &*place, &*vars)
+        }
+        Term::Try(of, cases) => {
+            let exn = Ty::Exn;
+            let of = typed(alloc, of, place, vars)?;
+            let found = arms_type(alloc, cases.as_slice(), &exn, &*place, &*vars)?;
+            Ok(both_same(of, found))
+        }
+        Term::Raise(ty, inner) => {
+            raise_type(alloc, ty, typed(alloc, inner, place, vars)?, place)
+        }
+        Term::Prim(number, args) => {
+            types_of(alloc, args.as_slice(), place, vars).map(|args| result_type(*number, args))
+        }
+        Term::Own(_) => Ok(None),
+        Term::Ref(_, _) => Ok(None),
+        Term::Marshal(_, _, _) => Ok(None),
+        Term::Unmarshal(_, _) => Ok(None),
+        Term::Val(_, _) => Ok(None),
+    }
+}
+
+/// The type of a function.
+#[cycle(typing)]
+fn function<'a>(
+    alloc: Global,
+    body: &'a Term,
+    ty: &'a Ty,
+    place: &'a Place<'a>,
+    vars: &'a Variables<'a>,
+) -> Result<Option<Ty>, Memory>
+    requires entries { length place.now.env.now.entries < 2 ^ 32 }
+    requires plain { IsPlainTerm (expr_of body.now) }
+    ensures { IfOk result (λ o. option_map typ_of o ≡ type_of Coloured false (entries_of place.now) (scope_of place.now (types_in vars.now)) (Lam (typ_of ty.now) (expr_of body.now))) }
+{
+    let Some(from) = seen_type(alloc, ty, place)? else {
+        return Ok(None);
+    };
+    let to = typed(alloc, &*body, &*place, &Variables::One(&*vars, &from))?;
+    function_type(alloc, from, to)
+}
+
+/// The type of a recursive function, which sees itself.
+#[cycle(typing)]
+fn recursive<'a>(
+    alloc: Global,
+    body: &'a Term,
+    from: &'a Ty,
+    to: &'a Ty,
+    place: &'a Place<'a>,
+    vars: &'a Variables<'a>,
+) -> Result<Option<Ty>, Memory>
+    requires entries { length place.now.env.now.entries < 2 ^ 32 }
+    requires plain { IsPlainTerm (expr_of body.now) }
+    ensures { IfOk result (λ o. option_map typ_of o ≡ type_of Coloured false (entries_of place.now) (scope_of place.now (types_in vars.now)) (Rec (typ_of from.now) (typ_of to.now) (expr_of body.now))) }
+{
+    let Some(from) = seen_type(alloc, from, place)? else {
+        return Ok(None);
+    };
+    let Some(to) = seen_type(alloc, to, place)? else {
+        return Ok(None);
+    };
+    let first = from.copy(alloc)?;
+    let second = to.copy(alloc)?;
+    let Some(own) = function_type(alloc, first, Some(second))? else {
+        return Ok(None);
+    };
+    let outer = Variables::One(&*vars, &own);
+    let found = typed(alloc, &*body, &*place, &Variables::One(&outer, &from))?;
+    Ok(recursive_type(own, &to, found))
+}
+
+/// The types of some terms, where each has one.
+#[cycle(typing)]
+fn types_of<'a>(
+    alloc: Global,
+    terms: &'a [Term],
+    place: &'a Place<'a>,
+    vars: &'a Variables<'a>,
+) -> Result<Option<Many<Ty>>, Memory>
+    requires entries { length place.now.env.now.entries < 2 ^ 32 }
+    requires plain { IsTrue (are_plain (exprs (map expr_of terms.now))) }
+    ensures { IfOk result (λ o. option_map typs_of o ≡ types_of Coloured false (entries_of place.now) (scope_of place.now (types_in vars.now)) (exprs (map expr_of terms.now))) }
+{
+    let mut found = Many::new(alloc);
+    for t in terms {
+        let Some(ty) = typed(alloc, t, place, vars)? else {
+            return Ok(None);
+        };
+        found.push(ty)?;
+    }
+    Ok(Some(found))
+}
+
+/// The one type of the arms of a match on this type.
+#[cycle(typing)]
+fn arms_type<'a>(
+    alloc: Global,
+    cases: &'a [Arm],
+    ty: &'a Ty,
+    place: &'a Place<'a>,
+    vars: &'a Variables<'a>,
+) -> Result<Option<Ty>, Memory>
+    requires entries { length place.now.env.now.entries < 2 ^ 32 }
+    requires plain { IsTrue (arms_plain (arms (map arm_of cases.now))) }
+    ensures { IfOk result (λ o. option_map typ_of o ≡ option_and_then one_of (arm_types Coloured false (entries_of place.now) (scope_of place.now (types_in vars.now)) (typ_of ty.now) (arms (map arm_of cases.now)))) }
+{
+    let mut first = None;
+    for arm in cases {
+        let Some(found) = arm_type(alloc, arm, ty, place, vars)? else {
+            return Ok(None);
+        };
+        let Some(one) = go_on(first, found) else {
+            return Ok(None);
+        };
+        first = Some(one);
+    }
+    Ok(first)
+}
+
+/// The type of an arm's body, whose pattern has this type.
+#[cycle(typing)]
+fn arm_type<'a>(
+    alloc: Global,
+    arm: &'a Arm,
+    ty: &'a Ty,
+    place: &'a Place<'a>,
+    vars: &'a Variables<'a>,
+) -> Result<Option<Ty>, Memory>
+    requires entries { length place.now.env.now.entries < 2 ^ 32 }
+    requires plain { IsPlainTerm (expr_of arm.now.body) }
+    ensures { IfOk result (λ o. option_map typ_of o ≡ arm_type (entries_of place.now) (scope_of place.now (types_in vars.now)) (typ_of ty.now) (pattern_of arm.now.pat) (expr_of arm.now.body)) }
+{
+    let Some(bound) = variables(alloc, &arm.pat, ty, place, Many::new(alloc))? else {
+        return Ok(None);
+    };
+    typed(
+        alloc,
+        &arm.body,
+        &*place,
+        &Variables::More(&*vars, bound.as_slice()),
+    )
+}
