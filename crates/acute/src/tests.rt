@@ -134,16 +134,19 @@ fn print_of(alloc: Global, written: &[u8]) -> Result<Text, Fail> {
 #[test]
 fn each_byte_is_printed(rt: HostRuntime) -> Result<(), Fail> {
     let alloc = rt.alloc();
-    let digits = b"0123456789abcdef";
+    let digits = b"0123456789abcdef".as_slice();
     let mut raw = Text::new(alloc);
     let mut all = Text::new(alloc);
     let mut escaped = Text::new(alloc);
-    for byte in 0..=255u8 {
-        all.extend(&[byte])?;
-        let (high, low) = ((byte / 16) as usize, (byte % 16) as usize);
-        escaped.extend(&[b'\\', b'x', digits[high], digits[low]])?;
-        if byte != b'"' && byte != b'\\' && byte != b'\n' {
-            raw.extend(&[byte])?;
+    let mut byte = 0u8;
+    for high in digits {
+        for low in digits {
+            all.extend(&[byte])?;
+            escaped.extend(&[b'\\', b'x', *high, *low])?;
+            if byte != b'"' && byte != b'\\' && byte != b'\n' {
+                raw.extend(&[byte])?;
+            }
+            byte = byte.wrapping_add(1);
         }
     }
     assert_eq!(rt; raw.as_slice().len(), 253);
