@@ -1,4 +1,4 @@
-pub mod Tests
+pub mod Equalities
 pub mod ScopeLaws
 pub mod PairLaws
 pub mod Collected

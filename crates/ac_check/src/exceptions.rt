@@ -18,7 +18,7 @@ use ac_types::{Memory, Ty};
 use std::alloc::Global;
 
 /// Whether the exception of that number has a text.
-#[tactic(auto, using(crate::proofs::Tests::number_tests))]
+#[tactic(auto, using(crate::proofs::Equalities::number_tests))]
 pub fn has_text(number: u8) -> bool
     ensures { result ≡ has_text number }
 {
@@ -26,7 +26,7 @@ pub fn has_text(number: u8) -> bool
 }
 
 /// Whether there is an exception of that number without a text.
-#[tactic(auto, using(crate::proofs::Tests::number_tests))]
+#[tactic(auto, using(crate::proofs::Equalities::number_tests))]
 pub fn is_bare(number: u8) -> bool
     ensures { result ≡ is_exception number None }
 {

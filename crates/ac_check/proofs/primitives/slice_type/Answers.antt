@@ -2,7 +2,7 @@ use Rattle.std.proofs.Common.{ap, sym, Bool, [], ◌∷◌, Some, None, true, fa
 use Rattle.ac_types.specs.Types.{Typ, TStr}
 use Rattle.ac_types.specs.ReadTypes.{typ_of}
 use Rattle.ac_check.proofs.PairLaws.{unlike_lengths}
-use Rattle.ac_check.proofs.Tests.{slice_argument}
+use Rattle.ac_check.proofs.Equalities.{slice_argument}
 use Rattle.ac_check.proofs.primitives.slice_type.Goals as goal
 
 pub returns-in_default : goal.returns-in_default

@@ -1,4 +1,4 @@
-use Rattle.ac_check.proofs.Tests.{equal_is_same}
+use Rattle.ac_check.proofs.Equalities.{equal_is_same}
 use Rattle.ac_check.proofs.types.same_types.Goals as goal
 
 pub returns : goal.returns
