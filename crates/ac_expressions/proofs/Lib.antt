@@ -1,0 +1,3 @@
+pub mod PatLaws
+pub mod Readers
+pub mod PatSteps
