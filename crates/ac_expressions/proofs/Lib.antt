@@ -1,0 +1,2 @@
+pub mod PatLaws
+pub mod ExprLaws
