@@ -84,7 +84,10 @@ pub fn argument<'s, 't>(
 }
 
 /// `name ( name : type ) : type =`.
-pub fn head<'s, 't>(alloc: Global, signs: &'s [Sign<'t>]) -> Result<(Head, &'s [Sign<'t>]), Stop>
+pub fn function_head<'s, 't>(
+    alloc: Global,
+    signs: &'s [Sign<'t>],
+) -> Result<(Head, &'s [Sign<'t>]), Stop>
     ensures found { IfOk result (λ x. IsHead (read_signs signs.now) (head_of x.0) (read_signs x.1.now)) }
     ensures shorter { IfOk result (λ x. length x.1.now < length signs.now) }
     ensures none { IfErr result (λ e. OnSyntax e (Nothing IsHead (read_signs signs.now))) }

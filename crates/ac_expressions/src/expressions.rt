@@ -10,7 +10,7 @@ ghost use Rattle.ac_syntax.specs.ReadTrees.{expr_of, arm_of};
 ghost use Rattle.ac_syntax.specs.Parsing.{OnSyntax};
 ghost use Rattle.ac_expressions.specs.Parsing.{NoExpr, Nothing, Before, Made, NoPrefix, keyword_symbol, NoTree, measured, operator_read, OperatorAt, NoOperator, IsLet, let_tree, IsLetRec, let_rec_tree, IsFun, fun_tree, IsRec, rec_tree, IsIf, if_tree, IsMarshal, marshal_tree, IsUnmarshal, unmarshal_tree, IsRaise, raise_tree, IsParts, sequence_tree, IsItems, tuple_tree, IsArms, IsChoice};
 
-use crate::binders::{argument, ascribed, head, type_behind, typed};
+use crate::binders::{argument, ascribed, function_head, type_behind, typed};
 use crate::build as build;
 use crate::build::{Choice, Operator, Parsed, operator_of};
 use crate::front::{
@@ -462,7 +462,7 @@ fn let_rec<'s, 't>(
     ensures shorter { IfOk result (λ x. length x.1.now < length signs.now) }
     ensures none { IfErr result (λ e. OnSyntax e (Nothing (IsLetRec depth) (read_signs signs.now))) }
 {
-    let (head, behind) = head(alloc, signs)?;
+    let (head, behind) = function_head(alloc, signs)?;
     let (bound, later) = before(alloc, Symbol::In, depth, behind)?;
     let (body, rest) = expr(alloc, depth, later)?;
     Ok((build::let_rec(alloc, at, head, bound, body)?, rest))
@@ -502,7 +502,7 @@ fn rec<'s, 't>(
     ensures shorter { IfOk result (λ x. length x.1.now < length signs.now) }
     ensures none { IfErr result (λ e. OnSyntax e (Nothing (IsRec depth) (read_signs signs.now))) }
 {
-    let (head, behind) = head(alloc, signs)?;
+    let (head, behind) = function_head(alloc, signs)?;
     let (body, rest) = expr(alloc, depth, behind)?;
     Ok((build::rec(alloc, at, head, body)?, rest))
 }

@@ -108,35 +108,22 @@ fn negative<'s, 't>(at: u32, signs: &'s [Sign<'t>]) -> Result<(SPat, &'s [Sign<'
     Ok((SPat { at, kind }, rest))
 }
 
-/// A pattern that is a symbol, or begins with one that is no `(`.
-fn fixed_leaf<'s, 't>(
-    at: u32,
-    symbol: Symbol,
-    signs: &'s [Sign<'t>],
-) -> Result<(SPat, &'s [Sign<'t>]), Stop>
-    ensures found { IfOk result (λ x. PatLeafAt (Fixed at symbol ∷ read_signs signs.now) (pat_of x.0) (read_signs x.1.now)) }
-    ensures within { IfOk result (λ x. length x.1.now ≤ length signs.now) }
-    ensures none { IfErr result (λ e. OnSyntax e (NoSymbol Symbol.Open (Fixed at symbol ∷ read_signs signs.now) → NoPatLeaf (Fixed at symbol ∷ read_signs signs.now))) }
+/// The empty list: what stands behind a `[`.
+fn nil<'s, 't>(at: u32, signs: &'s [Sign<'t>]) -> Result<(SPat, &'s [Sign<'t>]), Stop>
+    ensures found { IfOk result (λ x. PatLeafAt (Fixed at Symbol.OpenSquare ∷ read_signs signs.now) (pat_of x.0) (read_signs x.1.now)) }
+    ensures shorter { IfOk result (λ x. length x.1.now < length signs.now) }
+    ensures none { IfErr result (λ e. OnSyntax e (NoPatLeaf (Fixed at Symbol.OpenSquare ∷ read_signs signs.now))) }
 {
-    if let Some(kind) = base_kind(symbol) {
-        return Ok((SPat { at, kind }, signs));
-    }
-    if symbol == Symbol::Minus {
-        return negative(at, signs);
-    }
-    if symbol == Symbol::OpenSquare {
-        let rest = expect(Symbol::CloseSquare, signs)?;
-        let kind = SPatKind::Nil;
-        return Ok((SPat { at, kind }, rest));
-    }
-    Err(refused_at(signs))
+    let rest = expect(Symbol::CloseSquare, signs)?;
+    let kind = SPatKind::Nil;
+    Ok((SPat { at, kind }, rest))
 }
 
-/// A pattern that is a leaf and begins with no `(`.
-fn leaf<'s, 't>(alloc: Global, signs: &'s [Sign<'t>]) -> Result<(SPat, &'s [Sign<'t>]), Stop>
+/// A pattern that is one sign.
+fn one_sign<'s, 't>(alloc: Global, signs: &'s [Sign<'t>]) -> Result<(SPat, &'s [Sign<'t>]), Stop>
     ensures found { IfOk result (λ x. PatLeafAt (read_signs signs.now) (pat_of x.0) (read_signs x.1.now)) }
     ensures shorter { IfOk result (λ x. length x.1.now < length signs.now) }
-    ensures none { IfErr result (λ e. OnSyntax e (NoSymbol Symbol.Open (read_signs signs.now) → NoPatLeaf (read_signs signs.now))) }
+    ensures none { IfErr result (λ e. OnSyntax e (NoSymbol Symbol.Open (read_signs signs.now) → NoSymbol Symbol.Minus (read_signs signs.now) → NoSymbol Symbol.OpenSquare (read_signs signs.now) → NoPatLeaf (read_signs signs.now))) }
 {
     let Some((first, rest)) = next(signs) else {
         return Err(refused_at(signs));
@@ -151,9 +138,28 @@ fn leaf<'s, 't>(alloc: Global, signs: &'s [Sign<'t>]) -> Result<(SPat, &'s [Sign
             let kind = SPatKind::Str(text.copy(alloc)?);
             Ok((SPat { at, kind }, rest))
         }
-        SignKind::Fixed(symbol) => fixed_leaf(at, symbol, rest),
+        SignKind::Fixed(symbol) => match base_kind(symbol) {
+            Some(kind) => Ok((SPat { at, kind }, rest)),
+            None => Err(refused_at(signs)),
+        },
         SignKind::Lower(_) | SignKind::Upper(_) | SignKind::Other => Err(refused_at(signs)),
     }
+}
+
+/// A pattern that is a leaf and begins with no `(`.
+fn leaf<'s, 't>(alloc: Global, signs: &'s [Sign<'t>]) -> Result<(SPat, &'s [Sign<'t>]), Stop>
+    ensures found { IfOk result (λ x. PatLeafAt (read_signs signs.now) (pat_of x.0) (read_signs x.1.now)) }
+    ensures shorter { IfOk result (λ x. length x.1.now < length signs.now) }
+    ensures none { IfErr result (λ e. OnSyntax e (NoSymbol Symbol.Open (read_signs signs.now) → NoPatLeaf (read_signs signs.now))) }
+{
+    let at = here(signs);
+    if let Some(behind) = after(Symbol::Minus, signs) {
+        return negative(at, behind);
+    }
+    if let Some(behind) = after(Symbol::OpenSquare, signs) {
+        return nil(at, behind);
+    }
+    one_sign(alloc, signs)
 }
 
 /// The tuple of a first pattern and those behind its comma.
