@@ -1,2 +1,4 @@
 pub mod PatLaws
 pub mod ExprLaws
+pub mod Readers
+pub mod PatSteps

@@ -72,25 +72,37 @@ pub fn join(
     ensures height { IfOk result (λ x. measured x) }
 {
     let height = left.height.max(right.height) + 1;
-    let kind = match operator {
+    match operator {
         Operator::Prim(number) => {
             let mut parts = Many::new(alloc);
             parts.push(left.tree)?;
             parts.push(right.tree)?;
-            SExprKind::Op(number, parts)
+            let kind = SExprKind::Op(number, parts);
+            let tree = SExpr { at, kind };
+            Ok(Parsed { tree, height })
         }
         Operator::Consing => {
-            SExprKind::Cons(Box::new(alloc, left.tree)?, Box::new(alloc, right.tree)?)
+            let head = Box::new(alloc, left.tree)?;
+            let tail = Box::new(alloc, right.tree)?;
+            let kind = SExprKind::Cons(head, tail);
+            let tree = SExpr { at, kind };
+            Ok(Parsed { tree, height })
         }
         Operator::Both => {
-            SExprKind::And(Box::new(alloc, left.tree)?, Box::new(alloc, right.tree)?)
+            let left = Box::new(alloc, left.tree)?;
+            let right = Box::new(alloc, right.tree)?;
+            let kind = SExprKind::And(left, right);
+            let tree = SExpr { at, kind };
+            Ok(Parsed { tree, height })
         }
         Operator::Either => {
-            SExprKind::Or(Box::new(alloc, left.tree)?, Box::new(alloc, right.tree)?)
+            let left = Box::new(alloc, left.tree)?;
+            let right = Box::new(alloc, right.tree)?;
+            let kind = SExprKind::Or(left, right);
+            let tree = SExpr { at, kind };
+            Ok(Parsed { tree, height })
         }
-    };
-    let tree = SExpr { at, kind };
-    Ok(Parsed { tree, height })
+    }
 }
 
 /// A function applied to an argument.
@@ -125,12 +137,18 @@ pub fn prefixed_by(alloc: Global, at: u32, prefix: Prefix, item: Parsed) -> Resu
 {
     let height = item.height + 1;
     let item = Box::new(alloc, item.tree)?;
-    let kind = match prefix {
-        Prefix::Present => SExprKind::Present(item),
-        Prefix::Exn(number) => SExprKind::Exn(number, Some(item)),
-    };
-    let tree = SExpr { at, kind };
-    Ok(Parsed { tree, height })
+    match prefix {
+        Prefix::Present => {
+            let kind = SExprKind::Present(item);
+            let tree = SExpr { at, kind };
+            Ok(Parsed { tree, height })
+        }
+        Prefix::Exn(number) => {
+            let kind = SExprKind::Exn(number, Some(item));
+            let tree = SExpr { at, kind };
+            Ok(Parsed { tree, height })
+        }
+    }
 }
 
 /// A `let`.

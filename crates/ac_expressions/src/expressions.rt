@@ -4,7 +4,7 @@
 ghost use Rattle.std.specs.Prelude.{◌≡◌, ◌<◌, ◌≤◌, ◌-◌, ◌^◌, ◌∷◌, suc, length, map, IfOk, IfErr, IfSome, MatchOption};
 ghost use Rattle.ac_syntax.specs.Signs.{Fixed};
 ghost use Rattle.ac_syntax.specs.Trees.{arm_trees, height, highest_arm};
-ghost use Rattle.ac_syntax.specs.Expressions.{Expr, Part, Binary, After, Unary, App, Atom, front, ToRight, side_of, IsTree, IsExpr};
+ghost use Rattle.ac_syntax.specs.Expressions.{Expr, Part, Binary, After, Unary, App, Args, Atom, front, ToRight, side_of, IsTree, IsExpr};
 ghost use Rattle.ac_syntax.specs.ReadSigns.{read_signs};
 ghost use Rattle.ac_syntax.specs.ReadTrees.{expr_of, arm_of};
 ghost use Rattle.ac_syntax.specs.Parsing.{OnSyntax};
@@ -86,7 +86,10 @@ fn arms<'s, 't>(
         if let Some(end) = after(Symbol::End, later) {
             return Ok(((arms, height), end));
         }
-        rest = expect(Symbol::Bar, later)?;
+        let Some(behind) = after(Symbol::Bar, later) else {
+            return Err(refused_at(later));
+        };
+        rest = behind;
     }
 }
 
@@ -137,7 +140,10 @@ fn tuple<'s, 't>(
         if let Some(end) = after(Symbol::Close, later) {
             return Ok((build::tuple(at, parts, height), end));
         }
-        rest = expect(Symbol::Comma, later)?;
+        let Some(behind) = after(Symbol::Comma, later) else {
+            return Err(refused_at(later));
+        };
+        rest = behind;
     }
 }
 
@@ -246,8 +252,28 @@ fn applied<'s, 't>(
     ensures shorter { IfOk result (λ x. length x.1.now < length signs.now) }
     ensures none { IfErr result (λ e. OnSyntax e (NoPrefix (read_signs signs.now) → NoTree depth App (read_signs signs.now))) }
 {
-    let at = here(signs);
-    let (mut function, mut rest) = atom(alloc, depth, signs)?;
+    let (function, rest) = atom(alloc, depth, signs)?;
+    arguments(alloc, depth, here(signs), function, rest)
+}
+
+/// What follows a function.
+#[cycle(expressions)]
+fn arguments<'s, 't>(
+    alloc: Global,
+    depth: u32,
+    at: u32,
+    first: Parsed,
+    signs: &'s [Sign<'t>],
+) -> Result<(Parsed, &'s [Sign<'t>]), Stop>
+    requires low { first.height ≤ depth }
+    requires first { measured first }
+    ensures tree { IfOk result (λ x. IsTree depth (Args at (expr_of first.tree)) (read_signs signs.now) (expr_of x.0.tree) (read_signs x.1.now)) }
+    ensures height { IfOk result (λ x. measured x.0) }
+    ensures within { IfOk result (λ x. length x.1.now ≤ length signs.now) }
+    ensures none { IfErr result (λ e. OnSyntax e (NoTree depth (Args at (expr_of first.tree)) (read_signs signs.now))) }
+{
+    let mut function = first;
+    let mut rest = signs;
     while begins_atom(rest) {
         if function.height >= depth {
             return Err(refused_at(rest));

@@ -225,8 +225,8 @@ pub fn after_bar<'s, 't>(signs: &'s [Sign<'t>]) -> &'s [Sign<'t>]
     ensures found { read_signs result.now ≡ after_bar (read_signs signs.now) }
     ensures within { length result.now ≤ length signs.now }
 {
-    match after(Symbol::Bar, signs) {
-        Some(rest) => rest,
-        None => signs,
+    if let Some(rest) = after(Symbol::Bar, signs) {
+        return rest;
     }
+    signs
 }

@@ -55,14 +55,18 @@ fn prefixed_by(alloc: Global, at: u32, prefix: Prefix, item: ParsedPat) -> Resul
 {
     let height = item.height + 1;
     let item = Box::new(alloc, item.tree)?;
-    let kind = match prefix {
-        Prefix::Present => SPatKind::Present(item),
-        Prefix::Exn(number) => SPatKind::Exn(number, Some(item)),
-    };
-    Ok(ParsedPat {
-        tree: SPat { at, kind },
-        height,
-    })
+    match prefix {
+        Prefix::Present => {
+            let kind = SPatKind::Present(item);
+            let tree = SPat { at, kind };
+            Ok(ParsedPat { tree, height })
+        }
+        Prefix::Exn(number) => {
+            let kind = SPatKind::Exn(number, Some(item));
+            let tree = SPat { at, kind };
+            Ok(ParsedPat { tree, height })
+        }
+    }
 }
 
 /// A variable with its type.
@@ -192,7 +196,10 @@ fn tuple<'s, 't>(
             let height = height + 1;
             return Ok((ParsedPat { tree, height }, end));
         }
-        rest = expect(Symbol::Comma, later)?;
+        let Some(behind) = after(Symbol::Comma, later) else {
+            return Err(refused_at(later));
+        };
+        rest = behind;
     }
 }
 
