@@ -15,7 +15,8 @@ use Rattle.ac_syntax.proofs.Exceptions.{apart, nothing_there, same_value}
 use Rattle.ac_syntax.proofs.UniqueTypes.{tail_eq}
 use Rattle.ac_syntax.proofs.Fronts.{begins_not, front_positive, part_stops, semicolon_goes_on}
 use Rattle.ac_syntax.proofs.UniqueExpressions.{unique, at_same}
-use Rattle.ac_expressions.specs.Parsing.{Nothing, Then, Before, Behind, last, more, Made, IsAscribed, NoTree, base_expr, LeafAt, NoLeaf, IsLastPart, IsParts, sequence_tree, IsItems, tuple_tree, IsArm, IsArms, IsChoice}
+use Rattle.ac_expressions.specs.Parsing.{Nothing, Then, Before, Behind, last, more, Made, IsAscribed}
+use Rattle.ac_expressions.specs.Forms.{NoTree, base_expr, LeafAt, NoLeaf, IsLastPart, IsParts, sequence_tree, IsItems, tuple_tree, IsArm, IsArms, IsChoice}
 use Rattle.ac_expressions.proofs.Levels.{closed_atom}
 use Rattle.ac_expressions.proofs.Words.{expr_at}
 

@@ -14,7 +14,8 @@ use Rattle.ac_syntax.proofs.Fronts.{begins_not, with_string_rank, atom_begins, f
 use Rattle.ac_syntax.proofs.UniqueExpressions.{unique, at_same}
 use Rattle.ac_expressions.specs.declared.front.Prefix.{Prefix}
 use Rattle.ac_expressions.specs.declared.front.Prefix.TheVariants as prefix
-use Rattle.ac_expressions.specs.Parsing.{LoneNumber, NoLoneNumber, IsPrefix, PrefixAt, NoPrefix, NoTree, prefixed, OperatorAt, NoOperator}
+use Rattle.ac_expressions.specs.Parsing.{LoneNumber, NoLoneNumber, IsPrefix, PrefixAt, NoPrefix}
+use Rattle.ac_expressions.specs.Forms.{NoTree, prefixed, OperatorAt, NoOperator}
 use Rattle.ac_expressions.proofs.Readers.{One}
 
 -- heights
@@ -466,3 +467,170 @@ past_level k (Fixed a t ∷ ts) pos' low h none' = past_symbol k a t ts low h no
 
 pub after_ended : (D k at : ℕ) (a : Tree) (ts : List Sign) → 1 ≤ k → k ≤ 6 → height a ≤ D → k < front ts → NoOperator k ts → IsTree D (After k at a) ts a ts
 after_ended D k at a ts pos' top low h none' = record { ending = Closed; parses = stop; stops = past_level k ts pos' top h none'; low = low }
+
+left_right : {P : Type 0} → ToLeft ≡ ToRight → P
+left_right e = cc
+
+left_once : {P : Type 0} → ToLeft ≡ Once → P
+left_once e = cc
+
+right_once : {P : Type 0} → ToRight ≡ Once → P
+right_once e = cc
+
+same_operator : {n : ℕ} {o u : Operator} {x : Option (ℕ × Operator)} → x ≡ Some (n, o) → x ≡ Some (n, u) → o ≡ u
+same_operator p q = ap (λ (x : ℕ × Operator). x.1) (same_value p q)
+
+-- behind an operator whose level groups to the left
+record LeftOf (k at : ℕ) (o : Operator) (a : Tree) (ts : List Sign) (e : Tree) (s : List Sign) : Type 0 where
+  b : Tree
+  r : List Sign
+  first : Parses (Binary k) Closed ts b r
+  then : Parses (After (suc k) at (joined at o a b)) Closed r e s
+
+left_of : {k at p : ℕ} {j : Ending} {t : Symbol} {o : Operator} {a e : Tree} {ts s : List Sign} → side_of (suc k) ≡ ToLeft → operator_of t ≡ Some (suc k, o) → Parses (After (suc k) at a) j (Fixed p t ∷ ts) e s → suc (suc k) < front s
+    → LeftOf k at o a ts e s
+left_of {p = p} {t = t} {ts = ts} side is stop h = operator_goes_on p t ts is h
+left_of {k = k} {at = at} {a = a} {e = e} {ts = ts} {s = s} side is (left is' side' p q) h =
+    subst (λ (x : Operator). LeftOf k at x a ts e s) (same_operator is' is) (record { b = _; r = _; first = p; then = q })
+left_of side is (right is' side' p) h = left_right (sym side ∙ side')
+left_of side is (once is' side' p) h = left_once (sym side ∙ side')
+
+-- behind an operator that is the last of its level
+record RightOf (l : Level) (at : ℕ) (o : Operator) (a : Tree) (ts : List Sign) (e : Tree) (s : List Sign) : Type 0 where
+  b : Tree
+  parses : Parses l Closed ts b s
+  is : e ≡ joined at o a b
+
+right_of : {k at p : ℕ} {j : Ending} {t : Symbol} {o : Operator} {a e : Tree} {ts s : List Sign} → side_of (suc k) ≡ ToRight → operator_of t ≡ Some (suc k, o) → Parses (After (suc k) at a) j (Fixed p t ∷ ts) e s → suc (suc k) < front s
+    → RightOf (Binary (suc k)) at o a ts e s
+right_of {p = p} {t = t} {ts = ts} side is stop h = operator_goes_on p t ts is h
+right_of side is (left is' side' p q) h = left_right (sym side' ∙ side)
+right_of {at = at} {a = a} side is (right {b = b} is' side' p) h = record { b = b; parses = p; is = ap (λ (x : Operator). joined at x a b) (same_operator is' is) }
+right_of side is (once is' side' p) h = right_once (sym side ∙ side')
+
+once_of : {k at p : ℕ} {j : Ending} {t : Symbol} {o : Operator} {a e : Tree} {ts s : List Sign} → side_of (suc k) ≡ Once → operator_of t ≡ Some (suc k, o) → Parses (After (suc k) at a) j (Fixed p t ∷ ts) e s → suc (suc k) < front s
+    → RightOf (Binary k) at o a ts e s
+once_of {p = p} {t = t} {ts = ts} side is stop h = operator_goes_on p t ts is h
+once_of side is (left is' side' p q) h = left_once (sym side' ∙ side)
+once_of side is (right is' side' p) h = right_once (sym side' ∙ side)
+once_of {at = at} {a = a} side is (once {b = b} is' side' p) h = record { b = b; parses = p; is = ap (λ (x : Operator). joined at x a b) (same_operator is' is) }
+
+pub record LeftStep (k K D at : ℕ) (a : Tree) (o : Operator) (ts behind : List Sign) : Type 0 where
+  pub none : NoTree (D - 1) (Binary k) behind → NoTree D (After K at a) ts
+  pub high : D ≤ height a → NoTree D (After K at a) ts
+  pub next : (b : Tree) (r : List Sign) → IsTree (D - 1) (Binary k) behind b r → Same D (After K at a) ts (After K at (joined at o a b)) r
+
+pub record RightStep (l : Level) (K D at : ℕ) (a : Tree) (o : Operator) (ts behind : List Sign) : Type 0 where
+  pub none : NoTree (D - 1) l behind → NoTree D (After K at a) ts
+  pub high : D ≤ height a → NoTree D (After K at a) ts
+  pub tree : (b : Tree) (r : List Sign) → IsTree (D - 1) l behind b r → height a < D → suc K < front r → IsTree D (After K at a) ts (joined at o a b) r
+  pub again : (b : Tree) (r : List Sign) → IsTree (D - 1) l behind b r → (suc K < front r → ⊥) → NoTree D (After K at a) ts
+
+module _ (k D at : ℕ) (a : Tree) (o : Operator) (ts behind : List Sign) (w : OperatorAt (suc k) o ts behind) where
+  after_at : {j : Ending} {e : Tree} {s : List Sign} → Parses (After (suc k) at a) j ts e s → Parses (After (suc k) at a) j (Fixed w.at w.symbol ∷ behind) e s
+  after_at p = at_same (sym w.is) p
+
+  module _ (side : side_of (suc k) ≡ ToLeft) where
+    left_here : (e : Tree) (s : List Sign) → IsTree D (After (suc k) at a) ts e s → LeftOf k at o a behind e s
+    left_here e s v = left_of side w.named (after_at v.parses) v.stops
+
+    left_low : (e : Tree) (s : List Sign) → (v : IsTree D (After (suc k) at a) ts e s) → max (height a) (height (left_here e s v).b) + 1 ≤ D
+    left_low e s v =
+        let n = left_here e s v in
+        let h : height (joined at o a n.b) ≤ height e = after_height n.then in
+        let low : height e ≤ D = v.low in
+        omega (arith, joined_height at o a n.b)
+
+    right_side : (e : Tree) (s : List Sign) → (v : IsTree D (After (suc k) at a) ts e s) → IsTree (D - 1) (Binary k) behind (left_here e s v).b (left_here e s v).r
+    right_side e s v =
+        let n = left_here e s v in
+        let low = left_low e s v in
+        record { ending = Closed; parses = n.first; stops = front_stops n.then v.stops; low = omega arith }
+
+    left_next : (b : Tree) (r : List Sign) → IsTree (D - 1) (Binary k) behind b r → Same D (After (suc k) at a) ts (After (suc k) at (joined at o a b)) r
+    left_next b r p = record {
+      back = λ e s v. record { ending = Closed; parses = at_same w.is (left w.named side (closed_binary p.parses) (closed_after v.parses)); stops = v.stops; low = v.low };
+      forth = λ e s v.
+          let n = left_here e s v in
+          let d = one_tree (D - 1) (Binary k) _ _ _ _ _ (right_side e s v) p in
+          record {
+            ending = Closed;
+            parses = at_same (sym d.1) (subst (λ (x : Tree). Parses (After (suc k) at (joined at o a x)) Closed n.r e s) d.0 n.then);
+            stops = v.stops;
+            low = v.low;
+          };
+    }
+
+    left_at : LeftStep k (suc k) D at a o ts behind
+    left_at = record {
+      none = λ none' e s v. none' _ _ (right_side e s v);
+      high = λ high e s v. let low = left_low e s v in absurd (omega arith);
+      next = left_next;
+    }
+
+  module _ (side : side_of (suc k) ≡ ToRight) where
+    right_here : (e : Tree) (s : List Sign) → (v : IsTree D (After (suc k) at a) ts e s) → (b : Tree) × (IsTree (D - 1) (Binary (suc k)) behind b s × (max (height a) (height b) + 1 ≤ D))
+    right_here e s v =
+        let n = right_of side w.named (after_at v.parses) v.stops in
+        let low : height e ≤ D = v.low in
+        let h : max (height a) (height n.b) + 1 ≤ D = omega (arith, ap height n.is, joined_height at o a n.b) in
+        (n.b, (record { ending = Closed; parses = n.parses; stops = v.stops; low = omega arith }, h))
+
+    right_at : RightStep (Binary (suc k)) (suc k) D at a o ts behind
+    right_at = record {
+      none = λ none' e s v. let n = right_here e s v in none' n.0 s n.1.0;
+      high = λ high e s v. let n = right_here e s v in let h : max (height a) (height n.0) + 1 ≤ D = n.1.1 in absurd (omega arith);
+      tree = λ b r p h stops'. record {
+        ending = Closed;
+        parses = at_same w.is (right w.named side (closed_binary p.parses));
+        stops = stops';
+        low = let low : height b ≤ D - 1 = p.low in omega (arith, joined_height at o a b);
+      };
+      again = λ b r p not e s v.
+          let n = right_here e s v in
+          let d = one_tree (D - 1) (Binary (suc k)) _ _ _ _ _ p n.1.0 in
+          let h : suc (suc k) < front s = v.stops in
+          not (subst (λ (l : List Sign). suc (suc k) < front l) (sym d.1) h);
+    }
+
+  module _ (side : side_of (suc k) ≡ Once) where
+    once_here : (e : Tree) (s : List Sign) → (v : IsTree D (After (suc k) at a) ts e s) → (b : Tree) × (IsTree (D - 1) (Binary k) behind b s × (max (height a) (height b) + 1 ≤ D))
+    once_here e s v =
+        let n = once_of side w.named (after_at v.parses) v.stops in
+        let low : height e ≤ D = v.low in
+        let stops : suc (suc k) < front s = v.stops in
+        let h : max (height a) (height n.b) + 1 ≤ D = omega (arith, ap height n.is, joined_height at o a n.b) in
+        (n.b, (record { ending = Closed; parses = n.parses; stops = omega arith; low = omega arith }, h))
+
+    once_at : RightStep (Binary k) (suc k) D at a o ts behind
+    once_at = record {
+      none = λ none' e s v. let n = once_here e s v in none' n.0 s n.1.0;
+      high = λ high e s v. let n = once_here e s v in let h : max (height a) (height n.0) + 1 ≤ D = n.1.1 in absurd (omega arith);
+      tree = λ b r p h stops'. record {
+        ending = Closed;
+        parses = at_same w.is (once w.named side (closed_binary p.parses));
+        stops = stops';
+        low = let low : height b ≤ D - 1 = p.low in omega (arith, joined_height at o a b);
+      };
+      again = λ b r p not e s v.
+          let n = once_here e s v in
+          let d = one_tree (D - 1) (Binary k) _ _ _ _ _ p n.1.0 in
+          let h : suc (suc k) < front s = v.stops in
+          not (subst (λ (l : List Sign). suc (suc k) < front l) (sym d.1) h);
+    }
+
+pub left_step : (k K D at : ℕ) (a : Tree) (o : Operator) (ts behind : List Sign) → suc k ≡ K → OperatorAt K o ts behind → side_of K ≡ ToLeft → LeftStep k K D at a o ts behind
+left_step k K D at a o ts behind level = subst (λ (n : ℕ). OperatorAt n o ts behind → side_of n ≡ ToLeft → LeftStep k n D at a o ts behind) level (left_at k D at a o ts behind)
+
+pub right_step : (k K D at : ℕ) (a : Tree) (o : Operator) (ts behind : List Sign) → suc k ≡ K → OperatorAt K o ts behind → side_of K ≡ ToRight → RightStep (Binary K) K D at a o ts behind
+right_step k K D at a o ts behind level = subst (λ (n : ℕ). OperatorAt n o ts behind → side_of n ≡ ToRight → RightStep (Binary n) n D at a o ts behind) level (right_at k D at a o ts behind)
+
+pub once_step : (k K D at : ℕ) (a : Tree) (o : Operator) (ts behind : List Sign) → suc k ≡ K → OperatorAt K o ts behind → side_of K ≡ Once → RightStep (Binary k) K D at a o ts behind
+once_step k K D at a o ts behind level = subst (λ (n : ℕ). OperatorAt n o ts behind → side_of n ≡ Once → RightStep (Binary k) n D at a o ts behind) level (once_at k D at a o ts behind)
+
+-- a further operator of the same level goes on
+pub goes_on : (K : ℕ) (o : Operator) (ts behind : List Sign) → OperatorAt K o ts behind → suc K < front ts → ⊥
+goes_on K o ts behind w h = absurd (omega (arith, ap front w.is, front_operator w.at w.symbol behind w.named))
+
+pub past_operator : (K : ℕ) (ts : List Sign) → 1 ≤ K → K ≤ 6 → K < front ts → NoOperator K ts → suc K < front ts
+past_operator K ts pos' top h none' = past_level K ts pos' top h none'

@@ -15,7 +15,7 @@ use Rattle.ac_syntax.proofs.UniquePatterns.{symbol_begins_single, begins_single,
 use Rattle.ac_expressions.specs.declared.front.Prefix.{Prefix}
 use Rattle.ac_expressions.specs.declared.front.Prefix.TheVariants as prefix
 use Rattle.ac_expressions.specs.Parsing.{Nothing, Before, last, more, IsTyped, NumberAt, NoNumber, is_lower, IsPrefix, PrefixAt, NoPrefix, NoPat, prefixed_pat, base_pat, PatLeafAt, NoPatLeaf, IsPats, PatTupleOf}
-use Rattle.ac_expressions.proofs.Readers.{One, ManyRead, symbol_once, other_symbol}
+use Rattle.ac_expressions.proofs.Readers.{One, AllRead}
 
 -- heights
 
@@ -219,6 +219,17 @@ pats_back (more b c) = more_pats (before_at b) (pats_back c)
 pats_low : (D : ℕ) {ts s : List Sign} {list : List PatTree} → IsPats D ts list s → highest_pat (pat_trees list) ≤ D
 pats_low D (last {x = p} b) = let low : pat_height p ≤ D = b.first.low in omega arith
 pats_low D (more {x = p} b c) = let low : pat_height p ≤ D = b.first.low in let h = pats_low D c in omega arith
+
+pub tuple_of : (D at : ℕ) (first : PatTree) (ts s : List Sign) (parts : List PatTree) (p : PatTree) → AllRead (Before Comma (IsPatTree D Pattern)) (Before Close (IsPatTree D Pattern)) first ts parts s → p ≡ PatTuple at (pat_trees parts)
+    → PatTupleOf D at first ts p s
+tuple_of D at first ts s parts p a is = record { others = a.others; is = is ∙ ap (λ (l : List PatTree). PatTuple at (pat_trees l)) a.is; read = a.read }
+
+highest_one_more : (ps : List PatTree) (p : PatTree) → highest_pat (pat_trees (ps ++ p ∷ [])) ≡ max (highest_pat (pat_trees ps)) (pat_height p)
+highest_one_more [] p = omega arith
+highest_one_more (q ∷ ps) p = let h = highest_one_more ps p in omega arith
+
+pub highest_next : (ps : List PatTree) (p : PatTree) (all : List PatTree) (n m k : ℕ) → all ≡ ps ++ p ∷ [] → n ≡ highest_pat (pat_trees ps) → m ≡ pat_height p → k ≡ max n m → k ≡ highest_pat (pat_trees all)
+highest_next ps p all n m k is n_is m_is k_is = omega (arith, ap (λ (l : List PatTree). highest_pat (pat_trees l)) is, highest_one_more ps p)
 
 -- what stands in parentheses that hold no unit and no variable
 data Inside (at : ℕ) (ts : List Sign) (p : PatTree) (s : List Sign) : Type 0 where

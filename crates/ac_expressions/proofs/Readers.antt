@@ -2,7 +2,7 @@
 use Rattle.std.proofs.Common.{◌≡◌, ℕ, List, [], ◌∷◌, ◌++◌, refl, sym, ◌∙◌, ap, subst, append_assoc}
 use mathlib.Core.Path.{ap₂}
 use Rattle.ac_types.specs.Types.{Bytes}
-use Rattle.ac_syntax.specs.Signs.{Sign, Lower, Fixed}
+use Rattle.ac_syntax.specs.Signs.{Sign, Lower, Fixed, here}
 use Rattle.ac_syntax.specs.Trees.{NameAt, TypeTree}
 use Rattle.ac_syntax.specs.Types.{IsType, Whole}
 use Rattle.ac_syntax.specs.Parsing.{SymbolAt, NoSymbol, NoLower, NoType}
@@ -22,6 +22,9 @@ head_symbol e = cc
 
 pub other_symbol : {t u : Symbol} {ts r s : List Sign} → (t ≡ u → ⊥) → SymbolAt t ts r → SymbolAt u ts s → ⊥
 other_symbol other p q = other (head_symbol (sym p.is ∙ q.is))
+
+pub word_at : {t : Symbol} {ts r : List Sign} {at : ℕ} → SymbolAt t ts r → at ≡ here ts → ts ≡ Fixed at t ∷ r
+word_at {t = t} {r = r} w place = w.is ∙ ap (λ (n : ℕ). Fixed n t ∷ r) (sym (place ∙ ap here w.is))
 
 -- one thing, and another behind it
 

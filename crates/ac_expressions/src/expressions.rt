@@ -4,15 +4,15 @@
 ghost use Rattle.std.specs.Prelude.{◌≡◌, ◌<◌, ◌≤◌, ◌-◌, ◌^◌, ◌∷◌, suc, length, map, IfOk, IfErr, IfSome, MatchOption};
 ghost use Rattle.ac_syntax.specs.Signs.{Fixed};
 ghost use Rattle.ac_syntax.specs.Trees.{arm_trees, height, highest_arm};
-ghost use Rattle.ac_syntax.specs.Expressions.{Expr, Part, Binary, After, Unary, App, Args, Atom, front, ToRight, side_of, IsTree, IsExpr};
+ghost use Rattle.ac_syntax.specs.Expressions.{Expr, Part, Binary, After, Unary, App, Args, Atom, front, ToLeft, ToRight, Once, side_of, IsTree, IsExpr};
 ghost use Rattle.ac_syntax.specs.ReadSigns.{read_signs};
 ghost use Rattle.ac_syntax.specs.ReadTrees.{expr_of, arm_of};
 ghost use Rattle.ac_syntax.specs.Parsing.{OnSyntax};
-ghost use Rattle.ac_expressions.specs.Parsing.{NoExpr, Nothing, Before, Made, NoPrefix, keyword_symbol, NoTree, measured, operator_read, OperatorAt, NoOperator, IsLet, let_tree, IsLetRec, let_rec_tree, IsFun, fun_tree, IsRec, rec_tree, IsIf, if_tree, IsMarshal, marshal_tree, IsUnmarshal, unmarshal_tree, IsRaise, raise_tree, IsParts, sequence_tree, IsItems, tuple_tree, IsArms, IsChoice};
+ghost use Rattle.ac_expressions.specs.Parsing.{NoExpr, Nothing, Before, Made, NoPrefix};
+ghost use Rattle.ac_expressions.specs.Forms.{keyword_symbol, NoTree, measured, operator_read, OperatorAt, NoOperator, IsLet, let_tree, IsLetRec, let_rec_tree, IsFun, fun_tree, IsRec, rec_tree, IsIf, if_tree, IsMarshal, marshal_tree, IsUnmarshal, unmarshal_tree, IsRaise, raise_tree, IsParts, sequence_tree, IsItems, tuple_tree, IsArm, IsArms, IsChoice};
 
 use crate::binders::{argument, ascribed, function_head, type_behind, typed};
-use crate::build as build;
-use crate::build::{Choice, Operator, Parsed, operator_of};
+use crate::build::{self, Choice, Operator, Parsed, operator_of};
 use crate::front::{
     Keyword, after_bar, begins_atom, constant, expect, lone_number, next_keyword, next_prefix,
 };
@@ -52,12 +52,33 @@ fn before<'s, 't>(
 ) -> Result<(Parsed, &'s [Sign<'t>]), Stop>
     ensures tree { IfOk result (λ x. Before symbol (IsTree depth Expr) (read_signs signs.now) (expr_of x.0.tree) (read_signs x.1.now)) }
     ensures height { IfOk result (λ x. measured x.0) }
+    ensures low { IfOk result (λ x. x.0.height ≤ depth) }
     ensures shorter { IfOk result (λ x. length x.1.now < length signs.now) }
     ensures none { IfErr result (λ e. OnSyntax e (Nothing (Before symbol (IsTree depth Expr)) (read_signs signs.now))) }
 {
     let (tree, behind) = expr(alloc, depth, signs)?;
     let rest = expect(symbol, behind)?;
     Ok((tree, rest))
+}
+
+/// An arm, and the height of its expression.
+#[cycle(expressions)]
+fn arm<'s, 't>(
+    alloc: Global,
+    depth: u32,
+    signs: &'s [Sign<'t>],
+) -> Result<((SArm, u32), &'s [Sign<'t>]), Stop>
+    ensures tree { IfOk result (λ x. IsArm depth (read_signs signs.now) (arm_of x.0.0) (read_signs x.1.now)) }
+    ensures height { IfOk result (λ x. x.0.1 ≡ height (arm_of x.0.0).1) }
+    ensures shorter { IfOk result (λ x. length x.1.now < length signs.now) }
+    ensures none { IfErr result (λ e. OnSyntax e (Nothing (IsArm depth) (read_signs signs.now))) }
+{
+    let (pat, behind) = pattern(alloc, signs)?;
+    let later = expect(Symbol::Arrow, behind)?;
+    let (body, rest) = expr(alloc, depth, later)?;
+    let height = body.height;
+    let body = body.tree;
+    Ok(((SArm { pat, body }, height), rest))
 }
 
 /// Arms and their `end`, with the height of the highest.
@@ -73,24 +94,17 @@ fn arms<'s, 't>(
     ensures shorter { IfOk result (λ x. length x.1.now < length signs.now) }
     ensures none { IfErr result (λ e. OnSyntax e (Nothing (IsArms depth) (read_signs signs.now))) }
 {
-    let mut height = 0;
+    let ((first, mut height), mut rest) = arm(alloc, depth, signs)?;
     let mut arms = Many::new(alloc);
-    let mut rest = signs;
-    loop {
-        let (pat, behind) = pattern(alloc, rest)?;
-        let behind = expect(Symbol::Arrow, behind)?;
-        let (body, later) = expr(alloc, depth, behind)?;
-        height = height.max(body.height);
-        let body = body.tree;
-        arms.push(SArm { pat, body })?;
-        if let Some(end) = after(Symbol::End, later) {
-            return Ok(((arms, height), end));
-        }
-        let Some(behind) = after(Symbol::Bar, later) else {
-            return Err(refused_at(later));
-        };
-        rest = behind;
+    arms.push(first)?;
+    while let Some(behind) = after(Symbol::Bar, rest) {
+        let ((next, own), later) = arm(alloc, depth, behind)?;
+        height = height.max(own);
+        arms.push(next)?;
+        rest = later;
     }
+    let end = expect(Symbol::End, rest)?;
+    Ok(((arms, height), end))
 }
 
 /// What stands behind a `match` or a `try`.
@@ -129,22 +143,19 @@ fn tuple<'s, 't>(
     ensures shorter { IfOk result (λ x. length x.1.now < length signs.now) }
     ensures none { IfErr result (λ e. OnSyntax e (Nothing (IsItems depth) (read_signs signs.now))) }
 {
-    let mut height = first.height;
+    let (second, mut rest) = expr(alloc, depth, signs)?;
+    let mut height = first.height.max(second.height);
     let mut parts = Many::new(alloc);
     parts.push(first.tree)?;
-    let mut rest = signs;
-    loop {
-        let (part, later) = expr(alloc, depth, rest)?;
+    parts.push(second.tree)?;
+    while let Some(behind) = after(Symbol::Comma, rest) {
+        let (part, later) = expr(alloc, depth, behind)?;
         height = height.max(part.height);
         parts.push(part.tree)?;
-        if let Some(end) = after(Symbol::Close, later) {
-            return Ok((build::tuple(at, parts, height), end));
-        }
-        let Some(behind) = after(Symbol::Comma, later) else {
-            return Err(refused_at(later));
-        };
-        rest = behind;
+        rest = later;
     }
+    let end = expect(Symbol::Close, rest)?;
+    Ok((build::tuple(at, parts, height), end))
 }
 
 /// What stands behind a `(`.
@@ -345,7 +356,8 @@ fn to_left<'s, 't>(
     first: Parsed,
     signs: &'s [Sign<'t>],
 ) -> Result<(Parsed, &'s [Sign<'t>]), Stop>
-    requires level { (0 < level) × (level ≤ 2) }
+    requires level { (0 < level) × (level ≤ 6) }
+    requires side { side_of level ≡ ToLeft }
     requires low { first.height ≤ depth }
     requires first { measured first }
     requires stops { level < front (read_signs signs.now) }
@@ -377,7 +389,8 @@ fn to_right<'s, 't>(
     first: Parsed,
     signs: &'s [Sign<'t>],
 ) -> Result<(Parsed, &'s [Sign<'t>]), Stop>
-    requires level { side_of level ≡ ToRight }
+    requires level { (0 < level) × (level ≤ 6) }
+    requires side { side_of level ≡ ToRight }
     requires low { first.height ≤ depth }
     requires first { measured first }
     requires stops { level < front (read_signs signs.now) }
@@ -406,7 +419,8 @@ fn once<'s, 't>(
     first: Parsed,
     signs: &'s [Sign<'t>],
 ) -> Result<(Parsed, &'s [Sign<'t>]), Stop>
-    requires level { level ≡ 4 }
+    requires level { (0 < level) × (level ≤ 6) }
+    requires side { side_of level ≡ Once }
     requires low { first.height ≤ depth }
     requires first { measured first }
     requires stops { level < front (read_signs signs.now) }
@@ -679,19 +693,18 @@ fn sequence<'s, 't>(
     ensures shorter { IfOk result (λ x. length x.1.now < length signs.now) }
     ensures none { IfErr result (λ e. OnSyntax e (Nothing (IsParts depth) (read_signs signs.now))) }
 {
-    let mut height = first.height;
+    let (second, mut rest) = part(alloc, depth, signs)?;
+    let mut height = first.height.max(second.height);
     let mut parts = Many::new(alloc);
     parts.push(first.tree)?;
-    let mut rest = signs;
-    loop {
-        let (next, later) = part(alloc, depth, rest)?;
+    parts.push(second.tree)?;
+    while let Some(behind) = after(Symbol::Semicolon, rest) {
+        let (next, later) = part(alloc, depth, behind)?;
         height = height.max(next.height);
         parts.push(next.tree)?;
-        let Some(behind) = after(Symbol::Semicolon, later) else {
-            return Ok((build::sequence(at, parts, height), later));
-        };
-        rest = behind;
+        rest = later;
     }
+    Ok((build::sequence(at, parts, height), rest))
 }
 
 /// A part, or a sequence of several.

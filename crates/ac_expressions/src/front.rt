@@ -5,7 +5,8 @@ ghost use Rattle.ac_syntax.specs.Expressions.{after_bar, begins_atom, symbol_beg
 ghost use Rattle.ac_syntax.specs.ReadSigns.{read_signs};
 ghost use Rattle.ac_syntax.specs.ReadTrees.{name_of};
 ghost use Rattle.ac_syntax.specs.Parsing.{OnSyntax, SymbolAt, NoSymbol};
-ghost use Rattle.ac_expressions.specs.Parsing.{Nothing, IsName, NumberAt, NoNumber, LoneNumber, NoLoneNumber, is_lower, IsPrefix, PrefixAt, NoPrefix, keyword_symbol, NoKeyword};
+ghost use Rattle.ac_expressions.specs.Parsing.{Nothing, IsName, NumberAt, NoNumber, LoneNumber, NoLoneNumber, is_lower, IsPrefix, PrefixAt, NoPrefix};
+ghost use Rattle.ac_expressions.specs.Forms.{keyword_symbol, NoKeyword};
 
 use ac_syntax::{SName, Sign, SignKind, Stop, Symbol, after, next, next_name, refused_at};
 use ac_types::Memory;

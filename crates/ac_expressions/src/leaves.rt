@@ -5,7 +5,7 @@ ghost use Rattle.ac_syntax.specs.Signs.{Upper};
 ghost use Rattle.ac_syntax.specs.ReadSigns.{read_signs};
 ghost use Rattle.ac_syntax.specs.ReadTrees.{expr_of, expr_kind_of};
 ghost use Rattle.ac_syntax.specs.Parsing.{OnSyntax, NoSymbol};
-ghost use Rattle.ac_expressions.specs.Parsing.{base_expr, LeafAt, NoLeaf};
+ghost use Rattle.ac_expressions.specs.Forms.{base_expr, LeafAt, NoLeaf};
 
 use crate::front::{constant, expect, name};
 use ac_syntax::{SExpr, SExprKind, SName, Sign, SignKind, Stop, Symbol, next, refused_at};

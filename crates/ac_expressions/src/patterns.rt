@@ -182,25 +182,22 @@ fn tuple<'s, 't>(
     ensures shorter { IfOk result (λ x. length x.1.now < length signs.now) }
     ensures none { IfErr result (λ e. OnSyntax e (Nothing (IsPats (depth - 1)) (read_signs signs.now))) }
 {
-    let mut height = first.height;
+    let (second, mut rest) = whole(alloc, depth - 1, signs)?;
+    let mut height = first.height.max(second.height);
     let mut parts = Many::new(alloc);
     parts.push(first.tree)?;
-    let mut rest = signs;
-    loop {
-        let (part, later) = whole(alloc, depth - 1, rest)?;
+    parts.push(second.tree)?;
+    while let Some(behind) = after(Symbol::Comma, rest) {
+        let (part, later) = whole(alloc, depth - 1, behind)?;
         height = height.max(part.height);
         parts.push(part.tree)?;
-        if let Some(end) = after(Symbol::Close, later) {
-            let kind = SPatKind::Tuple(parts);
-            let tree = SPat { at, kind };
-            let height = height + 1;
-            return Ok((ParsedPat { tree, height }, end));
-        }
-        let Some(behind) = after(Symbol::Comma, later) else {
-            return Err(refused_at(later));
-        };
-        rest = behind;
+        rest = later;
     }
+    let end = expect(Symbol::Close, rest)?;
+    let kind = SPatKind::Tuple(parts);
+    let tree = SPat { at, kind };
+    let height = height + 1;
+    Ok((ParsedPat { tree, height }, end))
 }
 
 /// What stands behind a `(`.

@@ -1,0 +1,149 @@
+use Rattle.std.proofs.Common.{◌≡◌, ◌<◌, ◌≤◌, ◌+◌, ◌*◌, ◌-◌, ◌^◌, map, length}
+use Rattle.ac_syntax.specs.Trees.{trees, arm_trees, height, highest, highest_arm}
+use Rattle.ac_syntax.specs.Expressions.{Expr, Part, After, Args, front, IsTree}
+use Rattle.ac_syntax.specs.ReadSigns.{read_signs}
+use Rattle.ac_syntax.specs.ReadTrees.{expr_of, arm_of}
+use Rattle.ac_syntax.specs.declared.sign.Symbol.TheVariants.{Bar, Close, Comma, End, Semicolon}
+use Rattle.ac_expressions.specs.Parsing.{Before}
+use Rattle.ac_expressions.specs.Forms.{IsArm, IsLastPart}
+use Rattle.ac_expressions.proofs.Levels.{Same}
+use Rattle.ac_expressions.proofs.Readers.{SoFar, ManyRead}
+use Rattle.ac_expressions.proofs.expressions.+expressions.Given as goal
+
+-- twenty for each sign, and one for each level
+abbrev pub decreases-atom : goal.decreases-atom
+decreases-atom l = 20 * length l.signs.now
+
+abbrev pub decreases-arms : goal.decreases-arms
+decreases-arms l = 20 * length l.signs.now
+
+abbrev pub decreases-arguments : goal.decreases-arguments
+decreases-arguments l = 20 * length l.signs.now + 1
+
+abbrev pub decreases-applied : goal.decreases-applied
+decreases-applied l = 20 * length l.signs.now + 2
+
+abbrev pub decreases-app : goal.decreases-app
+decreases-app l = 20 * length l.signs.now + 3
+
+abbrev pub decreases-unary : goal.decreases-unary
+decreases-unary l = 20 * length l.signs.now + 4
+
+abbrev pub decreases-minus : goal.decreases-minus
+decreases-minus l = 20 * length l.signs.now + 5
+
+abbrev pub decreases-to_left : goal.decreases-to_left
+decreases-to_left l = 20 * length l.signs.now
+
+abbrev pub decreases-to_right : goal.decreases-to_right
+decreases-to_right l = 20 * length l.signs.now
+
+abbrev pub decreases-once : goal.decreases-once
+decreases-once l = 20 * length l.signs.now
+
+abbrev pub decreases-binary : goal.decreases-binary
+decreases-binary l = 20 * length l.signs.now + 6 + l.level
+
+abbrev pub decreases-part : goal.decreases-part
+decreases-part l = 20 * length l.signs.now + 13
+
+abbrev pub decreases-expr : goal.decreases-expr
+decreases-expr l = 20 * length l.signs.now + 14
+
+abbrev pub decreases-sequence : goal.decreases-sequence
+decreases-sequence l = 20 * length l.signs.now + 14
+
+abbrev pub decreases-before : goal.decreases-before
+decreases-before l = 20 * length l.signs.now + 15
+
+abbrev pub decreases-tuple : goal.decreases-tuple
+decreases-tuple l = 20 * length l.signs.now + 15
+
+abbrev pub decreases-opened : goal.decreases-opened
+decreases-opened l = 20 * length l.signs.now + 15
+
+abbrev pub decreases-choice : goal.decreases-choice
+decreases-choice l = 20 * length l.signs.now + 16
+
+abbrev pub decreases-let_in : goal.decreases-let_in
+decreases-let_in l = 20 * length l.signs.now + 16
+
+abbrev pub decreases-let_rec : goal.decreases-let_rec
+decreases-let_rec l = 20 * length l.signs.now + 16
+
+abbrev pub decreases-fun : goal.decreases-fun
+decreases-fun l = 20 * length l.signs.now + 16
+
+abbrev pub decreases-rec : goal.decreases-rec
+decreases-rec l = 20 * length l.signs.now + 16
+
+abbrev pub decreases-if_else : goal.decreases-if_else
+decreases-if_else l = 20 * length l.signs.now + 16
+
+abbrev pub decreases-marshal : goal.decreases-marshal
+decreases-marshal l = 20 * length l.signs.now + 16
+
+abbrev pub decreases-unmarshal : goal.decreases-unmarshal
+decreases-unmarshal l = 20 * length l.signs.now + 16
+
+abbrev pub decreases-raise : goal.decreases-raise
+decreases-raise l = 20 * length l.signs.now + 16
+
+abbrev pub decreases-keyword_part : goal.decreases-keyword_part
+decreases-keyword_part l = 20 * length l.signs.now + 17
+
+abbrev pub invariant-to_left-loop-operator : goal.invariant-to_left-loop-operator
+invariant-to_left-loop-operator l = record {
+  same : Same l.depth (After l.level l.at (expr_of l.fn.first.tree)) (read_signs l.signs) (After l.level l.at (expr_of l.left.tree)) (read_signs l.rest);
+  height : l.left.height ≡ height (expr_of l.left.tree);
+  low : l.left.height ≤ l.depth;
+  stops : l.level < front (read_signs l.rest);
+  shorter : length l.rest ≤ length l.signs;
+}
+
+abbrev pub decreases-to_left-loop-operator : goal.decreases-to_left-loop-operator
+decreases-to_left-loop-operator l = length l.rest
+
+abbrev pub invariant-arguments-loop-rest : goal.invariant-arguments-loop-rest
+invariant-arguments-loop-rest l = record {
+  same : Same l.depth (Args l.at (expr_of l.fn.first.tree)) (read_signs l.signs) (Args l.at (expr_of l.function.tree)) (read_signs l.rest);
+  height : l.function.height ≡ height (expr_of l.function.tree);
+  low : l.function.height ≤ l.depth;
+  shorter : length l.rest ≤ length l.signs;
+}
+
+abbrev pub decreases-arguments-loop-rest : goal.decreases-arguments-loop-rest
+decreases-arguments-loop-rest l = length l.rest
+
+abbrev pub invariant-tuple-loop-parts : goal.invariant-tuple-loop-parts
+invariant-tuple-loop-parts l = record {
+  read : ManyRead (Before Comma (IsTree l.depth Expr)) (Before Close (IsTree l.depth Expr)) (expr_of l.fn.first.tree) (read_signs l.signs) (map expr_of l.parts) (read_signs l.rest);
+  height : l.height ≡ highest (trees (map expr_of l.parts));
+  low : l.height < 2 ^ 32 - 1;
+  shorter : length l.rest ≤ length l.signs;
+}
+
+abbrev pub decreases-tuple-loop-parts : goal.decreases-tuple-loop-parts
+decreases-tuple-loop-parts l = length l.rest
+
+abbrev pub invariant-sequence-loop-parts : goal.invariant-sequence-loop-parts
+invariant-sequence-loop-parts l = record {
+  read : ManyRead (Before Semicolon (IsTree l.depth Part)) (IsLastPart l.depth) (expr_of l.fn.first.tree) (read_signs l.signs) (map expr_of l.parts) (read_signs l.rest);
+  height : l.height ≡ highest (trees (map expr_of l.parts));
+  low : l.height < 2 ^ 32 - 1;
+  shorter : length l.rest ≤ length l.signs;
+}
+
+abbrev pub decreases-sequence-loop-parts : goal.decreases-sequence-loop-parts
+decreases-sequence-loop-parts l = length l.rest
+
+abbrev pub invariant-arms-loop-arms : goal.invariant-arms-loop-arms
+invariant-arms-loop-arms l = record {
+  so : SoFar (IsArm l.depth Bar) (IsArm l.depth End) (read_signs l.signs) (map arm_of l.arms) (read_signs l.rest);
+  height : l.height ≡ highest_arm (arm_trees (map arm_of l.arms));
+  low : l.height ≤ l.depth;
+  shorter : length l.rest ≤ length l.signs;
+}
+
+abbrev pub decreases-arms-loop-arms : goal.decreases-arms-loop-arms
+decreases-arms-loop-arms l = length l.rest
