@@ -15,7 +15,7 @@ use Rattle.ac_syntax.proofs.UniqueExpressions.{unique, at_same}
 use Rattle.ac_expressions.specs.declared.front.Prefix.{Prefix}
 use Rattle.ac_expressions.specs.declared.front.Prefix.TheVariants as prefix
 use Rattle.ac_expressions.specs.Parsing.{LoneNumber, NoLoneNumber, IsPrefix, PrefixAt, NoPrefix}
-use Rattle.ac_expressions.specs.Forms.{NoTree, prefixed, OperatorAt, NoOperator}
+use Rattle.ac_expressions.specs.Forms.{Same, NoTree, prefixed, OperatorAt, NoOperator}
 use Rattle.ac_expressions.proofs.Readers.{One}
 
 -- heights
@@ -100,10 +100,7 @@ closed_after (left is side p q) = left is side p q
 closed_after (right is side p) = right is side p
 closed_after (once is side p) = once is side p
 
--- what stands at one level here is what stands at another there
-pub record Same (D : ℕ) (l : Level) (ts : List Sign) (m : Level) (us : List Sign) : Type 0 where
-  pub back : (e : Tree) (s : List Sign) → IsTree D m us e s → IsTree D l ts e s
-  pub forth : (e : Tree) (s : List Sign) → IsTree D l ts e s → IsTree D m us e s
+-- the same elsewhere
 
 pub same_start : (D : ℕ) (l : Level) (ts : List Sign) → Same D l ts l ts
 same_start D l ts = record { back = λ e s o. o; forth = λ e s o. o }

@@ -10,7 +10,7 @@ use Rattle.ac_syntax.specs.declared.sign.Symbol.{Symbol}
 use Rattle.ac_syntax.specs.declared.sign.Symbol.TheVariants.{Open, Close, Colon, Equals, Arrow, As, Else, Fun, If, In, Let, Marshal, Raise, Rec, Then, Unmarshal}
 use Rattle.ac_syntax.proofs.Fronts.{begins_not, front_positive}
 use Rattle.ac_syntax.proofs.UniqueExpressions.{at_same}
-use Rattle.ac_expressions.specs.declared.front.Keyword.TheVariants as keyword
+use Rattle.ac_expressions.specs.declared.keywords.Keyword.TheVariants as keyword
 use Rattle.ac_expressions.specs.Parsing.{Nothing, Before, Made, IsTyped, IsArgument, IsHead, IsLastType}
 use Rattle.ac_expressions.specs.Forms.{NoTree, NoKeyword, IsLet, let_tree, IsLetRec, let_rec_tree, IsFun, fun_tree, IsRec, rec_tree, IsIf, if_tree, IsMarshal, marshal_tree, IsUnmarshal, unmarshal_tree, IsRaise, raise_tree}
 use Rattle.ac_expressions.proofs.Levels.{closed_atom, closed_binary}

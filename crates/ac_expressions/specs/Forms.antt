@@ -13,12 +13,17 @@ use Rattle.ac_expressions.specs.declared.build.Operator as code
 use Rattle.ac_expressions.specs.declared.build.Operator.TheVariants as operator
 use Rattle.ac_expressions.specs.declared.front.Prefix.{Prefix}
 use Rattle.ac_expressions.specs.declared.front.Prefix.TheVariants as prefix
-use Rattle.ac_expressions.specs.declared.front.Keyword.{Keyword}
-use Rattle.ac_expressions.specs.declared.front.Keyword.TheVariants as keyword
+use Rattle.ac_expressions.specs.declared.keywords.Keyword.{Keyword}
+use Rattle.ac_expressions.specs.declared.keywords.Keyword.TheVariants as keyword
 use Rattle.ac_expressions.specs.Parsing.{Before, Behind, Chain, IsArgument, IsHead, IsLastType, IsTyped, Then}
 
 abbrev pub NoTree : ℕ → Level → List Sign → Type 0
 NoTree depth level ts = (e : Tree) (rest : List Sign) → IsTree depth level ts e rest → ⊥
+
+-- what stands at one level here is what stands at another there
+pub record Same (D : ℕ) (l : Level) (ts : List Sign) (m : Level) (us : List Sign) : Type 0 where
+  pub back : (e : Tree) (s : List Sign) → IsTree D m us e s → IsTree D l ts e s
+  pub forth : (e : Tree) (s : List Sign) → IsTree D l ts e s → IsTree D m us e s
 
 abbrev pub measured : Parsed → Type 0
 measured p = p.height ≡ height (expr_of p.tree)

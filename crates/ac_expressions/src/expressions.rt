@@ -1,21 +1,20 @@
 // Expressions, by recursive descent. Each parser takes the front of the signs and gives what is left.
 // An expression may have the height `depth` at most: what would be higher is refused on the way down.
 
-ghost use Rattle.std.specs.Prelude.{◌≡◌, ◌<◌, ◌≤◌, ◌-◌, ◌^◌, ◌∷◌, suc, length, map, IfOk, IfErr, IfSome, MatchOption};
+ghost use Rattle.std.specs.Prelude.{◌≡◌, ◌<◌, ◌≤◌, ◌-◌, ◌^◌, ◌∷◌, true, suc, length, map, IfOk, IfErr, IfSome, MatchOption};
 ghost use Rattle.ac_syntax.specs.Signs.{Fixed};
 ghost use Rattle.ac_syntax.specs.Trees.{arm_trees, height, highest_arm};
-ghost use Rattle.ac_syntax.specs.Expressions.{Expr, Part, Binary, After, Unary, App, Args, Atom, front, ToLeft, ToRight, Once, side_of, IsTree, IsExpr};
+ghost use Rattle.ac_syntax.specs.Expressions.{Expr, Part, Binary, After, Unary, App, Args, Atom, front, ToLeft, ToRight, Once, begins_atom, side_of, IsTree, IsExpr};
 ghost use Rattle.ac_syntax.specs.ReadSigns.{read_signs};
 ghost use Rattle.ac_syntax.specs.ReadTrees.{expr_of, arm_of};
 ghost use Rattle.ac_syntax.specs.Parsing.{OnSyntax};
 ghost use Rattle.ac_expressions.specs.Parsing.{NoExpr, Nothing, Before, Made, NoPrefix};
-ghost use Rattle.ac_expressions.specs.Forms.{keyword_symbol, NoTree, measured, operator_read, OperatorAt, NoOperator, IsLet, let_tree, IsLetRec, let_rec_tree, IsFun, fun_tree, IsRec, rec_tree, IsIf, if_tree, IsMarshal, marshal_tree, IsUnmarshal, unmarshal_tree, IsRaise, raise_tree, IsParts, sequence_tree, IsItems, tuple_tree, IsArm, IsArms, IsChoice};
+ghost use Rattle.ac_expressions.specs.Forms.{Same, keyword_symbol, NoTree, measured, operator_read, OperatorAt, NoOperator, IsLet, let_tree, IsLetRec, let_rec_tree, IsFun, fun_tree, IsRec, rec_tree, IsIf, if_tree, IsMarshal, marshal_tree, IsUnmarshal, unmarshal_tree, IsRaise, raise_tree, IsParts, sequence_tree, IsItems, tuple_tree, IsArm, IsArms, IsChoice};
 
 use crate::binders::{argument, ascribed, function_head, type_behind, typed};
 use crate::build::{self, Choice, Operator, Parsed, operator_of};
-use crate::front::{
-    Keyword, after_bar, begins_atom, constant, expect, lone_number, next_keyword, next_prefix,
-};
+use crate::front::{begins_atom, constant, expect, lone_number, next_prefix};
+use crate::keywords::{Keyword, after_bar, next_keyword};
 use crate::leaves::leaf;
 use crate::patterns::pattern;
 use ac_syntax::{SArm, SExpr, Sign, SignKind, Stop, Symbol, after, here, next, refused_at};
@@ -286,14 +285,36 @@ fn arguments<'s, 't>(
     let mut function = first;
     let mut rest = signs;
     while begins_atom(rest) {
-        if function.height >= depth {
-            return Err(refused_at(rest));
-        }
-        let (argument, later) = atom(alloc, depth - 1, rest)?;
-        function = build::application(alloc, at, function, argument)?;
+        let (applied, later) = next_argument(alloc, depth, at, function, rest)?;
+        function = applied;
         rest = later;
     }
     Ok((function, rest))
+}
+
+/// A function and the argument that stands here.
+#[cycle(expressions)]
+fn next_argument<'s, 't>(
+    alloc: Global,
+    depth: u32,
+    at: u32,
+    function: Parsed,
+    signs: &'s [Sign<'t>],
+) -> Result<(Parsed, &'s [Sign<'t>]), Stop>
+    requires begins { begins_atom (read_signs signs.now) ≡ true }
+    requires low { function.height ≤ depth }
+    requires function { measured function }
+    ensures tree { IfOk result (λ x. Same depth (Args at (expr_of function.tree)) (read_signs signs.now) (Args at (expr_of x.0.tree)) (read_signs x.1.now)) }
+    ensures height { IfOk result (λ x. measured x.0) }
+    ensures low { IfOk result (λ x. x.0.height ≤ depth) }
+    ensures shorter { IfOk result (λ x. length x.1.now < length signs.now) }
+    ensures none { IfErr result (λ e. OnSyntax e (NoTree depth (Args at (expr_of function.tree)) (read_signs signs.now))) }
+{
+    if function.height >= depth {
+        return Err(refused_at(signs));
+    }
+    let (argument, rest) = atom(alloc, depth - 1, signs)?;
+    Ok((build::application(alloc, at, function, argument)?, rest))
 }
 
 /// What stands behind a `-`.

@@ -5,6 +5,7 @@ mod binders;
 mod build;
 mod expressions;
 mod front;
+mod keywords;
 mod leaves;
 mod patterns;
 #[cfg(test)]

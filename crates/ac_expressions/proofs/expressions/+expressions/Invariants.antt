@@ -5,8 +5,7 @@ use Rattle.ac_syntax.specs.ReadSigns.{read_signs}
 use Rattle.ac_syntax.specs.ReadTrees.{expr_of, arm_of}
 use Rattle.ac_syntax.specs.declared.sign.Symbol.TheVariants.{Bar, Close, Comma, End, Semicolon}
 use Rattle.ac_expressions.specs.Parsing.{Before}
-use Rattle.ac_expressions.specs.Forms.{IsArm, IsLastPart}
-use Rattle.ac_expressions.proofs.Levels.{Same}
+use Rattle.ac_expressions.specs.Forms.{Same, IsArm, IsLastPart}
 use Rattle.ac_expressions.proofs.Readers.{SoFar, ManyRead}
 use Rattle.ac_expressions.proofs.expressions.+expressions.Given as goal
 
@@ -14,11 +13,17 @@ use Rattle.ac_expressions.proofs.expressions.+expressions.Given as goal
 abbrev pub decreases-atom : goal.decreases-atom
 decreases-atom l = 20 * length l.signs.now
 
+abbrev pub decreases-arm : goal.decreases-arm
+decreases-arm l = 20 * length l.signs.now
+
 abbrev pub decreases-arms : goal.decreases-arms
-decreases-arms l = 20 * length l.signs.now
+decreases-arms l = 20 * length l.signs.now + 1
 
 abbrev pub decreases-arguments : goal.decreases-arguments
-decreases-arguments l = 20 * length l.signs.now + 1
+decreases-arguments l = 20 * length l.signs.now + 2
+
+abbrev pub decreases-next_argument : goal.decreases-next_argument
+decreases-next_argument l = 20 * length l.signs.now + 1
 
 abbrev pub decreases-applied : goal.decreases-applied
 decreases-applied l = 20 * length l.signs.now + 2
