@@ -1,5 +1,5 @@
 -- The steps of the parsers of atoms and sequences, over lists of signs.
-use Rattle.std.proofs.Common.{◌≡◌, ◌<◌, ◌≤◌, ◌+◌, ◌-◌, ℕ, max, Bool, true, false, List, [], ◌∷◌, Option, Some, None, refl, sym, ◌∙◌, ap, subst, arith}
+use Rattle.std.proofs.Common.{◌≡◌, ◌<◌, ◌≤◌, ◌+◌, ◌-◌, ℕ, max, Bool, true, false, List, [], ◌∷◌, ◌++◌, Option, Some, None, refl, sym, ◌∙◌, ap, subst, arith}
 use Rattle.std.specs.Prelude.{pos}
 use Rattle.ac_types.proofs.FirstLaws.{some_eq}
 use Rattle.ac_types.specs.Types.{Bytes}
@@ -14,10 +14,12 @@ use Rattle.ac_syntax.specs.declared.sign.Symbol.TheVariants.{Open, Close, OpenSq
 use Rattle.ac_syntax.proofs.Exceptions.{apart, nothing_there, same_value}
 use Rattle.ac_syntax.proofs.UniqueTypes.{tail_eq}
 use Rattle.ac_syntax.proofs.Fronts.{begins_not, front_positive, part_stops, semicolon_goes_on}
+use Rattle.ac_syntax.proofs.UniquePatterns.{same_pattern}
 use Rattle.ac_syntax.proofs.UniqueExpressions.{unique, at_same}
 use Rattle.ac_expressions.specs.Parsing.{Nothing, Then, Before, Behind, last, more, Made, IsAscribed}
 use Rattle.ac_expressions.specs.Forms.{NoTree, base_expr, LeafAt, NoLeaf, IsLastPart, IsParts, sequence_tree, IsItems, tuple_tree, IsArm, IsArms, IsChoice}
-use Rattle.ac_expressions.proofs.Levels.{closed_atom}
+use Rattle.ac_expressions.proofs.Levels.{one_tree, closed_atom}
+use Rattle.ac_expressions.proofs.Readers.{One, ManyRead, SoFar, start, next, ended, before, before_none, symbol_none, one_before, one_then, before_apart, next_read, next_none, all_read, chain_none, one_type}
 use Rattle.ac_expressions.proofs.Words.{expr_at}
 
 -- the items of a tuple
@@ -96,6 +98,41 @@ parts_low : (D : ℕ) {ts s : List Sign} {list : List Tree} → IsParts D ts lis
 parts_low D (last {x = e} l) = let low : height e ≤ D = l.is.low in omega arith
 parts_low D (more {x = e} b c) = let low : height e ≤ D = b.first.low in let h = parts_low D c in omega arith
 
+-- the items of a tuple and the parts of a sequence so far
+
+comma_is_no_close : Comma ≡ Close → ⊥
+comma_is_no_close e = elim e [ ]
+
+abbrev pub ItemsSoFar : ℕ → Tree → List Sign → List Tree → List Sign → Type 0
+ItemsSoFar D = ManyRead (Before Comma (IsTree D Expr)) (Before Close (IsTree D Expr)) (IsTree D Expr)
+
+module _ (D : ℕ) (first : Tree) (ts : List Sign) (parts : List Tree) (rest : List Sign) (m : ItemsSoFar D first ts parts rest) where
+  module _ (behind : List Sign) (comma : SymbolAt Comma rest behind) where
+    not_last : (e : Tree) (s : List Sign) → Before Close (IsTree D Expr) m.from e s → ⊥
+    not_last e s b = before_apart (one_tree D Expr) comma_is_no_close (before m.read comma) b
+
+    pub item_none : NoTree D Expr behind → Nothing (IsItems D) ts
+    item_none none' = next_none (one_before Comma (one_tree D Expr)) m not_last (before m.read comma) (before_none none') (before_none none')
+
+    pub item_read : (e : Tree) (later : List Sign) (all : List Tree) → IsTree D Expr behind e later → all ≡ parts ++ e ∷ [] → ItemsSoFar D first ts all later
+    item_read e later all q is = next_read (one_before Comma (one_tree D Expr)) m not_last (before m.read comma) q is
+
+  pub unended_items : NoSymbol Comma rest → NoSymbol Close rest → Nothing (IsItems D) ts
+  unended_items no_comma no_close = chain_none m.so (symbol_none (one_tree D Expr) m.read no_comma) (symbol_none (one_tree D Expr) m.read no_close)
+
+  pub all_items : (at : ℕ) (e : Tree) (s : List Sign) → SymbolAt Close rest s → e ≡ ExTuple at (trees parts) → Made (IsItems D) (tuple_tree at first) ts e s
+  all_items at e s close is = let a = all_read m (before m.read close) in record { parts = a.others; is = is ∙ ap (λ (l : List Tree). ExTuple at (trees l)) a.is; read = a.read }
+
+abbrev pub PartsSoFar : ℕ → Tree → List Sign → List Tree → List Sign → Type 0
+PartsSoFar D = ManyRead (Before Semicolon (IsTree D Part)) (IsLastPart D) (IsTree D Part)
+
+highest_more : (es : List Tree) (e : Tree) → highest (trees (es ++ e ∷ [])) ≡ max (highest (trees es)) (height e)
+highest_more [] e = omega arith
+highest_more (f ∷ es) e = let h = highest_more es e in omega arith
+
+pub highest_next : (es : List Tree) (e : Tree) (all : List Tree) (n m k : ℕ) → all ≡ es ++ e ∷ [] → n ≡ highest (trees es) → m ≡ height e → k ≡ max n m → k ≡ highest (trees all)
+highest_next es e all n m k is n_is m_is k_is = omega (arith, ap (λ (l : List Tree). highest (trees l)) is, highest_more es e)
+
 -- where no `;` stands behind a part, an expression ends there
 
 behind_part : (k : Ending) (ts : List Sign) → looseness Part k < front ts → 7 < front ts
@@ -138,6 +175,17 @@ no_last D ts r behind e o at f s l = let d = unique o.parses l.is.parses o.stops
 
 pub last_none : (D : ℕ) (ts : List Sign) → NoTree D Part ts → Nothing (IsLastPart D) ts
 last_none D ts none' e s l = none' e s l.is
+
+module _ (D : ℕ) (first : Tree) (ts : List Sign) (parts : List Tree) (rest : List Sign) (m : PartsSoFar D first ts parts rest) where
+  module _ (behind : List Sign) (semicolon : SymbolAt Semicolon rest behind) where
+    pub next_part_none : NoTree D Part behind → Nothing (IsParts D) ts
+    next_part_none none' = next_none (one_before Semicolon (one_tree D Part)) m (no_last D _ _ _ _ m.read semicolon) (before m.read semicolon) (before_none none') (last_none D behind none')
+
+    pub next_part : (e : Tree) (later : List Sign) (all : List Tree) → IsTree D Part behind e later → all ≡ parts ++ e ∷ [] → PartsSoFar D first ts all later
+    next_part e later all q is = next_read (one_before Semicolon (one_tree D Part)) m (no_last D _ _ _ _ m.read semicolon) (before m.read semicolon) q is
+
+  pub all_parts : (at : ℕ) (e : Tree) → NoSymbol Semicolon rest → e ≡ ExSeq at (trees parts) → Made (IsParts D) (sequence_tree at first) ts e rest
+  all_parts at e no_semicolon is = let a = all_read m (last_of D _ _ _ m.read no_semicolon) in record { parts = a.others; is = is ∙ ap (λ (l : List Tree). ExSeq at (trees l)) a.is; read = a.read }
 
 record FirstPart (D : ℕ) (ts : List Sign) : Type 0 where
   e : Tree
@@ -203,8 +251,8 @@ arms_forth (last_arm {a = a} {b = b} {p = p} {e = e} P q) low = record {
   is = refl;
   read = last (record {
     middle = _;
-    first = record { middle = _; first = P; at = record { at = a; is = refl } };
-    second = record { middle = _; first = record { ending = _; parses = q; stops = omega arith; low = omega arith }; at = record { at = b; is = refl } };
+    first = record { middle = _; first = record { middle = _; first = P; at = record { at = a; is = refl } }; second = record { ending = _; parses = q; stops = omega arith; low = omega arith } };
+    at = record { at = b; is = refl };
   });
 }
 arms_forth {D} (more_arms {a = a} {b = b} {p = p} {e = e} {arms = arms} P q w) low =
@@ -215,21 +263,69 @@ arms_forth {D} (more_arms {a = a} {b = b} {p = p} {e = e} {arms = arms} P q w) l
       is = ap (λ (l : ArmTrees). arm_tree p e l) f.is;
       read = more (record {
         middle = _;
-        first = record { middle = _; first = P; at = record { at = a; is = refl } };
-        second = record { middle = _; first = record { ending = _; parses = q; stops = omega arith; low = omega arith }; at = record { at = b; is = refl } };
+        first = record { middle = _; first = record { middle = _; first = P; at = record { at = a; is = refl } }; second = record { ending = _; parses = q; stops = omega arith; low = omega arith } };
+        at = record { at = b; is = refl };
       }) f.read;
     }
 
 pattern_at : {t : Symbol} {ts s : List Sign} {p : PatTree} → (b : Before t IsPattern ts p s) → IsPattern ts p (Fixed b.at.at t ∷ s)
 pattern_at {ts = ts} {p = p} b = subst (λ (l : List Sign). IsPattern ts p l) b.at.is b.first
 
+body_at : {D : ℕ} {t : Symbol} {ts s : List Sign} {x : PatTree × Tree} → (b : Before t (IsArm D) ts x s) → Parses Expr b.first.second.ending b.first.middle x.1 (Fixed b.at.at t ∷ s)
+body_at {x = x} b = subst (λ (l : List Sign). Parses Expr b.first.second.ending b.first.middle x.1 l) b.at.is b.first.second.parses
+
 arms_back : {D : ℕ} {ts s : List Sign} {list : List (PatTree × Tree)} → IsArms D ts list s → ParsesArms ts (arm_trees list) s
-arms_back (last b) = last_arm (pattern_at b.first) (expr_at b.second)
-arms_back (more b c) = more_arms (pattern_at b.first) (expr_at b.second) (arms_back c)
+arms_back (last b) = last_arm (pattern_at b.first.first) (body_at b)
+arms_back (more b c) = more_arms (pattern_at b.first.first) (body_at b) (arms_back c)
 
 arms_low : (D : ℕ) {ts s : List Sign} {list : List (PatTree × Tree)} → IsArms D ts list s → highest_arm (arm_trees list) ≤ D
-arms_low D (last {x = x} b) = let low : height x.1 ≤ D = b.second.first.low in omega arith
-arms_low D (more {x = x} b c) = let low : height x.1 ≤ D = b.second.first.low in let h = arms_low D c in omega arith
+arms_low D (last {x = x} b) = let low : height x.1 ≤ D = b.first.second.low in omega arith
+arms_low D (more {x = x} b c) = let low : height x.1 ≤ D = b.first.second.low in let h = arms_low D c in omega arith
+
+pub one_arm : (D : ℕ) → One (IsArm D)
+one_arm D = one_then (one_before Arrow (λ ts r s x y p q. let d = same_pattern p q in (d.tree, d.rest))) (one_tree D Expr)
+
+bar_is_no_end : Bar ≡ End → ⊥
+bar_is_no_end e = elim e [ ]
+
+-- arms so far, the last of them in front of the rest
+pub record ArmsSoFar (D : ℕ) (ts : List Sign) (arms : List (PatTree × Tree)) (rest : List Sign) : Type 0 where
+  pub done : List (PatTree × Tree)
+  pub from : List Sign
+  pub so : SoFar (Before Bar (IsArm D)) (Before End (IsArm D)) ts done from
+  pub item : PatTree × Tree
+  pub read : IsArm D from item rest
+  pub is : arms ≡ done ++ item ∷ []
+
+pub arms_none : (D : ℕ) (ts : List Sign) → Nothing (IsArm D) ts → Nothing (IsArms D) ts
+arms_none D ts none' = chain_none (start _ _ ts) (before_none none') (before_none none')
+
+pub first_arm : (D : ℕ) (ts rest : List Sign) (x : PatTree × Tree) (arms : List (PatTree × Tree)) → IsArm D ts x rest → arms ≡ x ∷ [] → ArmsSoFar D ts arms rest
+first_arm D ts rest x arms p is = record { done = []; from = ts; so = start _ _ ts; item = x; read = p; is = is }
+
+module _ (D : ℕ) (ts : List Sign) (arms : List (PatTree × Tree)) (rest : List Sign) (m : ArmsSoFar D ts arms rest) where
+  module _ (behind : List Sign) (bar : SymbolAt Bar rest behind) where
+    not_last : (x : PatTree × Tree) (s : List Sign) → Before End (IsArm D) m.from x s → ⊥
+    not_last x s b = before_apart (one_arm D) bar_is_no_end (before m.read bar) b
+
+    pub next_arm_none : Nothing (IsArm D) behind → Nothing (IsArms D) ts
+    next_arm_none none' = chain_none (next (one_before Bar (one_arm D)) not_last m.so (before m.read bar)) (before_none none') (before_none none')
+
+    pub next_arm : (x : PatTree × Tree) (later : List Sign) (all : List (PatTree × Tree)) → IsArm D behind x later → all ≡ arms ++ x ∷ [] → ArmsSoFar D ts all later
+    next_arm x later all p is = record { done = m.done ++ m.item ∷ []; from = behind; so = next (one_before Bar (one_arm D)) not_last m.so (before m.read bar); item = x; read = p; is = is ∙ ap (λ l. l ++ x ∷ []) m.is }
+
+  pub unended_arms : NoSymbol Bar rest → NoSymbol End rest → Nothing (IsArms D) ts
+  unended_arms no_bar no_end = chain_none m.so (symbol_none (one_arm D) m.read no_bar) (symbol_none (one_arm D) m.read no_end)
+
+  pub all_arms : (s : List Sign) → SymbolAt End rest s → IsArms D ts arms s
+  all_arms s end = subst (λ (l : List (PatTree × Tree)). IsArms D ts l s) (sym m.is) (ended m.so (before m.read end))
+
+highest_arm_more : (xs : List (PatTree × Tree)) (x : PatTree × Tree) → highest_arm (arm_trees (xs ++ x ∷ [])) ≡ max (highest_arm (arm_trees xs)) (height x.1)
+highest_arm_more [] x = omega arith
+highest_arm_more (y ∷ xs) x = let h = highest_arm_more xs x in omega arith
+
+pub highest_next_arm : (xs : List (PatTree × Tree)) (x : PatTree × Tree) (all : List (PatTree × Tree)) (n m k : ℕ) → all ≡ xs ++ x ∷ [] → n ≡ highest_arm (arm_trees xs) → m ≡ height x.1 → k ≡ max n m → k ≡ highest_arm (arm_trees all)
+highest_next_arm xs x all n m k is n_is m_is k_is = omega (arith, ap (λ (l : List (PatTree × Tree)). highest_arm (arm_trees l)) is, highest_arm_more xs x)
 
 -- `match` and `try`
 

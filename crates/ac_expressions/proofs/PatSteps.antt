@@ -15,7 +15,7 @@ use Rattle.ac_syntax.proofs.UniquePatterns.{symbol_begins_single, begins_single,
 use Rattle.ac_expressions.specs.declared.front.Prefix.{Prefix}
 use Rattle.ac_expressions.specs.declared.front.Prefix.TheVariants as prefix
 use Rattle.ac_expressions.specs.Parsing.{Nothing, Before, last, more, IsTyped, NumberAt, NoNumber, is_lower, IsPrefix, PrefixAt, NoPrefix, NoPat, prefixed_pat, base_pat, PatLeafAt, NoPatLeaf, IsPats, PatTupleOf}
-use Rattle.ac_expressions.proofs.Readers.{One, AllRead}
+use Rattle.ac_expressions.proofs.Readers.{One, ManyRead, AllRead, before, before_none, symbol_none, one_before, before_apart, next_read, next_none, all_read, chain_none}
 
 -- heights
 
@@ -220,9 +220,29 @@ pats_low : (D : ℕ) {ts s : List Sign} {list : List PatTree} → IsPats D ts li
 pats_low D (last {x = p} b) = let low : pat_height p ≤ D = b.first.low in omega arith
 pats_low D (more {x = p} b c) = let low : pat_height p ≤ D = b.first.low in let h = pats_low D c in omega arith
 
-pub tuple_of : (D at : ℕ) (first : PatTree) (ts s : List Sign) (parts : List PatTree) (p : PatTree) → AllRead (Before Comma (IsPatTree D Pattern)) (Before Close (IsPatTree D Pattern)) first ts parts s → p ≡ PatTuple at (pat_trees parts)
-    → PatTupleOf D at first ts p s
-tuple_of D at first ts s parts p a is = record { others = a.others; is = is ∙ ap (λ (l : List PatTree). PatTuple at (pat_trees l)) a.is; read = a.read }
+comma_is_no_close : Comma ≡ Close → ⊥
+comma_is_no_close e = elim e [ ]
+
+-- the parts of a tuple so far
+abbrev pub Parts : ℕ → PatTree → List Sign → List PatTree → List Sign → Type 0
+Parts D = ManyRead (Before Comma (IsPatTree D Pattern)) (Before Close (IsPatTree D Pattern)) (IsPatTree D Pattern)
+
+module _ (D : ℕ) (first : PatTree) (ts : List Sign) (parts : List PatTree) (rest : List Sign) (m : Parts D first ts parts rest) where
+  module _ (behind : List Sign) (comma : SymbolAt Comma rest behind) where
+    not_last : (p : PatTree) (s : List Sign) → Before Close (IsPatTree D Pattern) m.from p s → ⊥
+    not_last p s b = before_apart (one_pat D Pattern) comma_is_no_close (before m.read comma) b
+
+    pub part_none : NoPat D Pattern behind → Nothing (IsPats D) ts
+    part_none none' = next_none (one_before Comma (one_pat D Pattern)) m not_last (before m.read comma) (before_none none') (before_none none')
+
+    pub part_read : (p : PatTree) (later : List Sign) (all : List PatTree) → IsPatTree D Pattern behind p later → all ≡ parts ++ p ∷ [] → Parts D first ts all later
+    part_read p later all q is = next_read (one_before Comma (one_pat D Pattern)) m not_last (before m.read comma) q is
+
+  pub unended_none : NoSymbol Comma rest → NoSymbol Close rest → Nothing (IsPats D) ts
+  unended_none no_comma no_close = chain_none m.so (symbol_none (one_pat D Pattern) m.read no_comma) (symbol_none (one_pat D Pattern) m.read no_close)
+
+  pub tuple_of : (at : ℕ) (p : PatTree) (s : List Sign) → SymbolAt Close rest s → p ≡ PatTuple at (pat_trees parts) → PatTupleOf D at first ts p s
+  tuple_of at p s close is = let a = all_read m (before m.read close) in record { others = a.others; is = is ∙ ap (λ (l : List PatTree). PatTuple at (pat_trees l)) a.is; read = a.read }
 
 highest_one_more : (ps : List PatTree) (p : PatTree) → highest_pat (pat_trees (ps ++ p ∷ [])) ≡ max (highest_pat (pat_trees ps)) (pat_height p)
 highest_one_more [] p = omega arith

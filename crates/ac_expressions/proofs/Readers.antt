@@ -141,24 +141,37 @@ nothing_of more_none last_none (more m c) = more_none _ _ m
 pub chain_none : {A : Type 0} {More Last : List Sign → A → List Sign → Type 0} {ts rest : List Sign} {done : List A} → SoFar More Last ts done rest → Nothing More rest → Nothing Last rest → Nothing (Chain More Last) ts
 chain_none so more_none last_none all s c = nothing_of more_none last_none (so.forth all s c).read
 
--- a first thing, and those read behind it
-pub record ManyRead {A : Type 0} (More Last : List Sign → A → List Sign → Type 0) (first : A) (ts : List Sign) (parts : List A) (rest : List Sign) : Type 0 where
+-- a first thing, and those read behind it, the last of them in front of the rest
+pub record ManyRead {A : Type 0} (More Last R : List Sign → A → List Sign → Type 0) (first : A) (ts : List Sign) (parts : List A) (rest : List Sign) : Type 0 where
   pub done : List A
-  pub is : parts ≡ first ∷ done
-  pub so : SoFar More Last ts done rest
+  pub from : List Sign
+  pub so : SoFar More Last ts done from
+  pub item : A
+  pub read : R from item rest
+  pub is : parts ≡ first ∷ (done ++ item ∷ [])
 
-pub first_read : {A : Type 0} (More Last : List Sign → A → List Sign → Type 0) (first : A) (ts : List Sign) (parts : List A) → parts ≡ first ∷ [] → ManyRead More Last first ts parts ts
-first_read More Last first ts parts is = record { done = []; is = is; so = start More Last ts }
+pub second_read : {A : Type 0} (More Last : List Sign → A → List Sign → Type 0) {R : List Sign → A → List Sign → Type 0} {first x : A} {ts rest : List Sign} {parts : List A} → R ts x rest → parts ≡ first ∷ x ∷ [] → ManyRead More Last R first ts parts rest
+second_read More Last {x = x} {ts = ts} p is = record { done = []; from = ts; so = start More Last ts; item = x; read = p; is = is }
 
-pub next_read : {A : Type 0} {More Last : List Sign → A → List Sign → Type 0} {first x : A} {ts rest r : List Sign} {parts all : List A} → One More → ((y : A) (u : List Sign) → Last rest y u → ⊥)
-    → ManyRead More Last first ts parts rest → More rest x r → all ≡ parts ++ x ∷ [] → ManyRead More Last first ts all r
-next_read {x = x} one none m p is = record { done = m.done ++ x ∷ []; is = is ∙ ap (λ l. l ++ x ∷ []) m.is; so = next one none m.so p }
+pub next_read : {A : Type 0} {More Last R : List Sign → A → List Sign → Type 0} {first x : A} {ts rest behind later : List Sign} {parts all : List A} → One More → (m : ManyRead More Last R first ts parts rest) → ((y : A) (u : List Sign) → Last m.from y u → ⊥)
+    → More m.from m.item behind → R behind x later → all ≡ parts ++ x ∷ [] → ManyRead More Last R first ts all later
+next_read {first = first} {x = x} {behind = behind} one m none p q is = record {
+  done = m.done ++ m.item ∷ [];
+  from = behind;
+  so = next one none m.so p;
+  item = x;
+  read = q;
+  is = is ∙ ap (λ l. l ++ x ∷ []) m.is;
+}
+
+pub next_none : {A : Type 0} {More Last R : List Sign → A → List Sign → Type 0} {first : A} {ts rest behind : List Sign} {parts : List A} → One More → (m : ManyRead More Last R first ts parts rest) → ((y : A) (u : List Sign) → Last m.from y u → ⊥)
+    → More m.from m.item behind → Nothing More behind → Nothing Last behind → Nothing (Chain More Last) ts
+next_none one m none p more_none last_none = chain_none (next one none m.so p) more_none last_none
 
 pub record AllRead {A : Type 0} (More Last : List Sign → A → List Sign → Type 0) (first : A) (ts : List Sign) (all : List A) (rest : List Sign) : Type 0 where
   pub others : List A
   pub is : all ≡ first ∷ others
   pub read : Chain More Last ts others rest
 
-pub all_read : {A : Type 0} {More Last : List Sign → A → List Sign → Type 0} {first x : A} {ts rest s : List Sign} {parts all : List A} → ManyRead More Last first ts parts rest → Last rest x s → all ≡ parts ++ x ∷ []
-    → AllRead More Last first ts all s
-all_read {x = x} m l is = record { others = m.done ++ x ∷ []; is = is ∙ ap (λ ys. ys ++ x ∷ []) m.is; read = ended m.so l }
+pub all_read : {A : Type 0} {More Last R : List Sign → A → List Sign → Type 0} {first : A} {ts rest s : List Sign} {parts : List A} → (m : ManyRead More Last R first ts parts rest) → Last m.from m.item s → AllRead More Last first ts parts s
+all_read m l = record { others = m.done ++ m.item ∷ []; is = m.is; read = ended m.so l }

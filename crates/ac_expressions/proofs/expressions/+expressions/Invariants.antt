@@ -1,12 +1,10 @@
 use Rattle.std.proofs.Common.{◌≡◌, ◌<◌, ◌≤◌, ◌+◌, ◌*◌, ◌-◌, ◌^◌, map, length}
 use Rattle.ac_syntax.specs.Trees.{trees, arm_trees, height, highest, highest_arm}
-use Rattle.ac_syntax.specs.Expressions.{Expr, Part, After, Args, front, IsTree}
+use Rattle.ac_syntax.specs.Expressions.{After, Args, front}
 use Rattle.ac_syntax.specs.ReadSigns.{read_signs}
 use Rattle.ac_syntax.specs.ReadTrees.{expr_of, arm_of}
-use Rattle.ac_syntax.specs.declared.sign.Symbol.TheVariants.{Bar, Close, Comma, End, Semicolon}
-use Rattle.ac_expressions.specs.Parsing.{Before}
-use Rattle.ac_expressions.specs.Forms.{Same, IsArm, IsLastPart}
-use Rattle.ac_expressions.proofs.Readers.{SoFar, ManyRead}
+use Rattle.ac_expressions.specs.Forms.{Same}
+use Rattle.ac_expressions.proofs.Atoms.{ItemsSoFar, PartsSoFar, ArmsSoFar}
 use Rattle.ac_expressions.proofs.expressions.+expressions.Given as goal
 
 -- twenty for each sign, and one for each level
@@ -120,35 +118,35 @@ invariant-arguments-loop-rest l = record {
 abbrev pub decreases-arguments-loop-rest : goal.decreases-arguments-loop-rest
 decreases-arguments-loop-rest l = length l.rest
 
-abbrev pub invariant-tuple-loop-parts : goal.invariant-tuple-loop-parts
-invariant-tuple-loop-parts l = record {
-  read : ManyRead (Before Comma (IsTree l.depth Expr)) (Before Close (IsTree l.depth Expr)) (expr_of l.fn.first.tree) (read_signs l.signs) (map expr_of l.parts) (read_signs l.rest);
+abbrev pub invariant-tuple-loop-behind : goal.invariant-tuple-loop-behind
+invariant-tuple-loop-behind l = record {
+  read : ItemsSoFar l.depth (expr_of l.fn.first.tree) (read_signs l.signs) (map expr_of l.parts) (read_signs l.rest);
   height : l.height ≡ highest (trees (map expr_of l.parts));
   low : l.height < 2 ^ 32 - 1;
-  shorter : length l.rest ≤ length l.signs;
+  shorter : length l.rest < length l.signs;
 }
 
-abbrev pub decreases-tuple-loop-parts : goal.decreases-tuple-loop-parts
-decreases-tuple-loop-parts l = length l.rest
+abbrev pub decreases-tuple-loop-behind : goal.decreases-tuple-loop-behind
+decreases-tuple-loop-behind l = length l.rest
 
-abbrev pub invariant-sequence-loop-parts : goal.invariant-sequence-loop-parts
-invariant-sequence-loop-parts l = record {
-  read : ManyRead (Before Semicolon (IsTree l.depth Part)) (IsLastPart l.depth) (expr_of l.fn.first.tree) (read_signs l.signs) (map expr_of l.parts) (read_signs l.rest);
+abbrev pub invariant-sequence-loop-behind : goal.invariant-sequence-loop-behind
+invariant-sequence-loop-behind l = record {
+  read : PartsSoFar l.depth (expr_of l.fn.first.tree) (read_signs l.signs) (map expr_of l.parts) (read_signs l.rest);
   height : l.height ≡ highest (trees (map expr_of l.parts));
   low : l.height < 2 ^ 32 - 1;
-  shorter : length l.rest ≤ length l.signs;
+  shorter : length l.rest < length l.signs;
 }
 
-abbrev pub decreases-sequence-loop-parts : goal.decreases-sequence-loop-parts
-decreases-sequence-loop-parts l = length l.rest
+abbrev pub decreases-sequence-loop-behind : goal.decreases-sequence-loop-behind
+decreases-sequence-loop-behind l = length l.rest
 
-abbrev pub invariant-arms-loop-arms : goal.invariant-arms-loop-arms
-invariant-arms-loop-arms l = record {
-  so : SoFar (IsArm l.depth Bar) (IsArm l.depth End) (read_signs l.signs) (map arm_of l.arms) (read_signs l.rest);
+abbrev pub invariant-arms-loop-behind : goal.invariant-arms-loop-behind
+invariant-arms-loop-behind l = record {
+  read : ArmsSoFar l.depth (read_signs l.signs) (map arm_of l.arms) (read_signs l.rest);
   height : l.height ≡ highest_arm (arm_trees (map arm_of l.arms));
   low : l.height ≤ l.depth;
-  shorter : length l.rest ≤ length l.signs;
+  shorter : length l.rest < length l.signs;
 }
 
-abbrev pub decreases-arms-loop-arms : goal.decreases-arms-loop-arms
-decreases-arms-loop-arms l = length l.rest
+abbrev pub decreases-arms-loop-behind : goal.decreases-arms-loop-behind
+decreases-arms-loop-behind l = length l.rest

@@ -8,9 +8,9 @@ use Rattle.ac_syntax.specs.ReadSigns.{read_signs}
 use Rattle.ac_syntax.specs.ReadTrees.{pat_of}
 use Rattle.ac_syntax.proofs.OnStop.{on_syntax_more, refused}
 use Rattle.ac_expressions.specs.Parsing.{NoPat}
-use Rattle.ac_expressions.proofs.Readers.{word_at, before, before_none, symbol_none, one_before, before_apart, chain_none, first_read, next_read, all_read}
+use Rattle.ac_expressions.proofs.Readers.{word_at, before_none, chain_none, start}
 use Rattle.ac_expressions.proofs.PatLaws.{pat_of-Tuple}
-use Rattle.ac_expressions.proofs.PatSteps.{flat_pat, one_pat, pat_alone, pat_none, pat_cons, cons_none, cons_high, prefixed_tree, prefixed_none, single_tree, single_none, unit_pat, var_pat, var_none, opened_none, unclosed_none, tuple_high, tuple_none, tuple_tree, parens_tree, leaf_tree, leaf_none, tuple_of, highest_next}
+use Rattle.ac_expressions.proofs.PatSteps.{flat_pat, one_pat, pat_alone, pat_none, pat_cons, cons_none, cons_high, prefixed_tree, prefixed_none, single_tree, single_none, unit_pat, var_pat, var_none, opened_none, unclosed_none, tuple_high, tuple_none, tuple_tree, parens_tree, leaf_tree, leaf_none, tuple_of, part_none, part_read, unended_none, highest_next}
 use Rattle.ac_expressions.proofs.patterns.+patterns.Goals as goal
 
 pub whole-returns-in_err-head-clause-none : goal.whole-returns-in_err-head-clause-none
@@ -82,3 +82,37 @@ single-returns-clause-tree t c =
 
 pub single-returns-clause-height : goal.single-returns-clause-height
 single-returns-clause-height t c = sym c.in_ok-tree.ensures.found.leaf
+
+pub tuple-returns-in_err-second-clause-none : goal.tuple-returns-in_err-second-clause-none
+tuple-returns-in_err-second-clause-none t c =
+    let p = err_from_is_err_and c.from_residual.result c.from_residual.ensures.1 in
+    rw (p.1, p.2) (on_syntax_more _ (λ n. chain_none (start _ _ _) (before_none n) (before_none n)) c.in_err-second.ensures.none)
+
+pub tuple-returns-in_err-part-clause-none : goal.tuple-returns-in_err-part-clause-none
+tuple-returns-in_err-part-clause-none t c =
+    let p = err_from_is_err_and c.from_residual-in_err-part.result c.from_residual-in_err-part.ensures.1 in
+    rw (p.1, p.2) (on_syntax_more _ (part_none _ _ _ _ _ c.loop-behind.invariant.read _ c.in-Some.ensures.found) c.in_err-part.ensures.none)
+
+pub tuple-loop-behind-preserved : goal.tuple-loop-behind-preserved
+tuple-loop-behind-preserved t c =
+    let parts = ap (map pat_of) c.in_ok-push-3.ensures.ok ∙ map-append pat_of c.loop-behind.parts (c.in_ok-part.part.tree ∷ []) in
+    let low : pat_height (pat_of c.in_ok-part.part.tree) ≤ c.args.depth - 1 = c.in_ok-part.ensures.tree.low in
+    record {
+      read = part_read _ _ _ _ _ c.loop-behind.invariant.read _ c.in-Some.ensures.found _ _ _ c.in_ok-part.ensures.tree parts;
+      height = highest_next (map pat_of c.loop-behind.parts) (pat_of c.in_ok-part.part.tree) _ _ _ _ parts c.loop-behind.invariant.height c.in_ok-part.ensures.height c.max-height-in-Some.ensures;
+      low = omega (arith, c.max-height-in-Some.ensures, c.loop-behind.invariant.low, low, c.in_ok-part.ensures.height);
+      shorter = omega (arith, c.loop-behind.invariant.shorter, c.in-Some.ensures.shorter, c.in_ok-part.ensures.shorter);
+    }
+
+pub tuple-returns-in_err-end-clause-none : goal.tuple-returns-in_err-end-clause-none
+tuple-returns-in_err-end-clause-none t c =
+    let p = err_from_is_err_and c.from_residual-in_err-end.result c.from_residual-in_err-end.ensures.1 in
+    rw (p.1, p.2) (on_syntax_more _ (unended_none _ _ _ _ _ c.loop-behind.invariant.read c.in_default.ensures.found) c.in_err-end.ensures.none)
+
+pub tuple-returns-clause-tree : goal.tuple-returns-clause-tree
+tuple-returns-clause-tree t c =
+    tuple_of _ _ _ _ _ c.loop-behind.invariant.read _ _ _ c.in_ok-end.ensures.found (pat_of-Tuple c.args.at c.loop-behind.parts)
+
+pub tuple-returns-clause-height : goal.tuple-returns-clause-height
+tuple-returns-clause-height t c =
+    ap (λ (n : ℕ). n + 1) c.loop-behind.invariant.height ∙ sym (ap pat_height (pat_of-Tuple c.args.at c.loop-behind.parts))

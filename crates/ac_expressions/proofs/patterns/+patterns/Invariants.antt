@@ -24,13 +24,13 @@ decreases-tuple l = 6 * length l.signs.now + 3
 abbrev pub decreases-opened : goal.decreases-opened
 decreases-opened l = 6 * length l.signs.now + 4
 
-abbrev pub invariant-tuple-loop-parts : goal.invariant-tuple-loop-parts
-invariant-tuple-loop-parts l = record {
-  read : ManyRead (Before Comma (IsPatTree (l.depth - 1) Pattern)) (Before Close (IsPatTree (l.depth - 1) Pattern)) (pat_of l.fn.first.tree) (read_signs l.signs) (map pat_of l.parts) (read_signs l.rest);
+abbrev pub invariant-tuple-loop-behind : goal.invariant-tuple-loop-behind
+invariant-tuple-loop-behind l = record {
+  read : ManyRead (Before Comma (IsPatTree (l.depth - 1) Pattern)) (Before Close (IsPatTree (l.depth - 1) Pattern)) (IsPatTree (l.depth - 1) Pattern) (pat_of l.fn.first.tree) (read_signs l.signs) (map pat_of l.parts) (read_signs l.rest);
   height : l.height ≡ highest_pat (pat_trees (map pat_of l.parts));
   low : l.height < l.depth;
-  shorter : length l.rest ≤ length l.signs;
+  shorter : length l.rest < length l.signs;
 }
 
-abbrev pub decreases-tuple-loop-parts : goal.decreases-tuple-loop-parts
-decreases-tuple-loop-parts l = length l.rest
+abbrev pub decreases-tuple-loop-behind : goal.decreases-tuple-loop-behind
+decreases-tuple-loop-behind l = length l.rest
