@@ -19,7 +19,7 @@ use Rattle.ac_syntax.proofs.UniqueExpressions.{unique, at_same}
 use Rattle.ac_expressions.specs.Parsing.{Nothing, Then, Before, Behind, last, more, Made, IsAscribed}
 use Rattle.ac_expressions.specs.Forms.{NoTree, base_expr, LeafAt, NoLeaf, IsLastPart, IsParts, sequence_tree, IsItems, tuple_tree, IsArm, IsArms, IsChoice}
 use Rattle.ac_expressions.proofs.Levels.{one_tree, closed_atom}
-use Rattle.ac_expressions.proofs.Readers.{One, ManyRead, SoFar, start, next, ended, before, before_none, symbol_none, one_before, one_then, before_apart, next_read, next_none, all_read, chain_none, one_type}
+use Rattle.ac_expressions.proofs.Readers.{One, ManyRead, SoFar, start, next, ended, before, before_none, symbol_none, one_before, one_then, before_apart, next_read, next_none, all_read, chain_none}
 use Rattle.ac_expressions.proofs.Words.{expr_at}
 
 -- the items of a tuple
@@ -282,8 +282,11 @@ arms_low : (D : ℕ) {ts s : List Sign} {list : List (PatTree × Tree)} → IsAr
 arms_low D (last {x = x} b) = let low : height x.1 ≤ D = b.first.second.low in omega arith
 arms_low D (more {x = x} b c) = let low : height x.1 ≤ D = b.first.second.low in let h = arms_low D c in omega arith
 
+pub one_pattern : One IsPattern
+one_pattern ts r s x y p q = let d = same_pattern p q in (d.tree, d.rest)
+
 pub one_arm : (D : ℕ) → One (IsArm D)
-one_arm D = one_then (one_before Arrow (λ ts r s x y p q. let d = same_pattern p q in (d.tree, d.rest))) (one_tree D Expr)
+one_arm D = one_then (one_before Arrow one_pattern) (one_tree D Expr)
 
 bar_is_no_end : Bar ≡ End → ⊥
 bar_is_no_end e = elim e [ ]

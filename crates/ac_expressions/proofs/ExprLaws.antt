@@ -1,15 +1,18 @@
 -- The equations of the reading of expressions.
-use Rattle.std.proofs.Common.{◌≡◌, ◌∙◌, ap, ℕ, List, map}
+use Rattle.std.proofs.Common.{◌≡◌, ◌∙◌, ap, ℕ, ℤ, List, map, Some}
+use Rattle.ac_types.specs.declared.text.Text.{Text}
+use Rattle.ac_syntax.specs.declared.surface.SName.{SName}
+use Rattle.ac_syntax.specs.declared.surface.SPat.{SPat}
 use Rattle.ac_syntax.specs.declared.surface.SExpr.{SExpr}
 use Rattle.ac_syntax.specs.declared.surface.SArm.{SArm}
 use Rattle.ac_syntax.specs.declared.surface.SFun.{SFun}
-use Rattle.ac_syntax.specs.declared.surface.SExprKind.{SExprKind, Tuple, Seq, Op, Match, Try}
+use Rattle.ac_syntax.specs.declared.surface.SExprKind.{SExprKind, Int, Str, Var, Of, Present, Exn, Tuple, Seq, Op, Match, Try}
 use Rattle.ac_syntax.specs.declared.surface.SExprKind.TheOpen.{SExprKind-F, SExpr-F, SArm-F, SFun-F}
-use Rattle.ac_syntax.specs.declared.surface.SExprKind.TheFolds.{map-SExpr, map-SExprKind, map-SArm, map-SFun, fold_out-SExpr, fold_out-SExprKind, fold_out-SArm, fold_out-SFun, fold-roll-SExpr}
-use Rattle.ac_syntax.specs.declared.surface.SExprKind.TheViews.{out-SExpr, out-SExprKind, out-SArm, out-SFun, roll-SExpr, the_lemmas}
+use Rattle.ac_syntax.specs.declared.surface.SExprKind.TheFolds.{map-SExpr, map-SExprKind, map-SArm, map-SFun, fold_out-SExpr, fold_out-SExprKind, fold_out-SArm, fold_out-SFun, fold-roll-SExpr, fold-roll-SArm}
+use Rattle.ac_syntax.specs.declared.surface.SExprKind.TheViews.{out-SExpr, out-SExprKind, out-SArm, out-SFun, roll-SExpr, roll-SArm, the_lemmas}
 use Rattle.ac_syntax.specs.declared.surface.SExprKind.TheVariants as variants
-use Rattle.ac_syntax.specs.Trees.{PatTree, Tree, ExTuple, ExSeq, ExOp, ExMatch, ExTry, trees, arm_trees}
-use Rattle.ac_syntax.specs.ReadTrees.{FunTree, expr_of, expr_kind_of, arm_of, fun_of, expr_kind_layer, expr_layer, arm_layer, fun_layer}
+use Rattle.ac_syntax.specs.Trees.{PatTree, Tree, ExInt, ExStr, ExVar, ExOf, ExPresent, ExExnOf, ExTuple, ExSeq, ExOp, ExMatch, ExTry, trees, arm_trees}
+use Rattle.ac_syntax.specs.ReadTrees.{FunTree, name_of, pat_of, expr_of, expr_kind_of, arm_of, fun_of, expr_kind_layer, expr_layer, arm_layer, fun_layer}
 
 -- one layer, read
 abbrev pub read_expr : SExpr-F SExprKind SArm SExpr SFun → SExpr-F (ℕ → Tree) (PatTree × Tree) Tree FunTree
@@ -65,3 +68,20 @@ pub ruleset expr_laws = (expr_out, expr_kind_out, arm_out, fun_out, expr_kind_of
 pub expr_of-kind : (at : ℕ) (k : SExprKind) → expr_of (roll-SExpr (record { at = at; kind = k })) ≡ expr_kind_of k at
 unfolding expr_of expr_kind_of arm_of fun_of
 expr_of-kind at k = fold-roll-SExpr (ℕ → Tree) (PatTree × Tree) Tree FunTree expr_kind_layer arm_layer expr_layer fun_layer (record { at = at; kind = k })
+
+pub expr_of-Int : (at : ℕ) (n : ℤ) → expr_of (roll-SExpr (record { at = at; kind = Int n })) ≡ ExInt at n
+expr_of-Int at n = expr_of-kind at (Int n) ∙ ap (λ f. f at) (expr_kind_out (Int n)) ∙ ap (kind_at at) (variants.outs-Int n)
+
+pub expr_of-Str : (at : ℕ) (text : Text) → expr_of (roll-SExpr (record { at = at; kind = Str text })) ≡ ExStr at text.0
+expr_of-Str at text = expr_of-kind at (Str text) ∙ ap (λ f. f at) (expr_kind_out (Str text)) ∙ ap (kind_at at) (variants.outs-Str text)
+
+pub expr_of-Var : (at : ℕ) (w : List ℕ) → expr_of (roll-SExpr (record { at = at; kind = Var w })) ≡ ExVar at w
+expr_of-Var at w = expr_of-kind at (Var w) ∙ ap (λ f. f at) (expr_kind_out (Var w)) ∙ ap (kind_at at) (variants.outs-Var w)
+
+pub expr_of-Of : (at : ℕ) (m x : SName) → expr_of (roll-SExpr (record { at = at; kind = Of m x })) ≡ ExOf at (name_of m) (name_of x)
+expr_of-Of at m x = expr_of-kind at (Of m x) ∙ ap (λ f. f at) (expr_kind_out (Of m x)) ∙ ap (kind_at at) (variants.outs-Of m x)
+
+-- an arm that the code makes
+pub arm_of-made : (p : SPat) (e : SExpr) → arm_of (roll-SArm (record { pat = p; body = e })) ≡ (pat_of p, expr_of e)
+unfolding expr_of expr_kind_of arm_of fun_of
+arm_of-made p e = fold-roll-SArm (ℕ → Tree) (PatTree × Tree) Tree FunTree expr_kind_layer arm_layer expr_layer fun_layer (record { pat = p; body = e })

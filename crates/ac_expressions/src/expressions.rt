@@ -482,10 +482,12 @@ fn binary<'s, 't>(
     }
     let at = here(signs);
     let (first, rest) = binary(alloc, level - 1, depth, signs)?;
-    match level {
-        1 | 2 => to_left(alloc, level, depth, at, first, rest),
-        4 => once(alloc, level, depth, at, first, rest),
-        _ => to_right(alloc, level, depth, at, first, rest),
+    if level <= 2 {
+        to_left(alloc, level, depth, at, first, rest)
+    } else if level == 4 {
+        once(alloc, level, depth, at, first, rest)
+    } else {
+        to_right(alloc, level, depth, at, first, rest)
     }
 }
 

@@ -1,0 +1,603 @@
+use Rattle.std.proofs.Common.{◌≡◌, ◌<◌, ◌≤◌, ◌-◌, ◌+◌, ℕ, suc, List, [], ◌∷◌, map, refl, sym, ap, subst, ◌∙◌, arith}
+use Rattle.std.specs.Prelude.{neg_ℤ}
+use Rattle.std.proofs.lemmas.Result.{IfOk-weaker, IfErr-weaker, err_from_is_err_and}
+use Rattle.ac_syntax.specs.Signs.{Sign, Fixed}
+use Rattle.ac_syntax.specs.Trees.{PatTree, Tree, ExInt, height}
+use Rattle.ac_syntax.specs.Expressions.{Part, After, Unary, App, Args, Atom, front, IsTree}
+use Rattle.ac_syntax.specs.ReadSigns.{read_signs}
+use Rattle.ac_syntax.specs.ReadTrees.{expr_of, arm_of}
+use Rattle.ac_syntax.specs.declared.sign.Symbol.TheVariants.{Arrow, Else, Equals, In, Then, With}
+use Rattle.ac_syntax.proofs.OnStop.{on_syntax_more, refused}
+use Rattle.ac_expressions.specs.Parsing.{Made}
+use Rattle.ac_expressions.specs.Forms.{Same, NoTree, IsArm, IsArms, IsParts, sequence_tree}
+use Rattle.ac_expressions.proofs.ExprLaws.{arm_of-made}
+use Rattle.ac_expressions.proofs.Readers.{word_at, then, first_none, later_none, behind, no_symbol, behind_none, before, before_none, symbol_none, one_before, chain_none, start}
+use Rattle.ac_expressions.proofs.Levels.{flat_none, one_tree, same_start, same_then, same_none, args_ended, argument_none, argument_high, next_argument, applied_none, applied_tree, args_none, prefixed_none, prefixed_tree, second_none, lone_tree, minus_none, minus_tree, not_none, not_tree, app_tree, app_none, unary_tree, unary_none, joined_height, operand_none, binary_tree, after_none, after_ended, left_step, right_step, once_step, goes_on, past_operator}
+use Rattle.ac_expressions.proofs.Words.{one_typed, one_argument, one_head, operators_tree, operators_none}
+use Rattle.ac_expressions.proofs.Atoms.{one_pattern, arms_none, next_arm_none, unended_arms, all_arms, item_none, unended_items, all_items, next_part_none, all_parts, last_none, part_none, alone_tree, sequence_high, sequence_none, sequence_made, match_none, match_tree, try_none, try_tree, nil_none, absent_none, opened_none, unclosed_none, leaf_tree, leaf_none}
+use Rattle.ac_expressions.proofs.expressions.+expressions.Goals as goal
+
+pub before-returns-in_err-tree-clause-none : goal.before-returns-in_err-tree-clause-none
+before-returns-in_err-tree-clause-none t c =
+    let p = err_from_is_err_and c.from_residual.result c.from_residual.ensures.1 in
+    rw (p.1, p.2) (on_syntax_more _ before_none c.in_err-tree.ensures.none)
+
+pub before-returns-in_err-rest-clause-none : goal.before-returns-in_err-rest-clause-none
+before-returns-in_err-rest-clause-none t c =
+    let p = err_from_is_err_and c.from_residual-in_err-rest.result c.from_residual-in_err-rest.ensures.1 in
+    rw (p.1, p.2) (on_syntax_more _ (symbol_none (one_tree _ _) c.in_ok-tree.ensures.tree) c.in_err-rest.ensures.none)
+
+pub arm-returns-in_err-pat-clause-none : goal.arm-returns-in_err-pat-clause-none
+arm-returns-in_err-pat-clause-none t c =
+    let p = err_from_is_err_and c.from_residual.result c.from_residual.ensures.1 in
+    rw (p.1, p.2) (on_syntax_more _ (λ n. first_none (before_none n)) c.in_err-pat.ensures.none)
+
+pub arm-returns-in_err-later-clause-none : goal.arm-returns-in_err-later-clause-none
+arm-returns-in_err-later-clause-none t c =
+    let p = err_from_is_err_and c.from_residual-in_err-later.result c.from_residual-in_err-later.ensures.1 in
+    rw (p.1, p.2) (on_syntax_more _ (λ n. first_none (symbol_none one_pattern c.in_ok-pat.ensures.tree n)) c.in_err-later.ensures.none)
+
+pub arm-returns-in_err-body-clause-none : goal.arm-returns-in_err-body-clause-none
+arm-returns-in_err-body-clause-none t c =
+    let p = err_from_is_err_and c.from_residual-in_err-body.result c.from_residual-in_err-body.ensures.1 in
+    rw (p.1, p.2) (on_syntax_more _ (later_none (one_before Arrow one_pattern) (before c.in_ok-pat.ensures.tree c.in_ok-later.ensures.found)) c.in_err-body.ensures.none)
+
+pub arm-returns-clause-tree : goal.arm-returns-clause-tree
+arm-returns-clause-tree t c =
+    subst (λ (x : PatTree × Tree). IsArm c.args.depth (read_signs c.args.signs.now) x (read_signs c.in_ok-body.rest.now)) (sym (arm_of-made c.in_ok-pat.pat c.in_ok-body.body.tree)) (then (before c.in_ok-pat.ensures.tree c.in_ok-later.ensures.found) c.in_ok-body.ensures.tree)
+
+pub arm-returns-clause-height : goal.arm-returns-clause-height
+arm-returns-clause-height t c =
+    c.in_ok-body.ensures.height ∙ sym (ap (λ (x : PatTree × Tree). height x.1) (arm_of-made c.in_ok-pat.pat c.in_ok-body.body.tree))
+
+pub arms-returns-in_err-first-clause-none : goal.arms-returns-in_err-first-clause-none
+arms-returns-in_err-first-clause-none t c =
+    let p = err_from_is_err_and c.from_residual.result c.from_residual.ensures.1 in
+    rw (p.1, p.2) (on_syntax_more _ (arms_none _ _) c.in_err-first.ensures.none)
+
+pub arms-returns-in_err-next-clause-none : goal.arms-returns-in_err-next-clause-none
+arms-returns-in_err-next-clause-none t c =
+    let p = err_from_is_err_and c.from_residual-in_err-next.result c.from_residual-in_err-next.ensures.1 in
+    rw (p.1, p.2) (on_syntax_more _ (next_arm_none _ _ _ _ c.loop-behind.invariant.read _ c.in-Some.ensures.found) c.in_err-next.ensures.none)
+
+pub arms-returns-in_err-end-clause-none : goal.arms-returns-in_err-end-clause-none
+arms-returns-in_err-end-clause-none t c =
+    let p = err_from_is_err_and c.from_residual-in_err-end.result c.from_residual-in_err-end.ensures.1 in
+    rw (p.1, p.2) (on_syntax_more _ (unended_arms _ _ _ _ c.loop-behind.invariant.read c.in_default.ensures.found) c.in_err-end.ensures.none)
+
+pub arms-returns-clause-tree : goal.arms-returns-clause-tree
+arms-returns-clause-tree t c =
+    all_arms _ _ _ _ c.loop-behind.invariant.read _ c.in_ok-end.ensures.found
+
+pub choice-returns-in_err-of-clause-none : goal.choice-returns-in_err-of-clause-none
+choice-returns-in_err-of-clause-none t c =
+    let p = err_from_is_err_and c.from_residual.result c.from_residual.ensures.1 in
+    rw (p.1, p.2) (on_syntax_more _ first_none c.in_err-of.ensures.none)
+
+pub choice-returns-in_err-arms-clause-none : goal.choice-returns-in_err-arms-clause-none
+choice-returns-in_err-arms-clause-none t c =
+    let p = err_from_is_err_and c.from_residual-in_err-arms.result c.from_residual-in_err-arms.ensures.1 in
+    rw (p.1, p.2) (on_syntax_more _ (λ n. later_none (one_before With (one_tree _ _)) c.in_ok-of.ensures.tree (λ x r a. n x r (subst (λ (l : List Sign). IsArms c.args.depth l x r) (sym c.after_bar.ensures.found) a))) c.in_err-arms.ensures.none)
+
+pub choice-returns-clause-tree : goal.choice-returns-clause-tree
+choice-returns-clause-tree t c =
+    then c.in_ok-of.ensures.tree (subst (λ (l : List Sign). IsArms c.args.depth l (map arm_of c.in_ok-arms.arms) (read_signs c.in_ok-arms.rest.now)) c.after_bar.ensures.found c.in_ok-arms.ensures.tree)
+
+pub tuple-returns-in_err-second-clause-none : goal.tuple-returns-in_err-second-clause-none
+tuple-returns-in_err-second-clause-none t c =
+    let p = err_from_is_err_and c.from_residual.result c.from_residual.ensures.1 in
+    rw (p.1, p.2) (on_syntax_more _ (λ n. chain_none (start _ _ _) (before_none n) (before_none n)) c.in_err-second.ensures.none)
+
+pub tuple-returns-in_err-part-clause-none : goal.tuple-returns-in_err-part-clause-none
+tuple-returns-in_err-part-clause-none t c =
+    let p = err_from_is_err_and c.from_residual-in_err-part.result c.from_residual-in_err-part.ensures.1 in
+    rw (p.1, p.2) (on_syntax_more _ (item_none _ _ _ _ _ c.loop-behind.invariant.read _ c.in-Some.ensures.found) c.in_err-part.ensures.none)
+
+pub tuple-returns-in_err-end-clause-none : goal.tuple-returns-in_err-end-clause-none
+tuple-returns-in_err-end-clause-none t c =
+    let p = err_from_is_err_and c.from_residual-in_err-end.result c.from_residual-in_err-end.ensures.1 in
+    rw (p.1, p.2) (on_syntax_more _ (unended_items _ _ _ _ _ c.loop-behind.invariant.read c.in_default.ensures.found) c.in_err-end.ensures.none)
+
+pub tuple-returns-clause-tree : goal.tuple-returns-clause-tree
+tuple-returns-clause-tree t c =
+    all_items _ _ _ _ _ c.loop-behind.invariant.read _ _ _ c.in_ok-end.ensures.found c.tuple.ensures.tree
+
+pub opened-returns-in_err-behind-clause-none : goal.opened-returns-in_err-behind-clause-none
+opened-returns-in_err-behind-clause-none t c =
+    let p = err_from_is_err_and c.from_residual.result c.from_residual.ensures.1 in
+    rw (p.1, p.2) (on_syntax_more _ (λ n. nil_none _ _ _ _ c.in-Some-after.ensures.found (no_symbol n)) c.in_err-behind.ensures.none)
+
+pub opened-returns-in_err-ty-clause-none : goal.opened-returns-in_err-ty-clause-none
+opened-returns-in_err-ty-clause-none t c =
+    let p = err_from_is_err_and c.from_residual-in_err-ty.result c.from_residual-in_err-ty.ensures.1 in
+    rw (p.1, p.2) (on_syntax_more _ (λ n. nil_none _ _ _ _ c.in-Some-after.ensures.found (behind_none c.in_ok-behind.ensures.found n)) c.in_err-ty.ensures.none)
+
+pub opened-returns-in_err-ty-2-clause-none : goal.opened-returns-in_err-ty-2-clause-none
+opened-returns-in_err-ty-2-clause-none t c =
+    let p = err_from_is_err_and c.from_residual-in_err-ty-2.result c.from_residual-in_err-ty-2.ensures.1 in
+    rw (p.1, p.2) (on_syntax_more _ (absent_none _ _ _ _ c.in-Some-after-2.ensures.found) c.in_err-ty-2.ensures.none)
+
+pub opened-returns-in_err-first-clause-none : goal.opened-returns-in_err-first-clause-none
+opened-returns-in_err-first-clause-none t c =
+    let p = err_from_is_err_and c.from_residual-in_err-first.result c.from_residual-in_err-first.ensures.1 in
+    rw (p.1, p.2) (on_syntax_more _ (opened_none _ _ _ c.in_default.ensures.found c.in_default-after.ensures.found c.in_default-after-2.ensures.found) c.in_err-first.ensures.none)
+
+pub opened-returns-in_err-behind-2-clause-none : goal.opened-returns-in_err-behind-2-clause-none
+opened-returns-in_err-behind-2-clause-none t c =
+    let p = err_from_is_err_and c.from_residual-in_err-behind-2.result c.from_residual-in_err-behind-2.ensures.1 in
+    rw (p.1, p.2) (on_syntax_more _ (unclosed_none _ _ _ c.in_default.ensures.found c.in_default-after.ensures.found c.in_default-after-2.ensures.found _ _ c.in_ok-first.ensures.tree c.in_default-after-3.ensures.found) c.in_err-behind-2.ensures.none)
+
+pub let_in-returns-in_err-binder-clause-none : goal.let_in-returns-in_err-binder-clause-none
+let_in-returns-in_err-binder-clause-none t c =
+    let p = err_from_is_err_and c.from_residual.result c.from_residual.ensures.1 in
+    rw (p.1, p.2) (on_syntax_more _ first_none c.in_err-binder.ensures.none)
+
+pub let_in-returns-in_err-bound-clause-none : goal.let_in-returns-in_err-bound-clause-none
+let_in-returns-in_err-bound-clause-none t c =
+    let p = err_from_is_err_and c.from_residual-in_err-bound.result c.from_residual-in_err-bound.ensures.1 in
+    rw (p.1, p.2) (on_syntax_more _ (λ n. later_none (one_typed Equals) c.in_ok-binder.ensures.found (first_none n)) c.in_err-bound.ensures.none)
+
+pub let_in-returns-in_err-body-clause-none : goal.let_in-returns-in_err-body-clause-none
+let_in-returns-in_err-body-clause-none t c =
+    let p = err_from_is_err_and c.from_residual-in_err-body.result c.from_residual-in_err-body.ensures.1 in
+    rw (p.1, p.2) (on_syntax_more _ (λ n. later_none (one_typed Equals) c.in_ok-binder.ensures.found (later_none (one_before In (one_tree _ _)) c.in_ok-bound.ensures.tree n)) c.in_err-body.ensures.none)
+
+pub let_in-returns-clause-tree : goal.let_in-returns-clause-tree
+let_in-returns-clause-tree t c =
+    record { parts = _; is = c.in_ok-let_in.ensures.tree; read = then c.in_ok-binder.ensures.found (then c.in_ok-bound.ensures.tree c.in_ok-body.ensures.tree) }
+
+pub let_rec-returns-in_err-head-clause-none : goal.let_rec-returns-in_err-head-clause-none
+let_rec-returns-in_err-head-clause-none t c =
+    let p = err_from_is_err_and c.from_residual.result c.from_residual.ensures.1 in
+    rw (p.1, p.2) (on_syntax_more _ first_none c.in_err-head.ensures.none)
+
+pub let_rec-returns-in_err-bound-clause-none : goal.let_rec-returns-in_err-bound-clause-none
+let_rec-returns-in_err-bound-clause-none t c =
+    let p = err_from_is_err_and c.from_residual-in_err-bound.result c.from_residual-in_err-bound.ensures.1 in
+    rw (p.1, p.2) (on_syntax_more _ (λ n. later_none one_head c.in_ok-head.ensures.found (first_none n)) c.in_err-bound.ensures.none)
+
+pub let_rec-returns-in_err-body-clause-none : goal.let_rec-returns-in_err-body-clause-none
+let_rec-returns-in_err-body-clause-none t c =
+    let p = err_from_is_err_and c.from_residual-in_err-body.result c.from_residual-in_err-body.ensures.1 in
+    rw (p.1, p.2) (on_syntax_more _ (λ n. later_none one_head c.in_ok-head.ensures.found (later_none (one_before In (one_tree _ _)) c.in_ok-bound.ensures.tree n)) c.in_err-body.ensures.none)
+
+pub let_rec-returns-clause-tree : goal.let_rec-returns-clause-tree
+let_rec-returns-clause-tree t c =
+    record { parts = _; is = c.in_ok-let_rec.ensures.tree; read = then c.in_ok-head.ensures.found (then c.in_ok-bound.ensures.tree c.in_ok-body.ensures.tree) }
+
+pub fun-returns-in_err-binder-clause-none : goal.fun-returns-in_err-binder-clause-none
+fun-returns-in_err-binder-clause-none t c =
+    let p = err_from_is_err_and c.from_residual.result c.from_residual.ensures.1 in
+    rw (p.1, p.2) (on_syntax_more _ first_none c.in_err-binder.ensures.none)
+
+pub fun-returns-in_err-later-clause-none : goal.fun-returns-in_err-later-clause-none
+fun-returns-in_err-later-clause-none t c =
+    let p = err_from_is_err_and c.from_residual-in_err-later.result c.from_residual-in_err-later.ensures.1 in
+    rw (p.1, p.2) (on_syntax_more _ (λ n. later_none one_argument c.in_ok-binder.ensures.found (no_symbol n)) c.in_err-later.ensures.none)
+
+pub fun-returns-in_err-body-clause-none : goal.fun-returns-in_err-body-clause-none
+fun-returns-in_err-body-clause-none t c =
+    let p = err_from_is_err_and c.from_residual-in_err-body.result c.from_residual-in_err-body.ensures.1 in
+    rw (p.1, p.2) (on_syntax_more _ (λ n. later_none one_argument c.in_ok-binder.ensures.found (behind_none c.in_ok-later.ensures.found n)) c.in_err-body.ensures.none)
+
+pub fun-returns-clause-tree : goal.fun-returns-clause-tree
+fun-returns-clause-tree t c =
+    record { parts = _; is = c.in_ok-fun.ensures.tree; read = then c.in_ok-binder.ensures.found (behind c.in_ok-later.ensures.found c.in_ok-body.ensures.tree) }
+
+pub rec-returns-in_err-head-clause-none : goal.rec-returns-in_err-head-clause-none
+rec-returns-in_err-head-clause-none t c =
+    let p = err_from_is_err_and c.from_residual.result c.from_residual.ensures.1 in
+    rw (p.1, p.2) (on_syntax_more _ first_none c.in_err-head.ensures.none)
+
+pub rec-returns-in_err-body-clause-none : goal.rec-returns-in_err-body-clause-none
+rec-returns-in_err-body-clause-none t c =
+    let p = err_from_is_err_and c.from_residual-in_err-body.result c.from_residual-in_err-body.ensures.1 in
+    rw (p.1, p.2) (on_syntax_more _ (later_none one_head c.in_ok-head.ensures.found) c.in_err-body.ensures.none)
+
+pub rec-returns-clause-tree : goal.rec-returns-clause-tree
+rec-returns-clause-tree t c =
+    record { parts = _; is = c.in_ok-rec.ensures.tree; read = then c.in_ok-head.ensures.found c.in_ok-body.ensures.tree }
+
+pub if_else-returns-in_err-test-clause-none : goal.if_else-returns-in_err-test-clause-none
+if_else-returns-in_err-test-clause-none t c =
+    let p = err_from_is_err_and c.from_residual.result c.from_residual.ensures.1 in
+    rw (p.1, p.2) (on_syntax_more _ first_none c.in_err-test.ensures.none)
+
+pub if_else-returns-in_err-so-clause-none : goal.if_else-returns-in_err-so-clause-none
+if_else-returns-in_err-so-clause-none t c =
+    let p = err_from_is_err_and c.from_residual-in_err-so.result c.from_residual-in_err-so.ensures.1 in
+    rw (p.1, p.2) (on_syntax_more _ (λ n. later_none (one_before Then (one_tree _ _)) c.in_ok-test.ensures.tree (first_none n)) c.in_err-so.ensures.none)
+
+pub if_else-returns-in_err-otherwise-clause-none : goal.if_else-returns-in_err-otherwise-clause-none
+if_else-returns-in_err-otherwise-clause-none t c =
+    let p = err_from_is_err_and c.from_residual-in_err-otherwise.result c.from_residual-in_err-otherwise.ensures.1 in
+    rw (p.1, p.2) (on_syntax_more _ (λ n. later_none (one_before Then (one_tree _ _)) c.in_ok-test.ensures.tree (later_none (one_before Else (one_tree _ _)) c.in_ok-so.ensures.tree n)) c.in_err-otherwise.ensures.none)
+
+pub if_else-returns-clause-tree : goal.if_else-returns-clause-tree
+if_else-returns-clause-tree t c =
+    record { parts = _; is = c.in_ok-if_else.ensures.tree; read = then c.in_ok-test.ensures.tree (then c.in_ok-so.ensures.tree c.in_ok-otherwise.ensures.tree) }
+
+pub marshal-returns-in_err-mark-clause-none : goal.marshal-returns-in_err-mark-clause-none
+marshal-returns-in_err-mark-clause-none t c =
+    let p = err_from_is_err_and c.from_residual.result c.from_residual.ensures.1 in
+    rw (p.1, p.2) (on_syntax_more _ first_none c.in_err-mark.ensures.none)
+
+pub marshal-returns-in_err-value-clause-none : goal.marshal-returns-in_err-value-clause-none
+marshal-returns-in_err-value-clause-none t c =
+    let p = err_from_is_err_and c.from_residual-in_err-value.result c.from_residual-in_err-value.ensures.1 in
+    rw (p.1, p.2) (on_syntax_more _ (λ n. later_none (one_tree _ _) c.in_ok-mark.ensures.tree (first_none n)) c.in_err-value.ensures.none)
+
+pub marshal-returns-in_err-ty-clause-none : goal.marshal-returns-in_err-ty-clause-none
+marshal-returns-in_err-ty-clause-none t c =
+    let p = err_from_is_err_and c.from_residual-in_err-ty.result c.from_residual-in_err-ty.ensures.1 in
+    rw (p.1, p.2) (on_syntax_more _ (λ n. later_none (one_tree _ _) c.in_ok-mark.ensures.tree (later_none (one_tree _ _) c.in_ok-value.ensures.tree n)) c.in_err-ty.ensures.none)
+
+pub marshal-returns-clause-tree : goal.marshal-returns-clause-tree
+marshal-returns-clause-tree t c =
+    record { parts = _; is = c.in_ok-marshal.ensures.tree; read = then c.in_ok-mark.ensures.tree (then c.in_ok-value.ensures.tree c.in_ok-ty.ensures.found) }
+
+pub unmarshal-returns-in_err-text-clause-none : goal.unmarshal-returns-in_err-text-clause-none
+unmarshal-returns-in_err-text-clause-none t c =
+    let p = err_from_is_err_and c.from_residual.result c.from_residual.ensures.1 in
+    rw (p.1, p.2) (on_syntax_more _ first_none c.in_err-text.ensures.none)
+
+pub unmarshal-returns-in_err-ty-clause-none : goal.unmarshal-returns-in_err-ty-clause-none
+unmarshal-returns-in_err-ty-clause-none t c =
+    let p = err_from_is_err_and c.from_residual-in_err-ty.result c.from_residual-in_err-ty.ensures.1 in
+    rw (p.1, p.2) (on_syntax_more _ (later_none (one_tree _ _) c.in_ok-text.ensures.tree) c.in_err-ty.ensures.none)
+
+pub unmarshal-returns-clause-tree : goal.unmarshal-returns-clause-tree
+unmarshal-returns-clause-tree t c =
+    record { parts = _; is = c.in_ok-unmarshal.ensures.tree; read = then c.in_ok-text.ensures.tree c.in_ok-ty.ensures.found }
+
+pub raise-returns-in_err-exception-clause-none : goal.raise-returns-in_err-exception-clause-none
+raise-returns-in_err-exception-clause-none t c =
+    let p = err_from_is_err_and c.from_residual.result c.from_residual.ensures.1 in
+    rw (p.1, p.2) (on_syntax_more _ first_none c.in_err-exception.ensures.none)
+
+pub raise-returns-in_err-ty-clause-none : goal.raise-returns-in_err-ty-clause-none
+raise-returns-in_err-ty-clause-none t c =
+    let p = err_from_is_err_and c.from_residual-in_err-ty.result c.from_residual-in_err-ty.ensures.1 in
+    rw (p.1, p.2) (on_syntax_more _ (later_none (one_tree _ _) c.in_ok-exception.ensures.tree) c.in_err-ty.ensures.none)
+
+pub raise-returns-clause-tree : goal.raise-returns-clause-tree
+raise-returns-clause-tree t c =
+    record { parts = _; is = c.in_ok-raise.ensures.tree; read = then c.in_ok-exception.ensures.tree c.in_ok-ty.ensures.found }
+
+pub part-returns-in_default-clause-tree : goal.part-returns-in_default-clause-tree
+part-returns-in_default-clause-tree t c =
+    IfOk-weaker c.binary.result _ _ (λ x o. operators_tree _ _ _ _ o) c.binary.ensures.tree
+
+pub part-returns-in_default-clause-none : goal.part-returns-in_default-clause-none
+part-returns-in_default-clause-none t c =
+    IfErr-weaker c.binary.result _ _ (λ e o. on_syntax_more e (operators_none _ _ c.in_default.ensures.found) o) c.binary.ensures.none
+
+pub part-returns-then-depth-eq0-clause-none : goal.part-returns-then-depth-eq0-clause-none
+part-returns-then-depth-eq0-clause-none t c =
+    refused _ _ c.refused_at.ensures (flat_none _ _ _ c.if-depth-eq0.true)
+
+pub part-returns-clause-tree : goal.part-returns-clause-tree
+part-returns-clause-tree t c =
+    IfOk-weaker c.keyword_part.result _ _ (λ x o. subst (λ (l : List Sign). IsTree c.args.depth Part l (expr_of x.0.tree) (read_signs x.1.now)) (sym (word_at c.in-Some.ensures.found c.here.ensures)) o) c.keyword_part.ensures.tree
+
+pub part-returns-clause-none : goal.part-returns-clause-none
+part-returns-clause-none t c =
+    IfErr-weaker c.keyword_part.result _ _ (λ e o. on_syntax_more e (λ n. subst (λ (l : List Sign). NoTree c.args.depth Part l) (sym (word_at c.in-Some.ensures.found c.here.ensures)) n) o) c.keyword_part.ensures.none
+
+pub expr-returns-in_err-first-clause-none : goal.expr-returns-in_err-first-clause-none
+expr-returns-in_err-first-clause-none t c =
+    let p = err_from_is_err_and c.from_residual.result c.from_residual.ensures.1 in
+    rw (p.1, p.2) (on_syntax_more _ (part_none _ _) c.in_err-first.ensures.none)
+
+pub expr-returns-in_default-clause-tree : goal.expr-returns-in_default-clause-tree
+expr-returns-in_default-clause-tree t c =
+    alone_tree _ _ _ _ c.in_ok-first.ensures.tree c.in_default.ensures.found
+
+pub expr-returns-then-first-depth-clause-none : goal.expr-returns-then-first-depth-clause-none
+expr-returns-then-first-depth-clause-none t c =
+    refused _ _ c.refused_at.ensures (sequence_high _ _ _ _ _ c.in_ok-first.ensures.tree c.in-Some.ensures.found (subst (λ (n : ℕ). c.args.depth ≤ n) c.in_ok-first.ensures.height c.if-first-depth.true))
+
+pub expr-returns-clause-tree : goal.expr-returns-clause-tree
+expr-returns-clause-tree t c =
+    let low : height (expr_of c.in_ok-first.first.tree) < c.args.depth = omega (arith, c.in_ok-first.ensures.height, c.if-first-depth.false) in
+    IfOk-weaker c.sequence.result _ _
+    (λ x o. sequence_made _ _ _ _ _ c.in_ok-first.ensures.tree c.in-Some.ensures.found _ _ low
+    (subst (λ (at : ℕ). Made (IsParts (c.args.depth - 1)) (sequence_tree at (expr_of c.in_ok-first.first.tree)) (read_signs c.in-Some.behind.now) (expr_of x.0.tree) (read_signs x.1.now)) c.here.ensures o)) c.sequence.ensures.tree
+
+pub expr-returns-clause-none : goal.expr-returns-clause-none
+expr-returns-clause-none t c =
+    IfErr-weaker c.sequence.result _ _ (λ e o. on_syntax_more e (sequence_none _ _ _ _ _ c.in_ok-first.ensures.tree c.in-Some.ensures.found) o) c.sequence.ensures.none
+
+pub sequence-returns-in_err-second-clause-none : goal.sequence-returns-in_err-second-clause-none
+sequence-returns-in_err-second-clause-none t c =
+    let p = err_from_is_err_and c.from_residual.result c.from_residual.ensures.1 in
+    rw (p.1, p.2) (on_syntax_more _ (λ n. chain_none (start _ _ _) (before_none n) (last_none _ _ n)) c.in_err-second.ensures.none)
+
+pub sequence-returns-in_err-next-clause-none : goal.sequence-returns-in_err-next-clause-none
+sequence-returns-in_err-next-clause-none t c =
+    let p = err_from_is_err_and c.from_residual-in_err-next.result c.from_residual-in_err-next.ensures.1 in
+    rw (p.1, p.2) (on_syntax_more _ (next_part_none _ _ _ _ _ c.loop-behind.invariant.read _ c.in-Some.ensures.found) c.in_err-next.ensures.none)
+
+pub sequence-returns-clause-tree : goal.sequence-returns-clause-tree
+sequence-returns-clause-tree t c =
+    all_parts _ _ _ _ _ c.loop-behind.invariant.read _ _ c.in_default.ensures.found c.sequence.ensures.tree
+
+pub atom-returns-then-depth-eq0-clause-none : goal.atom-returns-then-depth-eq0-clause-none
+atom-returns-then-depth-eq0-clause-none t c =
+    refused _ _ c.refused_at.ensures (flat_none _ _ _ c.if-depth-eq0.true)
+
+pub atom-returns-in-Some-clause-tree : goal.atom-returns-in-Some-clause-tree
+atom-returns-in-Some-clause-tree t c =
+    IfOk-weaker c.opened.result _ _ (λ x o. subst (λ (l : List Sign). IsTree c.args.depth Atom l (expr_of x.0.tree) (read_signs x.1.now)) (sym (word_at c.in-Some.ensures.found c.here-at.ensures)) o) c.opened.ensures.tree
+
+pub atom-returns-in-Some-clause-none : goal.atom-returns-in-Some-clause-none
+atom-returns-in-Some-clause-none t c =
+    IfErr-weaker c.opened.result _ _ (λ e o. on_syntax_more e (λ n. subst (λ (l : List Sign). NoTree c.args.depth Atom l) (sym (word_at c.in-Some.ensures.found c.here-at.ensures)) n) o) c.opened.ensures.none
+
+pub atom-returns-in_err-choice-clause-none : goal.atom-returns-in_err-choice-clause-none
+atom-returns-in_err-choice-clause-none t c =
+    let pos : 0 < c.args.depth = omega (arith, c.if-depth-eq0.false) in
+    let p = err_from_is_err_and c.from_residual.result c.from_residual.ensures.1 in
+    rw (p.1, p.2) (on_syntax_more _ (match_none _ _ _ pos c.in-Some-after.ensures.found) c.in_err-choice.ensures.none)
+
+pub atom-returns-in_ok-match_with-clause-tree : goal.atom-returns-in_ok-match_with-clause-tree
+atom-returns-in_ok-match_with-clause-tree t c =
+    let pos : 0 < c.args.depth = omega (arith, c.if-depth-eq0.false) in match_tree _ _ _ pos _ _ _ _ _ c.here-at.ensures c.in_ok-choice.ensures.tree c.in-Some-after.ensures.found c.in_ok-match_with.ensures.tree
+
+pub atom-returns-in_err-choice-2-clause-none : goal.atom-returns-in_err-choice-2-clause-none
+atom-returns-in_err-choice-2-clause-none t c =
+    let pos : 0 < c.args.depth = omega (arith, c.if-depth-eq0.false) in
+    let p = err_from_is_err_and c.from_residual-in_err-choice-2.result c.from_residual-in_err-choice-2.ensures.1 in
+    rw (p.1, p.2) (on_syntax_more _ (try_none _ _ _ pos c.in-Some-after-2.ensures.found) c.in_err-choice-2.ensures.none)
+
+pub atom-returns-in_ok-try_with-clause-tree : goal.atom-returns-in_ok-try_with-clause-tree
+atom-returns-in_ok-try_with-clause-tree t c =
+    let pos : 0 < c.args.depth = omega (arith, c.if-depth-eq0.false) in try_tree _ _ _ pos _ _ _ _ _ c.here-at.ensures c.in_ok-choice-2.ensures.tree c.in-Some-after-2.ensures.found c.in_ok-try_with.ensures.tree
+
+pub atom-returns-in_err-tree-clause-none : goal.atom-returns-in_err-tree-clause-none
+atom-returns-in_err-tree-clause-none t c =
+    let p = err_from_is_err_and c.from_residual-in_err-tree.result c.from_residual-in_err-tree.ensures.1 in
+    rw (p.1, p.2) (on_syntax_more _ (λ f. leaf_none _ _ (f c.in_default.ensures.found c.in_default-after.ensures.found c.in_default-after-2.ensures.found)) c.in_err-tree.ensures.none)
+
+pub atom-returns-clause-tree : goal.atom-returns-clause-tree
+atom-returns-clause-tree t c =
+    let pos : 0 < c.args.depth = omega (arith, c.if-depth-eq0.false) in leaf_tree _ _ _ _ pos c.in_ok-tree.ensures.found
+
+pub atom-returns-clause-height : goal.atom-returns-clause-height
+atom-returns-clause-height t c =
+    sym c.in_ok-tree.ensures.found.leaf
+
+pub app-returns-in_default-clause-none : goal.app-returns-in_default-clause-none
+app-returns-in_default-clause-none t c =
+    IfErr-weaker c.applied.result _ _ (λ e o. on_syntax_more e (λ f. f c.in_default.ensures.found) o) c.applied.ensures.none
+
+pub app-returns-then-depth-eq0-clause-none : goal.app-returns-then-depth-eq0-clause-none
+app-returns-then-depth-eq0-clause-none t c =
+    refused _ _ c.refused_at.ensures (flat_none _ _ _ c.if-depth-eq0.true)
+
+pub app-returns-in_err-item-clause-none : goal.app-returns-in_err-item-clause-none
+app-returns-in_err-item-clause-none t c =
+    let pos : 0 < c.args.depth = omega (arith, c.if-depth-eq0.false) in
+    let p = err_from_is_err_and c.from_residual.result c.from_residual.ensures.1 in
+    rw (p.1, p.2) (on_syntax_more _ (prefixed_none _ _ _ _ _ c.in-Some.ensures.found pos) c.in_err-item.ensures.none)
+
+pub app-returns-then-begins_atom-clause-none : goal.app-returns-then-begins_atom-clause-none
+app-returns-then-begins_atom-clause-none t c =
+    let pos : 0 < c.args.depth = omega (arith, c.if-depth-eq0.false) in refused _ _ c.refused_at-then-begins_atom.ensures (second_none _ _ _ _ _ c.in-Some.ensures.found pos _ _ c.in_ok-item.ensures.tree (sym c.begins_atom.ensures ∙ c.if-begins_atom.true))
+
+pub app-returns-clause-tree : goal.app-returns-clause-tree
+app-returns-clause-tree t c =
+    let pos : 0 < c.args.depth = omega (arith, c.if-depth-eq0.false) in
+    subst (λ (x : Tree). IsTree c.args.depth App (read_signs c.args.signs.now) x (read_signs c.in_ok-item.rest.now)) (sym c.in_ok-prefixed_by.ensures.tree)
+    (prefixed_tree _ _ _ _ _ c.in-Some.ensures.found pos _ _ c.in_ok-item.ensures.tree (sym c.begins_atom.ensures ∙ c.if-begins_atom.false))
+
+pub applied-returns-in_err-function-clause-none : goal.applied-returns-in_err-function-clause-none
+applied-returns-in_err-function-clause-none t c =
+    let p = err_from_is_err_and c.from_residual.result c.from_residual.ensures.1 in
+    rw (p.1, p.2) (on_syntax_more _ (applied_none _ _) c.in_err-function.ensures.none)
+
+pub applied-returns-clause-tree : goal.applied-returns-clause-tree
+applied-returns-clause-tree t c =
+    IfOk-weaker c.arguments.result _ _
+    (λ x o. applied_tree _ _ _ _ c.in_ok-function.ensures.tree _ _
+    (subst (λ (at : ℕ). IsTree c.args.depth (Args at (expr_of c.in_ok-function.function.tree)) (read_signs c.in_ok-function.rest.now) (expr_of x.0.tree) (read_signs x.1.now)) c.here.ensures o)) c.arguments.ensures.tree
+
+pub applied-returns-clause-none : goal.applied-returns-clause-none
+applied-returns-clause-none t c =
+    IfErr-weaker c.arguments.result _ _
+    (λ e o. on_syntax_more e (λ n. args_none _ _ _ _ c.in_ok-function.ensures.tree
+    (subst (λ (at : ℕ). NoTree c.args.depth (Args at (expr_of c.in_ok-function.function.tree)) (read_signs c.in_ok-function.rest.now)) c.here.ensures n)) o) c.arguments.ensures.none
+
+pub arguments-loop-rest-init : goal.arguments-loop-rest-init
+arguments-loop-rest-init t c =
+    record { same = same_start _ _ _; height = c.requires.first; low = c.requires.low; shorter = omega arith }
+
+pub arguments-returns-in_err-applied-clause-none : goal.arguments-returns-in_err-applied-clause-none
+arguments-returns-in_err-applied-clause-none t c =
+    let p = err_from_is_err_and c.from_residual.result c.from_residual.ensures.1 in
+    rw (p.1, p.2) (on_syntax_more _ (λ n. same_none c.loop-rest.invariant.same n) c.in_err-applied.ensures.none)
+
+pub arguments-loop-rest-preserved : goal.arguments-loop-rest-preserved
+arguments-loop-rest-preserved t c =
+    let i = c.loop-rest.invariant in
+    record { same = same_then i.same c.in_ok-applied.ensures.tree; height = c.in_ok-applied.ensures.height; low = c.in_ok-applied.ensures.low; shorter = omega (arith, i.shorter, c.in_ok-applied.ensures.shorter) }
+
+pub arguments-returns-clause-tree : goal.arguments-returns-clause-tree
+arguments-returns-clause-tree t c =
+    let i = c.loop-rest.invariant in
+    let low : height (expr_of c.loop-rest.function.tree) ≤ c.args.depth = omega (arith, i.height, i.low) in
+    i.same.back _ _ (args_ended _ _ _ _ (sym c.begins_atom.ensures ∙ c.loop-rest-test.false) low)
+
+pub next_argument-returns-then-function-depth-clause-none : goal.next_argument-returns-then-function-depth-clause-none
+next_argument-returns-then-function-depth-clause-none t c =
+    refused _ _ c.refused_at.ensures (argument_high _ _ _ _ c.requires.begins (subst (λ (n : ℕ). c.args.depth ≤ n) c.requires.function c.if-function-depth.true))
+
+pub next_argument-returns-in_err-argument-clause-none : goal.next_argument-returns-in_err-argument-clause-none
+next_argument-returns-in_err-argument-clause-none t c =
+    let p = err_from_is_err_and c.from_residual.result c.from_residual.ensures.1 in
+    rw (p.1, p.2) (on_syntax_more _ (argument_none _ _ _ _ c.requires.begins) c.in_err-argument.ensures.none)
+
+pub next_argument-returns-clause-tree : goal.next_argument-returns-clause-tree
+next_argument-returns-clause-tree t c =
+    subst (λ (x : Tree). Same c.args.depth (Args c.args.at (expr_of c.args.function.tree)) (read_signs c.args.signs.now) (Args c.args.at x) (read_signs c.in_ok-argument.rest.now)) (sym c.in_ok-application.ensures.tree)
+    (next_argument _ _ _ _ c.requires.begins _ _ c.in_ok-argument.ensures.tree)
+
+pub minus-returns-in_ok-constant-clause-tree : goal.minus-returns-in_ok-constant-clause-tree
+minus-returns-in_ok-constant-clause-tree t c =
+    lone_tree _ _ _ _ _ _ c.requires c.in-Some.ensures.found (c.number.ensures.tree ∙ ap (λ n. ExInt c.args.at (neg_ℤ n)) c.in_ok-constant.ensures)
+
+pub minus-returns-in_err-operand-clause-none : goal.minus-returns-in_err-operand-clause-none
+minus-returns-in_err-operand-clause-none t c =
+    let p = err_from_is_err_and c.from_residual-in_err-operand.result c.from_residual-in_err-operand.ensures.1 in
+    rw (p.1, p.2) (on_syntax_more _ (minus_none _ _ _ c.in_default.ensures.found c.requires) c.in_err-operand.ensures.none)
+
+pub minus-returns-clause-tree : goal.minus-returns-clause-tree
+minus-returns-clause-tree t c =
+    minus_tree _ _ _ c.in_default.ensures.found c.requires _ _ _ c.in_ok-operand.ensures.tree c.in_ok-operation.ensures.tree
+
+pub unary-returns-then-depth-eq0-clause-none : goal.unary-returns-then-depth-eq0-clause-none
+unary-returns-then-depth-eq0-clause-none t c =
+    refused _ _ c.refused_at.ensures (flat_none _ _ _ c.if-depth-eq0.true)
+
+pub unary-returns-in-Some-clause-tree : goal.unary-returns-in-Some-clause-tree
+unary-returns-in-Some-clause-tree t c =
+    IfOk-weaker c.minus.result _ _ (λ x o. subst (λ (l : List Sign). IsTree c.args.depth Unary l (expr_of x.0.tree) (read_signs x.1.now)) (sym (word_at c.in-Some.ensures.found c.here-at.ensures)) o) c.minus.ensures.tree
+
+pub unary-returns-in-Some-clause-none : goal.unary-returns-in-Some-clause-none
+unary-returns-in-Some-clause-none t c =
+    IfErr-weaker c.minus.result _ _ (λ e o. on_syntax_more e (λ n. subst (λ (l : List Sign). NoTree c.args.depth Unary l) (sym (word_at c.in-Some.ensures.found c.here-at.ensures)) n) o) c.minus.ensures.none
+
+pub unary-returns-then-depth-eq0-2-clause-none : goal.unary-returns-then-depth-eq0-2-clause-none
+unary-returns-then-depth-eq0-2-clause-none t c =
+    refused _ _ c.refused_at-then-depth-eq0-2.ensures (flat_none _ _ _ c.if-depth-eq0-2.true)
+
+pub unary-returns-in_err-operand-clause-none : goal.unary-returns-in_err-operand-clause-none
+unary-returns-in_err-operand-clause-none t c =
+    let pos : 0 < c.args.depth = omega (arith, c.if-depth-eq0-2.false) in
+    let p = err_from_is_err_and c.from_residual.result c.from_residual.ensures.1 in
+    rw (p.1, p.2) (on_syntax_more _ (not_none _ _ _ c.in-Some-after.ensures.found pos) c.in_err-operand.ensures.none)
+
+pub unary-returns-in_ok-operation-clause-tree : goal.unary-returns-in_ok-operation-clause-tree
+unary-returns-in_ok-operation-clause-tree t c =
+    let pos : 0 < c.args.depth = omega (arith, c.if-depth-eq0-2.false) in not_tree _ _ _ c.in-Some-after.ensures.found pos _ _ _ _ c.here-at.ensures c.in_ok-operand.ensures.tree c.in_ok-operation.ensures.tree
+
+pub unary-returns-clause-tree : goal.unary-returns-clause-tree
+unary-returns-clause-tree t c =
+    IfOk-weaker c.app.result _ _ (λ x o. app_tree _ _ _ _ o) c.app.ensures.tree
+
+pub unary-returns-clause-none : goal.unary-returns-clause-none
+unary-returns-clause-none t c =
+    IfErr-weaker c.app.result _ _ (λ e o. on_syntax_more e (app_none _ _ c.in_default.ensures.found c.in_default-after.ensures.found) o) c.app.ensures.none
+
+pub to_left-loop-operator-init : goal.to_left-loop-operator-init
+to_left-loop-operator-init t c =
+    record { same = same_start _ _ _; height = c.requires.first; low = c.requires.low; stops = c.requires.stops; shorter = omega arith }
+
+pub to_left-returns-then-left-depth-clause-none : goal.to_left-returns-then-left-depth-clause-none
+to_left-returns-then-left-depth-clause-none t c =
+    let lv : suc (c.args.level - 1) ≡ c.args.level = omega (arith, c.requires.level.0) in
+    let s = left_step _ _ c.args.depth c.args.at _ _ _ _ lv c.in-Some.ensures.found c.requires.side in
+    refused _ _ c.refused_at.ensures (same_none c.loop-operator.invariant.same (s.high (subst (λ (n : ℕ). c.args.depth ≤ n) c.loop-operator.invariant.height c.if-left-depth.true)))
+
+pub to_left-returns-in_err-right-clause-none : goal.to_left-returns-in_err-right-clause-none
+to_left-returns-in_err-right-clause-none t c =
+    let lv : suc (c.args.level - 1) ≡ c.args.level = omega (arith, c.requires.level.0) in
+    let s = left_step _ _ c.args.depth c.args.at _ _ _ _ lv c.in-Some.ensures.found c.requires.side in
+    let p = err_from_is_err_and c.from_residual.result c.from_residual.ensures.1 in
+    rw (p.1, p.2) (on_syntax_more _ (λ n. same_none c.loop-operator.invariant.same (s.none n)) c.in_err-right.ensures.none)
+
+pub to_left-loop-operator-preserved : goal.to_left-loop-operator-preserved
+to_left-loop-operator-preserved t c =
+    let lv : suc (c.args.level - 1) ≡ c.args.level = omega (arith, c.requires.level.0) in
+    let s = left_step _ _ c.args.depth c.args.at _ _ _ _ lv c.in-Some.ensures.found c.requires.side in
+    let i = c.loop-operator.invariant in
+    let stops : suc (c.args.level - 1) < front (read_signs c.in_ok-right.later.now) = c.in_ok-right.ensures.tree.stops in
+    let low : height (expr_of c.in_ok-right.right.tree) ≤ c.args.depth - 1 = c.in_ok-right.ensures.tree.low in
+    record {
+      same = subst (λ (x : Tree). Same c.args.depth (After c.args.level c.args.at (expr_of c.args.first.tree)) (read_signs c.args.signs.now) (After c.args.level c.args.at x) (read_signs c.in_ok-right.later.now)) (sym c.in_ok-left-2.ensures.tree)
+          (same_then i.same (s.next _ _ c.in_ok-right.ensures.tree));
+      height = c.in_ok-left-2.ensures.height;
+      low = omega (arith, c.in_ok-left-2.ensures.height, ap height c.in_ok-left-2.ensures.tree, joined_height c.args.at _ (expr_of c.loop-operator.left.tree) (expr_of c.in_ok-right.right.tree), i.height, c.if-left-depth.false, low);
+      stops = omega (arith, stops);
+      shorter = omega (arith, i.shorter, c.in-Some.ensures.shorter, c.in_ok-right.ensures.shorter);
+    }
+
+pub to_left-returns-clause-tree : goal.to_left-returns-clause-tree
+to_left-returns-clause-tree t c =
+    let i = c.loop-operator.invariant in
+    let low : height (expr_of c.loop-operator.left.tree) ≤ c.args.depth = omega (arith, i.height, i.low) in
+    i.same.back _ _ (after_ended _ _ _ _ _ c.requires.level.0 c.requires.level.1 low i.stops c.in_default.ensures.found)
+
+pub to_right-returns-in_default-clause-tree : goal.to_right-returns-in_default-clause-tree
+to_right-returns-in_default-clause-tree t c =
+    let low : height (expr_of c.args.first.tree) ≤ c.args.depth = omega (arith, c.requires.first, c.requires.low) in
+    after_ended _ _ _ _ _ c.requires.level.0 c.requires.level.1 low c.requires.stops c.in_default.ensures.found
+
+pub to_right-returns-then-first-depth-clause-none : goal.to_right-returns-then-first-depth-clause-none
+to_right-returns-then-first-depth-clause-none t c =
+    let lv : suc (c.args.level - 1) ≡ c.args.level = omega (arith, c.requires.level.0) in
+    let s = right_step _ _ c.args.depth c.args.at _ _ _ _ lv c.in-Some.ensures.found c.requires.side in
+    refused _ _ c.refused_at.ensures (s.high (subst (λ (n : ℕ). c.args.depth ≤ n) c.requires.first c.if-first-depth.true))
+
+pub to_right-returns-in_err-right-clause-none : goal.to_right-returns-in_err-right-clause-none
+to_right-returns-in_err-right-clause-none t c =
+    let lv : suc (c.args.level - 1) ≡ c.args.level = omega (arith, c.requires.level.0) in
+    let s = right_step _ _ c.args.depth c.args.at _ _ _ _ lv c.in-Some.ensures.found c.requires.side in
+    let p = err_from_is_err_and c.from_residual.result c.from_residual.ensures.1 in
+    rw (p.1, p.2) (on_syntax_more _ (λ n. s.none n) c.in_err-right.ensures.none)
+
+pub once-returns-in_default-clause-tree : goal.once-returns-in_default-clause-tree
+once-returns-in_default-clause-tree t c =
+    let low : height (expr_of c.args.first.tree) ≤ c.args.depth = omega (arith, c.requires.first, c.requires.low) in
+    after_ended _ _ _ _ _ c.requires.level.0 c.requires.level.1 low c.requires.stops c.in_default.ensures.found
+
+pub once-returns-then-first-depth-clause-none : goal.once-returns-then-first-depth-clause-none
+once-returns-then-first-depth-clause-none t c =
+    let lv : suc (c.args.level - 1) ≡ c.args.level = omega (arith, c.requires.level.0) in
+    let s = once_step _ _ c.args.depth c.args.at _ _ _ _ lv c.in-Some.ensures.found c.requires.side in
+    refused _ _ c.refused_at.ensures (s.high (subst (λ (n : ℕ). c.args.depth ≤ n) c.requires.first c.if-first-depth.true))
+
+pub once-returns-in_err-right-clause-none : goal.once-returns-in_err-right-clause-none
+once-returns-in_err-right-clause-none t c =
+    let lv : suc (c.args.level - 1) ≡ c.args.level = omega (arith, c.requires.level.0) in
+    let s = once_step _ _ c.args.depth c.args.at _ _ _ _ lv c.in-Some.ensures.found c.requires.side in
+    let p = err_from_is_err_and c.from_residual.result c.from_residual.ensures.1 in
+    rw (p.1, p.2) (on_syntax_more _ (λ n. s.none n) c.in_err-right.ensures.none)
+
+pub to_right-returns-clause-tree : goal.to_right-returns-clause-tree
+to_right-returns-clause-tree t c =
+    let lv : suc (c.args.level - 1) ≡ c.args.level = omega (arith, c.requires.level.0) in
+    let s = right_step _ _ c.args.depth c.args.at _ _ _ _ lv c.in-Some.ensures.found c.requires.side in
+    let low : height (expr_of c.args.first.tree) < c.args.depth = omega (arith, c.requires.first, c.if-first-depth.false) in
+    subst (λ (x : Tree). IsTree c.args.depth (After c.args.level c.args.at (expr_of c.args.first.tree)) (read_signs c.args.signs.now) x (read_signs c.in_ok-right.rest.now)) (sym c.in_ok-join.ensures.tree)
+    (s.tree _ _ c.in_ok-right.ensures.tree low c.in_ok-right.ensures.tree.stops)
+
+pub once-returns-in-Some-operator-clause-none : goal.once-returns-in-Some-operator-clause-none
+once-returns-in-Some-operator-clause-none t c =
+    let lv : suc (c.args.level - 1) ≡ c.args.level = omega (arith, c.requires.level.0) in
+    let s = once_step _ _ c.args.depth c.args.at _ _ _ _ lv c.in-Some.ensures.found c.requires.side in
+    refused _ _ c.refused_at-in-Some-operator.ensures (s.again _ _ c.in_ok-right.ensures.tree (goes_on _ _ _ _ c.in-Some-operator.ensures.found))
+
+pub once-returns-in-None-clause-tree : goal.once-returns-in-None-clause-tree
+once-returns-in-None-clause-tree t c =
+    let lv : suc (c.args.level - 1) ≡ c.args.level = omega (arith, c.requires.level.0) in
+    let s = once_step _ _ c.args.depth c.args.at _ _ _ _ lv c.in-Some.ensures.found c.requires.side in
+    let low : height (expr_of c.args.first.tree) < c.args.depth = omega (arith, c.requires.first, c.if-first-depth.false) in
+    let stops : suc (c.args.level - 1) < front (read_signs c.in_ok-right.rest.now) = c.in_ok-right.ensures.tree.stops in
+    let level : c.args.level < front (read_signs c.in_ok-right.rest.now) = omega (arith, stops) in
+    subst (λ (x : Tree). IsTree c.args.depth (After c.args.level c.args.at (expr_of c.args.first.tree)) (read_signs c.args.signs.now) x (read_signs c.in_ok-right.rest.now)) (sym c.in_ok-join.ensures.tree)
+    (s.tree _ _ c.in_ok-right.ensures.tree low (past_operator _ _ c.requires.level.0 c.requires.level.1 level c.in-None.ensures.found))
+
+pub binary-returns-then-level-eq0-clause-tree : goal.binary-returns-then-level-eq0-clause-tree
+binary-returns-then-level-eq0-clause-tree t c =
+    IfOk-weaker c.unary.result _ _ (λ x o. unary_tree _ _ _ _ _ c.if-level-eq0.true o) c.unary.ensures.tree
+
+pub binary-returns-then-level-eq0-clause-none : goal.binary-returns-then-level-eq0-clause-none
+binary-returns-then-level-eq0-clause-none t c =
+    IfErr-weaker c.unary.result _ _ (λ e o. on_syntax_more e (unary_none _ _ _ c.if-level-eq0.true) o) c.unary.ensures.none
+
+pub binary-returns-in_err-first-clause-none : goal.binary-returns-in_err-first-clause-none
+binary-returns-in_err-first-clause-none t c =
+    let lv : suc (c.args.level - 1) ≡ c.args.level = omega (arith, c.if-level-eq0.false) in
+    let p = err_from_is_err_and c.from_residual.result c.from_residual.ensures.1 in
+    rw (p.1, p.2) (on_syntax_more _ (operand_none _ _ _ _ lv) c.in_err-first.ensures.none)
