@@ -108,14 +108,14 @@ ItemsSoFar D = ManyRead (Before Comma (IsTree D Expr)) (Before Close (IsTree D E
 
 module _ (D : ℕ) (first : Tree) (ts : List Sign) (parts : List Tree) (rest : List Sign) (m : ItemsSoFar D first ts parts rest) where
   module _ (behind : List Sign) (comma : SymbolAt Comma rest behind) where
-    not_last : (e : Tree) (s : List Sign) → Before Close (IsTree D Expr) m.from e s → ⊥
-    not_last e s b = before_apart (one_tree D Expr) comma_is_no_close (before m.read comma) b
+    no_last_item : (e : Tree) (s : List Sign) → Before Close (IsTree D Expr) m.from e s → ⊥
+    no_last_item e s b = before_apart (one_tree D Expr) comma_is_no_close (before m.read comma) b
 
     pub item_none : NoTree D Expr behind → Nothing (IsItems D) ts
-    item_none none' = next_none (one_before Comma (one_tree D Expr)) m not_last (before m.read comma) (before_none none') (before_none none')
+    item_none none' = next_none (one_before Comma (one_tree D Expr)) m no_last_item (before m.read comma) (before_none none') (before_none none')
 
     pub item_read : (e : Tree) (later : List Sign) (all : List Tree) → IsTree D Expr behind e later → all ≡ parts ++ e ∷ [] → ItemsSoFar D first ts all later
-    item_read e later all q is = next_read (one_before Comma (one_tree D Expr)) m not_last (before m.read comma) q is
+    item_read e later all q is = next_read (one_before Comma (one_tree D Expr)) m no_last_item (before m.read comma) q is
 
   pub unended_items : NoSymbol Comma rest → NoSymbol Close rest → Nothing (IsItems D) ts
   unended_items no_comma no_close = chain_none m.so (symbol_none (one_tree D Expr) m.read no_comma) (symbol_none (one_tree D Expr) m.read no_close)
@@ -308,14 +308,14 @@ first_arm D ts rest x arms p is = record { done = []; from = ts; so = start _ _ 
 
 module _ (D : ℕ) (ts : List Sign) (arms : List (PatTree × Tree)) (rest : List Sign) (m : ArmsSoFar D ts arms rest) where
   module _ (behind : List Sign) (bar : SymbolAt Bar rest behind) where
-    not_last : (x : PatTree × Tree) (s : List Sign) → Before End (IsArm D) m.from x s → ⊥
-    not_last x s b = before_apart (one_arm D) bar_is_no_end (before m.read bar) b
+    no_last_arm : (x : PatTree × Tree) (s : List Sign) → Before End (IsArm D) m.from x s → ⊥
+    no_last_arm x s b = before_apart (one_arm D) bar_is_no_end (before m.read bar) b
 
     pub next_arm_none : Nothing (IsArm D) behind → Nothing (IsArms D) ts
-    next_arm_none none' = chain_none (next (one_before Bar (one_arm D)) not_last m.so (before m.read bar)) (before_none none') (before_none none')
+    next_arm_none none' = chain_none (next (one_before Bar (one_arm D)) no_last_arm m.so (before m.read bar)) (before_none none') (before_none none')
 
     pub next_arm : (x : PatTree × Tree) (later : List Sign) (all : List (PatTree × Tree)) → IsArm D behind x later → all ≡ arms ++ x ∷ [] → ArmsSoFar D ts all later
-    next_arm x later all p is = record { done = m.done ++ m.item ∷ []; from = behind; so = next (one_before Bar (one_arm D)) not_last m.so (before m.read bar); item = x; read = p; is = is ∙ ap (λ l. l ++ x ∷ []) m.is }
+    next_arm x later all p is = record { done = m.done ++ m.item ∷ []; from = behind; so = next (one_before Bar (one_arm D)) no_last_arm m.so (before m.read bar); item = x; read = p; is = is ∙ ap (λ l. l ++ x ∷ []) m.is }
 
   pub unended_arms : NoSymbol Bar rest → NoSymbol End rest → Nothing (IsArms D) ts
   unended_arms no_bar no_end = chain_none m.so (symbol_none (one_arm D) m.read no_bar) (symbol_none (one_arm D) m.read no_end)

@@ -283,6 +283,14 @@ module _ (D : ℕ) (x : Prefix) (at : ℕ) (ts behind : List Sign) (w : PrefixAt
 
 -- `-` and `not`
 
+true_of : (b : Bool) → (b ≡ false → ⊥) → b ≡ true
+true_of true h = refl
+true_of false h = absurd (h refl)
+
+false_of : (b : Bool) → (b ≡ true → ⊥) → b ≡ false
+false_of true h = absurd (h refl)
+false_of false h = refl
+
 args_no_number : {at a n : ℕ} {j : Ending} {f e : Tree} {us ts s : List Sign} → Parses (Args at f) j ts e s → is_bare (Int a n ∷ us) f ≡ false → is_bare (Int a n ∷ us) e ≡ false
 args_no_number no_argument h = h
 args_no_number (argument p q) h = args_no_number q refl
@@ -298,11 +306,7 @@ not_bare {ts = Lower a x ∷ ts} none' p h = refl
 not_bare {ts = Upper a x ∷ ts} none' p h = refl
 not_bare {ts = Fixed a x ∷ ts} none' p h = refl
 not_bare {ts = Other a ∷ ts} none' p h = refl
-not_bare {ts = Int a n ∷ ts} none' (app p) h = number_app (begins' (begins_atom ts) refl) p h
-  where
-    begins' : (b : Bool) → begins_atom ts ≡ b → begins_atom ts ≡ true
-    begins' true e = e
-    begins' false e = absurd (none' n ts (record { number = record { at = a; is = refl }; alone = e }))
+not_bare {ts = Int a n ∷ ts} none' (app p) h = number_app (true_of (begins_atom ts) (λ e. none' n ts (record { number = record { at = a; is = refl }; alone = e }))) p h
 
 record Minused (at : ℕ) (ts : List Sign) (e : Tree) (s : List Sign) : Type 0 where
   operand : Tree
@@ -311,11 +315,7 @@ record Minused (at : ℕ) (ts : List Sign) (e : Tree) (s : List Sign) : Type 0 w
 
 minus_forth : {at : ℕ} {j : Ending} {ts s : List Sign} {e : Tree} → NoLoneNumber ts → Parses Unary j (Fixed at Minus ∷ ts) e s → 1 < front s → Minused at ts e s
 minus_forth none' (minus b p) h = record { operand = _; parses = p; is = refl }
-minus_forth none' (negative {q = q} {n = n} {ts = ts}) h = absurd (none' n ts (record { number = record { at = q; is = refl }; alone = alone (begins_atom ts) refl }))
-  where
-    alone : (b : Bool) → begins_atom ts ≡ b → begins_atom ts ≡ false
-    alone true e = argument_goes_on ts e h
-    alone false e = e
+minus_forth none' (negative {q = q} {n = n} {ts = ts}) h = absurd (none' n ts (record { number = record { at = q; is = refl }; alone = false_of (begins_atom ts) (λ e. argument_goes_on ts e h) }))
 minus_forth none' (app p) h = begins_not p (omega arith)
 
 pub lone_tree : (D at n : ℕ) (ts s : List Sign) (e : Tree) → 0 < D → LoneNumber n ts s → e ≡ ExInt at (neg_ℤ (pos n)) → IsTree D Unary (Fixed at Minus ∷ ts) e s
@@ -513,14 +513,14 @@ once_of side is (right is' side' p) h = right_once (sym side' ∙ side)
 once_of {at = at} {a = a} side is (once {b = b} is' side' p) h = record { b = b; parses = p; is = ap (λ (x : Operator). joined at x a b) (same_operator is' is) }
 
 pub record LeftStep (k K D at : ℕ) (a : Tree) (o : Operator) (ts behind : List Sign) : Type 0 where
-  pub none : NoTree (D - 1) (Binary k) behind → NoTree D (After K at a) ts
+  pub refused : NoTree (D - 1) (Binary k) behind → NoTree D (After K at a) ts
   pub high : D ≤ height a → NoTree D (After K at a) ts
   pub next : (b : Tree) (r : List Sign) → IsTree (D - 1) (Binary k) behind b r → Same D (After K at a) ts (After K at (joined at o a b)) r
 
 pub record RightStep (l : Level) (K D at : ℕ) (a : Tree) (o : Operator) (ts behind : List Sign) : Type 0 where
-  pub none : NoTree (D - 1) l behind → NoTree D (After K at a) ts
+  pub refused : NoTree (D - 1) l behind → NoTree D (After K at a) ts
   pub high : D ≤ height a → NoTree D (After K at a) ts
-  pub tree : (b : Tree) (r : List Sign) → IsTree (D - 1) l behind b r → height a < D → suc K < front r → IsTree D (After K at a) ts (joined at o a b) r
+  pub made : (b : Tree) (r : List Sign) → IsTree (D - 1) l behind b r → height a < D → suc K < front r → IsTree D (After K at a) ts (joined at o a b) r
   pub again : (b : Tree) (r : List Sign) → IsTree (D - 1) l behind b r → (suc K < front r → ⊥) → NoTree D (After K at a) ts
 
 module _ (k D at : ℕ) (a : Tree) (o : Operator) (ts behind : List Sign) (w : OperatorAt (suc k) o ts behind) where
@@ -560,7 +560,7 @@ module _ (k D at : ℕ) (a : Tree) (o : Operator) (ts behind : List Sign) (w : O
 
     left_at : LeftStep k (suc k) D at a o ts behind
     left_at = record {
-      none = λ none' e s v. none' _ _ (right_side e s v);
+      refused = λ none' e s v. none' _ _ (right_side e s v);
       high = λ high e s v. let low = left_low e s v in absurd (omega arith);
       next = left_next;
     }
@@ -575,9 +575,9 @@ module _ (k D at : ℕ) (a : Tree) (o : Operator) (ts behind : List Sign) (w : O
 
     right_at : RightStep (Binary (suc k)) (suc k) D at a o ts behind
     right_at = record {
-      none = λ none' e s v. let n = right_here e s v in none' n.0 s n.1.0;
+      refused = λ none' e s v. let n = right_here e s v in none' n.0 s n.1.0;
       high = λ high e s v. let n = right_here e s v in let h : max (height a) (height n.0) + 1 ≤ D = n.1.1 in absurd (omega arith);
-      tree = λ b r p h stops'. record {
+      made = λ b r p h stops'. record {
         ending = Closed;
         parses = at_same w.is (right w.named side (closed_binary p.parses));
         stops = stops';
@@ -601,9 +601,9 @@ module _ (k D at : ℕ) (a : Tree) (o : Operator) (ts behind : List Sign) (w : O
 
     once_at : RightStep (Binary k) (suc k) D at a o ts behind
     once_at = record {
-      none = λ none' e s v. let n = once_here e s v in none' n.0 s n.1.0;
+      refused = λ none' e s v. let n = once_here e s v in none' n.0 s n.1.0;
       high = λ high e s v. let n = once_here e s v in let h : max (height a) (height n.0) + 1 ≤ D = n.1.1 in absurd (omega arith);
-      tree = λ b r p h stops'. record {
+      made = λ b r p h stops'. record {
         ending = Closed;
         parses = at_same w.is (once w.named side (closed_binary p.parses));
         stops = stops';

@@ -399,7 +399,7 @@ applied-returns-in_err-function-clause-none t c =
 pub applied-returns-clause-tree : goal.applied-returns-clause-tree
 applied-returns-clause-tree t c =
     IfOk-weaker c.arguments.result _ _
-    (λ x o. applied_tree _ _ _ _ c.in_ok-function.ensures.tree _ _
+    (λ x o. applied_tree _ _ _ _ c.in_ok-function.ensures.made _ _
     (subst (λ (at : ℕ). IsTree c.args.depth (Args at (expr_of c.in_ok-function.function.tree)) (read_signs c.in_ok-function.rest.now) (expr_of x.0.tree) (read_signs x.1.now)) c.here.ensures o)) c.arguments.ensures.tree
 
 pub applied-returns-clause-none : goal.applied-returns-clause-none
@@ -504,7 +504,7 @@ to_left-returns-in_err-right-clause-none t c =
     let lv : suc (c.args.level - 1) ≡ c.args.level = omega (arith, c.requires.level.0) in
     let s = left_step _ _ c.args.depth c.args.at _ _ _ _ lv c.in-Some.ensures.found c.requires.side in
     let p = err_from_is_err_and c.from_residual.result c.from_residual.ensures.1 in
-    rw (p.1, p.2) (on_syntax_more _ (λ n. same_none c.loop-operator.invariant.same (s.none n)) c.in_err-right.ensures.none)
+    rw (p.1, p.2) (on_syntax_more _ (λ n. same_none c.loop-operator.invariant.same (s.refused n)) c.in_err-right.ensures.none)
 
 pub to_left-loop-operator-preserved : goal.to_left-loop-operator-preserved
 to_left-loop-operator-preserved t c =
@@ -544,7 +544,7 @@ to_right-returns-in_err-right-clause-none t c =
     let lv : suc (c.args.level - 1) ≡ c.args.level = omega (arith, c.requires.level.0) in
     let s = right_step _ _ c.args.depth c.args.at _ _ _ _ lv c.in-Some.ensures.found c.requires.side in
     let p = err_from_is_err_and c.from_residual.result c.from_residual.ensures.1 in
-    rw (p.1, p.2) (on_syntax_more _ (λ n. s.none n) c.in_err-right.ensures.none)
+    rw (p.1, p.2) (on_syntax_more _ (λ n. s.refused n) c.in_err-right.ensures.none)
 
 pub once-returns-in_default-clause-tree : goal.once-returns-in_default-clause-tree
 once-returns-in_default-clause-tree t c =
@@ -562,7 +562,7 @@ once-returns-in_err-right-clause-none t c =
     let lv : suc (c.args.level - 1) ≡ c.args.level = omega (arith, c.requires.level.0) in
     let s = once_step _ _ c.args.depth c.args.at _ _ _ _ lv c.in-Some.ensures.found c.requires.side in
     let p = err_from_is_err_and c.from_residual.result c.from_residual.ensures.1 in
-    rw (p.1, p.2) (on_syntax_more _ (λ n. s.none n) c.in_err-right.ensures.none)
+    rw (p.1, p.2) (on_syntax_more _ (λ n. s.refused n) c.in_err-right.ensures.none)
 
 pub to_right-returns-clause-tree : goal.to_right-returns-clause-tree
 to_right-returns-clause-tree t c =
@@ -570,7 +570,7 @@ to_right-returns-clause-tree t c =
     let s = right_step _ _ c.args.depth c.args.at _ _ _ _ lv c.in-Some.ensures.found c.requires.side in
     let low : height (expr_of c.args.first.tree) < c.args.depth = omega (arith, c.requires.first, c.if-first-depth.false) in
     subst (λ (x : Tree). IsTree c.args.depth (After c.args.level c.args.at (expr_of c.args.first.tree)) (read_signs c.args.signs.now) x (read_signs c.in_ok-right.rest.now)) (sym c.in_ok-join.ensures.tree)
-    (s.tree _ _ c.in_ok-right.ensures.tree low c.in_ok-right.ensures.tree.stops)
+    (s.made _ _ c.in_ok-right.ensures.tree low c.in_ok-right.ensures.tree.stops)
 
 pub once-returns-in-Some-operator-clause-none : goal.once-returns-in-Some-operator-clause-none
 once-returns-in-Some-operator-clause-none t c =
@@ -586,7 +586,7 @@ once-returns-in-None-clause-tree t c =
     let stops : suc (c.args.level - 1) < front (read_signs c.in_ok-right.rest.now) = c.in_ok-right.ensures.tree.stops in
     let level : c.args.level < front (read_signs c.in_ok-right.rest.now) = omega (arith, stops) in
     subst (λ (x : Tree). IsTree c.args.depth (After c.args.level c.args.at (expr_of c.args.first.tree)) (read_signs c.args.signs.now) x (read_signs c.in_ok-right.rest.now)) (sym c.in_ok-join.ensures.tree)
-    (s.tree _ _ c.in_ok-right.ensures.tree low (past_operator _ _ c.requires.level.0 c.requires.level.1 level c.in-None.ensures.found))
+    (s.made _ _ c.in_ok-right.ensures.tree low (past_operator _ _ c.requires.level.0 c.requires.level.1 level c.in-None.ensures.found))
 
 pub binary-returns-then-level-eq0-clause-tree : goal.binary-returns-then-level-eq0-clause-tree
 binary-returns-then-level-eq0-clause-tree t c =
