@@ -6,12 +6,12 @@ use Rattle.ac_syntax.specs.declared.surface.SPat.{SPat}
 use Rattle.ac_syntax.specs.declared.surface.SExpr.{SExpr}
 use Rattle.ac_syntax.specs.declared.surface.SArm.{SArm}
 use Rattle.ac_syntax.specs.declared.surface.SFun.{SFun}
-use Rattle.ac_syntax.specs.declared.surface.SExprKind.{SExprKind, Int, Str, Var, Of, Present, Exn, Tuple, Seq, Op, Match, Try}
+use Rattle.ac_syntax.specs.declared.surface.SExprKind.{SExprKind, Int, Str, Var, Of, Exn, Tuple, Seq, Op, Match, Try}
 use Rattle.ac_syntax.specs.declared.surface.SExprKind.TheOpen.{SExprKind-F, SExpr-F, SArm-F, SFun-F}
 use Rattle.ac_syntax.specs.declared.surface.SExprKind.TheFolds.{map-SExpr, map-SExprKind, map-SArm, map-SFun, fold_out-SExpr, fold_out-SExprKind, fold_out-SArm, fold_out-SFun, fold-roll-SExpr, fold-roll-SArm}
 use Rattle.ac_syntax.specs.declared.surface.SExprKind.TheViews.{out-SExpr, out-SExprKind, out-SArm, out-SFun, roll-SExpr, roll-SArm, the_lemmas}
 use Rattle.ac_syntax.specs.declared.surface.SExprKind.TheVariants as variants
-use Rattle.ac_syntax.specs.Trees.{PatTree, Tree, ExInt, ExStr, ExVar, ExOf, ExPresent, ExExnOf, ExTuple, ExSeq, ExOp, ExMatch, ExTry, trees, arm_trees}
+use Rattle.ac_syntax.specs.Trees.{PatTree, Tree, ExInt, ExStr, ExVar, ExOf, ExExnOf, ExTuple, ExSeq, ExOp, ExMatch, ExTry, trees, arm_trees}
 use Rattle.ac_syntax.specs.ReadTrees.{FunTree, name_of, pat_of, expr_of, expr_kind_of, arm_of, fun_of, expr_kind_layer, expr_layer, arm_layer, fun_layer}
 
 -- one layer, read
@@ -85,3 +85,6 @@ expr_of-Of at m x = expr_of-kind at (Of m x) ∙ ap (λ f. f at) (expr_kind_out 
 pub arm_of-made : (p : SPat) (e : SExpr) → arm_of (roll-SArm (record { pat = p; body = e })) ≡ (pat_of p, expr_of e)
 unfolding expr_of expr_kind_of arm_of fun_of
 arm_of-made p e = fold-roll-SArm (ℕ → Tree) (PatTree × Tree) Tree FunTree expr_kind_layer arm_layer expr_layer fun_layer (record { pat = p; body = e })
+
+pub expr_of-ExnOf : (at n : ℕ) (e : SExpr) → expr_of (roll-SExpr (record { at = at; kind = Exn n (Some e) })) ≡ ExExnOf at n (expr_of e)
+expr_of-ExnOf at n e = expr_of-kind at (Exn n (Some e)) ∙ ap (λ f. f at) (expr_kind_out (Exn n (Some e))) ∙ ap (kind_at at) (variants.outs-Exn n (Some e))

@@ -1,0 +1,18 @@
+use Rattle.std.proofs.Common.{◌+◌, ◌∙◌, ap, sym, arith}
+use Rattle.ac_syntax.specs.Trees.{ExExnOf, height}
+use Rattle.ac_syntax.specs.ReadTrees.{expr_of}
+use Rattle.ac_syntax.specs.declared.surface.SExpr.{SExpr}
+use Rattle.ac_expressions.specs.declared.front.Prefix.{Prefix}
+use Rattle.ac_expressions.specs.Forms.{prefixed}
+use Rattle.ac_expressions.proofs.ExprLaws.{expr_of-ExnOf}
+use Rattle.ac_expressions.proofs.build.prefixed_by.Goals as goal
+
+pub returns-in-Exn-clause-tree : goal.returns-in-Exn-clause-tree
+returns-in-Exn-clause-tree c =
+    expr_of-ExnOf c.args.at c.in-Exn.number _ ∙ ap (λ (e : SExpr). ExExnOf c.args.at c.in-Exn.number (expr_of e)) c.in_ok-item.ensures
+    ∙ sym (ap (λ (x : Prefix). prefixed x c.args.at (expr_of c.args.item.tree)) c.in-Exn.is)
+
+pub returns-in-Exn-clause-height : goal.returns-in-Exn-clause-height
+returns-in-Exn-clause-height c =
+    let same = expr_of-ExnOf c.args.at c.in-Exn.number _ ∙ ap (λ (e : SExpr). ExExnOf c.args.at c.in-Exn.number (expr_of e)) c.in_ok-item.ensures in
+    omega (arith, c.requires.item, ap height same)
