@@ -101,10 +101,18 @@ parts_low D (more {x = e} b c) = let low : height e ≤ D = b.first.low in let h
 -- the items of a tuple and the parts of a sequence so far
 
 comma_is_no_close : Comma ≡ Close → ⊥
-comma_is_no_close e = elim e [ ]
+comma_is_no_close e = cc
 
 abbrev pub ItemsSoFar : ℕ → Tree → List Sign → List Tree → List Sign → Type 0
 ItemsSoFar D = ManyRead (Before Comma (IsTree D Expr)) (Before Close (IsTree D Expr)) (IsTree D Expr)
+
+pub second_item_none : (D : ℕ) (ts : List Sign) → NoTree D Expr ts → Nothing (IsItems D) ts
+second_item_none D ts none' all s (last b) = none' _ _ b.first
+second_item_none D ts none' all s (more b c) = none' _ _ b.first
+
+pub second_part_none : (D : ℕ) (ts : List Sign) → NoTree D Part ts → Nothing (IsParts D) ts
+second_part_none D ts none' all s (last l) = none' _ _ l.is
+second_part_none D ts none' all s (more b c) = none' _ _ b.first
 
 module _ (D : ℕ) (first : Tree) (ts : List Sign) (parts : List Tree) (rest : List Sign) (m : ItemsSoFar D first ts parts rest) where
   module _ (behind : List Sign) (comma : SymbolAt Comma rest behind) where
@@ -289,7 +297,7 @@ pub one_arm : (D : ℕ) → One (IsArm D)
 one_arm D = one_then (one_before Arrow one_pattern) (one_tree D Expr)
 
 bar_is_no_end : Bar ≡ End → ⊥
-bar_is_no_end e = elim e [ ]
+bar_is_no_end e = cc
 
 -- arms so far, the last of them in front of the rest
 pub record ArmsSoFar (D : ℕ) (ts : List Sign) (arms : List (PatTree × Tree)) (rest : List Sign) : Type 0 where
@@ -301,10 +309,11 @@ pub record ArmsSoFar (D : ℕ) (ts : List Sign) (arms : List (PatTree × Tree)) 
   pub is : arms ≡ done ++ item ∷ []
 
 pub arms_none : (D : ℕ) (ts : List Sign) → Nothing (IsArm D) ts → Nothing (IsArms D) ts
-arms_none D ts none' = chain_none (start _ _ ts) (before_none none') (before_none none')
+arms_none D ts none' all s (last b) = none' _ _ b.first
+arms_none D ts none' all s (more b c) = none' _ _ b.first
 
 pub first_arm : (D : ℕ) (ts rest : List Sign) (x : PatTree × Tree) (arms : List (PatTree × Tree)) → IsArm D ts x rest → arms ≡ x ∷ [] → ArmsSoFar D ts arms rest
-first_arm D ts rest x arms p is = record { done = []; from = ts; so = start _ _ ts; item = x; read = p; is = is }
+first_arm D ts rest x arms p is = record { done = []; from = ts; so = start (Before Bar (IsArm D)) (Before End (IsArm D)) ts; item = x; read = p; is = is }
 
 module _ (D : ℕ) (ts : List Sign) (arms : List (PatTree × Tree)) (rest : List Sign) (m : ArmsSoFar D ts arms rest) where
   module _ (behind : List Sign) (bar : SymbolAt Bar rest behind) where

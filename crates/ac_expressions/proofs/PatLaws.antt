@@ -1,13 +1,13 @@
 -- The equations of the reading of patterns.
-use Rattle.std.proofs.Common.{◌≡◌, ◌∙◌, ap, ℕ, List, [], ◌∷◌, map, Option, Some, None, ℤ}
+use Rattle.std.proofs.Common.{◌≡◌, ◌∙◌, ap, ℕ, List, map, Some, ℤ}
 use Rattle.ac_types.specs.declared.text.Text.{Text}
 use Rattle.ac_syntax.specs.declared.surface.SPat.{SPat}
-use Rattle.ac_syntax.specs.declared.surface.SPatKind.{SPatKind, Tuple, Int, Str, Nil, Present, Exn}
+use Rattle.ac_syntax.specs.declared.surface.SPatKind.{SPatKind, Unit, Tuple, Int, Str, Nil, Exn}
 use Rattle.ac_syntax.specs.declared.surface.SPatKind.TheOpen.{SPatKind-F, SPat-F}
 use Rattle.ac_syntax.specs.declared.surface.SPatKind.TheFolds.{map-SPat, map-SPatKind, fold_out-SPat, fold_out-SPatKind, fold-roll-SPat}
 use Rattle.ac_syntax.specs.declared.surface.SPatKind.TheViews.{out-SPat, out-SPatKind, roll-SPat, the_lemmas}
 use Rattle.ac_syntax.specs.declared.surface.SPatKind.TheVariants as variants
-use Rattle.ac_syntax.specs.Trees.{PatTree, PatTuple, PatInt, PatStr, PatNil, PatPresent, PatExnOf, pat_trees}
+use Rattle.ac_syntax.specs.Trees.{PatTree, PatTuple, PatInt, PatStr, PatNil, PatUnit, PatExnOf, pat_trees}
 use Rattle.ac_syntax.specs.ReadTrees.{pat_of, pat_kind_of, pat_kind_layer, pat_layer}
 
 -- one layer, read
@@ -50,8 +50,8 @@ pat_of-Str at text = pat_of-kind at (Str text) ∙ ap (λ f. f at) (pat_kind_out
 pub pat_of-Nil : (at : ℕ) → pat_of (roll-SPat (record { at = at; kind = Nil })) ≡ PatNil at
 pat_of-Nil at = pat_of-kind at Nil ∙ ap (λ f. f at) (pat_kind_out Nil) ∙ ap (kind_at at) variants.outs-Nil
 
-pub pat_of-Present : (at : ℕ) (p : SPat) → pat_of (roll-SPat (record { at = at; kind = Present p })) ≡ PatPresent at (pat_of p)
-pat_of-Present at p = pat_of-kind at (Present p) ∙ ap (λ f. f at) (pat_kind_out (Present p)) ∙ ap (kind_at at) (variants.outs-Present p)
+pub pat_of-Unit : (at : ℕ) → pat_of (roll-SPat (record { at = at; kind = Unit })) ≡ PatUnit at
+pat_of-Unit at = pat_of-kind at Unit ∙ ap (λ f. f at) (pat_kind_out Unit) ∙ ap (kind_at at) variants.outs-Unit
 
 pub pat_of-ExnOf : (at n : ℕ) (p : SPat) → pat_of (roll-SPat (record { at = at; kind = Exn n (Some p) })) ≡ PatExnOf at n (pat_of p)
 pat_of-ExnOf at n p = pat_of-kind at (Exn n (Some p)) ∙ ap (λ f. f at) (pat_kind_out (Exn n (Some p))) ∙ ap (kind_at at) (variants.outs-Exn n (Some p))

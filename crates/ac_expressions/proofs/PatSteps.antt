@@ -54,14 +54,14 @@ front_positive (Fixed a s ∷ ts) = omega arith
 -- lists
 
 behind_prefixed : (ts : List Sign) → NoSymbol Cons ts → 1 < pat_front ts
-behind_prefixed [] no_cons = omega arith
-behind_prefixed (Int a n ∷ ts) no_cons = omega arith
-behind_prefixed (Str a x ∷ ts) no_cons = omega arith
-behind_prefixed (Lower a x ∷ ts) no_cons = omega arith
-behind_prefixed (Upper a x ∷ ts) no_cons = omega arith
-behind_prefixed (Other a ∷ ts) no_cons = omega arith
-behind_prefixed (Fixed a Cons ∷ ts) no_cons = absurd (no_cons ts (record { at = a; is = refl }))
-behind_prefixed (Fixed a s ∷ ts) no_cons = omega arith
+behind_prefixed [] free = omega arith
+behind_prefixed (Int a n ∷ ts) free = omega arith
+behind_prefixed (Str a x ∷ ts) free = omega arith
+behind_prefixed (Lower a x ∷ ts) free = omega arith
+behind_prefixed (Upper a x ∷ ts) free = omega arith
+behind_prefixed (Other a ∷ ts) free = omega arith
+behind_prefixed (Fixed a Cons ∷ ts) free = absurd (free ts (record { at = a; is = refl }))
+behind_prefixed (Fixed a s ∷ ts) free = omega arith
 
 cons_goes_on : {P : Type 0} {a : ℕ} (r s : List Sign) → r ≡ Fixed a Cons ∷ s → 1 < pat_front r → P
 cons_goes_on r s is h = absurd (omega (arith, ap pat_front is))
@@ -95,9 +95,9 @@ pat_at : {l : PatLevel} {r s t : List Sign} {p : PatTree} → r ≡ s → Parses
 pat_at {l} {r} {s} {t} {p} e q = subst (λ (u : List Sign). ParsesPat l u p t) (sym e) q
 
 tail_of : {ts s next r : List Sign} {head p : PatTree} {a : ℕ} → ParsesPat Prefixed ts head s → s ≡ Fixed a Cons ∷ next → ParsesPat Pattern ts p r → PatStops Pattern r → Tail ts next head p r
-tail_of p is (no_cons q) x = cons_goes_on _ _ ((unique_pat q p (front_positive _) (front_positive _)).rest ∙ is) x
-tail_of p is (cons q w) x =
-    let d = unique_pat q p (front_positive _) (front_positive _) in
+tail_of {s = s} p is (no_cons q) x = cons_goes_on _ _ ((unique_pat q p (omega arith) (front_positive s)).rest ∙ is) x
+tail_of {s = s} p is (cons q w) x =
+    let d = unique_pat q p (omega arith) (front_positive s) in
     record { tail = _; parses = pat_at (sym (tail_eq (d.rest ∙ is))) w; is = let e = d.tree in cc }
 
 module _ (D : ℕ) (ts s next : List Sign) (head : PatTree) (o : IsPatTree D Prefixed ts head s) (at : SymbolAt Cons s next) where
@@ -221,11 +221,15 @@ pats_low D (last {x = p} b) = let low : pat_height p ≤ D = b.first.low in omeg
 pats_low D (more {x = p} b c) = let low : pat_height p ≤ D = b.first.low in let h = pats_low D c in omega arith
 
 comma_is_no_close : Comma ≡ Close → ⊥
-comma_is_no_close e = elim e [ ]
+comma_is_no_close e = cc
 
 -- the parts of a tuple so far
 abbrev pub Parts : ℕ → PatTree → List Sign → List PatTree → List Sign → Type 0
 Parts D = ManyRead (Before Comma (IsPatTree D Pattern)) (Before Close (IsPatTree D Pattern)) (IsPatTree D Pattern)
+
+pub second_none : (D : ℕ) (ts : List Sign) → NoPat D Pattern ts → Nothing (IsPats D) ts
+second_none D ts none' all s (last b) = none' _ _ b.first
+second_none D ts none' all s (more b c) = none' _ _ b.first
 
 module _ (D : ℕ) (first : PatTree) (ts : List Sign) (parts : List PatTree) (rest : List Sign) (m : Parts D first ts parts rest) where
   module _ (behind : List Sign) (comma : SymbolAt Comma rest behind) where

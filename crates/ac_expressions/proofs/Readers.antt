@@ -1,14 +1,17 @@
 -- What stands at the front of signs, read piece by piece.
-use Rattle.std.proofs.Common.{◌≡◌, ℕ, List, [], ◌∷◌, ◌++◌, refl, sym, ◌∙◌, ap, subst, append_assoc}
+use Rattle.std.proofs.Common.{rules, ◌≡◌, ◌<◌, ℕ, true, false, List, [], ◌∷◌, ◌++◌, refl, sym, ◌∙◌, ap, subst, append_assoc}
+use Rattle.std.specs.Prelude.{nat_lt}
 use mathlib.Core.Path.{ap₂}
 use Rattle.ac_types.specs.Types.{Bytes}
 use Rattle.ac_syntax.specs.Signs.{Sign, Lower, Fixed, here}
 use Rattle.ac_syntax.specs.Trees.{NameAt, TypeTree}
-use Rattle.ac_syntax.specs.Types.{IsType, Whole}
-use Rattle.ac_syntax.specs.Parsing.{SymbolAt, NoSymbol, NoLower, NoType}
+use Rattle.ac_syntax.specs.Types.{IsType}
+use Rattle.ac_syntax.specs.Parsing.{SymbolAt, NoSymbol}
 use Rattle.ac_syntax.specs.declared.sign.Symbol.{Symbol}
+use Rattle.ac_syntax.specs.Expressions.{front}
+use Rattle.ac_syntax.proofs.Exceptions.{apart}
 use Rattle.ac_syntax.proofs.UniqueTypes.{tail_eq, same_type}
-use Rattle.ac_expressions.specs.Parsing.{Nothing, Then, Behind, Before, Chain, last, more, IsName}
+use Rattle.ac_expressions.specs.Parsing.{Nothing, Then, Behind, Before, Chain, last, more, IsName, IsLastType}
 
 -- at most one thing of a kind begins signs
 abbrev pub One : {A : Type 0} → (List Sign → A → List Sign → Type 0) → Type 0
@@ -28,8 +31,8 @@ word_at {t = t} {r = r} w place = w.is ∙ ap (λ (n : ℕ). Fixed n t ∷ r) (s
 
 -- one thing, and another behind it
 
-pub then : {A B : Type 0} {R : List Sign → A → List Sign → Type 0} {S : List Sign → B → List Sign → Type 0} {ts m r : List Sign} {a : A} {b : B} → R ts a m → S m b r → Then R S ts (a, b) r
-then {m = m} p q = record { middle = m; first = p; second = q }
+pub then : {A B : Type 0} {R : List Sign → A → List Sign → Type 0} {S : List Sign → B → List Sign → Type 0} {ts r : List Sign} {a : A} {b : B} (m : List Sign) → R ts a m → S m b r → Then R S ts (a, b) r
+then m p q = record { middle = m; first = p; second = q }
 
 pub first_none : {A B : Type 0} {R : List Sign → A → List Sign → Type 0} {S : List Sign → B → List Sign → Type 0} {ts : List Sign} → Nothing R ts → Nothing (Then R S) ts
 first_none none x rest t = none x.0 t.middle t.first
@@ -90,6 +93,16 @@ one_name ts r s x y p q = same_name (sym p ∙ q)
 
 pub one_type : One IsType
 one_type ts r s x y p q = let d = same_type p q in (d.tree, d.rest)
+
+below_seven : (n : ℕ) → 7 < n → nat_lt 7 n ≡ true
+below_seven n h = search rules
+
+-- a type behind which a part doesn't end
+pub not_last_type : {ts r : List Sign} {T : TypeTree} → IsType ts T r → nat_lt 7 (front r) ≡ false → Nothing IsLastType ts
+not_last_type {r = r} p e U s l =
+    let d = one_type _ _ _ _ _ p l.is in
+    let h : 7 < front r = subst (λ (m : List Sign). 7 < front m) (sym d.1) l.ends in
+    apart (sym e ∙ below_seven (front r) h)
 
 -- several things
 

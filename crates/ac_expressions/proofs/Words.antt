@@ -300,12 +300,12 @@ if_none D at ts none e s o = let m = if_forth o.parses o.stops o.low in none m.p
 -- `marshal`
 
 marshal_forth : {D at : ℕ} {k : Ending} {ts s : List Sign} {e : Tree} → Parses Part k (Fixed at Marshal ∷ ts) e s → Stops Part k s → height e ≤ D → Made (IsMarshal (D - 1)) (marshal_tree at) ts e s
-marshal_forth (marshal {c = c} {a = a} {b = b} {T = T} p v t) h low = record {
+marshal_forth (marshal {c = c} {a = a} {b = b} {T = T} {r = r} p v t) h low = record {
   parts = (a, (b, T));
   is = refl;
   read = record {
     middle = _;
-    first = record { ending = Closed; parses = p; stops = front_positive _; low = omega arith };
+    first = record { ending = Closed; parses = p; stops = front_positive r; low = omega arith };
     second = record {
       middle = _;
       first = record { ending = Closed; parses = v; stops = omega arith; low = omega arith };

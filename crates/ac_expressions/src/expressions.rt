@@ -13,7 +13,7 @@ ghost use Rattle.ac_expressions.specs.Forms.{Same, keyword_symbol, NoTree, measu
 
 use crate::binders::{argument, ascribed, function_head, type_behind, typed};
 use crate::build::{self, Choice, Operator, Parsed, operator_of};
-use crate::front::{begins_atom, constant, expect, lone_number, next_prefix};
+use crate::front::{begins_atom, expect, lone_number, negated, next_prefix};
 use crate::keywords::{Keyword, after_bar, next_keyword};
 use crate::leaves::leaf;
 use crate::patterns::pattern;
@@ -332,7 +332,7 @@ fn minus<'s, 't>(
     ensures none { IfErr result (λ e. OnSyntax e (NoTree depth Unary (Fixed at Symbol.Minus ∷ read_signs signs.now))) }
 {
     if let Some((n, rest)) = lone_number(signs) {
-        return Ok((build::number(at, -constant(n)?), rest));
+        return Ok((build::number(at, negated(n)?), rest));
     }
     let (operand, rest) = unary(alloc, depth - 1, signs)?;
     Ok((build::operation(alloc, at, 5, operand)?, rest))

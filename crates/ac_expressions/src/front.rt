@@ -1,6 +1,6 @@
 // What stands at the front of the signs.
 
-ghost use Rattle.std.specs.Prelude.{◌≡◌, ◌<◌, length, IfOk, IfErr, IfSome, MatchOption, nat_lt, pos};
+ghost use Rattle.std.specs.Prelude.{◌≡◌, ◌<◌, length, IfOk, IfErr, IfSome, MatchOption, nat_lt, neg_ℤ, pos};
 ghost use Rattle.ac_syntax.specs.Expressions.{begins_atom, symbol_begins_atom, front, symbol_front};
 ghost use Rattle.ac_syntax.specs.ReadSigns.{read_signs};
 ghost use Rattle.ac_syntax.specs.ReadTrees.{name_of};
@@ -150,6 +150,14 @@ pub fn constant(n: u64) -> Result<i64, Memory>
         Ok(i) => Ok(i),
         Err(_) => Err(Memory),
     }
+}
+
+/// A number behind its `-` as a constant; see `constant`.
+pub fn negated(n: u64) -> Result<i64, Memory>
+    ensures { IfOk result (λ i. i ≡ neg_ℤ (pos n)) }
+{
+    let i = constant(n)?;
+    Ok(-i)
 }
 
 fn prefix_of(symbol: Symbol) -> Option<Prefix>

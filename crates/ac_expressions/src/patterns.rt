@@ -11,7 +11,7 @@ ghost use Rattle.ac_syntax.specs.Parsing.{OnSyntax, NoSymbol};
 ghost use Rattle.ac_expressions.specs.Parsing.{NoPattern, Nothing, IsTyped, NoPat, prefixed_pat, base_pat, PatLeafAt, NoPatLeaf, IsPats, PatTupleOf, pat_measured, binder_of};
 
 use crate::binders::{Binder, typed};
-use crate::front::{Prefix, begins_name, constant, expect, next_number, next_prefix};
+use crate::front::{Prefix, begins_name, constant, expect, negated, next_number, next_prefix};
 use ac_syntax::{SPat, SPatKind, Sign, SignKind, Stop, Symbol, after, here, next, refused_at};
 use ac_types::{Box, Many, Memory};
 use std::alloc::Global;
@@ -108,7 +108,7 @@ fn negative<'s, 't>(at: u32, signs: &'s [Sign<'t>]) -> Result<(SPat, &'s [Sign<'
     let Some((n, rest)) = next_number(signs) else {
         return Err(refused_at(signs));
     };
-    let kind = SPatKind::Int(-constant(n)?);
+    let kind = SPatKind::Int(negated(n)?);
     Ok((SPat { at, kind }, rest))
 }
 

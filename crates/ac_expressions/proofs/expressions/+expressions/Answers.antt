@@ -11,10 +11,10 @@ use Rattle.ac_syntax.proofs.OnStop.{on_syntax_more, refused}
 use Rattle.ac_expressions.specs.Parsing.{Made}
 use Rattle.ac_expressions.specs.Forms.{Same, NoTree, IsArm, IsArms, IsParts, sequence_tree}
 use Rattle.ac_expressions.proofs.ExprLaws.{arm_of-made}
-use Rattle.ac_expressions.proofs.Readers.{word_at, then, first_none, later_none, behind, no_symbol, behind_none, before, before_none, symbol_none, one_before, chain_none, start}
+use Rattle.ac_expressions.proofs.Readers.{word_at, then, first_none, later_none, behind, no_symbol, behind_none, before, before_none, symbol_none, one_before}
 use Rattle.ac_expressions.proofs.Levels.{flat_none, one_tree, same_start, same_then, same_none, args_ended, argument_none, argument_high, next_argument, applied_none, applied_tree, args_none, prefixed_none, prefixed_tree, second_none, lone_tree, minus_none, minus_tree, not_none, not_tree, app_tree, app_none, unary_tree, unary_none, joined_height, operand_none, binary_tree, after_none, after_ended, left_step, right_step, once_step, goes_on, past_operator}
 use Rattle.ac_expressions.proofs.Words.{one_typed, one_argument, one_head, operators_tree, operators_none}
-use Rattle.ac_expressions.proofs.Atoms.{one_pattern, arms_none, next_arm_none, unended_arms, all_arms, item_none, unended_items, all_items, next_part_none, all_parts, last_none, part_none, alone_tree, sequence_high, sequence_none, sequence_made, match_none, match_tree, try_none, try_tree, nil_none, absent_none, opened_none, unclosed_none, leaf_tree, leaf_none}
+use Rattle.ac_expressions.proofs.Atoms.{one_pattern, second_item_none, second_part_none, arms_none, next_arm_none, unended_arms, all_arms, item_none, unended_items, all_items, next_part_none, all_parts, last_none, part_none, alone_tree, sequence_high, sequence_none, sequence_made, match_none, match_tree, try_none, try_tree, nil_none, absent_none, opened_none, unclosed_none, leaf_tree, leaf_none}
 use Rattle.ac_expressions.proofs.expressions.+expressions.Goals as goal
 
 pub before-returns-in_err-tree-clause-none : goal.before-returns-in_err-tree-clause-none
@@ -44,7 +44,7 @@ arm-returns-in_err-body-clause-none t c =
 
 pub arm-returns-clause-tree : goal.arm-returns-clause-tree
 arm-returns-clause-tree t c =
-    subst (λ (x : PatTree × Tree). IsArm c.args.depth (read_signs c.args.signs.now) x (read_signs c.in_ok-body.rest.now)) (sym (arm_of-made c.in_ok-pat.pat c.in_ok-body.body.tree)) (then (before c.in_ok-pat.ensures.tree c.in_ok-later.ensures.found) c.in_ok-body.ensures.tree)
+    subst (λ (x : PatTree × Tree). IsArm c.args.depth (read_signs c.args.signs.now) x (read_signs c.in_ok-body.rest.now)) (sym (arm_of-made c.in_ok-pat.pat c.in_ok-body.body.tree)) (then _ (before c.in_ok-pat.ensures.tree c.in_ok-later.ensures.found) c.in_ok-body.ensures.tree)
 
 pub arm-returns-clause-height : goal.arm-returns-clause-height
 arm-returns-clause-height t c =
@@ -81,12 +81,12 @@ choice-returns-in_err-arms-clause-none t c =
 
 pub choice-returns-clause-tree : goal.choice-returns-clause-tree
 choice-returns-clause-tree t c =
-    then c.in_ok-of.ensures.tree (subst (λ (l : List Sign). IsArms c.args.depth l (map arm_of c.in_ok-arms.arms) (read_signs c.in_ok-arms.rest.now)) c.after_bar.ensures.found c.in_ok-arms.ensures.tree)
+    then _ c.in_ok-of.ensures.tree (subst (λ (l : List Sign). IsArms c.args.depth l (map arm_of c.in_ok-arms.arms) (read_signs c.in_ok-arms.rest.now)) c.after_bar.ensures.found c.in_ok-arms.ensures.tree)
 
 pub tuple-returns-in_err-second-clause-none : goal.tuple-returns-in_err-second-clause-none
 tuple-returns-in_err-second-clause-none t c =
     let p = err_from_is_err_and c.from_residual.result c.from_residual.ensures.1 in
-    rw (p.1, p.2) (on_syntax_more _ (λ n. chain_none (start _ _ _) (before_none n) (before_none n)) c.in_err-second.ensures.none)
+    rw (p.1, p.2) (on_syntax_more _ (second_item_none _ _) c.in_err-second.ensures.none)
 
 pub tuple-returns-in_err-part-clause-none : goal.tuple-returns-in_err-part-clause-none
 tuple-returns-in_err-part-clause-none t c =
@@ -144,7 +144,7 @@ let_in-returns-in_err-body-clause-none t c =
 
 pub let_in-returns-clause-tree : goal.let_in-returns-clause-tree
 let_in-returns-clause-tree t c =
-    record { parts = _; is = c.in_ok-let_in.ensures.tree; read = then c.in_ok-binder.ensures.found (then c.in_ok-bound.ensures.tree c.in_ok-body.ensures.tree) }
+    record { parts = _; is = c.in_ok-let_in.ensures.tree; read = then _ c.in_ok-binder.ensures.found (then _ c.in_ok-bound.ensures.tree c.in_ok-body.ensures.tree) }
 
 pub let_rec-returns-in_err-head-clause-none : goal.let_rec-returns-in_err-head-clause-none
 let_rec-returns-in_err-head-clause-none t c =
@@ -163,7 +163,7 @@ let_rec-returns-in_err-body-clause-none t c =
 
 pub let_rec-returns-clause-tree : goal.let_rec-returns-clause-tree
 let_rec-returns-clause-tree t c =
-    record { parts = _; is = c.in_ok-let_rec.ensures.tree; read = then c.in_ok-head.ensures.found (then c.in_ok-bound.ensures.tree c.in_ok-body.ensures.tree) }
+    record { parts = _; is = c.in_ok-let_rec.ensures.tree; read = then _ c.in_ok-head.ensures.found (then _ c.in_ok-bound.ensures.tree c.in_ok-body.ensures.tree) }
 
 pub fun-returns-in_err-binder-clause-none : goal.fun-returns-in_err-binder-clause-none
 fun-returns-in_err-binder-clause-none t c =
@@ -182,7 +182,7 @@ fun-returns-in_err-body-clause-none t c =
 
 pub fun-returns-clause-tree : goal.fun-returns-clause-tree
 fun-returns-clause-tree t c =
-    record { parts = _; is = c.in_ok-fun.ensures.tree; read = then c.in_ok-binder.ensures.found (behind c.in_ok-later.ensures.found c.in_ok-body.ensures.tree) }
+    record { parts = _; is = c.in_ok-fun.ensures.tree; read = then _ c.in_ok-binder.ensures.found (behind c.in_ok-later.ensures.found c.in_ok-body.ensures.tree) }
 
 pub rec-returns-in_err-head-clause-none : goal.rec-returns-in_err-head-clause-none
 rec-returns-in_err-head-clause-none t c =
@@ -196,7 +196,7 @@ rec-returns-in_err-body-clause-none t c =
 
 pub rec-returns-clause-tree : goal.rec-returns-clause-tree
 rec-returns-clause-tree t c =
-    record { parts = _; is = c.in_ok-rec.ensures.tree; read = then c.in_ok-head.ensures.found c.in_ok-body.ensures.tree }
+    record { parts = _; is = c.in_ok-rec.ensures.tree; read = then _ c.in_ok-head.ensures.found c.in_ok-body.ensures.tree }
 
 pub if_else-returns-in_err-test-clause-none : goal.if_else-returns-in_err-test-clause-none
 if_else-returns-in_err-test-clause-none t c =
@@ -215,7 +215,7 @@ if_else-returns-in_err-otherwise-clause-none t c =
 
 pub if_else-returns-clause-tree : goal.if_else-returns-clause-tree
 if_else-returns-clause-tree t c =
-    record { parts = _; is = c.in_ok-if_else.ensures.tree; read = then c.in_ok-test.ensures.tree (then c.in_ok-so.ensures.tree c.in_ok-otherwise.ensures.tree) }
+    record { parts = _; is = c.in_ok-if_else.ensures.tree; read = then _ c.in_ok-test.ensures.tree (then _ c.in_ok-so.ensures.tree c.in_ok-otherwise.ensures.tree) }
 
 pub marshal-returns-in_err-mark-clause-none : goal.marshal-returns-in_err-mark-clause-none
 marshal-returns-in_err-mark-clause-none t c =
@@ -234,7 +234,7 @@ marshal-returns-in_err-ty-clause-none t c =
 
 pub marshal-returns-clause-tree : goal.marshal-returns-clause-tree
 marshal-returns-clause-tree t c =
-    record { parts = _; is = c.in_ok-marshal.ensures.tree; read = then c.in_ok-mark.ensures.tree (then c.in_ok-value.ensures.tree c.in_ok-ty.ensures.found) }
+    record { parts = _; is = c.in_ok-marshal.ensures.tree; read = then _ c.in_ok-mark.ensures.tree (then _ c.in_ok-value.ensures.tree c.in_ok-ty.ensures.found) }
 
 pub unmarshal-returns-in_err-text-clause-none : goal.unmarshal-returns-in_err-text-clause-none
 unmarshal-returns-in_err-text-clause-none t c =
@@ -248,7 +248,7 @@ unmarshal-returns-in_err-ty-clause-none t c =
 
 pub unmarshal-returns-clause-tree : goal.unmarshal-returns-clause-tree
 unmarshal-returns-clause-tree t c =
-    record { parts = _; is = c.in_ok-unmarshal.ensures.tree; read = then c.in_ok-text.ensures.tree c.in_ok-ty.ensures.found }
+    record { parts = _; is = c.in_ok-unmarshal.ensures.tree; read = then _ c.in_ok-text.ensures.tree c.in_ok-ty.ensures.found }
 
 pub raise-returns-in_err-exception-clause-none : goal.raise-returns-in_err-exception-clause-none
 raise-returns-in_err-exception-clause-none t c =
@@ -262,7 +262,7 @@ raise-returns-in_err-ty-clause-none t c =
 
 pub raise-returns-clause-tree : goal.raise-returns-clause-tree
 raise-returns-clause-tree t c =
-    record { parts = _; is = c.in_ok-raise.ensures.tree; read = then c.in_ok-exception.ensures.tree c.in_ok-ty.ensures.found }
+    record { parts = _; is = c.in_ok-raise.ensures.tree; read = then _ c.in_ok-exception.ensures.tree c.in_ok-ty.ensures.found }
 
 pub part-returns-in_default-clause-tree : goal.part-returns-in_default-clause-tree
 part-returns-in_default-clause-tree t c =
@@ -311,7 +311,7 @@ expr-returns-clause-none t c =
 pub sequence-returns-in_err-second-clause-none : goal.sequence-returns-in_err-second-clause-none
 sequence-returns-in_err-second-clause-none t c =
     let p = err_from_is_err_and c.from_residual.result c.from_residual.ensures.1 in
-    rw (p.1, p.2) (on_syntax_more _ (λ n. chain_none (start _ _ _) (before_none n) (last_none _ _ n)) c.in_err-second.ensures.none)
+    rw (p.1, p.2) (on_syntax_more _ (second_part_none _ _) c.in_err-second.ensures.none)
 
 pub sequence-returns-in_err-next-clause-none : goal.sequence-returns-in_err-next-clause-none
 sequence-returns-in_err-next-clause-none t c =
@@ -442,9 +442,9 @@ next_argument-returns-clause-tree t c =
     subst (λ (x : Tree). Same c.args.depth (Args c.args.at (expr_of c.args.function.tree)) (read_signs c.args.signs.now) (Args c.args.at x) (read_signs c.in_ok-argument.rest.now)) (sym c.in_ok-application.ensures.tree)
     (next_argument _ _ _ _ c.requires.begins _ _ c.in_ok-argument.ensures.tree)
 
-pub minus-returns-in_ok-constant-clause-tree : goal.minus-returns-in_ok-constant-clause-tree
-minus-returns-in_ok-constant-clause-tree t c =
-    lone_tree _ _ _ _ _ _ c.requires c.in-Some.ensures.found (c.number.ensures.tree ∙ ap (λ n. ExInt c.args.at (neg_ℤ n)) c.in_ok-constant.ensures)
+pub minus-returns-in_ok-negated-clause-tree : goal.minus-returns-in_ok-negated-clause-tree
+minus-returns-in_ok-negated-clause-tree t c =
+    lone_tree _ _ _ _ _ _ c.requires c.in-Some.ensures.found (c.number.ensures.tree ∙ ap (ExInt c.args.at) c.in_ok-negated.ensures)
 
 pub minus-returns-in_err-operand-clause-none : goal.minus-returns-in_err-operand-clause-none
 minus-returns-in_err-operand-clause-none t c =

@@ -8,9 +8,9 @@ use Rattle.ac_syntax.specs.ReadSigns.{read_signs}
 use Rattle.ac_syntax.specs.ReadTrees.{pat_of}
 use Rattle.ac_syntax.proofs.OnStop.{on_syntax_more, refused}
 use Rattle.ac_expressions.specs.Parsing.{NoPat}
-use Rattle.ac_expressions.proofs.Readers.{word_at, before_none, chain_none, start}
-use Rattle.ac_expressions.proofs.PatLaws.{pat_of-Tuple}
-use Rattle.ac_expressions.proofs.PatSteps.{flat_pat, one_pat, pat_alone, pat_none, pat_cons, cons_none, cons_high, prefixed_tree, prefixed_none, single_tree, single_none, unit_pat, var_pat, var_none, opened_none, unclosed_none, tuple_high, tuple_none, tuple_tree, parens_tree, leaf_tree, leaf_none, tuple_of, part_none, part_read, unended_none, highest_next}
+use Rattle.ac_expressions.proofs.Readers.{word_at}
+use Rattle.ac_expressions.proofs.PatLaws.{pat_of-Tuple, pat_of-Unit}
+use Rattle.ac_expressions.proofs.PatSteps.{flat_pat, one_pat, pat_alone, pat_none, pat_cons, cons_none, cons_high, prefixed_tree, prefixed_none, single_tree, single_none, unit_pat, var_pat, var_none, opened_none, unclosed_none, tuple_high, tuple_none, tuple_tree, parens_tree, leaf_tree, leaf_none, tuple_of, second_none, part_none, part_read, unended_none, highest_next}
 use Rattle.ac_expressions.proofs.patterns.+patterns.Goals as goal
 
 pub whole-returns-in_err-head-clause-none : goal.whole-returns-in_err-head-clause-none
@@ -49,7 +49,7 @@ prefixed-returns-then-depth-eq0-clause-none t c = refused _ _ c.refused_at.ensur
 pub prefixed-returns-in_err-item-clause-none : goal.prefixed-returns-in_err-item-clause-none
 prefixed-returns-in_err-item-clause-none t c =
     let pos : 0 < c.args.depth = omega (arith, c.if-depth-eq0.false) in
-    let p = err_from_is_err_and c.from_residual-in_err-item.result c.from_residual-in_err-item.ensures.1 in
+    let p = err_from_is_err_and c.from_residual.result c.from_residual.ensures.1 in
     rw (p.1, p.2) (on_syntax_more _ (prefixed_none _ _ _ _ _ c.in-Some.ensures.found pos) c.in_err-item.ensures.none)
 
 pub prefixed-returns-clause-tree : goal.prefixed-returns-clause-tree
@@ -86,7 +86,7 @@ single-returns-clause-height t c = sym c.in_ok-tree.ensures.found.leaf
 pub tuple-returns-in_err-second-clause-none : goal.tuple-returns-in_err-second-clause-none
 tuple-returns-in_err-second-clause-none t c =
     let p = err_from_is_err_and c.from_residual.result c.from_residual.ensures.1 in
-    rw (p.1, p.2) (on_syntax_more _ (λ n. chain_none (start _ _ _) (before_none n) (before_none n)) c.in_err-second.ensures.none)
+    rw (p.1, p.2) (on_syntax_more _ (second_none _ _) c.in_err-second.ensures.none)
 
 pub tuple-returns-in_err-part-clause-none : goal.tuple-returns-in_err-part-clause-none
 tuple-returns-in_err-part-clause-none t c =
@@ -116,3 +116,47 @@ tuple-returns-clause-tree t c =
 pub tuple-returns-clause-height : goal.tuple-returns-clause-height
 tuple-returns-clause-height t c =
     ap (λ (n : ℕ). n + 1) c.loop-behind.invariant.height ∙ sym (ap pat_height (pat_of-Tuple c.args.at c.loop-behind.parts))
+
+pub opened-returns-in-Some-clause-tree : goal.opened-returns-in-Some-clause-tree
+opened-returns-in-Some-clause-tree t c =
+    unit_pat _ _ _ _ _ c.requires c.in-Some.ensures.found (pat_of-Unit c.args.at)
+
+pub opened-returns-in-Some-clause-height : goal.opened-returns-in-Some-clause-height
+opened-returns-in-Some-clause-height t c =
+    sym (ap pat_height (pat_of-Unit c.args.at))
+
+pub opened-returns-in_err-binder-clause-none : goal.opened-returns-in_err-binder-clause-none
+opened-returns-in_err-binder-clause-none t c =
+    let p = err_from_is_err_and c.from_residual.result c.from_residual.ensures.1 in
+    rw (p.1, p.2) (on_syntax_more _ (λ n. var_none _ _ _ n (sym c.begins_name.ensures ∙ c.if-begins_name.true)) c.in_err-binder.ensures.none)
+
+pub opened-returns-then-begins_name-clause-tree : goal.opened-returns-then-begins_name-clause-tree
+opened-returns-then-begins_name-clause-tree t c =
+    var_pat _ _ _ _ _ _ c.requires c.in_ok-binder.ensures.found c.variable.ensures.tree
+
+pub opened-returns-in_err-first-clause-none : goal.opened-returns-in_err-first-clause-none
+opened-returns-in_err-first-clause-none t c =
+    let p = err_from_is_err_and c.from_residual-in_err-first.result c.from_residual-in_err-first.ensures.1 in
+    rw (p.1, p.2) (on_syntax_more _ (opened_none _ _ _ c.in_default.ensures.found (sym c.begins_name.ensures ∙ c.if-begins_name.false)) c.in_err-first.ensures.none)
+
+pub opened-returns-in-Some-after-clause-tree : goal.opened-returns-in-Some-after-clause-tree
+opened-returns-in-Some-after-clause-tree t c =
+    parens_tree _ _ _ c.in_default.ensures.found (sym c.begins_name.ensures ∙ c.if-begins_name.false) _ _ c.in_ok-first.ensures.tree _ c.in-Some-after.ensures.found
+
+pub opened-returns-in_err-behind-clause-none : goal.opened-returns-in_err-behind-clause-none
+opened-returns-in_err-behind-clause-none t c =
+    let p = err_from_is_err_and c.from_residual-in_err-behind.result c.from_residual-in_err-behind.ensures.1 in
+    rw (p.1, p.2) (on_syntax_more _ (unclosed_none _ _ _ c.in_default.ensures.found (sym c.begins_name.ensures ∙ c.if-begins_name.false) _ _ c.in_ok-first.ensures.tree c.in_default-after.ensures.found) c.in_err-behind.ensures.none)
+
+pub opened-returns-then-first-depth-clause-none : goal.opened-returns-then-first-depth-clause-none
+opened-returns-then-first-depth-clause-none t c =
+    refused _ _ c.refused_at.ensures (tuple_high _ _ _ c.in_default.ensures.found (sym c.begins_name.ensures ∙ c.if-begins_name.false) _ _ c.in_ok-first.ensures.tree _ c.in_default-after.ensures.found c.in_ok-behind.ensures.found (subst (λ (n : ℕ). c.args.depth ≤ n) c.in_ok-first.ensures.height c.if-first-depth.true))
+
+pub opened-returns-clause-tree : goal.opened-returns-clause-tree
+opened-returns-clause-tree t c =
+    let low : pat_height (pat_of c.in_ok-first.first.tree) < c.args.depth = omega (arith, c.in_ok-first.ensures.height, c.if-first-depth.false) in
+    IfOk-weaker c.tuple.result _ _ (λ x o. tuple_tree _ _ _ c.in_default.ensures.found (sym c.begins_name.ensures ∙ c.if-begins_name.false) _ _ c.in_ok-first.ensures.tree _ c.in_default-after.ensures.found c.in_ok-behind.ensures.found _ _ low o) c.tuple.ensures.tree
+
+pub opened-returns-clause-none : goal.opened-returns-clause-none
+opened-returns-clause-none t c =
+    IfErr-weaker c.tuple.result _ _ (λ e o. on_syntax_more e (tuple_none _ _ _ c.in_default.ensures.found (sym c.begins_name.ensures ∙ c.if-begins_name.false) _ _ c.in_ok-first.ensures.tree _ c.in_default-after.ensures.found c.in_ok-behind.ensures.found) o) c.tuple.ensures.none
