@@ -8,10 +8,11 @@ use Rattle.ac_syntax.specs.Trees.{NameAt, TypeTree}
 use Rattle.ac_syntax.specs.Types.{IsType}
 use Rattle.ac_syntax.specs.Parsing.{SymbolAt, NoSymbol}
 use Rattle.ac_syntax.specs.declared.sign.Symbol.{Symbol}
+use Rattle.ac_syntax.specs.declared.sign.Symbol.TheVariants.{Open, Close, Colon, Equals}
 use Rattle.ac_syntax.specs.Expressions.{front}
 use Rattle.ac_syntax.proofs.Exceptions.{apart}
 use Rattle.ac_syntax.proofs.UniqueTypes.{tail_eq, same_type}
-use Rattle.ac_expressions.specs.Parsing.{Nothing, Then, Behind, Before, Chain, last, more, IsName, IsLastType}
+use Rattle.ac_expressions.specs.Parsing.{Nothing, Then, Behind, Before, Chain, last, more, IsName, IsAscribed, IsTyped, IsArgument, IsHead, IsLastType}
 
 -- at most one thing of a kind begins signs
 abbrev pub One : {A : Type 0} → (List Sign → A → List Sign → Type 0) → Type 0
@@ -93,6 +94,18 @@ one_name ts r s x y p q = same_name (sym p ∙ q)
 
 pub one_type : One IsType
 one_type ts r s x y p q = let d = same_type p q in (d.tree, d.rest)
+
+one_ascribed : (t : Symbol) → One (IsAscribed t)
+one_ascribed t = one_behind Colon (one_before t one_type)
+
+pub one_typed : (t : Symbol) → One (IsTyped t)
+one_typed t = one_then one_name (one_ascribed t)
+
+pub one_argument : One IsArgument
+one_argument = one_behind Open (one_typed Close)
+
+pub one_head : One IsHead
+one_head = one_then one_name (one_then one_argument (one_ascribed Equals))
 
 below_seven : (n : ℕ) → 7 < n → nat_lt 7 n ≡ true
 below_seven n h = search rules

@@ -11,9 +11,8 @@ use Rattle.ac_syntax.specs.declared.sign.Symbol.TheVariants.{Open, Close, Colon,
 use Rattle.ac_syntax.proofs.Fronts.{begins_not, front_positive}
 use Rattle.ac_syntax.proofs.UniqueExpressions.{at_same}
 use Rattle.ac_expressions.specs.declared.keywords.Keyword.TheVariants as keyword
-use Rattle.ac_expressions.specs.Parsing.{Nothing, Before, Made, IsAscribed, IsTyped, IsArgument, IsHead, IsLastType}
+use Rattle.ac_expressions.specs.Parsing.{Nothing, Before, Made, IsTyped, IsArgument, IsHead, IsLastType}
 use Rattle.ac_expressions.specs.Forms.{NoTree, NoKeyword, IsLet, let_tree, IsLetRec, let_rec_tree, IsFun, fun_tree, IsRec, rec_tree, IsIf, if_tree, IsMarshal, marshal_tree, IsUnmarshal, unmarshal_tree, IsRaise, raise_tree}
-use Rattle.ac_expressions.proofs.Readers.{One, one_name, one_type, one_then, one_behind, one_before}
 use Rattle.ac_expressions.proofs.Levels.{closed_atom, closed_binary}
 
 -- operators
@@ -37,18 +36,6 @@ operators_none D ts no_word none e s o =
     let n = operators_of no_word o.parses o.stops in none e s (record { ending = n.ending; parses = n.parses; stops = n.stops; low = o.low })
 
 -- names with their types
-
-pub one_ascribed : (t : Symbol) → One (IsAscribed t)
-one_ascribed t = one_behind Colon (one_before t one_type)
-
-pub one_typed : (t : Symbol) → One (IsTyped t)
-one_typed t = one_then one_name (one_ascribed t)
-
-pub one_argument : One IsArgument
-one_argument = one_behind Open (one_typed Close)
-
-pub one_head : One IsHead
-one_head = one_then one_name (one_then one_argument (one_ascribed Equals))
 
 typed_at : {t : Symbol} {ts s : List Sign} {x : Bytes} {q c d : ℕ} {T : TypeTree} → IsType ts T (Fixed d t ∷ s) → IsTyped t (Lower q x ∷ Fixed c Colon ∷ ts) (record { at = q; word = x }, T) s
 typed_at {ts = ts} {c = c} {d = d} T = record { middle = Fixed c Colon ∷ ts; first = refl; second = record { middle = ts; at = record { at = c; is = refl }; then = record { middle = _; first = T; at = record { at = d; is = refl } } } }

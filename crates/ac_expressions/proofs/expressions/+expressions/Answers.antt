@@ -11,9 +11,9 @@ use Rattle.ac_syntax.proofs.OnStop.{on_syntax_more, refused}
 use Rattle.ac_expressions.specs.Parsing.{Made}
 use Rattle.ac_expressions.specs.Forms.{Same, NoTree, IsArm, IsArms, IsParts, sequence_tree}
 use Rattle.ac_expressions.proofs.ExprLaws.{arm_of-made}
-use Rattle.ac_expressions.proofs.Readers.{word_at, then, first_none, later_none, behind, no_symbol, behind_none, before, before_none, symbol_none, one_before}
+use Rattle.ac_expressions.proofs.Readers.{word_at, then, first_none, later_none, behind, no_symbol, behind_none, before, before_none, symbol_none, one_before, one_typed, one_argument, one_head}
 use Rattle.ac_expressions.proofs.Levels.{flat_none, one_tree, same_start, same_then, same_none, args_ended, argument_none, argument_high, next_argument, applied_none, applied_tree, args_none, prefixed_none, prefixed_tree, second_none, lone_tree, minus_none, minus_tree, not_none, not_tree, app_tree, app_none, unary_tree, unary_none, joined_height, operand_none, binary_tree, after_none, after_ended, left_step, right_step, once_step, goes_on, past_operator}
-use Rattle.ac_expressions.proofs.Words.{one_typed, one_argument, one_head, operators_tree, operators_none}
+use Rattle.ac_expressions.proofs.Words.{operators_tree, operators_none}
 use Rattle.ac_expressions.proofs.Atoms.{one_pattern, second_item_none, second_part_none, arms_none, next_arm_none, unended_arms, all_arms, item_none, unended_items, all_items, next_part_none, all_parts, last_none, part_none, alone_tree, sequence_high, sequence_none, sequence_made, match_none, match_tree, try_none, try_tree, nil_none, absent_none, opened_none, unclosed_none, leaf_tree, leaf_none}
 use Rattle.ac_expressions.proofs.expressions.+expressions.Goals as goal
 
