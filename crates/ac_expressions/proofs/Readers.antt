@@ -107,6 +107,12 @@ one_argument = one_behind Open (one_typed Close)
 pub one_head : One IsHead
 one_head = one_then one_name (one_then one_argument (one_ascribed Equals))
 
+pub head_no_argument : (name : NameAt) (ts m : List Sign) → IsName ts name m → Nothing IsArgument m → Nothing IsHead ts
+head_no_argument name ts m p none = later_none one_name p (first_none none)
+
+pub head_no_result : (name : NameAt) (x : NameAt × TypeTree) (ts m r : List Sign) → IsName ts name m → IsArgument m x r → Nothing (IsAscribed Equals) r → Nothing IsHead ts
+head_no_result name x ts m r p q none = later_none one_name p (later_none one_argument q none)
+
 below_seven : (n : ℕ) → 7 < n → nat_lt 7 n ≡ true
 below_seven n h = search rules
 
