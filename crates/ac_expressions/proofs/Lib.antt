@@ -5,3 +5,4 @@ pub mod PatSteps
 pub mod Levels
 pub mod Words
 pub mod Atoms
+pub mod NoForms

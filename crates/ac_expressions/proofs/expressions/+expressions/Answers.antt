@@ -15,6 +15,7 @@ use Rattle.ac_expressions.proofs.Readers.{word_at, then, first_none, later_none,
 use Rattle.ac_expressions.proofs.Levels.{flat_none, one_tree, same_start, same_then, same_none, args_ended, argument_none, argument_high, next_argument, applied_none, applied_tree, args_none, prefixed_none, prefixed_tree, second_none, lone_tree, minus_none, minus_tree, not_none, not_tree, app_tree, app_none, unary_tree, unary_none, joined_height, operand_none, binary_tree, after_none, after_ended, left_step, right_step, once_step, goes_on, past_operator}
 use Rattle.ac_expressions.proofs.Words.{operators_tree, operators_none}
 use Rattle.ac_expressions.proofs.Atoms.{one_pattern, second_item_none, second_part_none, arms_none, next_arm_none, unended_arms, all_arms, item_none, unended_items, all_items, next_part_none, all_parts, last_none, part_none, alone_tree, sequence_high, sequence_none, sequence_made, match_none, match_tree, try_none, try_tree, nil_none, absent_none, opened_none, unclosed_none, leaf_tree, leaf_none}
+use Rattle.ac_expressions.proofs.NoForms.{unbefore, arm_no_pattern, arm_no_arrow, arm_no_body, choice_no_arms, let_no_bound, let_no_body, let_rec_no_bound, let_rec_no_body, rec_no_body, fun_no_arrow, fun_no_body, if_no_so, if_no_otherwise, marshal_no_value, marshal_no_type, unmarshal_no_type, raise_no_type}
 use Rattle.ac_expressions.proofs.expressions.+expressions.Goals as goal
 
 pub before-returns-in_err-tree-clause-none : goal.before-returns-in_err-tree-clause-none
@@ -25,22 +26,22 @@ before-returns-in_err-tree-clause-none t c =
 pub before-returns-in_err-rest-clause-none : goal.before-returns-in_err-rest-clause-none
 before-returns-in_err-rest-clause-none t c =
     let p = err_from_is_err_and c.from_residual-in_err-rest.result c.from_residual-in_err-rest.ensures.1 in
-    rw (p.1, p.2) (on_syntax_more _ (symbol_none (one_tree _ _) c.in_ok-tree.ensures.tree) c.in_err-rest.ensures.none)
+    rw (p.1, p.2) (on_syntax_more _ (unbefore _ _ _ _ _ c.in_ok-tree.ensures.tree) c.in_err-rest.ensures.none)
 
 pub arm-returns-in_err-pat-clause-none : goal.arm-returns-in_err-pat-clause-none
 arm-returns-in_err-pat-clause-none t c =
     let p = err_from_is_err_and c.from_residual.result c.from_residual.ensures.1 in
-    rw (p.1, p.2) (on_syntax_more _ (λ n. first_none (before_none n)) c.in_err-pat.ensures.none)
+    rw (p.1, p.2) (on_syntax_more _ (arm_no_pattern _ _) c.in_err-pat.ensures.none)
 
 pub arm-returns-in_err-later-clause-none : goal.arm-returns-in_err-later-clause-none
 arm-returns-in_err-later-clause-none t c =
     let p = err_from_is_err_and c.from_residual-in_err-later.result c.from_residual-in_err-later.ensures.1 in
-    rw (p.1, p.2) (on_syntax_more _ (λ n. first_none (symbol_none one_pattern c.in_ok-pat.ensures.tree n)) c.in_err-later.ensures.none)
+    rw (p.1, p.2) (on_syntax_more _ (arm_no_arrow _ _ _ _ c.in_ok-pat.ensures.tree) c.in_err-later.ensures.none)
 
 pub arm-returns-in_err-body-clause-none : goal.arm-returns-in_err-body-clause-none
 arm-returns-in_err-body-clause-none t c =
     let p = err_from_is_err_and c.from_residual-in_err-body.result c.from_residual-in_err-body.ensures.1 in
-    rw (p.1, p.2) (on_syntax_more _ (later_none (one_before Arrow one_pattern) (before c.in_ok-pat.ensures.tree c.in_ok-later.ensures.found)) c.in_err-body.ensures.none)
+    rw (p.1, p.2) (on_syntax_more _ (arm_no_body _ _ _ _ c.in_ok-pat.ensures.tree _ c.in_ok-later.ensures.found) c.in_err-body.ensures.none)
 
 pub arm-returns-clause-tree : goal.arm-returns-clause-tree
 arm-returns-clause-tree t c =
@@ -77,7 +78,7 @@ choice-returns-in_err-of-clause-none t c =
 pub choice-returns-in_err-arms-clause-none : goal.choice-returns-in_err-arms-clause-none
 choice-returns-in_err-arms-clause-none t c =
     let p = err_from_is_err_and c.from_residual-in_err-arms.result c.from_residual-in_err-arms.ensures.1 in
-    rw (p.1, p.2) (on_syntax_more _ (λ n. later_none (one_before With (one_tree _ _)) c.in_ok-of.ensures.tree (λ x r a. n x r (subst (λ (l : List Sign). IsArms c.args.depth l x r) (sym c.after_bar.ensures.found) a))) c.in_err-arms.ensures.none)
+    rw (p.1, p.2) (on_syntax_more _ (choice_no_arms _ _ _ _ _ c.in_ok-of.ensures.tree c.after_bar.ensures.found) c.in_err-arms.ensures.none)
 
 pub choice-returns-clause-tree : goal.choice-returns-clause-tree
 choice-returns-clause-tree t c =
@@ -135,12 +136,12 @@ let_in-returns-in_err-binder-clause-none t c =
 pub let_in-returns-in_err-bound-clause-none : goal.let_in-returns-in_err-bound-clause-none
 let_in-returns-in_err-bound-clause-none t c =
     let p = err_from_is_err_and c.from_residual-in_err-bound.result c.from_residual-in_err-bound.ensures.1 in
-    rw (p.1, p.2) (on_syntax_more _ (λ n. later_none (one_typed Equals) c.in_ok-binder.ensures.found (first_none n)) c.in_err-bound.ensures.none)
+    rw (p.1, p.2) (on_syntax_more _ (let_no_bound _ _ _ _ c.in_ok-binder.ensures.found) c.in_err-bound.ensures.none)
 
 pub let_in-returns-in_err-body-clause-none : goal.let_in-returns-in_err-body-clause-none
 let_in-returns-in_err-body-clause-none t c =
     let p = err_from_is_err_and c.from_residual-in_err-body.result c.from_residual-in_err-body.ensures.1 in
-    rw (p.1, p.2) (on_syntax_more _ (λ n. later_none (one_typed Equals) c.in_ok-binder.ensures.found (later_none (one_before In (one_tree _ _)) c.in_ok-bound.ensures.tree n)) c.in_err-body.ensures.none)
+    rw (p.1, p.2) (on_syntax_more _ (let_no_body _ _ _ _ c.in_ok-binder.ensures.found _ _ c.in_ok-bound.ensures.tree) c.in_err-body.ensures.none)
 
 pub let_in-returns-clause-tree : goal.let_in-returns-clause-tree
 let_in-returns-clause-tree t c =
@@ -154,12 +155,12 @@ let_rec-returns-in_err-head-clause-none t c =
 pub let_rec-returns-in_err-bound-clause-none : goal.let_rec-returns-in_err-bound-clause-none
 let_rec-returns-in_err-bound-clause-none t c =
     let p = err_from_is_err_and c.from_residual-in_err-bound.result c.from_residual-in_err-bound.ensures.1 in
-    rw (p.1, p.2) (on_syntax_more _ (λ n. later_none one_head c.in_ok-head.ensures.found (first_none n)) c.in_err-bound.ensures.none)
+    rw (p.1, p.2) (on_syntax_more _ (let_rec_no_bound _ _ _ _ c.in_ok-head.ensures.found) c.in_err-bound.ensures.none)
 
 pub let_rec-returns-in_err-body-clause-none : goal.let_rec-returns-in_err-body-clause-none
 let_rec-returns-in_err-body-clause-none t c =
     let p = err_from_is_err_and c.from_residual-in_err-body.result c.from_residual-in_err-body.ensures.1 in
-    rw (p.1, p.2) (on_syntax_more _ (λ n. later_none one_head c.in_ok-head.ensures.found (later_none (one_before In (one_tree _ _)) c.in_ok-bound.ensures.tree n)) c.in_err-body.ensures.none)
+    rw (p.1, p.2) (on_syntax_more _ (let_rec_no_body _ _ _ _ c.in_ok-head.ensures.found _ _ c.in_ok-bound.ensures.tree) c.in_err-body.ensures.none)
 
 pub let_rec-returns-clause-tree : goal.let_rec-returns-clause-tree
 let_rec-returns-clause-tree t c =
@@ -173,12 +174,12 @@ fun-returns-in_err-binder-clause-none t c =
 pub fun-returns-in_err-later-clause-none : goal.fun-returns-in_err-later-clause-none
 fun-returns-in_err-later-clause-none t c =
     let p = err_from_is_err_and c.from_residual-in_err-later.result c.from_residual-in_err-later.ensures.1 in
-    rw (p.1, p.2) (on_syntax_more _ (λ n. later_none one_argument c.in_ok-binder.ensures.found (no_symbol n)) c.in_err-later.ensures.none)
+    rw (p.1, p.2) (on_syntax_more _ (fun_no_arrow _ _ _ _ c.in_ok-binder.ensures.found) c.in_err-later.ensures.none)
 
 pub fun-returns-in_err-body-clause-none : goal.fun-returns-in_err-body-clause-none
 fun-returns-in_err-body-clause-none t c =
     let p = err_from_is_err_and c.from_residual-in_err-body.result c.from_residual-in_err-body.ensures.1 in
-    rw (p.1, p.2) (on_syntax_more _ (λ n. later_none one_argument c.in_ok-binder.ensures.found (behind_none c.in_ok-later.ensures.found n)) c.in_err-body.ensures.none)
+    rw (p.1, p.2) (on_syntax_more _ (fun_no_body _ _ _ _ c.in_ok-binder.ensures.found _ c.in_ok-later.ensures.found) c.in_err-body.ensures.none)
 
 pub fun-returns-clause-tree : goal.fun-returns-clause-tree
 fun-returns-clause-tree t c =
@@ -192,7 +193,7 @@ rec-returns-in_err-head-clause-none t c =
 pub rec-returns-in_err-body-clause-none : goal.rec-returns-in_err-body-clause-none
 rec-returns-in_err-body-clause-none t c =
     let p = err_from_is_err_and c.from_residual-in_err-body.result c.from_residual-in_err-body.ensures.1 in
-    rw (p.1, p.2) (on_syntax_more _ (later_none one_head c.in_ok-head.ensures.found) c.in_err-body.ensures.none)
+    rw (p.1, p.2) (on_syntax_more _ (rec_no_body _ _ _ _ c.in_ok-head.ensures.found) c.in_err-body.ensures.none)
 
 pub rec-returns-clause-tree : goal.rec-returns-clause-tree
 rec-returns-clause-tree t c =
@@ -206,12 +207,12 @@ if_else-returns-in_err-test-clause-none t c =
 pub if_else-returns-in_err-so-clause-none : goal.if_else-returns-in_err-so-clause-none
 if_else-returns-in_err-so-clause-none t c =
     let p = err_from_is_err_and c.from_residual-in_err-so.result c.from_residual-in_err-so.ensures.1 in
-    rw (p.1, p.2) (on_syntax_more _ (λ n. later_none (one_before Then (one_tree _ _)) c.in_ok-test.ensures.tree (first_none n)) c.in_err-so.ensures.none)
+    rw (p.1, p.2) (on_syntax_more _ (if_no_so _ _ _ _ c.in_ok-test.ensures.tree) c.in_err-so.ensures.none)
 
 pub if_else-returns-in_err-otherwise-clause-none : goal.if_else-returns-in_err-otherwise-clause-none
 if_else-returns-in_err-otherwise-clause-none t c =
     let p = err_from_is_err_and c.from_residual-in_err-otherwise.result c.from_residual-in_err-otherwise.ensures.1 in
-    rw (p.1, p.2) (on_syntax_more _ (λ n. later_none (one_before Then (one_tree _ _)) c.in_ok-test.ensures.tree (later_none (one_before Else (one_tree _ _)) c.in_ok-so.ensures.tree n)) c.in_err-otherwise.ensures.none)
+    rw (p.1, p.2) (on_syntax_more _ (if_no_otherwise _ _ _ _ c.in_ok-test.ensures.tree _ _ c.in_ok-so.ensures.tree) c.in_err-otherwise.ensures.none)
 
 pub if_else-returns-clause-tree : goal.if_else-returns-clause-tree
 if_else-returns-clause-tree t c =
@@ -225,12 +226,12 @@ marshal-returns-in_err-mark-clause-none t c =
 pub marshal-returns-in_err-value-clause-none : goal.marshal-returns-in_err-value-clause-none
 marshal-returns-in_err-value-clause-none t c =
     let p = err_from_is_err_and c.from_residual-in_err-value.result c.from_residual-in_err-value.ensures.1 in
-    rw (p.1, p.2) (on_syntax_more _ (λ n. later_none (one_tree _ _) c.in_ok-mark.ensures.tree (first_none n)) c.in_err-value.ensures.none)
+    rw (p.1, p.2) (on_syntax_more _ (marshal_no_value _ _ _ _ c.in_ok-mark.ensures.tree) c.in_err-value.ensures.none)
 
 pub marshal-returns-in_err-ty-clause-none : goal.marshal-returns-in_err-ty-clause-none
 marshal-returns-in_err-ty-clause-none t c =
     let p = err_from_is_err_and c.from_residual-in_err-ty.result c.from_residual-in_err-ty.ensures.1 in
-    rw (p.1, p.2) (on_syntax_more _ (λ n. later_none (one_tree _ _) c.in_ok-mark.ensures.tree (later_none (one_tree _ _) c.in_ok-value.ensures.tree n)) c.in_err-ty.ensures.none)
+    rw (p.1, p.2) (on_syntax_more _ (marshal_no_type _ _ _ _ c.in_ok-mark.ensures.tree _ _ c.in_ok-value.ensures.tree) c.in_err-ty.ensures.none)
 
 pub marshal-returns-clause-tree : goal.marshal-returns-clause-tree
 marshal-returns-clause-tree t c =
@@ -244,7 +245,7 @@ unmarshal-returns-in_err-text-clause-none t c =
 pub unmarshal-returns-in_err-ty-clause-none : goal.unmarshal-returns-in_err-ty-clause-none
 unmarshal-returns-in_err-ty-clause-none t c =
     let p = err_from_is_err_and c.from_residual-in_err-ty.result c.from_residual-in_err-ty.ensures.1 in
-    rw (p.1, p.2) (on_syntax_more _ (later_none (one_tree _ _) c.in_ok-text.ensures.tree) c.in_err-ty.ensures.none)
+    rw (p.1, p.2) (on_syntax_more _ (unmarshal_no_type _ _ _ _ c.in_ok-text.ensures.tree) c.in_err-ty.ensures.none)
 
 pub unmarshal-returns-clause-tree : goal.unmarshal-returns-clause-tree
 unmarshal-returns-clause-tree t c =
@@ -258,7 +259,7 @@ raise-returns-in_err-exception-clause-none t c =
 pub raise-returns-in_err-ty-clause-none : goal.raise-returns-in_err-ty-clause-none
 raise-returns-in_err-ty-clause-none t c =
     let p = err_from_is_err_and c.from_residual-in_err-ty.result c.from_residual-in_err-ty.ensures.1 in
-    rw (p.1, p.2) (on_syntax_more _ (later_none (one_tree _ _) c.in_ok-exception.ensures.tree) c.in_err-ty.ensures.none)
+    rw (p.1, p.2) (on_syntax_more _ (raise_no_type _ _ _ _ c.in_ok-exception.ensures.tree) c.in_err-ty.ensures.none)
 
 pub raise-returns-clause-tree : goal.raise-returns-clause-tree
 raise-returns-clause-tree t c =
