@@ -1,6 +1,6 @@
 // Trees of expressions, and their heights.
 
-ghost use Rattle.std.specs.Prelude.{◌≡◌, ◌<◌, ◌^◌, ◌∷◌, [], max, length, map, IfOk, MatchOption, option_map};
+ghost use Rattle.std.specs.Prelude.{◌≡◌, ◌<◌, ◌-◌, ◌^◌, ◌∷◌, [], max, length, map, IfOk, MatchOption, option_map};
 ghost use Rattle.ac_syntax.specs.Trees.{ExInt, ExUnit, ExNil, ExAbsent, ExApp, ExOp, ExSeq, ExTuple, ExMatch, ExTry, tree, no_trees, trees, arm_trees, height, highest, highest_arm};
 ghost use Rattle.ac_syntax.specs.Expressions.{operator_of, joined};
 ghost use Rattle.ac_syntax.specs.ReadTrees.{type_of, expr_of, arm_of};
@@ -336,11 +336,21 @@ pub fn operation(alloc: Global, at: u32, number: u8, operand: Parsed) -> Result<
     Ok(Parsed { tree, height })
 }
 
+/// The trees of two expressions.
+pub fn two(alloc: Global, first: Parsed, second: Parsed) -> Result<Many<SExpr>, Memory>
+    ensures { IfOk result (λ parts. parts ≡ first.tree ∷ second.tree ∷ []) }
+{
+    let mut parts = Many::new(alloc);
+    parts.push(first.tree)?;
+    parts.push(second.tree)?;
+    Ok(parts)
+}
+
 /// A sequence of parts, of which the highest has this height.
 #[tactic(auto, using(crate::proofs::ExprLaws::expr_laws))]
-pub fn sequence(at: u32, parts: Many<SExpr>, highest: u32) -> Parsed
-    requires low { highest < 2 ^ 32 - 1 }
-    requires highest { highest ≡ highest (trees (map expr_of parts)) }
+pub fn sequence(at: u32, parts: Many<SExpr>, most: u32) -> Parsed
+    requires low { most < 2 ^ 32 - 1 }
+    requires highest { most ≡ highest (trees (map expr_of parts)) }
     ensures tree { expr_of result.tree ≡ ExSeq at (trees (map expr_of parts)) }
     ensures height { measured result }
 {
@@ -348,15 +358,15 @@ pub fn sequence(at: u32, parts: Many<SExpr>, highest: u32) -> Parsed
     let tree = SExpr { at, kind };
     Parsed {
         tree,
-        height: highest + 1,
+        height: most + 1,
     }
 }
 
 /// A tuple of parts, of which the highest has this height.
 #[tactic(auto, using(crate::proofs::ExprLaws::expr_laws))]
-pub fn tuple(at: u32, parts: Many<SExpr>, highest: u32) -> Parsed
-    requires low { highest < 2 ^ 32 - 1 }
-    requires highest { highest ≡ highest (trees (map expr_of parts)) }
+pub fn tuple(at: u32, parts: Many<SExpr>, most: u32) -> Parsed
+    requires low { most < 2 ^ 32 - 1 }
+    requires highest { most ≡ highest (trees (map expr_of parts)) }
     ensures tree { expr_of result.tree ≡ ExTuple at (trees (map expr_of parts)) }
     ensures height { measured result }
 {
@@ -364,7 +374,7 @@ pub fn tuple(at: u32, parts: Many<SExpr>, highest: u32) -> Parsed
     let tree = SExpr { at, kind };
     Parsed {
         tree,
-        height: highest + 1,
+        height: most + 1,
     }
 }
 

@@ -3,13 +3,13 @@
 
 ghost use Rattle.std.specs.Prelude.{◌≡◌, ◌<◌, ◌≤◌, ◌-◌, ◌^◌, ◌∷◌, true, suc, length, map, IfOk, IfErr, IfSome, MatchOption};
 ghost use Rattle.ac_syntax.specs.Signs.{Fixed};
-ghost use Rattle.ac_syntax.specs.Trees.{arm_trees, height, highest_arm};
-ghost use Rattle.ac_syntax.specs.Expressions.{Expr, Part, Binary, After, Unary, App, Args, Atom, front, ToLeft, ToRight, Once, begins_atom, side_of, IsTree, IsExpr};
+ghost use Rattle.ac_syntax.specs.Trees.{ExApp, arm_trees, height, highest_arm};
+ghost use Rattle.ac_syntax.specs.Expressions.{Expr, Part, Binary, After, Unary, App, Atom, front, ToLeft, ToRight, Once, joined, side_of, IsTree, IsExpr};
 ghost use Rattle.ac_syntax.specs.ReadSigns.{read_signs};
 ghost use Rattle.ac_syntax.specs.ReadTrees.{expr_of, arm_of};
 ghost use Rattle.ac_syntax.specs.Parsing.{OnSyntax};
 ghost use Rattle.ac_expressions.specs.Parsing.{NoExpr, Nothing, Before, Made, NoPrefix};
-ghost use Rattle.ac_expressions.specs.Forms.{Same, keyword_symbol, NoTree, measured, operator_read, OperatorAt, NoOperator, IsLet, let_tree, IsLetRec, let_rec_tree, IsFun, fun_tree, IsRec, rec_tree, IsIf, if_tree, IsMarshal, marshal_tree, IsUnmarshal, unmarshal_tree, IsRaise, raise_tree, IsParts, sequence_tree, IsItems, tuple_tree, IsArm, IsArms, IsChoice};
+ghost use Rattle.ac_expressions.specs.Forms.{keyword_symbol, NoTree, measured, operator_read, OperatorAt, NoOperator, IsLet, let_tree, IsLetRec, let_rec_tree, IsFun, fun_tree, IsRec, rec_tree, IsIf, if_tree, IsMarshal, marshal_tree, IsUnmarshal, unmarshal_tree, IsRaise, raise_tree, IsParts, sequence_tree, IsItems, tuple_tree, IsArm, IsArms, IsChoice};
 
 use crate::binders::{argument, ascribed, function_head, type_behind, typed};
 use crate::build::{self, Choice, Operator, Parsed, operator_of};
@@ -144,9 +144,7 @@ fn tuple<'s, 't>(
 {
     let (second, mut rest) = expr(alloc, depth, signs)?;
     let mut height = first.height.max(second.height);
-    let mut parts = Many::new(alloc);
-    parts.push(first.tree)?;
-    parts.push(second.tree)?;
+    let mut parts = build::two(alloc, first, second)?;
     while let Some(behind) = after(Symbol::Comma, rest) {
         let (part, later) = expr(alloc, depth, behind)?;
         height = height.max(part.height);
@@ -257,36 +255,20 @@ fn applied<'s, 't>(
     depth: u32,
     signs: &'s [Sign<'t>],
 ) -> Result<(Parsed, &'s [Sign<'t>]), Stop>
+    requires { NoPrefix (read_signs signs.now) }
     ensures tree { IfOk result (λ x. IsTree depth App (read_signs signs.now) (expr_of x.0.tree) (read_signs x.1.now)) }
     ensures height { IfOk result (λ x. measured x.0) }
     ensures shorter { IfOk result (λ x. length x.1.now < length signs.now) }
-    ensures none { IfErr result (λ e. OnSyntax e (NoPrefix (read_signs signs.now) → NoTree depth App (read_signs signs.now))) }
+    ensures none { IfErr result (λ e. OnSyntax e (NoTree depth App (read_signs signs.now))) }
 {
-    let (function, rest) = atom(alloc, depth, signs)?;
-    arguments(alloc, depth, here(signs), function, rest)
-}
-
-/// What follows a function.
-#[cycle(expressions)]
-fn arguments<'s, 't>(
-    alloc: Global,
-    depth: u32,
-    at: u32,
-    first: Parsed,
-    signs: &'s [Sign<'t>],
-) -> Result<(Parsed, &'s [Sign<'t>]), Stop>
-    requires low { first.height ≤ depth }
-    requires first { measured first }
-    ensures tree { IfOk result (λ x. IsTree depth (Args at (expr_of first.tree)) (read_signs signs.now) (expr_of x.0.tree) (read_signs x.1.now)) }
-    ensures height { IfOk result (λ x. measured x.0) }
-    ensures within { IfOk result (λ x. length x.1.now ≤ length signs.now) }
-    ensures none { IfErr result (λ e. OnSyntax e (NoTree depth (Args at (expr_of first.tree)) (read_signs signs.now))) }
-{
-    let mut function = first;
-    let mut rest = signs;
+    let at = here(signs);
+    let (mut function, mut rest) = atom(alloc, depth, signs)?;
     while begins_atom(rest) {
-        let (applied, later) = next_argument(alloc, depth, at, function, rest)?;
-        function = applied;
+        if function.height >= depth {
+            return Err(refused_at(rest));
+        }
+        let (next, later) = next_argument(alloc, depth - 1, at, function, rest)?;
+        function = next;
         rest = later;
     }
     Ok((function, rest))
@@ -301,19 +283,15 @@ fn next_argument<'s, 't>(
     function: Parsed,
     signs: &'s [Sign<'t>],
 ) -> Result<(Parsed, &'s [Sign<'t>]), Stop>
-    requires begins { begins_atom (read_signs signs.now) ≡ true }
-    requires low { function.height ≤ depth }
+    requires low { function.height < 2 ^ 32 - 1 }
+    requires small { depth < 2 ^ 32 - 1 }
     requires function { measured function }
-    ensures tree { IfOk result (λ x. Same depth (Args at (expr_of function.tree)) (read_signs signs.now) (Args at (expr_of x.0.tree)) (read_signs x.1.now)) }
+    ensures tree { IfOk result (λ x. Made (IsTree depth Atom) (ExApp at (expr_of function.tree)) (read_signs signs.now) (expr_of x.0.tree) (read_signs x.1.now)) }
     ensures height { IfOk result (λ x. measured x.0) }
-    ensures low { IfOk result (λ x. x.0.height ≤ depth) }
     ensures shorter { IfOk result (λ x. length x.1.now < length signs.now) }
-    ensures none { IfErr result (λ e. OnSyntax e (NoTree depth (Args at (expr_of function.tree)) (read_signs signs.now))) }
+    ensures none { IfErr result (λ e. OnSyntax e (NoTree depth Atom (read_signs signs.now))) }
 {
-    if function.height >= depth {
-        return Err(refused_at(signs));
-    }
-    let (argument, rest) = atom(alloc, depth - 1, signs)?;
+    let (argument, rest) = atom(alloc, depth, signs)?;
     Ok((build::application(alloc, at, function, argument)?, rest))
 }
 
@@ -367,34 +345,53 @@ fn unary<'s, 't>(
     app(alloc, depth, signs)
 }
 
-/// What follows a first operand at a level whose operators group to the left.
+/// A left side and its operator with the operand of this level that stands here.
+#[cycle(expressions)]
+fn right_side<'s, 't>(
+    alloc: Global,
+    level: u32,
+    depth: u32,
+    at: u32,
+    operator: Operator,
+    left: Parsed,
+    signs: &'s [Sign<'t>],
+) -> Result<(Parsed, &'s [Sign<'t>]), Stop>
+    requires level { level ≤ 6 }
+    requires low { left.height < 2 ^ 32 - 1 }
+    requires small { depth < 2 ^ 32 - 1 }
+    requires left { measured left }
+    ensures tree { IfOk result (λ x. Made (IsTree depth (Binary level)) (joined at (operator_read operator) (expr_of left.tree)) (read_signs signs.now) (expr_of x.0.tree) (read_signs x.1.now)) }
+    ensures height { IfOk result (λ x. measured x.0) }
+    ensures shorter { IfOk result (λ x. length x.1.now < length signs.now) }
+    ensures none { IfErr result (λ e. OnSyntax e (NoTree depth (Binary level) (read_signs signs.now))) }
+{
+    let (right, rest) = binary(alloc, level, depth, signs)?;
+    Ok((build::join(alloc, at, operator, left, right)?, rest))
+}
+
+/// Operands with the operators of a level that group to the left.
 #[cycle(expressions)]
 fn to_left<'s, 't>(
     alloc: Global,
     level: u32,
     depth: u32,
-    at: u32,
-    first: Parsed,
     signs: &'s [Sign<'t>],
 ) -> Result<(Parsed, &'s [Sign<'t>]), Stop>
     requires level { (0 < level) × (level ≤ 6) }
     requires side { side_of level ≡ ToLeft }
-    requires low { first.height ≤ depth }
-    requires first { measured first }
-    requires stops { level < front (read_signs signs.now) }
-    ensures tree { IfOk result (λ x. IsTree depth (After level at (expr_of first.tree)) (read_signs signs.now) (expr_of x.0.tree) (read_signs x.1.now)) }
+    ensures tree { IfOk result (λ x. IsTree depth (Binary level) (read_signs signs.now) (expr_of x.0.tree) (read_signs x.1.now)) }
     ensures height { IfOk result (λ x. measured x.0) }
-    ensures within { IfOk result (λ x. length x.1.now ≤ length signs.now) }
-    ensures none { IfErr result (λ e. OnSyntax e (NoTree depth (After level at (expr_of first.tree)) (read_signs signs.now))) }
+    ensures shorter { IfOk result (λ x. length x.1.now < length signs.now) }
+    ensures none { IfErr result (λ e. OnSyntax e (NoTree depth (Binary level) (read_signs signs.now))) }
 {
-    let mut left = first;
-    let mut rest = signs;
+    let at = here(signs);
+    let (mut left, mut rest) = binary(alloc, level - 1, depth, signs)?;
     while let Some((operator, behind)) = operator(level, rest) {
         if left.height >= depth {
             return Err(refused_at(rest));
         }
-        let (right, later) = binary(alloc, level - 1, depth - 1, behind)?;
-        left = build::join(alloc, at, operator, left, right)?;
+        let (joined, later) = right_side(alloc, level - 1, depth - 1, at, operator, left, behind)?;
+        left = joined;
         rest = later;
     }
     Ok((left, rest))
@@ -426,8 +423,7 @@ fn to_right<'s, 't>(
     if first.height >= depth {
         return Err(refused_at(signs));
     }
-    let (right, rest) = binary(alloc, level, depth - 1, behind)?;
-    Ok((build::join(alloc, at, operator, first, right)?, rest))
+    right_side(alloc, level, depth - 1, at, operator, first, behind)
 }
 
 /// What follows a first operand at a level with at most one operator.
@@ -456,10 +452,10 @@ fn once<'s, 't>(
     if first.height >= depth {
         return Err(refused_at(signs));
     }
-    let (right, rest) = binary(alloc, level - 1, depth - 1, behind)?;
+    let (joined, rest) = right_side(alloc, level - 1, depth - 1, at, operator, first, behind)?;
     match self::operator(level, rest) {
         Some(_) => Err(refused_at(rest)),
-        None => Ok((build::join(alloc, at, operator, first, right)?, rest)),
+        None => Ok((joined, rest)),
     }
 }
 
@@ -480,11 +476,12 @@ fn binary<'s, 't>(
     if level == 0 {
         return unary(alloc, depth, signs);
     }
+    if level <= 2 {
+        return to_left(alloc, level, depth, signs);
+    }
     let at = here(signs);
     let (first, rest) = binary(alloc, level - 1, depth, signs)?;
-    if level <= 2 {
-        to_left(alloc, level, depth, at, first, rest)
-    } else if level == 4 {
+    if level == 4 {
         once(alloc, level, depth, at, first, rest)
     } else {
         to_right(alloc, level, depth, at, first, rest)
@@ -718,9 +715,7 @@ fn sequence<'s, 't>(
 {
     let (second, mut rest) = part(alloc, depth, signs)?;
     let mut height = first.height.max(second.height);
-    let mut parts = Many::new(alloc);
-    parts.push(first.tree)?;
-    parts.push(second.tree)?;
+    let mut parts = build::two(alloc, first, second)?;
     while let Some(behind) = after(Symbol::Semicolon, rest) {
         let (next, later) = part(alloc, depth, behind)?;
         height = height.max(next.height);

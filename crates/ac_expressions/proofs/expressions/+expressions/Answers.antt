@@ -1,20 +1,21 @@
 use Rattle.std.proofs.Common.{◌≡◌, ◌<◌, ◌≤◌, ◌-◌, ◌+◌, ℕ, suc, List, [], ◌∷◌, map, refl, sym, ap, subst, ◌∙◌, arith}
 use Rattle.std.specs.Prelude.{neg_ℤ}
+use Rattle.std.proofs.lemmas.List.{map-append}
 use Rattle.std.proofs.lemmas.Result.{IfOk-weaker, IfErr-weaker, err_from_is_err_and}
 use Rattle.ac_syntax.specs.Signs.{Sign, Fixed}
-use Rattle.ac_syntax.specs.Trees.{PatTree, Tree, ExInt, height}
-use Rattle.ac_syntax.specs.Expressions.{Part, After, Unary, App, Args, Atom, front, IsTree}
+use Rattle.ac_syntax.specs.Trees.{PatTree, Tree, ExInt, arm_trees, height, highest_arm}
+use Rattle.ac_syntax.specs.Expressions.{Part, Binary, After, Unary, App, Args, Atom, front, IsTree}
 use Rattle.ac_syntax.specs.ReadSigns.{read_signs}
 use Rattle.ac_syntax.specs.ReadTrees.{expr_of, arm_of}
 use Rattle.ac_syntax.specs.declared.sign.Symbol.TheVariants.{Arrow, Else, Equals, In, Then, With}
 use Rattle.ac_syntax.proofs.OnStop.{on_syntax_more, refused}
 use Rattle.ac_expressions.specs.Parsing.{Made}
-use Rattle.ac_expressions.specs.Forms.{Same, NoTree, IsArm, IsArms, IsParts, sequence_tree}
+use Rattle.ac_expressions.specs.Forms.{Same, NoTree, operator_read, IsArm, IsArms, IsParts, sequence_tree}
 use Rattle.ac_expressions.proofs.ExprLaws.{arm_of-made}
 use Rattle.ac_expressions.proofs.Readers.{word_at, then, first_none, later_none, behind, no_symbol, behind_none, before, before_none, symbol_none, one_before, one_typed, one_argument, one_head}
-use Rattle.ac_expressions.proofs.Levels.{flat_none, one_tree, same_start, same_then, same_none, args_ended, argument_none, argument_high, next_argument, applied_none, applied_tree, args_none, prefixed_none, prefixed_tree, second_none, lone_tree, minus_none, minus_tree, not_none, not_tree, app_tree, app_none, unary_tree, unary_none, joined_height, operand_none, binary_tree, after_none, after_ended, left_step, right_step, once_step, goes_on, past_operator}
-use Rattle.ac_expressions.proofs.Words.{operators_tree, operators_none}
-use Rattle.ac_expressions.proofs.Atoms.{one_pattern, second_item_none, second_part_none, arms_none, next_arm_none, unended_arms, all_arms, item_none, unended_items, all_items, next_part_none, all_parts, last_none, part_none, alone_tree, sequence_high, sequence_none, sequence_made, match_none, match_tree, try_none, try_tree, nil_none, absent_none, opened_none, unclosed_none, leaf_tree, leaf_none}
+use Rattle.ac_expressions.proofs.Levels.{flat_none, one_tree, same_start, same_then, same_none, args_ended, argument_none, argument_high, next_argument, applied_none, same_applied, same_operand, prefixed_none, prefixed_tree, second_none, lone_tree, minus_none, minus_tree, not_none, not_tree, app_tree, app_none, unary_tree, unary_none, joined_height, operand_none, binary_tree, after_none, after_ended, left_step, right_step, once_step, goes_on, past_operator}
+use Rattle.ac_expressions.proofs.Words.{operators_tree, operators_none, let_back, let_none, let_rec_back, let_rec_none, fun_back, fun_none, rec_back, rec_none, if_back, if_none, marshal_back, marshal_none, unmarshal_back, unmarshal_none, raise_back, raise_none}
+use Rattle.ac_expressions.proofs.Atoms.{one_pattern, first_arm, next_arm, highest_next_arm, item_read, next_part, highest_next, unit_tree, nil_tree, absent_tree, parens_tree, tuple_high, tuple_none, tuple_made, second_item_none, second_part_none, arms_none, next_arm_none, unended_arms, all_arms, item_none, unended_items, all_items, next_part_none, all_parts, last_none, part_none, alone_tree, sequence_high, sequence_none, sequence_made, match_none, match_tree, try_none, try_tree, nil_none, absent_none, opened_none, unclosed_none, leaf_tree, leaf_none}
 use Rattle.ac_expressions.proofs.NoForms.{unbefore, arm_no_pattern, arm_no_arrow, arm_no_body, choice_no_arms, let_no_bound, let_no_body, let_rec_no_bound, let_rec_no_body, rec_no_body, fun_no_arrow, fun_no_body, if_no_so, if_no_otherwise, marshal_no_value, marshal_no_type, unmarshal_no_type, raise_no_type}
 use Rattle.ac_expressions.proofs.expressions.+expressions.Goals as goal
 
@@ -368,10 +369,6 @@ pub atom-returns-clause-height : goal.atom-returns-clause-height
 atom-returns-clause-height t c =
     sym c.in_ok-tree.ensures.found.leaf
 
-pub app-returns-in_default-clause-none : goal.app-returns-in_default-clause-none
-app-returns-in_default-clause-none t c =
-    IfErr-weaker c.applied.result _ _ (λ e o. on_syntax_more e (λ f. f c.in_default.ensures.found) o) c.applied.ensures.none
-
 pub app-returns-then-depth-eq0-clause-none : goal.app-returns-then-depth-eq0-clause-none
 app-returns-then-depth-eq0-clause-none t c =
     refused _ _ c.refused_at.ensures (flat_none _ _ _ c.if-depth-eq0.true)
@@ -391,57 +388,6 @@ app-returns-clause-tree t c =
     let pos : 0 < c.args.depth = omega (arith, c.if-depth-eq0.false) in
     subst (λ (x : Tree). IsTree c.args.depth App (read_signs c.args.signs.now) x (read_signs c.in_ok-item.rest.now)) (sym c.in_ok-prefixed_by.ensures.tree)
     (prefixed_tree _ _ _ _ _ c.in-Some.ensures.found pos _ _ c.in_ok-item.ensures.tree (sym c.begins_atom.ensures ∙ c.if-begins_atom.false))
-
-pub applied-returns-in_err-function-clause-none : goal.applied-returns-in_err-function-clause-none
-applied-returns-in_err-function-clause-none t c =
-    let p = err_from_is_err_and c.from_residual.result c.from_residual.ensures.1 in
-    rw (p.1, p.2) (on_syntax_more _ (applied_none _ _) c.in_err-function.ensures.none)
-
-pub applied-returns-clause-tree : goal.applied-returns-clause-tree
-applied-returns-clause-tree t c =
-    IfOk-weaker c.arguments.result _ _
-    (λ x o. applied_tree _ _ _ _ c.in_ok-function.ensures.made _ _
-    (subst (λ (at : ℕ). IsTree c.args.depth (Args at (expr_of c.in_ok-function.function.tree)) (read_signs c.in_ok-function.rest.now) (expr_of x.0.tree) (read_signs x.1.now)) c.here.ensures o)) c.arguments.ensures.tree
-
-pub applied-returns-clause-none : goal.applied-returns-clause-none
-applied-returns-clause-none t c =
-    IfErr-weaker c.arguments.result _ _
-    (λ e o. on_syntax_more e (λ n. args_none _ _ _ _ c.in_ok-function.ensures.tree
-    (subst (λ (at : ℕ). NoTree c.args.depth (Args at (expr_of c.in_ok-function.function.tree)) (read_signs c.in_ok-function.rest.now)) c.here.ensures n)) o) c.arguments.ensures.none
-
-pub arguments-loop-rest-init : goal.arguments-loop-rest-init
-arguments-loop-rest-init t c =
-    record { same = same_start _ _ _; height = c.requires.first; low = c.requires.low; shorter = omega arith }
-
-pub arguments-returns-in_err-applied-clause-none : goal.arguments-returns-in_err-applied-clause-none
-arguments-returns-in_err-applied-clause-none t c =
-    let p = err_from_is_err_and c.from_residual.result c.from_residual.ensures.1 in
-    rw (p.1, p.2) (on_syntax_more _ (λ n. same_none c.loop-rest.invariant.same n) c.in_err-applied.ensures.none)
-
-pub arguments-loop-rest-preserved : goal.arguments-loop-rest-preserved
-arguments-loop-rest-preserved t c =
-    let i = c.loop-rest.invariant in
-    record { same = same_then i.same c.in_ok-applied.ensures.tree; height = c.in_ok-applied.ensures.height; low = c.in_ok-applied.ensures.low; shorter = omega (arith, i.shorter, c.in_ok-applied.ensures.shorter) }
-
-pub arguments-returns-clause-tree : goal.arguments-returns-clause-tree
-arguments-returns-clause-tree t c =
-    let i = c.loop-rest.invariant in
-    let low : height (expr_of c.loop-rest.function.tree) ≤ c.args.depth = omega (arith, i.height, i.low) in
-    i.same.back _ _ (args_ended _ _ _ _ (sym c.begins_atom.ensures ∙ c.loop-rest-test.false) low)
-
-pub next_argument-returns-then-function-depth-clause-none : goal.next_argument-returns-then-function-depth-clause-none
-next_argument-returns-then-function-depth-clause-none t c =
-    refused _ _ c.refused_at.ensures (argument_high _ _ _ _ c.requires.begins (subst (λ (n : ℕ). c.args.depth ≤ n) c.requires.function c.if-function-depth.true))
-
-pub next_argument-returns-in_err-argument-clause-none : goal.next_argument-returns-in_err-argument-clause-none
-next_argument-returns-in_err-argument-clause-none t c =
-    let p = err_from_is_err_and c.from_residual.result c.from_residual.ensures.1 in
-    rw (p.1, p.2) (on_syntax_more _ (argument_none _ _ _ _ c.requires.begins) c.in_err-argument.ensures.none)
-
-pub next_argument-returns-clause-tree : goal.next_argument-returns-clause-tree
-next_argument-returns-clause-tree t c =
-    subst (λ (x : Tree). Same c.args.depth (Args c.args.at (expr_of c.args.function.tree)) (read_signs c.args.signs.now) (Args c.args.at x) (read_signs c.in_ok-argument.rest.now)) (sym c.in_ok-application.ensures.tree)
-    (next_argument _ _ _ _ c.requires.begins _ _ c.in_ok-argument.ensures.tree)
 
 pub minus-returns-in_ok-negated-clause-tree : goal.minus-returns-in_ok-negated-clause-tree
 minus-returns-in_ok-negated-clause-tree t c =
@@ -490,45 +436,6 @@ pub unary-returns-clause-none : goal.unary-returns-clause-none
 unary-returns-clause-none t c =
     IfErr-weaker c.app.result _ _ (λ e o. on_syntax_more e (app_none _ _ c.in_default.ensures.found c.in_default-after.ensures.found) o) c.app.ensures.none
 
-pub to_left-loop-operator-init : goal.to_left-loop-operator-init
-to_left-loop-operator-init t c =
-    record { same = same_start _ _ _; height = c.requires.first; low = c.requires.low; stops = c.requires.stops; shorter = omega arith }
-
-pub to_left-returns-then-left-depth-clause-none : goal.to_left-returns-then-left-depth-clause-none
-to_left-returns-then-left-depth-clause-none t c =
-    let lv : suc (c.args.level - 1) ≡ c.args.level = omega (arith, c.requires.level.0) in
-    let s = left_step _ _ c.args.depth c.args.at _ _ _ _ lv c.in-Some.ensures.found c.requires.side in
-    refused _ _ c.refused_at.ensures (same_none c.loop-operator.invariant.same (s.high (subst (λ (n : ℕ). c.args.depth ≤ n) c.loop-operator.invariant.height c.if-left-depth.true)))
-
-pub to_left-returns-in_err-right-clause-none : goal.to_left-returns-in_err-right-clause-none
-to_left-returns-in_err-right-clause-none t c =
-    let lv : suc (c.args.level - 1) ≡ c.args.level = omega (arith, c.requires.level.0) in
-    let s = left_step _ _ c.args.depth c.args.at _ _ _ _ lv c.in-Some.ensures.found c.requires.side in
-    let p = err_from_is_err_and c.from_residual.result c.from_residual.ensures.1 in
-    rw (p.1, p.2) (on_syntax_more _ (λ n. same_none c.loop-operator.invariant.same (s.refused n)) c.in_err-right.ensures.none)
-
-pub to_left-loop-operator-preserved : goal.to_left-loop-operator-preserved
-to_left-loop-operator-preserved t c =
-    let lv : suc (c.args.level - 1) ≡ c.args.level = omega (arith, c.requires.level.0) in
-    let s = left_step _ _ c.args.depth c.args.at _ _ _ _ lv c.in-Some.ensures.found c.requires.side in
-    let i = c.loop-operator.invariant in
-    let stops : suc (c.args.level - 1) < front (read_signs c.in_ok-right.later.now) = c.in_ok-right.ensures.tree.stops in
-    let low : height (expr_of c.in_ok-right.right.tree) ≤ c.args.depth - 1 = c.in_ok-right.ensures.tree.low in
-    record {
-      same = subst (λ (x : Tree). Same c.args.depth (After c.args.level c.args.at (expr_of c.args.first.tree)) (read_signs c.args.signs.now) (After c.args.level c.args.at x) (read_signs c.in_ok-right.later.now)) (sym c.in_ok-left-2.ensures.tree)
-          (same_then i.same (s.next _ _ c.in_ok-right.ensures.tree));
-      height = c.in_ok-left-2.ensures.height;
-      low = omega (arith, c.in_ok-left-2.ensures.height, ap height c.in_ok-left-2.ensures.tree, joined_height c.args.at _ (expr_of c.loop-operator.left.tree) (expr_of c.in_ok-right.right.tree), i.height, c.if-left-depth.false, low);
-      stops = omega (arith, stops);
-      shorter = omega (arith, i.shorter, c.in-Some.ensures.shorter, c.in_ok-right.ensures.shorter);
-    }
-
-pub to_left-returns-clause-tree : goal.to_left-returns-clause-tree
-to_left-returns-clause-tree t c =
-    let i = c.loop-operator.invariant in
-    let low : height (expr_of c.loop-operator.left.tree) ≤ c.args.depth = omega (arith, i.height, i.low) in
-    i.same.back _ _ (after_ended _ _ _ _ _ c.requires.level.0 c.requires.level.1 low i.stops c.in_default.ensures.found)
-
 pub to_right-returns-in_default-clause-tree : goal.to_right-returns-in_default-clause-tree
 to_right-returns-in_default-clause-tree t c =
     let low : height (expr_of c.args.first.tree) ≤ c.args.depth = omega (arith, c.requires.first, c.requires.low) in
@@ -540,13 +447,6 @@ to_right-returns-then-first-depth-clause-none t c =
     let s = right_step _ _ c.args.depth c.args.at _ _ _ _ lv c.in-Some.ensures.found c.requires.side in
     refused _ _ c.refused_at.ensures (s.high (subst (λ (n : ℕ). c.args.depth ≤ n) c.requires.first c.if-first-depth.true))
 
-pub to_right-returns-in_err-right-clause-none : goal.to_right-returns-in_err-right-clause-none
-to_right-returns-in_err-right-clause-none t c =
-    let lv : suc (c.args.level - 1) ≡ c.args.level = omega (arith, c.requires.level.0) in
-    let s = right_step _ _ c.args.depth c.args.at _ _ _ _ lv c.in-Some.ensures.found c.requires.side in
-    let p = err_from_is_err_and c.from_residual.result c.from_residual.ensures.1 in
-    rw (p.1, p.2) (on_syntax_more _ (λ n. s.refused n) c.in_err-right.ensures.none)
-
 pub once-returns-in_default-clause-tree : goal.once-returns-in_default-clause-tree
 once-returns-in_default-clause-tree t c =
     let low : height (expr_of c.args.first.tree) ≤ c.args.depth = omega (arith, c.requires.first, c.requires.low) in
@@ -557,37 +457,6 @@ once-returns-then-first-depth-clause-none t c =
     let lv : suc (c.args.level - 1) ≡ c.args.level = omega (arith, c.requires.level.0) in
     let s = once_step _ _ c.args.depth c.args.at _ _ _ _ lv c.in-Some.ensures.found c.requires.side in
     refused _ _ c.refused_at.ensures (s.high (subst (λ (n : ℕ). c.args.depth ≤ n) c.requires.first c.if-first-depth.true))
-
-pub once-returns-in_err-right-clause-none : goal.once-returns-in_err-right-clause-none
-once-returns-in_err-right-clause-none t c =
-    let lv : suc (c.args.level - 1) ≡ c.args.level = omega (arith, c.requires.level.0) in
-    let s = once_step _ _ c.args.depth c.args.at _ _ _ _ lv c.in-Some.ensures.found c.requires.side in
-    let p = err_from_is_err_and c.from_residual.result c.from_residual.ensures.1 in
-    rw (p.1, p.2) (on_syntax_more _ (λ n. s.refused n) c.in_err-right.ensures.none)
-
-pub to_right-returns-clause-tree : goal.to_right-returns-clause-tree
-to_right-returns-clause-tree t c =
-    let lv : suc (c.args.level - 1) ≡ c.args.level = omega (arith, c.requires.level.0) in
-    let s = right_step _ _ c.args.depth c.args.at _ _ _ _ lv c.in-Some.ensures.found c.requires.side in
-    let low : height (expr_of c.args.first.tree) < c.args.depth = omega (arith, c.requires.first, c.if-first-depth.false) in
-    subst (λ (x : Tree). IsTree c.args.depth (After c.args.level c.args.at (expr_of c.args.first.tree)) (read_signs c.args.signs.now) x (read_signs c.in_ok-right.rest.now)) (sym c.in_ok-join.ensures.tree)
-    (s.made _ _ c.in_ok-right.ensures.tree low c.in_ok-right.ensures.tree.stops)
-
-pub once-returns-in-Some-operator-clause-none : goal.once-returns-in-Some-operator-clause-none
-once-returns-in-Some-operator-clause-none t c =
-    let lv : suc (c.args.level - 1) ≡ c.args.level = omega (arith, c.requires.level.0) in
-    let s = once_step _ _ c.args.depth c.args.at _ _ _ _ lv c.in-Some.ensures.found c.requires.side in
-    refused _ _ c.refused_at-in-Some-operator.ensures (s.again _ _ c.in_ok-right.ensures.tree (goes_on _ _ _ _ c.in-Some-operator.ensures.found))
-
-pub once-returns-in-None-clause-tree : goal.once-returns-in-None-clause-tree
-once-returns-in-None-clause-tree t c =
-    let lv : suc (c.args.level - 1) ≡ c.args.level = omega (arith, c.requires.level.0) in
-    let s = once_step _ _ c.args.depth c.args.at _ _ _ _ lv c.in-Some.ensures.found c.requires.side in
-    let low : height (expr_of c.args.first.tree) < c.args.depth = omega (arith, c.requires.first, c.if-first-depth.false) in
-    let stops : suc (c.args.level - 1) < front (read_signs c.in_ok-right.rest.now) = c.in_ok-right.ensures.tree.stops in
-    let level : c.args.level < front (read_signs c.in_ok-right.rest.now) = omega (arith, stops) in
-    subst (λ (x : Tree). IsTree c.args.depth (After c.args.level c.args.at (expr_of c.args.first.tree)) (read_signs c.args.signs.now) x (read_signs c.in_ok-right.rest.now)) (sym c.in_ok-join.ensures.tree)
-    (s.made _ _ c.in_ok-right.ensures.tree low (past_operator _ _ c.requires.level.0 c.requires.level.1 level c.in-None.ensures.found))
 
 pub binary-returns-then-level-eq0-clause-tree : goal.binary-returns-then-level-eq0-clause-tree
 binary-returns-then-level-eq0-clause-tree t c =
@@ -602,3 +471,334 @@ binary-returns-in_err-first-clause-none t c =
     let lv : suc (c.args.level - 1) ≡ c.args.level = omega (arith, c.if-level-eq0.false) in
     let p = err_from_is_err_and c.from_residual.result c.from_residual.ensures.1 in
     rw (p.1, p.2) (on_syntax_more _ (operand_none _ _ _ _ lv) c.in_err-first.ensures.none)
+
+pub arms-loop-behind-init : goal.arms-loop-behind-init
+arms-loop-behind-init t c =
+    let h = c.in_ok-first.ensures in
+    let arms = ap (map arm_of) c.in_ok-push.ensures.ok in
+    let low : height (arm_of c.in_ok-first.first).1 ≤ c.args.depth = h.tree.second.low in
+    record {
+      read = first_arm _ _ _ _ _ h.tree arms;
+      height = omega (arith, h.height, ap (λ (l : List (PatTree × Tree)). highest_arm (arm_trees l)) arms);
+      low = omega (arith, h.height, low);
+      shorter = h.shorter;
+    }
+
+pub arms-loop-behind-preserved : goal.arms-loop-behind-preserved
+arms-loop-behind-preserved t c =
+    let i = c.loop-behind.invariant in
+    let h = c.in_ok-next.ensures in
+    let arms = ap (map arm_of) c.in_ok-push-2.ensures.ok ∙ map-append arm_of c.loop-behind.arms (c.in_ok-next.next ∷ []) in
+    let low : height (arm_of c.in_ok-next.next).1 ≤ c.args.depth = h.tree.second.low in
+    record {
+      read = next_arm _ _ _ _ i.read _ c.in-Some.ensures.found _ _ _ h.tree arms;
+      height = highest_next_arm (map arm_of c.loop-behind.arms) (arm_of c.in_ok-next.next) _ _ _ _ arms i.height h.height c.max-height.ensures;
+      low = omega (arith, c.max-height.ensures, i.low, low, h.height);
+      shorter = omega (arith, i.shorter, c.in-Some.ensures.shorter, h.shorter);
+    }
+
+pub tuple-loop-behind-preserved : goal.tuple-loop-behind-preserved
+tuple-loop-behind-preserved t c =
+    let i = c.loop-behind.invariant in
+    let h = c.in_ok-part.ensures in
+    let parts = ap (map expr_of) c.in_ok-push.ensures.ok ∙ map-append expr_of c.loop-behind.parts (c.in_ok-part.part.tree ∷ []) in
+    let low : height (expr_of c.in_ok-part.part.tree) ≤ c.args.depth = h.tree.low in
+    record {
+      read = item_read _ _ _ _ _ i.read _ c.in-Some.ensures.found _ _ _ h.tree parts;
+      height = highest_next (map expr_of c.loop-behind.parts) (expr_of c.in_ok-part.part.tree) _ _ _ _ parts i.height h.height c.max-height.ensures;
+      low = omega (arith, c.max-height.ensures, i.low, low, h.height, c.requires.small);
+      shorter = omega (arith, i.shorter, c.in-Some.ensures.shorter, h.shorter);
+    }
+
+pub sequence-loop-behind-preserved : goal.sequence-loop-behind-preserved
+sequence-loop-behind-preserved t c =
+    let i = c.loop-behind.invariant in
+    let h = c.in_ok-next.ensures in
+    let parts = ap (map expr_of) c.in_ok-push.ensures.ok ∙ map-append expr_of c.loop-behind.parts (c.in_ok-next.next.tree ∷ []) in
+    let low : height (expr_of c.in_ok-next.next.tree) ≤ c.args.depth = h.tree.low in
+    record {
+      read = next_part _ _ _ _ _ i.read _ c.in-Some.ensures.found _ _ _ h.tree parts;
+      height = highest_next (map expr_of c.loop-behind.parts) (expr_of c.in_ok-next.next.tree) _ _ _ _ parts i.height h.height c.max-height.ensures;
+      low = omega (arith, c.max-height.ensures, i.low, low, h.height, c.requires.small);
+      shorter = omega (arith, i.shorter, c.in-Some.ensures.shorter, h.shorter);
+    }
+
+pub next_argument-returns-in_err-argument-clause-none : goal.next_argument-returns-in_err-argument-clause-none
+next_argument-returns-in_err-argument-clause-none t c =
+    let p = err_from_is_err_and c.from_residual.result c.from_residual.ensures.1 in
+    rw (p.1, p.2) c.in_err-argument.ensures.none
+
+pub next_argument-returns-clause-tree : goal.next_argument-returns-clause-tree
+next_argument-returns-clause-tree t c =
+    record { parts = _; is = c.in_ok-application.ensures.tree; read = c.in_ok-argument.ensures.tree }
+
+pub applied-returns-in_err-function-clause-none : goal.applied-returns-in_err-function-clause-none
+applied-returns-in_err-function-clause-none t c =
+    let p = err_from_is_err_and c.from_residual.result c.from_residual.ensures.1 in
+    rw (p.1, p.2) (on_syntax_more _ (λ n. applied_none _ _ n c.requires) c.in_err-function.ensures.none)
+
+pub applied-loop-rest-init : goal.applied-loop-rest-init
+applied-loop-rest-init t c =
+    let h = c.in_ok-function.ensures in
+    let low : height (expr_of c.in_ok-function.function.tree) ≤ c.args.depth = h.tree.low in
+    record {
+      same = subst (λ (at : ℕ). Same c.args.depth App (read_signs c.args.signs.now) (Args at (expr_of c.in_ok-function.function.tree)) (read_signs c.in_ok-function.rest.now)) (sym c.here-at.ensures) (same_applied _ _ _ _ h.tree c.requires);
+      height = h.height;
+      low = omega (arith, h.height, low);
+      shorter = h.shorter;
+    }
+
+pub applied-returns-then-function-depth-clause-none : goal.applied-returns-then-function-depth-clause-none
+applied-returns-then-function-depth-clause-none t c =
+    let i = c.loop-rest.invariant in
+    refused _ _ c.refused_at.ensures (same_none i.same (argument_high _ _ _ _ (sym c.begins_atom.ensures ∙ c.loop-rest-test.true) (subst (λ (n : ℕ). c.args.depth ≤ n) i.height c.if-function-depth.true)))
+
+pub applied-returns-in_err-next-clause-none : goal.applied-returns-in_err-next-clause-none
+applied-returns-in_err-next-clause-none t c =
+    let p = err_from_is_err_and c.from_residual-in_err-next.result c.from_residual-in_err-next.ensures.1 in
+    rw (p.1, p.2) (on_syntax_more _ (λ n. same_none c.loop-rest.invariant.same (argument_none _ _ _ _ (sym c.begins_atom.ensures ∙ c.loop-rest-test.true) n)) c.in_err-next.ensures.none)
+
+pub applied-loop-rest-preserved : goal.applied-loop-rest-preserved
+applied-loop-rest-preserved t c =
+    let i = c.loop-rest.invariant in
+    let h = c.in_ok-next.ensures in
+    let low : height h.tree.parts ≤ c.args.depth - 1 = h.tree.read.low in
+    record {
+      same = subst (λ (x : Tree). Same c.args.depth App (read_signs c.args.signs.now) (Args c.here-at.result x) (read_signs c.in_ok-next.later.now)) (sym h.tree.is)
+          (same_then i.same (next_argument _ _ _ _ (sym c.begins_atom.ensures ∙ c.loop-rest-test.true) _ _ h.tree.read));
+      height = h.height;
+      low = omega (arith, h.height, ap height h.tree.is, i.height, c.if-function-depth.false, low);
+      shorter = omega (arith, i.shorter, h.shorter);
+    }
+
+pub applied-returns-clause-tree : goal.applied-returns-clause-tree
+applied-returns-clause-tree t c =
+    let i = c.loop-rest.invariant in
+    let low : height (expr_of c.loop-rest.function.tree) ≤ c.args.depth = omega (arith, i.height, i.low) in
+    i.same.back _ _ (args_ended _ _ _ _ (sym c.begins_atom.ensures ∙ c.loop-rest-test.false) low)
+
+pub right_side-returns-in_err-right-clause-none : goal.right_side-returns-in_err-right-clause-none
+right_side-returns-in_err-right-clause-none t c =
+    let p = err_from_is_err_and c.from_residual.result c.from_residual.ensures.1 in
+    rw (p.1, p.2) c.in_err-right.ensures.none
+
+pub right_side-returns-clause-tree : goal.right_side-returns-clause-tree
+right_side-returns-clause-tree t c =
+    record { parts = _; is = c.in_ok-join.ensures.tree; read = c.in_ok-right.ensures.tree }
+
+pub to_left-returns-in_err-left-clause-none : goal.to_left-returns-in_err-left-clause-none
+to_left-returns-in_err-left-clause-none t c =
+    let lv : suc (c.args.level - 1) ≡ c.args.level = omega (arith, c.requires.level.0) in
+    let p = err_from_is_err_and c.from_residual.result c.from_residual.ensures.1 in
+    rw (p.1, p.2) (on_syntax_more _ (operand_none _ _ _ _ lv) c.in_err-left.ensures.none)
+
+pub to_left-loop-operator-init : goal.to_left-loop-operator-init
+to_left-loop-operator-init t c =
+    let lv : suc (c.args.level - 1) ≡ c.args.level = omega (arith, c.requires.level.0) in
+    let h = c.in_ok-left.ensures in
+    let low : height (expr_of c.in_ok-left.left.tree) ≤ c.args.depth = h.tree.low in
+    let stops : suc (c.args.level - 1) < front (read_signs c.in_ok-left.rest.now) = h.tree.stops in
+    record {
+      same = subst (λ (at : ℕ). Same c.args.depth (Binary c.args.level) (read_signs c.args.signs.now) (After c.args.level at (expr_of c.in_ok-left.left.tree)) (read_signs c.in_ok-left.rest.now)) (sym c.here-at.ensures)
+          (same_operand _ _ _ _ lv _ _ h.tree);
+      height = h.height;
+      low = omega (arith, h.height, low);
+      stops = omega (arith, stops);
+      shorter = h.shorter;
+    }
+
+pub to_left-returns-then-left-depth-clause-none : goal.to_left-returns-then-left-depth-clause-none
+to_left-returns-then-left-depth-clause-none t c =
+    let lv : suc (c.args.level - 1) ≡ c.args.level = omega (arith, c.requires.level.0) in
+    let i = c.loop-operator.invariant in
+    let s = left_step _ _ c.args.depth c.here-at.result _ _ _ _ lv c.in-Some.ensures.found c.requires.side in
+    refused _ _ c.refused_at.ensures (same_none i.same (s.high (subst (λ (n : ℕ). c.args.depth ≤ n) i.height c.if-left-depth.true)))
+
+pub to_left-returns-in_err-joined-clause-none : goal.to_left-returns-in_err-joined-clause-none
+to_left-returns-in_err-joined-clause-none t c =
+    let lv : suc (c.args.level - 1) ≡ c.args.level = omega (arith, c.requires.level.0) in
+    let s = left_step _ _ c.args.depth c.here-at.result _ _ _ _ lv c.in-Some.ensures.found c.requires.side in
+    let p = err_from_is_err_and c.from_residual-in_err-joined.result c.from_residual-in_err-joined.ensures.1 in
+    rw (p.1, p.2) (on_syntax_more _ (λ n. same_none c.loop-operator.invariant.same (s.refused n)) c.in_err-joined.ensures.none)
+
+pub to_left-loop-operator-preserved : goal.to_left-loop-operator-preserved
+to_left-loop-operator-preserved t c =
+    let lv : suc (c.args.level - 1) ≡ c.args.level = omega (arith, c.requires.level.0) in
+    let s = left_step _ _ c.args.depth c.here-at.result _ _ _ _ lv c.in-Some.ensures.found c.requires.side in
+    let i = c.loop-operator.invariant in
+    let h = c.in_ok-joined.ensures in
+    let stops : suc (c.args.level - 1) < front (read_signs c.in_ok-joined.later.now) = h.tree.read.stops in
+    let low : height h.tree.parts ≤ c.args.depth - 1 = h.tree.read.low in
+    record {
+      same = subst (λ (x : Tree). Same c.args.depth (Binary c.args.level) (read_signs c.args.signs.now) (After c.args.level c.here-at.result x) (read_signs c.in_ok-joined.later.now)) (sym h.tree.is)
+          (same_then i.same (s.next _ _ h.tree.read));
+      height = h.height;
+      low = omega (arith, h.height, ap height h.tree.is, joined_height c.here-at.result (operator_read c.in-Some.operator) (expr_of c.loop-operator.left.tree) h.tree.parts, i.height, c.if-left-depth.false, low);
+      stops = omega (arith, stops);
+      shorter = omega (arith, i.shorter, c.in-Some.ensures.shorter, h.shorter);
+    }
+
+pub to_left-returns-clause-tree : goal.to_left-returns-clause-tree
+to_left-returns-clause-tree t c =
+    let i = c.loop-operator.invariant in
+    let low : height (expr_of c.loop-operator.left.tree) ≤ c.args.depth = omega (arith, i.height, i.low) in
+    i.same.back _ _ (after_ended _ _ _ _ _ c.requires.level.0 c.requires.level.1 low i.stops c.in_default.ensures.found)
+
+pub to_right-returns-clause-tree : goal.to_right-returns-clause-tree
+to_right-returns-clause-tree t c =
+    let lv : suc (c.args.level - 1) ≡ c.args.level = omega (arith, c.requires.level.0) in
+    let s = right_step _ _ c.args.depth c.args.at _ _ _ _ lv c.in-Some.ensures.found c.requires.side in
+    let low : height (expr_of c.args.first.tree) < c.args.depth = omega (arith, c.requires.first, c.if-first-depth.false) in
+    IfOk-weaker c.right_side.result _ _
+    (λ x o. subst (λ (e : Tree). IsTree c.args.depth (After c.args.level c.args.at (expr_of c.args.first.tree)) (read_signs c.args.signs.now) e (read_signs x.1.now)) (sym o.is) (s.made _ _ o.read low o.read.stops)) c.right_side.ensures.tree
+
+pub to_right-returns-clause-none : goal.to_right-returns-clause-none
+to_right-returns-clause-none t c =
+    let lv : suc (c.args.level - 1) ≡ c.args.level = omega (arith, c.requires.level.0) in
+    let s = right_step _ _ c.args.depth c.args.at _ _ _ _ lv c.in-Some.ensures.found c.requires.side in
+    IfErr-weaker c.right_side.result _ _ (λ e o. on_syntax_more e (λ n. s.refused n) o) c.right_side.ensures.none
+
+pub once-returns-in_err-joined-clause-none : goal.once-returns-in_err-joined-clause-none
+once-returns-in_err-joined-clause-none t c =
+    let lv : suc (c.args.level - 1) ≡ c.args.level = omega (arith, c.requires.level.0) in
+    let s = once_step _ _ c.args.depth c.args.at _ _ _ _ lv c.in-Some.ensures.found c.requires.side in
+    let p = err_from_is_err_and c.from_residual.result c.from_residual.ensures.1 in
+    rw (p.1, p.2) (on_syntax_more _ (λ n. s.refused n) c.in_err-joined.ensures.none)
+
+pub once-returns-in-Some-operator-clause-none : goal.once-returns-in-Some-operator-clause-none
+once-returns-in-Some-operator-clause-none t c =
+    let lv : suc (c.args.level - 1) ≡ c.args.level = omega (arith, c.requires.level.0) in
+    let s = once_step _ _ c.args.depth c.args.at _ _ _ _ lv c.in-Some.ensures.found c.requires.side in
+    refused _ _ c.refused_at-in-Some-operator.ensures (s.again _ _ c.in_ok-joined.ensures.tree.read (goes_on _ _ _ _ c.in-Some-operator.ensures.found))
+
+pub once-returns-in-None-clause-tree : goal.once-returns-in-None-clause-tree
+once-returns-in-None-clause-tree t c =
+    let lv : suc (c.args.level - 1) ≡ c.args.level = omega (arith, c.requires.level.0) in
+    let s = once_step _ _ c.args.depth c.args.at _ _ _ _ lv c.in-Some.ensures.found c.requires.side in
+    let m = c.in_ok-joined.ensures.tree in
+    let low : height (expr_of c.args.first.tree) < c.args.depth = omega (arith, c.requires.first, c.if-first-depth.false) in
+    let stops : suc (c.args.level - 1) < front (read_signs c.in_ok-joined.rest.now) = m.read.stops in
+    let level : c.args.level < front (read_signs c.in_ok-joined.rest.now) = omega (arith, stops) in
+    subst (λ (x : Tree). IsTree c.args.depth (After c.args.level c.args.at (expr_of c.args.first.tree)) (read_signs c.args.signs.now) x (read_signs c.in_ok-joined.rest.now)) (sym m.is)
+    (s.made _ _ m.read low (past_operator _ _ c.requires.level.0 c.requires.level.1 level c.in-None.ensures.found))
+
+pub binary-returns-then-level-eq4-clause-tree : goal.binary-returns-then-level-eq4-clause-tree
+binary-returns-then-level-eq4-clause-tree t c =
+    let lv : suc (c.args.level - 1) ≡ c.args.level = omega (arith, c.if-level-eq0.false) in
+    IfOk-weaker c.once.result _ _
+    (λ x o. binary_tree _ _ _ _ lv _ _ c.in_ok-first.ensures.tree _ _
+    (subst (λ (at : ℕ). IsTree c.args.depth (After c.args.level at (expr_of c.in_ok-first.first.tree)) (read_signs c.in_ok-first.rest.now) (expr_of x.0.tree) (read_signs x.1.now)) c.here-at.ensures o)) c.once.ensures.tree
+
+pub binary-returns-then-level-eq4-clause-none : goal.binary-returns-then-level-eq4-clause-none
+binary-returns-then-level-eq4-clause-none t c =
+    let lv : suc (c.args.level - 1) ≡ c.args.level = omega (arith, c.if-level-eq0.false) in
+    IfErr-weaker c.once.result _ _
+    (λ e o. on_syntax_more e (λ n. after_none _ _ _ _ lv _ _ c.in_ok-first.ensures.tree
+    (subst (λ (at : ℕ). NoTree c.args.depth (After c.args.level at (expr_of c.in_ok-first.first.tree)) (read_signs c.in_ok-first.rest.now)) c.here-at.ensures n)) o) c.once.ensures.none
+
+pub binary-returns-else-level-eq4-clause-tree : goal.binary-returns-else-level-eq4-clause-tree
+binary-returns-else-level-eq4-clause-tree t c =
+    let lv : suc (c.args.level - 1) ≡ c.args.level = omega (arith, c.if-level-eq0.false) in
+    IfOk-weaker c.to_right.result _ _
+    (λ x o. binary_tree _ _ _ _ lv _ _ c.in_ok-first.ensures.tree _ _
+    (subst (λ (at : ℕ). IsTree c.args.depth (After c.args.level at (expr_of c.in_ok-first.first.tree)) (read_signs c.in_ok-first.rest.now) (expr_of x.0.tree) (read_signs x.1.now)) c.here-at.ensures o)) c.to_right.ensures.tree
+
+pub binary-returns-else-level-eq4-clause-none : goal.binary-returns-else-level-eq4-clause-none
+binary-returns-else-level-eq4-clause-none t c =
+    let lv : suc (c.args.level - 1) ≡ c.args.level = omega (arith, c.if-level-eq0.false) in
+    IfErr-weaker c.to_right.result _ _
+    (λ e o. on_syntax_more e (λ n. after_none _ _ _ _ lv _ _ c.in_ok-first.ensures.tree
+    (subst (λ (at : ℕ). NoTree c.args.depth (After c.args.level at (expr_of c.in_ok-first.first.tree)) (read_signs c.in_ok-first.rest.now)) c.here-at.ensures n)) o) c.to_right.ensures.none
+
+pub opened-returns-in-Some-clause-tree : goal.opened-returns-in-Some-clause-tree
+opened-returns-in-Some-clause-tree t c =
+    unit_tree _ _ _ _ _ c.requires c.in-Some.ensures.found c.unit.ensures.tree
+
+pub opened-returns-in_ok-ty-clause-tree : goal.opened-returns-in_ok-ty-clause-tree
+opened-returns-in_ok-ty-clause-tree t c =
+    nil_tree _ _ _ _ _ _ _ _ c.requires c.in-Some-after.ensures.found c.in_ok-behind.ensures.found c.in_ok-ty.ensures.found c.nil.ensures.tree
+
+pub opened-returns-in_ok-ty-2-clause-tree : goal.opened-returns-in_ok-ty-2-clause-tree
+opened-returns-in_ok-ty-2-clause-tree t c =
+    absent_tree _ _ _ _ _ _ _ c.requires c.in-Some-after-2.ensures.found c.in_ok-ty-2.ensures.found c.absent.ensures.tree
+
+pub opened-returns-in-Some-after-3-clause-tree : goal.opened-returns-in-Some-after-3-clause-tree
+opened-returns-in-Some-after-3-clause-tree t c =
+    parens_tree _ _ _ c.in_default.ensures.found c.in_default-after.ensures.found c.in_default-after-2.ensures.found _ _ c.in_ok-first.ensures.tree _ c.in-Some-after-3.ensures.found
+
+pub opened-returns-then-first-depth-clause-none : goal.opened-returns-then-first-depth-clause-none
+opened-returns-then-first-depth-clause-none t c =
+    refused _ _ c.refused_at.ensures (tuple_high _ _ _ c.in_default.ensures.found c.in_default-after.ensures.found c.in_default-after-2.ensures.found _ _ c.in_ok-first.ensures.tree _ c.in_default-after-3.ensures.found c.in_ok-behind-2.ensures.found (subst (λ (n : ℕ). c.args.depth ≤ n) c.in_ok-first.ensures.height c.if-first-depth.true))
+
+pub opened-returns-clause-tree : goal.opened-returns-clause-tree
+opened-returns-clause-tree t c =
+    let low : height (expr_of c.in_ok-first.first.tree) < c.args.depth = omega (arith, c.in_ok-first.ensures.height, c.if-first-depth.false) in
+    IfOk-weaker c.tuple.result _ _ (λ x o. tuple_made _ _ _ c.in_default.ensures.found c.in_default-after.ensures.found c.in_default-after-2.ensures.found _ _ c.in_ok-first.ensures.tree _ c.in_default-after-3.ensures.found c.in_ok-behind-2.ensures.found _ _ low o) c.tuple.ensures.tree
+
+pub opened-returns-clause-none : goal.opened-returns-clause-none
+opened-returns-clause-none t c =
+    IfErr-weaker c.tuple.result _ _ (λ e o. on_syntax_more e (tuple_none _ _ _ c.in_default.ensures.found c.in_default-after.ensures.found c.in_default-after-2.ensures.found _ _ c.in_ok-first.ensures.tree _ c.in_default-after-3.ensures.found c.in_ok-behind-2.ensures.found) o) c.tuple.ensures.none
+
+pub keyword_part-returns-in-Fun-clause-tree : goal.keyword_part-returns-in-Fun-clause-tree
+keyword_part-returns-in-Fun-clause-tree t c =
+    IfOk-weaker c.fun.result _ _ (λ x o. fun_back _ _ _ _ _ c.requires o) c.fun.ensures.tree
+
+pub keyword_part-returns-in-Fun-clause-none : goal.keyword_part-returns-in-Fun-clause-none
+keyword_part-returns-in-Fun-clause-none t c =
+    IfErr-weaker c.fun.result _ _ (λ e o. on_syntax_more e (fun_none _ _ _) o) c.fun.ensures.none
+
+pub keyword_part-returns-in-Rec-clause-tree : goal.keyword_part-returns-in-Rec-clause-tree
+keyword_part-returns-in-Rec-clause-tree t c =
+    IfOk-weaker c.rec.result _ _ (λ x o. rec_back _ _ _ _ _ c.requires o) c.rec.ensures.tree
+
+pub keyword_part-returns-in-Rec-clause-none : goal.keyword_part-returns-in-Rec-clause-none
+keyword_part-returns-in-Rec-clause-none t c =
+    IfErr-weaker c.rec.result _ _ (λ e o. on_syntax_more e (rec_none _ _ _) o) c.rec.ensures.none
+
+pub keyword_part-returns-in-If-clause-tree : goal.keyword_part-returns-in-If-clause-tree
+keyword_part-returns-in-If-clause-tree t c =
+    IfOk-weaker c.if_else.result _ _ (λ x o. if_back _ _ _ _ _ c.requires o) c.if_else.ensures.tree
+
+pub keyword_part-returns-in-If-clause-none : goal.keyword_part-returns-in-If-clause-none
+keyword_part-returns-in-If-clause-none t c =
+    IfErr-weaker c.if_else.result _ _ (λ e o. on_syntax_more e (if_none _ _ _) o) c.if_else.ensures.none
+
+pub keyword_part-returns-in-Marshal-clause-tree : goal.keyword_part-returns-in-Marshal-clause-tree
+keyword_part-returns-in-Marshal-clause-tree t c =
+    IfOk-weaker c.marshal.result _ _ (λ x o. marshal_back _ _ _ _ _ c.requires o) c.marshal.ensures.tree
+
+pub keyword_part-returns-in-Marshal-clause-none : goal.keyword_part-returns-in-Marshal-clause-none
+keyword_part-returns-in-Marshal-clause-none t c =
+    IfErr-weaker c.marshal.result _ _ (λ e o. on_syntax_more e (marshal_none _ _ _) o) c.marshal.ensures.none
+
+pub keyword_part-returns-in-Unmarshal-clause-tree : goal.keyword_part-returns-in-Unmarshal-clause-tree
+keyword_part-returns-in-Unmarshal-clause-tree t c =
+    IfOk-weaker c.unmarshal.result _ _ (λ x o. unmarshal_back _ _ _ _ _ c.requires o) c.unmarshal.ensures.tree
+
+pub keyword_part-returns-in-Unmarshal-clause-none : goal.keyword_part-returns-in-Unmarshal-clause-none
+keyword_part-returns-in-Unmarshal-clause-none t c =
+    IfErr-weaker c.unmarshal.result _ _ (λ e o. on_syntax_more e (unmarshal_none _ _ _) o) c.unmarshal.ensures.none
+
+pub keyword_part-returns-in-Raise-clause-tree : goal.keyword_part-returns-in-Raise-clause-tree
+keyword_part-returns-in-Raise-clause-tree t c =
+    IfOk-weaker c.raise.result _ _ (λ x o. raise_back _ _ _ _ _ c.requires o) c.raise.ensures.tree
+
+pub keyword_part-returns-in-Raise-clause-none : goal.keyword_part-returns-in-Raise-clause-none
+keyword_part-returns-in-Raise-clause-none t c =
+    IfErr-weaker c.raise.result _ _ (λ e o. on_syntax_more e (raise_none _ _ _) o) c.raise.ensures.none
+
+pub keyword_part-returns-in-Let-in-Some-clause-tree : goal.keyword_part-returns-in-Let-in-Some-clause-tree
+keyword_part-returns-in-Let-in-Some-clause-tree t c =
+    IfOk-weaker c.let_rec.result _ _ (λ x o. let_rec_back _ _ _ _ _ _ c.requires c.in-Some.ensures.found o) c.let_rec.ensures.tree
+
+pub keyword_part-returns-in-Let-in-Some-clause-none : goal.keyword_part-returns-in-Let-in-Some-clause-none
+keyword_part-returns-in-Let-in-Some-clause-none t c =
+    IfErr-weaker c.let_rec.result _ _ (λ e o. on_syntax_more e (let_rec_none _ _ _ _ c.in-Some.ensures.found) o) c.let_rec.ensures.none
+
+pub keyword_part-returns-in-Let-in-None-clause-tree : goal.keyword_part-returns-in-Let-in-None-clause-tree
+keyword_part-returns-in-Let-in-None-clause-tree t c =
+    IfOk-weaker c.let_in.result _ _ (λ x o. let_back _ _ _ _ _ c.requires o) c.let_in.ensures.tree
+
+pub keyword_part-returns-in-Let-in-None-clause-none : goal.keyword_part-returns-in-Let-in-None-clause-none
+keyword_part-returns-in-Let-in-None-clause-none t c =
+    IfErr-weaker c.let_in.result _ _ (λ e o. on_syntax_more e (let_none _ _ _ c.in-None.ensures.found) o) c.let_in.ensures.none
