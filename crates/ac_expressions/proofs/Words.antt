@@ -114,7 +114,7 @@ head_of {x = x} w =
     }
 
 -- an expression in front of a symbol behind which nothing goes on
-expr_at : {D : ℕ} {t : Symbol} {ts s : List Sign} {e : Tree} → (b : Before t (IsTree D Expr) ts e s) → Parses Expr b.first.ending ts e (Fixed b.at.at t ∷ s)
+pub expr_at : {D : ℕ} {t : Symbol} {ts s : List Sign} {e : Tree} → (b : Before t (IsTree D Expr) ts e s) → Parses Expr b.first.ending ts e (Fixed b.at.at t ∷ s)
 expr_at {ts = ts} {e = e} b = subst (λ (l : List Sign). Parses Expr b.first.ending ts e l) b.at.is b.first.parses
 
 -- a part that begins with this word
