@@ -386,7 +386,7 @@ unary_of (unary p) = p
 pub unary_none : (D k : ℕ) (ts : List Sign) → k ≡ 0 → NoTree D Unary ts → NoTree D (Binary k) ts
 unary_none D k ts zero_is none' = subst (λ (n : ℕ). NoTree D (Binary n) ts) (sym zero_is) (λ e s o. none' e s (record { ending = Closed; parses = unary_of o.parses; stops = o.stops; low = o.low }))
 
-joined_height : (at : ℕ) (o : Operator) (a b : Tree) → height (joined at o a b) ≡ max (height a) (height b) + 1
+pub joined_height : (at : ℕ) (o : Operator) (a b : Tree) → height (joined at o a b) ≡ max (height a) (height b) + 1
 joined_height at (Prim k) a b = omega arith
 joined_height at Consing a b = omega arith
 joined_height at Both a b = omega arith
