@@ -1,22 +1,22 @@
 -- The steps of the parsers of atoms and sequences, over lists of signs.
-use Rattle.std.proofs.Common.{◌≡◌, ◌<◌, ◌≤◌, ◌+◌, ◌-◌, ℕ, max, Bool, true, false, List, [], ◌∷◌, ◌++◌, Option, Some, None, refl, sym, ◌∙◌, ap, subst, arith}
+use Rattle.std.proofs.Common.{◌≡◌, ◌<◌, ◌≤◌, ◌-◌, ℕ, max, List, [], ◌∷◌, ◌++◌, Some, None, refl, sym, ◌∙◌, ap, subst, arith}
 use Rattle.std.specs.Prelude.{pos}
 use Rattle.ac_types.proofs.FirstLaws.{some_eq}
 use Rattle.ac_types.specs.Types.{Bytes}
 use Rattle.ac_syntax.specs.Signs.{Sign, Int, Str, Lower, Upper, Fixed, Other, here}
-use Rattle.ac_syntax.specs.Trees.{NameAt, TypeTree, PatTree, Tree, ExInt, ExStr, ExUnit, ExTuple, ExNil, ExAbsent, ExVar, ExOf, ExSeq, ExMatch, ExTry, Trees, no_trees, tree, trees, ArmTrees, no_arm_trees, arm_tree, arm_trees, height, highest, highest_arm}
+use Rattle.ac_syntax.specs.Trees.{NameAt, TypeTree, PatTree, Tree, ExInt, ExStr, ExUnit, ExTuple, ExNil, ExAbsent, ExVar, ExOf, ExSeq, ExMatch, ExTry, Trees, tree, trees, ArmTrees, arm_tree, arm_trees, height, highest, highest_arm}
 use Rattle.ac_syntax.specs.Types.{IsType}
 use Rattle.ac_syntax.specs.Patterns.{exception, IsPattern}
-use Rattle.ac_syntax.specs.Expressions.{after_bar, Level, Expr, Part, Atom, Ending, Closed, Swallow, Parses, alone, sequence, number, string, true_, false_, unit, exn, var, of_module, parens, tuple, nil, none, match_with, try_with, ParsesParts, last_part, more_parts, ParsesItems, last_item, more_items, ParsesArms, last_arm, more_arms, front, looseness, Stops, IsTree}
+use Rattle.ac_syntax.specs.Expressions.{Expr, Part, Atom, Ending, Closed, Swallow, Parses, alone, sequence, number, string, true_, false_, unit, exn, var, of_module, parens, tuple, nil, none, match_with, try_with, ParsesParts, last_part, more_parts, ParsesItems, last_item, more_items, ParsesArms, last_arm, more_arms, front, looseness, Stops, IsTree}
 use Rattle.ac_syntax.specs.Parsing.{SymbolAt, NoSymbol}
 use Rattle.ac_syntax.specs.declared.sign.Symbol.{Symbol}
-use Rattle.ac_syntax.specs.declared.sign.Symbol.TheVariants.{Open, Close, OpenSquare, CloseSquare, Comma, Semicolon, Colon, Dot, Arrow, Bar, End, True, False, Match, Try, With, NoneWord, NotFound, DivisionByZero, MatchFailure, EndOfFile, Star, Slash, Mod, Plus, Minus, Caret, Cons, Equals, Less, And, Or}
-use Rattle.ac_syntax.proofs.Exceptions.{apart, nothing_there, same_value}
+use Rattle.ac_syntax.specs.declared.sign.Symbol.TheVariants.{Open, Close, OpenSquare, CloseSquare, Comma, Semicolon, Dot, Arrow, Bar, End, True, False, Match, Try, NoneWord, NotFound, DivisionByZero, MatchFailure, EndOfFile, Star, Slash, Mod, Plus, Minus, Caret, Cons, Equals, Less, And, Or}
+use Rattle.ac_syntax.proofs.Exceptions.{nothing_there}
 use Rattle.ac_syntax.proofs.UniqueTypes.{tail_eq}
 use Rattle.ac_syntax.proofs.Fronts.{begins_not, front_positive, part_stops, semicolon_goes_on}
 use Rattle.ac_syntax.proofs.UniquePatterns.{same_pattern}
 use Rattle.ac_syntax.proofs.UniqueExpressions.{unique, at_same}
-use Rattle.ac_expressions.specs.Parsing.{Nothing, Then, Before, Behind, last, more, Made, IsAscribed}
+use Rattle.ac_expressions.specs.Parsing.{Nothing, Before, Behind, last, more, Made, IsAscribed}
 use Rattle.ac_expressions.specs.Forms.{NoTree, base_expr, LeafAt, NoLeaf, IsLastPart, IsParts, sequence_tree, IsItems, tuple_tree, IsArm, IsArms, IsChoice}
 use Rattle.ac_expressions.proofs.Levels.{one_tree, closed_atom}
 use Rattle.ac_expressions.proofs.Readers.{One, ManyRead, SoFar, start, next, ended, before, before_none, symbol_none, one_before, one_then, before_apart, next_read, next_none, all_read, chain_none}

@@ -1,16 +1,14 @@
 -- The steps of the parsers of operators and applications, over lists of signs.
-use Rattle.std.proofs.Common.{◌≡◌, ◌<◌, ◌≤◌, ◌+◌, ◌-◌, ℕ, zero, suc, max, Bool, true, false, List, [], ◌∷◌, Option, Some, None, refl, sym, ◌∙◌, ap, subst, arith, if◌then◌else◌}
+use Rattle.std.proofs.Common.{◌≡◌, ◌<◌, ◌≤◌, ◌+◌, ◌-◌, ℕ, zero, suc, max, Bool, true, false, List, [], ◌∷◌, Option, Some, refl, sym, ◌∙◌, ap, subst, arith, if◌then◌else◌}
 use Rattle.std.specs.Prelude.{pos, neg_ℤ}
 use Rattle.ac_syntax.specs.Signs.{Sign, Int, Str, Lower, Upper, Fixed, Other, here}
-use Rattle.ac_syntax.specs.Trees.{Tree, ExInt, ExBool, ExStr, ExUnit, ExExn, ExExnOf, ExTuple, ExNil, ExAbsent, ExPresent, ExCons, ExVar, ExOf, ExFun, ExRec, ExApp, ExLet, ExLetRec, ExIf, ExSeq, ExMatch, ExTry, ExRaise, ExAnd, ExOr, ExOp, ExMarshal, ExUnmarshal, Trees, no_trees, tree, height, highest}
-use Rattle.ac_syntax.specs.Patterns.{exception_with_string}
-use Rattle.ac_syntax.specs.Expressions.{Operator, Prim, Consing, Both, Either, operator_of, Side, ToLeft, ToRight, Once, side_of, joined, is_bare, Level, Binary, After, Unary, App, Args, Atom, Ending, Closed, Parses, binary, unary, stop, left, right, once, minus, negative, not_, app, some, exn_with_string, applied, no_argument, argument, number, string, true_, false_, unit, exn, var, of_module, parens, tuple, nil, none, match_with, try_with, begins_atom, symbol_front, sign_front, front, Stops, IsTree}
+use Rattle.ac_syntax.specs.Trees.{Tree, ExInt, ExBool, ExStr, ExUnit, ExExn, ExExnOf, ExTuple, ExNil, ExAbsent, ExPresent, ExCons, ExVar, ExOf, ExFun, ExRec, ExApp, ExLet, ExLetRec, ExIf, ExSeq, ExMatch, ExTry, ExRaise, ExAnd, ExOr, ExOp, ExMarshal, ExUnmarshal, no_trees, tree, height}
+use Rattle.ac_syntax.specs.Expressions.{Operator, Prim, Consing, Both, Either, operator_of, ToLeft, ToRight, Once, side_of, joined, is_bare, Level, Binary, After, Unary, App, Args, Atom, Ending, Closed, Parses, binary, unary, stop, left, right, once, minus, negative, not_, app, some, exn_with_string, applied, no_argument, argument, number, string, true_, false_, unit, exn, var, of_module, parens, tuple, nil, none, match_with, try_with, begins_atom, symbol_front, sign_front, front, IsTree}
 use Rattle.ac_syntax.specs.Parsing.{SymbolAt, NoSymbol}
 use Rattle.ac_syntax.specs.declared.sign.Symbol.{Symbol}
 use Rattle.ac_syntax.specs.declared.sign.Symbol.TheVariants.{Semicolon, Minus, Not, SomeWord, Star, Slash, Mod, Plus, Caret, Cons, Equals, Less, And, Or}
-use Rattle.ac_syntax.proofs.Exceptions.{apart, nothing_there, same_value}
-use Rattle.ac_syntax.proofs.UniqueTypes.{tail_eq}
-use Rattle.ac_syntax.proofs.Fronts.{begins_not, with_string_rank, atom_begins, front_positive, front_operator, front_stops, operator_goes_on, argument_goes_on, number_alone}
+use Rattle.ac_syntax.proofs.Exceptions.{nothing_there, same_value}
+use Rattle.ac_syntax.proofs.Fronts.{begins_not, with_string_rank, front_positive, front_operator, front_stops, operator_goes_on, argument_goes_on}
 use Rattle.ac_syntax.proofs.UniqueExpressions.{unique, at_same}
 use Rattle.ac_expressions.specs.declared.front.Prefix.{Prefix}
 use Rattle.ac_expressions.specs.declared.front.Prefix.TheVariants as prefix
@@ -152,17 +150,17 @@ record Argument (at : ℕ) (f : Tree) (ts : List Sign) (e : Tree) (s : List Sign
   a : Tree
   r : List Sign
   first : Parses Atom Closed ts a r
-  then : Parses (Args at (ExApp at f a)) Closed r e s
+  later : Parses (Args at (ExApp at f a)) Closed r e s
 
 argument_of : {at : ℕ} {j : Ending} {f e : Tree} {ts s : List Sign} → begins_atom ts ≡ true → Parses (Args at f) j ts e s → 1 < front s → Argument at f ts e s
 argument_of begins' no_argument h = argument_goes_on _ begins' h
-argument_of begins' (argument p q) h = record { a = _; r = _; first = p; then = q }
+argument_of begins' (argument p q) h = record { a = _; r = _; first = p; later = q }
 
 module _ (D at : ℕ) (f : Tree) (ts : List Sign) (begins' : begins_atom ts ≡ true) where
   whole_low : (e : Tree) (s : List Sign) → (o : IsTree D (Args at f) ts e s) → height (ExApp at f (argument_of begins' o.parses o.stops).a) ≤ D
   whole_low e s o =
       let n = argument_of begins' o.parses o.stops in
-      let h : height (ExApp at f n.a) ≤ height e = args_height n.then in
+      let h : height (ExApp at f n.a) ≤ height e = args_height n.later in
       let low : height e ≤ D = o.low in
       omega arith
 
@@ -186,7 +184,7 @@ module _ (D at : ℕ) (f : Tree) (ts : List Sign) (begins' : begins_atom ts ≡ 
         let d = one_tree (D - 1) Atom _ _ _ _ _ (atom_of e s o) p in
         record {
           ending = Closed;
-          parses = at_same (sym d.1) (subst (λ (x : Tree). Parses (Args at (ExApp at f x)) Closed n.r e s) d.0 n.then);
+          parses = at_same (sym d.1) (subst (λ (x : Tree). Parses (Args at (ExApp at f x)) Closed n.r e s) d.0 n.later);
           stops = o.stops;
           low = o.low;
         };
@@ -198,17 +196,17 @@ record Applied (ts : List Sign) (e : Tree) (s : List Sign) : Type 0 where
   f : Tree
   r : List Sign
   first : Parses Atom Closed ts f r
-  then : Parses (Args (here ts) f) Closed r e s
+  later : Parses (Args (here ts) f) Closed r e s
 
 applied_of : {j : Ending} {ts s : List Sign} {e : Tree} → NoPrefix ts → Parses App j ts e s → Applied ts e s
 applied_of none' (some {p = a} q) = absurd (none' prefix.Present a _ (record { symbol = SomeWord; is = refl; prefix = refl }))
 applied_of none' (exn_with_string {p = a} {k = k} {t = t} e q) = absurd (none' (prefix.Exn k) a _ (record { symbol = t; is = refl; prefix = e }))
-applied_of none' (applied p q) = record { f = _; r = _; first = p; then = q }
+applied_of none' (applied p q) = record { f = _; r = _; first = p; later = q }
 
 pub applied_none : (D : ℕ) (ts : List Sign) → NoTree D Atom ts → NoPrefix ts → NoTree D App ts
 applied_none D ts none' no_prefix e s o =
     let n = applied_of no_prefix o.parses in
-    let h : height n.f ≤ height e = args_height n.then in
+    let h : height n.f ≤ height e = args_height n.later in
     let low : height e ≤ D = o.low in
     none' n.f n.r (record { ending = Closed; parses = n.first; stops = front_positive n.r; low = omega arith })
 
@@ -222,7 +220,7 @@ module _ (D : ℕ) (ts r : List Sign) (f : Tree) (p : IsTree D Atom ts f r) wher
       let d = unique n.first p.parses (front_positive n.r) p.stops in
       none' e s (record {
         ending = Closed;
-        parses = at_same (sym d.rest) (subst (λ (x : Tree). Parses (Args (here ts) x) Closed n.r e s) d.tree n.then);
+        parses = at_same (sym d.rest) (subst (λ (x : Tree). Parses (Args (here ts) x) Closed n.r e s) d.tree n.later);
         stops = o.stops;
         low = o.low;
       })
@@ -291,13 +289,13 @@ false_of : (b : Bool) → (b ≡ true → ⊥) → b ≡ false
 false_of true h = absurd (h refl)
 false_of false h = refl
 
-args_no_number : {at a n : ℕ} {j : Ending} {f e : Tree} {us ts s : List Sign} → Parses (Args at f) j ts e s → is_bare (Int a n ∷ us) f ≡ false → is_bare (Int a n ∷ us) e ≡ false
-args_no_number no_argument h = h
-args_no_number (argument p q) h = args_no_number q refl
+args_no_number : {at : ℕ} {j : Ending} {f e : Tree} {ts s : List Sign} (a n : ℕ) (us : List Sign) → Parses (Args at f) j ts e s → is_bare (Int a n ∷ us) f ≡ false → is_bare (Int a n ∷ us) e ≡ false
+args_no_number a n us no_argument h = h
+args_no_number a n us (argument p q) h = args_no_number a n us q refl
 
 number_app : {j : Ending} {a n : ℕ} {ts s : List Sign} {e : Tree} → begins_atom ts ≡ true → Parses App j (Int a n ∷ ts) e s → 1 < front s → is_bare (Int a n ∷ ts) e ≡ false
 number_app begins' (applied number no_argument) h = argument_goes_on _ begins' h
-number_app begins' (applied number (argument p q)) h = args_no_number q refl
+number_app {a = a} {n = n} {ts = ts} begins' (applied number (argument p q)) h = args_no_number a n ts q refl
 
 not_bare : {j : Ending} {ts s : List Sign} {e : Tree} → NoLoneNumber ts → Parses Unary j ts e s → 1 < front s → is_bare ts e ≡ false
 not_bare {ts = []} none' p h = refl
@@ -388,7 +386,7 @@ unary_of (unary p) = p
 pub unary_none : (D k : ℕ) (ts : List Sign) → k ≡ 0 → NoTree D Unary ts → NoTree D (Binary k) ts
 unary_none D k ts zero_is none' = subst (λ (n : ℕ). NoTree D (Binary n) ts) (sym zero_is) (λ e s o. none' e s (record { ending = Closed; parses = unary_of o.parses; stops = o.stops; low = o.low }))
 
-joined_height : (at : ℕ) (o : Operator) (a b : Tree) → height (joined at o a b) ≡ max (height a) (height b) + 1
+pub joined_height : (at : ℕ) (o : Operator) (a b : Tree) → height (joined at o a b) ≡ max (height a) (height b) + 1
 joined_height at (Prim k) a b = omega arith
 joined_height at Consing a b = omega arith
 joined_height at Both a b = omega arith
@@ -404,10 +402,10 @@ record Operand (k : ℕ) (ts : List Sign) (e : Tree) (s : List Sign) : Type 0 wh
   a : Tree
   r : List Sign
   first : Parses (Binary k) Closed ts a r
-  then : Parses (After (suc k) (here ts) a) Closed r e s
+  later : Parses (After (suc k) (here ts) a) Closed r e s
 
 operand_of : {k : ℕ} {j : Ending} {ts s : List Sign} {e : Tree} → Parses (Binary (suc k)) j ts e s → Operand k ts e s
-operand_of (binary p q) = record { a = _; r = _; first = p; then = q }
+operand_of (binary p q) = record { a = _; r = _; first = p; later = q }
 
 module _ (k : ℕ) (K D : ℕ) (ts : List Sign) (level : suc k ≡ K) where
   at_level : NoTree D (Binary (suc k)) ts → NoTree D (Binary K) ts
@@ -416,9 +414,9 @@ module _ (k : ℕ) (K D : ℕ) (ts : List Sign) (level : suc k ≡ K) where
   pub operand_none : NoTree D (Binary k) ts → NoTree D (Binary K) ts
   operand_none none' = at_level (λ e s o.
       let n = operand_of o.parses in
-      let h : height n.a ≤ height e = after_height n.then in
+      let h : height n.a ≤ height e = after_height n.later in
       let low : height e ≤ D = o.low in
-      none' n.a n.r (record { ending = Closed; parses = n.first; stops = front_stops n.then o.stops; low = omega arith }))
+      none' n.a n.r (record { ending = Closed; parses = n.first; stops = front_stops n.later o.stops; low = omega arith }))
 
   module _ (a : Tree) (r : List Sign) (p : IsTree D (Binary k) ts a r) where
     pub binary_tree : (e : Tree) (s : List Sign) → IsTree D (After K (here ts) a) r e s → IsTree D (Binary K) ts e s
@@ -430,28 +428,28 @@ module _ (k : ℕ) (K D : ℕ) (ts : List Sign) (level : suc k ≡ K) where
     after_none = subst (λ (n : ℕ). NoTree D (After n (here ts) a) r → NoTree D (Binary n) ts) level
         (λ none' e s o.
         let n = operand_of o.parses in
-        let d = unique n.first p.parses (front_stops n.then o.stops) p.stops in
+        let d = unique n.first p.parses (front_stops n.later o.stops) p.stops in
         none' e s (record {
           ending = Closed;
-          parses = at_same (sym d.rest) (subst (λ (x : Tree). Parses (After (suc k) (here ts) x) Closed n.r e s) d.tree n.then);
+          parses = at_same (sym d.rest) (subst (λ (x : Tree). Parses (After (suc k) (here ts) x) Closed n.r e s) d.tree n.later);
           stops = o.stops;
           low = o.low;
         }))
 
-past_symbol : (k a : ℕ) (t : Symbol) (ts : List Sign) → k ≤ 6 → k < front (Fixed a t ∷ ts) → NoOperator k (Fixed a t ∷ ts) → suc k < front (Fixed a t ∷ ts)
-past_symbol k a Semicolon ts low h none' = omega arith
-past_symbol k a Star ts low h none' = let f : k ≡ 1 → ⊥ = λ e. none' (Prim 2) ts (record { symbol = Star; at = a; is = refl; named = ap (λ (n : ℕ). Some (n, Prim 2)) (sym e) }) in omega arith
-past_symbol k a Slash ts low h none' = let f : k ≡ 1 → ⊥ = λ e. none' (Prim 3) ts (record { symbol = Slash; at = a; is = refl; named = ap (λ (n : ℕ). Some (n, Prim 3)) (sym e) }) in omega arith
-past_symbol k a Mod ts low h none' = let f : k ≡ 1 → ⊥ = λ e. none' (Prim 4) ts (record { symbol = Mod; at = a; is = refl; named = ap (λ (n : ℕ). Some (n, Prim 4)) (sym e) }) in omega arith
-past_symbol k a Plus ts low h none' = let f : k ≡ 2 → ⊥ = λ e. none' (Prim 0) ts (record { symbol = Plus; at = a; is = refl; named = ap (λ (n : ℕ). Some (n, Prim 0)) (sym e) }) in omega arith
-past_symbol k a Minus ts low h none' = let f : k ≡ 2 → ⊥ = λ e. none' (Prim 1) ts (record { symbol = Minus; at = a; is = refl; named = ap (λ (n : ℕ). Some (n, Prim 1)) (sym e) }) in omega arith
-past_symbol k a Caret ts low h none' = let f : k ≡ 2 → ⊥ = λ e. none' (Prim 8) ts (record { symbol = Caret; at = a; is = refl; named = ap (λ (n : ℕ). Some (n, Prim 8)) (sym e) }) in omega arith
-past_symbol k a Cons ts low h none' = let f : k ≡ 3 → ⊥ = λ e. none' Consing ts (record { symbol = Cons; at = a; is = refl; named = ap (λ (n : ℕ). Some (n, Consing)) (sym e) }) in omega arith
-past_symbol k a Equals ts low h none' = let f : k ≡ 4 → ⊥ = λ e. none' (Prim 6) ts (record { symbol = Equals; at = a; is = refl; named = ap (λ (n : ℕ). Some (n, Prim 6)) (sym e) }) in omega arith
-past_symbol k a Less ts low h none' = let f : k ≡ 4 → ⊥ = λ e. none' (Prim 7) ts (record { symbol = Less; at = a; is = refl; named = ap (λ (n : ℕ). Some (n, Prim 7)) (sym e) }) in omega arith
-past_symbol k a And ts low h none' = let f : k ≡ 5 → ⊥ = λ e. none' Both ts (record { symbol = And; at = a; is = refl; named = ap (λ (n : ℕ). Some (n, Both)) (sym e) }) in omega arith
-past_symbol k a Or ts low h none' = let f : k ≡ 6 → ⊥ = λ e. none' Either ts (record { symbol = Or; at = a; is = refl; named = ap (λ (n : ℕ). Some (n, Either)) (sym e) }) in omega arith
-past_symbol k a t ts low h none' = omega arith
+past_symbol : (k a : ℕ) (t : Symbol) (ts : List Sign) → 1 ≤ k → k ≤ 6 → k < front (Fixed a t ∷ ts) → NoOperator k (Fixed a t ∷ ts) → suc k < front (Fixed a t ∷ ts)
+past_symbol k a Semicolon ts pos' low h none' = omega arith
+past_symbol k a Star ts pos' low h none' = let f : k ≡ 1 → ⊥ = λ e. none' (Prim 2) ts (record { symbol = Star; at = a; is = refl; named = ap (λ (n : ℕ). Some (n, Prim 2)) (sym e) }) in omega arith
+past_symbol k a Slash ts pos' low h none' = let f : k ≡ 1 → ⊥ = λ e. none' (Prim 3) ts (record { symbol = Slash; at = a; is = refl; named = ap (λ (n : ℕ). Some (n, Prim 3)) (sym e) }) in omega arith
+past_symbol k a Mod ts pos' low h none' = let f : k ≡ 1 → ⊥ = λ e. none' (Prim 4) ts (record { symbol = Mod; at = a; is = refl; named = ap (λ (n : ℕ). Some (n, Prim 4)) (sym e) }) in omega arith
+past_symbol k a Plus ts pos' low h none' = let f : k ≡ 2 → ⊥ = λ e. none' (Prim 0) ts (record { symbol = Plus; at = a; is = refl; named = ap (λ (n : ℕ). Some (n, Prim 0)) (sym e) }) in omega arith
+past_symbol k a Minus ts pos' low h none' = let f : k ≡ 2 → ⊥ = λ e. none' (Prim 1) ts (record { symbol = Minus; at = a; is = refl; named = ap (λ (n : ℕ). Some (n, Prim 1)) (sym e) }) in omega arith
+past_symbol k a Caret ts pos' low h none' = let f : k ≡ 2 → ⊥ = λ e. none' (Prim 8) ts (record { symbol = Caret; at = a; is = refl; named = ap (λ (n : ℕ). Some (n, Prim 8)) (sym e) }) in omega arith
+past_symbol k a Cons ts pos' low h none' = let f : k ≡ 3 → ⊥ = λ e. none' Consing ts (record { symbol = Cons; at = a; is = refl; named = ap (λ (n : ℕ). Some (n, Consing)) (sym e) }) in omega arith
+past_symbol k a Equals ts pos' low h none' = let f : k ≡ 4 → ⊥ = λ e. none' (Prim 6) ts (record { symbol = Equals; at = a; is = refl; named = ap (λ (n : ℕ). Some (n, Prim 6)) (sym e) }) in omega arith
+past_symbol k a Less ts pos' low h none' = let f : k ≡ 4 → ⊥ = λ e. none' (Prim 7) ts (record { symbol = Less; at = a; is = refl; named = ap (λ (n : ℕ). Some (n, Prim 7)) (sym e) }) in omega arith
+past_symbol k a And ts pos' low h none' = let f : k ≡ 5 → ⊥ = λ e. none' Both ts (record { symbol = And; at = a; is = refl; named = ap (λ (n : ℕ). Some (n, Both)) (sym e) }) in omega arith
+past_symbol k a Or ts pos' low h none' = let f : k ≡ 6 → ⊥ = λ e. none' Either ts (record { symbol = Or; at = a; is = refl; named = ap (λ (n : ℕ). Some (n, Either)) (sym e) }) in omega arith
+past_symbol k a t ts pos' low h none' = omega arith
 
 past_level : (k : ℕ) (ts : List Sign) → 1 ≤ k → k ≤ 6 → k < front ts → NoOperator k ts → suc k < front ts
 past_level k [] pos' low h none' = omega arith
@@ -460,7 +458,7 @@ past_level k (Str a x ∷ ts) pos' low h none' = omega arith
 past_level k (Lower a x ∷ ts) pos' low h none' = omega arith
 past_level k (Upper a x ∷ ts) pos' low h none' = omega arith
 past_level k (Other a ∷ ts) pos' low h none' = omega arith
-past_level k (Fixed a t ∷ ts) pos' low h none' = past_symbol k a t ts low h none'
+past_level k (Fixed a t ∷ ts) pos' low h none' = past_symbol k a t ts pos' low h none'
 
 pub after_ended : (D k at : ℕ) (a : Tree) (ts : List Sign) → 1 ≤ k → k ≤ 6 → height a ≤ D → k < front ts → NoOperator k ts → IsTree D (After k at a) ts a ts
 after_ended D k at a ts pos' top low h none' = record { ending = Closed; parses = stop; stops = past_level k ts pos' top h none'; low = low }
@@ -482,13 +480,13 @@ record LeftOf (k at : ℕ) (o : Operator) (a : Tree) (ts : List Sign) (e : Tree)
   b : Tree
   r : List Sign
   first : Parses (Binary k) Closed ts b r
-  then : Parses (After (suc k) at (joined at o a b)) Closed r e s
+  later : Parses (After (suc k) at (joined at o a b)) Closed r e s
 
 left_of : {k at p : ℕ} {j : Ending} {t : Symbol} {o : Operator} {a e : Tree} {ts s : List Sign} → side_of (suc k) ≡ ToLeft → operator_of t ≡ Some (suc k, o) → Parses (After (suc k) at a) j (Fixed p t ∷ ts) e s → suc (suc k) < front s
     → LeftOf k at o a ts e s
 left_of {p = p} {t = t} {ts = ts} side is stop h = operator_goes_on p t ts is h
 left_of {k = k} {at = at} {a = a} {e = e} {ts = ts} {s = s} side is (left is' side' p q) h =
-    subst (λ (x : Operator). LeftOf k at x a ts e s) (same_operator is' is) (record { b = _; r = _; first = p; then = q })
+    subst (λ (x : Operator). LeftOf k at x a ts e s) (same_operator is' is) (record { b = _; r = _; first = p; later = q })
 left_of side is (right is' side' p) h = left_right (sym side ∙ side')
 left_of side is (once is' side' p) h = left_once (sym side ∙ side')
 
@@ -534,7 +532,7 @@ module _ (k D at : ℕ) (a : Tree) (o : Operator) (ts behind : List Sign) (w : O
     left_low : (e : Tree) (s : List Sign) → (v : IsTree D (After (suc k) at a) ts e s) → max (height a) (height (left_here e s v).b) + 1 ≤ D
     left_low e s v =
         let n = left_here e s v in
-        let h : height (joined at o a n.b) ≤ height e = after_height n.then in
+        let h : height (joined at o a n.b) ≤ height e = after_height n.later in
         let low : height e ≤ D = v.low in
         omega (arith, joined_height at o a n.b)
 
@@ -542,7 +540,7 @@ module _ (k D at : ℕ) (a : Tree) (o : Operator) (ts behind : List Sign) (w : O
     right_side e s v =
         let n = left_here e s v in
         let low = left_low e s v in
-        record { ending = Closed; parses = n.first; stops = front_stops n.then v.stops; low = omega arith }
+        record { ending = Closed; parses = n.first; stops = front_stops n.later v.stops; low = omega arith }
 
     left_next : (b : Tree) (r : List Sign) → IsTree (D - 1) (Binary k) behind b r → Same D (After (suc k) at a) ts (After (suc k) at (joined at o a b)) r
     left_next b r p = record {
@@ -552,7 +550,7 @@ module _ (k D at : ℕ) (a : Tree) (o : Operator) (ts behind : List Sign) (w : O
           let d = one_tree (D - 1) (Binary k) _ _ _ _ _ (right_side e s v) p in
           record {
             ending = Closed;
-            parses = at_same (sym d.1) (subst (λ (x : Tree). Parses (After (suc k) at (joined at o a x)) Closed n.r e s) d.0 n.then);
+            parses = at_same (sym d.1) (subst (λ (x : Tree). Parses (After (suc k) at (joined at o a x)) Closed n.r e s) d.0 n.later);
             stops = v.stops;
             low = v.low;
           };

@@ -1,17 +1,17 @@
 -- The steps of the parsers of parts that begin with a word, over lists of signs.
-use Rattle.std.proofs.Common.{◌≡◌, ◌<◌, ◌≤◌, ◌+◌, ◌-◌, ℕ, max, List, ◌∷◌, refl, sym, ◌∙◌, ap, subst, arith}
+use Rattle.std.proofs.Common.{◌≡◌, ◌<◌, ◌≤◌, ◌-◌, ℕ, List, ◌∷◌, refl, sym, ◌∙◌, ap, subst, arith}
 use Rattle.ac_types.specs.Types.{Bytes}
 use Rattle.ac_syntax.specs.Signs.{Sign, Lower, Fixed}
-use Rattle.ac_syntax.specs.Trees.{NameAt, TypeTree, Tree, ExFun, ExRec, ExLet, ExLetRec, ExIf, ExRaise, ExMarshal, ExUnmarshal, height}
+use Rattle.ac_syntax.specs.Trees.{NameAt, TypeTree, Tree, height}
 use Rattle.ac_syntax.specs.Types.{IsType}
-use Rattle.ac_syntax.specs.Expressions.{Level, Expr, Part, Binary, Atom, Ending, Closed, Swallow, Parses, let_in, let_rec, fun, rec, if_else, marshal, unmarshal, raise, operators, front, looseness, Stops, IsTree}
+use Rattle.ac_syntax.specs.Expressions.{Expr, Part, Binary, Atom, Ending, Closed, Swallow, Parses, let_in, let_rec, fun, rec, if_else, marshal, unmarshal, raise, operators, Stops, IsTree}
 use Rattle.ac_syntax.specs.Parsing.{SymbolAt, NoSymbol}
 use Rattle.ac_syntax.specs.declared.sign.Symbol.{Symbol}
-use Rattle.ac_syntax.specs.declared.sign.Symbol.TheVariants.{Open, Close, Colon, Equals, Arrow, As, Else, Fun, If, In, Let, Marshal, Raise, Rec, Then, Unmarshal}
+use Rattle.ac_syntax.specs.declared.sign.Symbol.TheVariants.{Open, Close, Colon, Equals, Fun, If, Let, Marshal, Raise, Rec, Unmarshal}
 use Rattle.ac_syntax.proofs.Fronts.{begins_not, front_positive}
 use Rattle.ac_syntax.proofs.UniqueExpressions.{at_same}
 use Rattle.ac_expressions.specs.declared.keywords.Keyword.TheVariants as keyword
-use Rattle.ac_expressions.specs.Parsing.{Nothing, Before, Made, IsTyped, IsArgument, IsHead, IsLastType}
+use Rattle.ac_expressions.specs.Parsing.{Nothing, Before, Made, IsTyped, IsArgument, IsHead}
 use Rattle.ac_expressions.specs.Forms.{NoTree, NoKeyword, IsLet, let_tree, IsLetRec, let_rec_tree, IsFun, fun_tree, IsRec, rec_tree, IsIf, if_tree, IsMarshal, marshal_tree, IsUnmarshal, unmarshal_tree, IsRaise, raise_tree}
 use Rattle.ac_expressions.proofs.Levels.{closed_atom, closed_binary}
 
@@ -114,7 +114,7 @@ head_of {x = x} w =
     }
 
 -- an expression in front of a symbol behind which nothing goes on
-expr_at : {D : ℕ} {t : Symbol} {ts s : List Sign} {e : Tree} → (b : Before t (IsTree D Expr) ts e s) → Parses Expr b.first.ending ts e (Fixed b.at.at t ∷ s)
+pub expr_at : {D : ℕ} {t : Symbol} {ts s : List Sign} {e : Tree} → (b : Before t (IsTree D Expr) ts e s) → Parses Expr b.first.ending ts e (Fixed b.at.at t ∷ s)
 expr_at {ts = ts} {e = e} b = subst (λ (l : List Sign). Parses Expr b.first.ending ts e l) b.at.is b.first.parses
 
 -- a part that begins with this word
