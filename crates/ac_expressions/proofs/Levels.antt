@@ -211,19 +211,19 @@ applied_none D ts none' no_prefix e s o =
     none' n.f n.r (record { ending = Closed; parses = n.first; stops = front_positive n.r; low = omega arith })
 
 module _ (D : ℕ) (ts r : List Sign) (f : Tree) (p : IsTree D Atom ts f r) where
-  pub applied_tree : (e : Tree) (s : List Sign) → IsTree D (Args (here ts) f) r e s → IsTree D App ts e s
-  applied_tree e s o = record { ending = Closed; parses = applied (closed_atom p.parses) (closed_args o.parses); stops = o.stops; low = o.low }
-
-  pub args_none : NoTree D (Args (here ts) f) r → NoPrefix ts → NoTree D App ts
-  args_none none' no_prefix e s o =
-      let n = applied_of no_prefix o.parses in
-      let d = unique n.first p.parses (front_positive n.r) p.stops in
-      none' e s (record {
-        ending = Closed;
-        parses = at_same (sym d.rest) (subst (λ (x : Tree). Parses (Args (here ts) x) Closed n.r e s) d.tree n.later);
-        stops = o.stops;
-        low = o.low;
-      })
+  pub same_applied : NoPrefix ts → Same D App ts (Args (here ts) f) r
+  same_applied no_prefix = record {
+    back = λ e s o. record { ending = Closed; parses = applied (closed_atom p.parses) (closed_args o.parses); stops = o.stops; low = o.low };
+    forth = λ e s o.
+        let n = applied_of no_prefix o.parses in
+        let d = unique n.first p.parses (front_positive n.r) p.stops in
+        record {
+          ending = Closed;
+          parses = at_same (sym d.rest) (subst (λ (x : Tree). Parses (Args (here ts) x) Closed n.r e s) d.tree n.later);
+          stops = o.stops;
+          low = o.low;
+        };
+  }
 
 -- words that take an atom
 
@@ -423,6 +423,20 @@ module _ (k : ℕ) (K D : ℕ) (ts : List Sign) (level : suc k ≡ K) where
     binary_tree e s o =
         subst (λ (n : ℕ). IsTree D (After n (here ts) a) r e s → IsTree D (Binary n) ts e s) level
         (λ w. record { ending = Closed; parses = binary (closed_binary p.parses) (closed_after w.parses); stops = w.stops; low = w.low }) o
+
+    pub same_operand : Same D (Binary K) ts (After K (here ts) a) r
+    same_operand = subst (λ (n : ℕ). Same D (Binary n) ts (After n (here ts) a) r) level (record {
+      back = λ e s w. record { ending = Closed; parses = binary (closed_binary p.parses) (closed_after w.parses); stops = w.stops; low = w.low };
+      forth = λ e s o.
+          let n = operand_of o.parses in
+          let d = unique n.first p.parses (front_stops n.later o.stops) p.stops in
+          record {
+            ending = Closed;
+            parses = at_same (sym d.rest) (subst (λ (x : Tree). Parses (After (suc k) (here ts) x) Closed n.r e s) d.tree n.later);
+            stops = o.stops;
+            low = o.low;
+          };
+    })
 
     pub after_none : NoTree D (After K (here ts) a) r → NoTree D (Binary K) ts
     after_none = subst (λ (n : ℕ). NoTree D (After n (here ts) a) r → NoTree D (Binary n) ts) level

@@ -4,7 +4,7 @@ use Rattle.std.proofs.lemmas.List.{map-append}
 use Rattle.std.proofs.lemmas.Result.{IfOk-weaker, IfErr-weaker, err_from_is_err_and}
 use Rattle.ac_syntax.specs.Signs.{Sign, Fixed}
 use Rattle.ac_syntax.specs.Trees.{PatTree, Tree, ExInt, arm_trees, height, highest_arm}
-use Rattle.ac_syntax.specs.Expressions.{Part, Binary, After, Unary, App, Args, Atom, front, IsTree}
+use Rattle.ac_syntax.specs.Expressions.{Part, Binary, After, Unary, App, Args, Atom, ToLeft, ToRight, side_of, front, IsTree}
 use Rattle.ac_syntax.specs.ReadSigns.{read_signs}
 use Rattle.ac_syntax.specs.ReadTrees.{expr_of, arm_of}
 use Rattle.ac_syntax.specs.declared.sign.Symbol.TheVariants.{Arrow, Else, Equals, In, Then, With}
@@ -802,3 +802,28 @@ keyword_part-returns-in-Let-in-None-clause-tree t c =
 pub keyword_part-returns-in-Let-in-None-clause-none : goal.keyword_part-returns-in-Let-in-None-clause-none
 keyword_part-returns-in-Let-in-None-clause-none t c =
     IfErr-weaker c.let_in.result _ _ (λ e o. on_syntax_more e (let_none _ _ _ c.in-None.ensures.found) o) c.let_in.ensures.none
+
+side_left : (k : ℕ) → k ≤ 2 → side_of k ≡ ToLeft
+side_left 0 h = refl
+side_left 1 h = refl
+side_left 2 h = refl
+side_left (suc (suc (suc k))) h = absurd (omega arith)
+
+side_right : (k : ℕ) → 2 < k → k ≤ 6 → (k ≡ 4 → ⊥) → side_of k ≡ ToRight
+side_right 3 h low other = refl
+side_right 4 h low other = absurd (other refl)
+side_right 5 h low other = refl
+side_right 6 h low other = refl
+side_right 0 h low other = absurd (omega arith)
+side_right 1 h low other = absurd (omega arith)
+side_right 2 h low other = absurd (omega arith)
+side_right (suc (suc (suc (suc (suc (suc (suc k))))))) h low other = absurd (omega arith)
+
+pub binary-to_left-requires-clause-side : goal.binary-to_left-requires-clause-side
+binary-to_left-requires-clause-side t c = side_left c.args.level (omega arith)
+
+pub binary-once-requires-clause-side : goal.binary-once-requires-clause-side
+binary-once-requires-clause-side t c = let e : c.args.level ≡ 4 = omega arith in ap side_of e
+
+pub binary-to_right-requires-clause-side : goal.binary-to_right-requires-clause-side
+binary-to_right-requires-clause-side t c = side_right c.args.level (omega arith) (omega arith) (λ e. omega arith)
