@@ -534,6 +534,7 @@ pub record RightStep (l : Level) (K D at : ℕ) (a : Tree) (o : Operator) (ts be
   pub high : D ≤ height a → NoTree D (After K at a) ts
   pub made : (b : Tree) (r : List Sign) → IsTree (D - 1) l behind b r → height a < D → suc K < front r → IsTree D (After K at a) ts (joined at o a b) r
   pub again : (b : Tree) (r : List Sign) → IsTree (D - 1) l behind b r → (suc K < front r → ⊥) → NoTree D (After K at a) ts
+  pub ended : ((b : Tree) (r : List Sign) → IsTree (D - 1) l behind b r → suc K < front r → ⊥) → NoTree D (After K at a) ts
 
 module _ (k D at : ℕ) (a : Tree) (o : Operator) (ts behind : List Sign) (w : OperatorAt (suc k) o ts behind) where
   after_at : {j : Ending} {e : Tree} {s : List Sign} → Parses (After (suc k) at a) j ts e s → Parses (After (suc k) at a) j (Fixed w.at w.symbol ∷ behind) e s
@@ -600,6 +601,7 @@ module _ (k D at : ℕ) (a : Tree) (o : Operator) (ts behind : List Sign) (w : O
           let d = one_tree (D - 1) (Binary (suc k)) _ _ _ _ _ p n.1.0 in
           let h : suc (suc k) < front s = v.stops in
           not (subst (λ (l : List Sign). suc (suc k) < front l) (sym d.1) h);
+      ended = λ none' e s v. let n = right_here e s v in none' n.0 s n.1.0 v.stops;
     }
 
   module _ (side : side_of (suc k) ≡ Once) where
@@ -626,6 +628,7 @@ module _ (k D at : ℕ) (a : Tree) (o : Operator) (ts behind : List Sign) (w : O
           let d = one_tree (D - 1) (Binary k) _ _ _ _ _ p n.1.0 in
           let h : suc (suc k) < front s = v.stops in
           not (subst (λ (l : List Sign). suc (suc k) < front l) (sym d.1) h);
+      ended = λ none' e s v. let n = once_here e s v in none' n.0 s n.1.0 v.stops;
     }
 
 pub left_step : (k K D at : ℕ) (a : Tree) (o : Operator) (ts behind : List Sign) → suc k ≡ K → OperatorAt K o ts behind → side_of K ≡ ToLeft → LeftStep k K D at a o ts behind

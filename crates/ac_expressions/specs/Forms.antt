@@ -3,7 +3,7 @@ use Rattle.std.specs.Prelude.{◌≡◌, ℕ, ◌<◌, ◌-◌, true, false, Lis
 use Rattle.ac_syntax.specs.Signs.{Sign, Fixed}
 use Rattle.ac_syntax.specs.Trees.{NameAt, TypeTree, PatTree, Tree, ExBool, ExExn, ExExnOf, ExTuple, ExPresent, ExFun, ExRec, ExLet, ExLetRec, ExIf, ExSeq, ExRaise, ExMarshal, ExUnmarshal, tree, trees, height}
 use Rattle.ac_syntax.specs.Patterns.{IsPattern}
-use Rattle.ac_syntax.specs.Expressions.{Operator, Prim, Consing, Both, Either, operator_of, after_bar, Level, Expr, Part, Atom, Closed, Parses, front, IsTree}
+use Rattle.ac_syntax.specs.Expressions.{Operator, Prim, Consing, Both, Either, operator_of, after_bar, Level, Expr, Part, Binary, Atom, Closed, Parses, front, IsTree}
 use Rattle.ac_syntax.specs.ReadTrees.{expr_of}
 use Rattle.ac_syntax.specs.Parsing.{SymbolAt}
 use Rattle.ac_syntax.specs.declared.sign.Symbol.{Symbol}
@@ -65,6 +65,11 @@ pub record OperatorAt (level : ℕ) (o : Operator) (ts rest : List Sign) : Type 
 
 abbrev pub NoOperator : ℕ → List Sign → Type 0
 NoOperator level ts = (o : Operator) (rest : List Sign) → OperatorAt level o ts rest → ⊥
+
+-- an operand of the next tighter level, behind which no operator of this level stands
+pub record IsLastOperand (level depth : ℕ) (ts : List Sign) (e : Tree) (rest : List Sign) : Type 0 where
+  pub is : IsTree depth (Binary (level - 1)) ts e rest
+  pub ends : NoOperator level rest
 
 -- the words that begin a part
 abbrev pub keyword_symbol : Keyword → Symbol

@@ -9,7 +9,7 @@ ghost use Rattle.ac_syntax.specs.ReadSigns.{read_signs};
 ghost use Rattle.ac_syntax.specs.ReadTrees.{expr_of, arm_of};
 ghost use Rattle.ac_syntax.specs.Parsing.{OnSyntax};
 ghost use Rattle.ac_expressions.specs.Parsing.{NoExpr, Nothing, Before, Made, NoPrefix};
-ghost use Rattle.ac_expressions.specs.Forms.{keyword_symbol, NoTree, measured, operator_read, OperatorAt, NoOperator, IsLet, let_tree, IsLetRec, let_rec_tree, IsFun, fun_tree, IsRec, rec_tree, IsIf, if_tree, IsMarshal, marshal_tree, IsUnmarshal, unmarshal_tree, IsRaise, raise_tree, IsParts, sequence_tree, IsItems, tuple_tree, IsArm, IsArms, IsChoice};
+ghost use Rattle.ac_expressions.specs.Forms.{keyword_symbol, NoTree, measured, operator_read, OperatorAt, NoOperator, IsLastOperand, IsLet, let_tree, IsLetRec, let_rec_tree, IsFun, fun_tree, IsRec, rec_tree, IsIf, if_tree, IsMarshal, marshal_tree, IsUnmarshal, unmarshal_tree, IsRaise, raise_tree, IsParts, sequence_tree, IsItems, tuple_tree, IsArm, IsArms, IsChoice};
 
 use crate::binders::{argument, ascribed, function_head, type_behind, typed};
 use crate::build::{self, Choice, Operator, Parsed, operator_of};
@@ -426,6 +426,33 @@ fn to_right<'s, 't>(
     right_side(alloc, level, depth - 1, at, operator, first, behind)
 }
 
+/// A left side and its operator with the right side that stands here, behind which no further operator of this level stands.
+#[cycle(expressions)]
+fn compared<'s, 't>(
+    alloc: Global,
+    level: u32,
+    depth: u32,
+    at: u32,
+    operator: Operator,
+    left: Parsed,
+    signs: &'s [Sign<'t>],
+) -> Result<(Parsed, &'s [Sign<'t>]), Stop>
+    requires level { (0 < level) × (level ≤ 6) }
+    requires low { left.height < 2 ^ 32 - 1 }
+    requires small { depth < 2 ^ 32 - 1 }
+    requires left { measured left }
+    ensures tree { IfOk result (λ x. Made (IsLastOperand level depth) (joined at (operator_read operator) (expr_of left.tree)) (read_signs signs.now) (expr_of x.0.tree) (read_signs x.1.now)) }
+    ensures height { IfOk result (λ x. measured x.0) }
+    ensures shorter { IfOk result (λ x. length x.1.now < length signs.now) }
+    ensures none { IfErr result (λ e. OnSyntax e (Nothing (IsLastOperand level depth) (read_signs signs.now))) }
+{
+    let (joined, rest) = right_side(alloc, level - 1, depth, at, operator, left, signs)?;
+    match self::operator(level, rest) {
+        Some(_) => Err(refused_at(rest)),
+        None => Ok((joined, rest)),
+    }
+}
+
 /// What follows a first operand at a level with at most one operator.
 #[cycle(expressions)]
 fn once<'s, 't>(
@@ -452,11 +479,7 @@ fn once<'s, 't>(
     if first.height >= depth {
         return Err(refused_at(signs));
     }
-    let (joined, rest) = right_side(alloc, level - 1, depth - 1, at, operator, first, behind)?;
-    match self::operator(level, rest) {
-        Some(_) => Err(refused_at(rest)),
-        None => Ok((joined, rest)),
-    }
+    compared(alloc, level, depth - 1, at, operator, first, behind)
 }
 
 /// An operand of this level or tighter.

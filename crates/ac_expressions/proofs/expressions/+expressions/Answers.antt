@@ -4,13 +4,13 @@ use Rattle.std.proofs.lemmas.List.{map-append}
 use Rattle.std.proofs.lemmas.Result.{IfOk-weaker, IfErr-weaker, err_from_is_err_and}
 use Rattle.ac_syntax.specs.Signs.{Sign, Fixed}
 use Rattle.ac_syntax.specs.Trees.{PatTree, Tree, ExInt, arm_trees, height, highest_arm}
-use Rattle.ac_syntax.specs.Expressions.{Part, Binary, After, Unary, App, Args, Atom, ToLeft, ToRight, side_of, front, IsTree}
+use Rattle.ac_syntax.specs.Expressions.{Operator, Part, Binary, After, Unary, App, Args, Atom, ToLeft, ToRight, side_of, front, IsTree}
 use Rattle.ac_syntax.specs.ReadSigns.{read_signs}
 use Rattle.ac_syntax.specs.ReadTrees.{expr_of, arm_of}
 use Rattle.ac_syntax.specs.declared.sign.Symbol.TheVariants.{Arrow, Else, Equals, In, Then, With}
 use Rattle.ac_syntax.proofs.OnStop.{on_syntax_more, refused}
-use Rattle.ac_expressions.specs.Parsing.{Made}
-use Rattle.ac_expressions.specs.Forms.{Same, NoTree, operator_read, IsArm, IsArms, IsParts, sequence_tree}
+use Rattle.ac_expressions.specs.Parsing.{Nothing, Made}
+use Rattle.ac_expressions.specs.Forms.{Same, NoTree, operator_read, OperatorAt, IsLastOperand, IsArm, IsArms, IsParts, sequence_tree}
 use Rattle.ac_expressions.proofs.ExprLaws.{arm_of-made}
 use Rattle.ac_expressions.proofs.Readers.{word_at, then, first_none, later_none, behind, no_symbol, behind_none, before, before_none, symbol_none, one_before, one_typed, one_argument, one_head}
 use Rattle.ac_expressions.proofs.Levels.{flat_none, one_tree, same_start, same_then, same_none, args_ended, argument_none, argument_high, next_argument, applied_none, same_applied, same_operand, prefixed_none, prefixed_tree, second_none, lone_tree, minus_none, minus_tree, not_none, not_tree, app_tree, app_none, unary_tree, unary_none, joined_height, operand_none, binary_tree, after_none, after_ended, left_step, right_step, once_step, goes_on, past_operator}
@@ -18,6 +18,14 @@ use Rattle.ac_expressions.proofs.Words.{operators_tree, operators_none, let_back
 use Rattle.ac_expressions.proofs.Atoms.{one_pattern, first_arm, next_arm, highest_next_arm, item_read, next_part, highest_next, unit_tree, nil_tree, absent_tree, parens_tree, tuple_high, tuple_none, tuple_made, second_item_none, second_part_none, arms_none, next_arm_none, unended_arms, all_arms, item_none, unended_items, all_items, next_part_none, all_parts, last_none, part_none, alone_tree, sequence_high, sequence_none, sequence_made, match_none, match_tree, try_none, try_tree, nil_none, absent_none, opened_none, unclosed_none, leaf_tree, leaf_none}
 use Rattle.ac_expressions.proofs.NoForms.{unbefore, arm_no_pattern, arm_no_arrow, arm_no_body, choice_no_arms, let_no_bound, let_no_body, let_rec_no_bound, let_rec_no_body, rec_no_body, fun_no_arrow, fun_no_body, if_no_so, if_no_otherwise, marshal_no_value, marshal_no_type, unmarshal_no_type, raise_no_type}
 use Rattle.ac_expressions.proofs.expressions.+expressions.Goals as goal
+
+no_operand : {level depth : ℕ} {ts : List Sign} → NoTree depth (Binary (level - 1)) ts → Nothing (IsLastOperand level depth) ts
+no_operand none' e s o = none' e s o.is
+
+not_last : {level depth : ℕ} {o : Operator} {b : Tree} {ts rest behind : List Sign} → IsTree depth (Binary (level - 1)) ts b rest → OperatorAt level o rest behind → Nothing (IsLastOperand level depth) ts
+not_last {level} {depth} {o} {behind = behind} v w e s l =
+    let d = one_tree depth (Binary (level - 1)) _ _ _ _ _ v l.is in
+    l.ends o behind (subst (λ (m : List Sign). OperatorAt level o m behind) d.1 w)
 
 pub before-returns-in_err-tree-clause-none : goal.before-returns-in_err-tree-clause-none
 before-returns-in_err-tree-clause-none t c =
@@ -658,30 +666,6 @@ to_right-returns-clause-none t c =
     let s = right_step _ _ c.args.depth c.args.at _ _ _ _ lv c.in-Some.ensures.found c.requires.side in
     IfErr-weaker c.right_side.result _ _ (λ e o. on_syntax_more e (λ n. s.refused n) o) c.right_side.ensures.none
 
-pub once-returns-in_err-joined-clause-none : goal.once-returns-in_err-joined-clause-none
-once-returns-in_err-joined-clause-none t c =
-    let lv : suc (c.args.level - 1) ≡ c.args.level = omega (arith, c.requires.level.0) in
-    let s = once_step _ _ c.args.depth c.args.at _ _ _ _ lv c.in-Some.ensures.found c.requires.side in
-    let p = err_from_is_err_and c.from_residual.result c.from_residual.ensures.1 in
-    rw (p.1, p.2) (on_syntax_more _ (λ n. s.refused n) c.in_err-joined.ensures.none)
-
-pub once-returns-in-Some-operator-clause-none : goal.once-returns-in-Some-operator-clause-none
-once-returns-in-Some-operator-clause-none t c =
-    let lv : suc (c.args.level - 1) ≡ c.args.level = omega (arith, c.requires.level.0) in
-    let s = once_step _ _ c.args.depth c.args.at _ _ _ _ lv c.in-Some.ensures.found c.requires.side in
-    refused _ _ c.refused_at-in-Some-operator.ensures (s.again _ _ c.in_ok-joined.ensures.tree.read (goes_on _ _ _ _ c.in-Some-operator.ensures.found))
-
-pub once-returns-in-None-clause-tree : goal.once-returns-in-None-clause-tree
-once-returns-in-None-clause-tree t c =
-    let lv : suc (c.args.level - 1) ≡ c.args.level = omega (arith, c.requires.level.0) in
-    let s = once_step _ _ c.args.depth c.args.at _ _ _ _ lv c.in-Some.ensures.found c.requires.side in
-    let m = c.in_ok-joined.ensures.tree in
-    let low : height (expr_of c.args.first.tree) < c.args.depth = omega (arith, c.requires.first, c.if-first-depth.false) in
-    let stops : suc (c.args.level - 1) < front (read_signs c.in_ok-joined.rest.now) = m.read.stops in
-    let level : c.args.level < front (read_signs c.in_ok-joined.rest.now) = omega (arith, stops) in
-    subst (λ (x : Tree). IsTree c.args.depth (After c.args.level c.args.at (expr_of c.args.first.tree)) (read_signs c.args.signs.now) x (read_signs c.in_ok-joined.rest.now)) (sym m.is)
-    (s.made _ _ m.read low (past_operator _ _ c.requires.level.0 c.requires.level.1 level c.in-None.ensures.found))
-
 pub binary-returns-then-level-eq4-clause-tree : goal.binary-returns-then-level-eq4-clause-tree
 binary-returns-then-level-eq4-clause-tree t c =
     let lv : suc (c.args.level - 1) ≡ c.args.level = omega (arith, c.if-level-eq0.false) in
@@ -827,3 +811,35 @@ binary-once-requires-clause-side t c = let e : c.args.level ≡ 4 = omega arith 
 
 pub binary-to_right-requires-clause-side : goal.binary-to_right-requires-clause-side
 binary-to_right-requires-clause-side t c = side_right c.args.level (omega arith) (omega arith) (λ e. omega arith)
+
+pub compared-returns-in_err-joined-clause-none : goal.compared-returns-in_err-joined-clause-none
+compared-returns-in_err-joined-clause-none t c =
+    let p = err_from_is_err_and c.from_residual.result c.from_residual.ensures.1 in
+    rw (p.1, p.2) (on_syntax_more _ no_operand c.in_err-joined.ensures.none)
+
+pub compared-returns-in-Some-clause-none : goal.compared-returns-in-Some-clause-none
+compared-returns-in-Some-clause-none t c =
+    refused _ _ c.refused_at.ensures (not_last c.in_ok-joined.ensures.tree.read c.in-Some.ensures.found)
+
+pub compared-returns-in-None-clause-tree : goal.compared-returns-in-None-clause-tree
+compared-returns-in-None-clause-tree t c =
+    let m = c.in_ok-joined.ensures.tree in
+    record { parts = m.parts; is = m.is; read = record { is = m.read; ends = c.in-None.ensures.found } }
+
+pub once-returns-clause-tree : goal.once-returns-clause-tree
+once-returns-clause-tree t c =
+    let lv : suc (c.args.level - 1) ≡ c.args.level = omega (arith, c.requires.level.0) in
+    let s = once_step _ _ c.args.depth c.args.at _ _ _ _ lv c.in-Some.ensures.found c.requires.side in
+    let low : height (expr_of c.args.first.tree) < c.args.depth = omega (arith, c.requires.first, c.if-first-depth.false) in
+    IfOk-weaker c.compared.result _ _
+    (λ x o.
+    let stops : suc (c.args.level - 1) < front (read_signs x.1.now) = o.read.is.stops in
+    let level : c.args.level < front (read_signs x.1.now) = omega (arith, stops) in
+    subst (λ (e : Tree). IsTree c.args.depth (After c.args.level c.args.at (expr_of c.args.first.tree)) (read_signs c.args.signs.now) e (read_signs x.1.now)) (sym o.is)
+    (s.made _ _ o.read.is low (past_operator _ _ c.requires.level.0 c.requires.level.1 level o.read.ends))) c.compared.ensures.tree
+
+pub once-returns-clause-none : goal.once-returns-clause-none
+once-returns-clause-none t c =
+    let lv : suc (c.args.level - 1) ≡ c.args.level = omega (arith, c.requires.level.0) in
+    let s = once_step _ _ c.args.depth c.args.at _ _ _ _ lv c.in-Some.ensures.found c.requires.side in
+    IfErr-weaker c.compared.result _ _ (λ e o. on_syntax_more e (λ n. s.ended (λ b r v h. n b r (record { is = v; ends = λ u m w. goes_on _ _ _ _ w h }))) o) c.compared.ensures.none

@@ -45,7 +45,10 @@ abbrev pub decreases-binary : goal.decreases-binary
 decreases-binary l = 30 * length l.signs.now + 6 + 2 * l.level
 
 abbrev pub decreases-right_side : goal.decreases-right_side
-decreases-right_side l = 30 * length l.signs.now + 20
+decreases-right_side l = 30 * length l.signs.now + 7 + 2 * l.level
+
+abbrev pub decreases-compared : goal.decreases-compared
+decreases-compared l = 30 * length l.signs.now + 7 + 2 * l.level
 
 abbrev pub decreases-part : goal.decreases-part
 decreases-part l = 30 * length l.signs.now + 19
