@@ -16,7 +16,7 @@ use std::alloc::Global;
 /// An expression, and its height.
 #[derive(Drop)]
 pub struct Parsed {
-    pub tree: SExpr,
+    pub tree: Box<SExpr>,
     pub height: u32,
 }
 
@@ -76,31 +76,31 @@ pub fn join(
     match operator {
         Operator::Prim(number) => {
             let mut parts = Many::new(alloc);
-            parts.push(left.tree)?;
-            parts.push(right.tree)?;
+            parts.push(left.tree.into_inner())?;
+            parts.push(right.tree.into_inner())?;
             let kind = SExprKind::Op(number, parts);
-            let tree = SExpr { at, kind };
+            let tree = Box::new(alloc, SExpr { at, kind })?;
             Ok(Parsed { tree, height })
         }
         Operator::Consing => {
-            let head = Box::new(alloc, left.tree)?;
-            let tail = Box::new(alloc, right.tree)?;
+            let head = left.tree;
+            let tail = right.tree;
             let kind = SExprKind::Cons(head, tail);
-            let tree = SExpr { at, kind };
+            let tree = Box::new(alloc, SExpr { at, kind })?;
             Ok(Parsed { tree, height })
         }
         Operator::Both => {
-            let left = Box::new(alloc, left.tree)?;
-            let right = Box::new(alloc, right.tree)?;
+            let left = left.tree;
+            let right = right.tree;
             let kind = SExprKind::And(left, right);
-            let tree = SExpr { at, kind };
+            let tree = Box::new(alloc, SExpr { at, kind })?;
             Ok(Parsed { tree, height })
         }
         Operator::Either => {
-            let left = Box::new(alloc, left.tree)?;
-            let right = Box::new(alloc, right.tree)?;
+            let left = left.tree;
+            let right = right.tree;
             let kind = SExprKind::Or(left, right);
-            let tree = SExpr { at, kind };
+            let tree = Box::new(alloc, SExpr { at, kind })?;
             Ok(Parsed { tree, height })
         }
     }
@@ -121,10 +121,10 @@ pub fn application(
     ensures height { IfOk result (λ x. measured x) }
 {
     let height = function.height.max(argument.height) + 1;
-    let function = Box::new(alloc, function.tree)?;
-    let argument = Box::new(alloc, argument.tree)?;
+    let function = function.tree;
+    let argument = argument.tree;
     let kind = SExprKind::App(function, argument);
-    let tree = SExpr { at, kind };
+    let tree = Box::new(alloc, SExpr { at, kind })?;
     Ok(Parsed { tree, height })
 }
 
@@ -137,16 +137,16 @@ pub fn prefixed_by(alloc: Global, at: u32, prefix: Prefix, item: Parsed) -> Resu
     ensures height { IfOk result (λ x. measured x) }
 {
     let height = item.height + 1;
-    let item = Box::new(alloc, item.tree)?;
+    let item = item.tree;
     match prefix {
         Prefix::Present => {
             let kind = SExprKind::Present(item);
-            let tree = SExpr { at, kind };
+            let tree = Box::new(alloc, SExpr { at, kind })?;
             Ok(Parsed { tree, height })
         }
         Prefix::Exn(number) => {
             let kind = SExprKind::Exn(number, Some(item));
-            let tree = SExpr { at, kind };
+            let tree = Box::new(alloc, SExpr { at, kind })?;
             Ok(Parsed { tree, height })
         }
     }
@@ -168,10 +168,10 @@ pub fn let_in(
     ensures height { IfOk result (λ x. measured x) }
 {
     let height = bound.height.max(body.height) + 1;
-    let bound = Box::new(alloc, bound.tree)?;
-    let body = Box::new(alloc, body.tree)?;
+    let bound = bound.tree;
+    let body = body.tree;
     let kind = SExprKind::Let(binder.name, binder.ty, bound, body);
-    let tree = SExpr { at, kind };
+    let tree = Box::new(alloc, SExpr { at, kind })?;
     Ok(Parsed { tree, height })
 }
 
@@ -191,8 +191,8 @@ pub fn let_rec(
     ensures height { IfOk result (λ x. measured x) }
 {
     let height = bound.height.max(body.height) + 1;
-    let bound = Box::new(alloc, bound.tree)?;
-    let body = Box::new(alloc, body.tree)?;
+    let bound = bound.tree;
+    let body = body.tree;
     let function = SFun {
         name: head.name,
         arg: head.argument.name,
@@ -201,7 +201,7 @@ pub fn let_rec(
         body: bound,
     };
     let kind = SExprKind::LetRec(function, body);
-    let tree = SExpr { at, kind };
+    let tree = Box::new(alloc, SExpr { at, kind })?;
     Ok(Parsed { tree, height })
 }
 
@@ -214,9 +214,9 @@ pub fn fun(alloc: Global, at: u32, binder: Binder, body: Parsed) -> Result<Parse
     ensures height { IfOk result (λ x. measured x) }
 {
     let height = body.height + 1;
-    let body = Box::new(alloc, body.tree)?;
+    let body = body.tree;
     let kind = SExprKind::Fun(binder.name, binder.ty, body);
-    let tree = SExpr { at, kind };
+    let tree = Box::new(alloc, SExpr { at, kind })?;
     Ok(Parsed { tree, height })
 }
 
@@ -229,7 +229,7 @@ pub fn rec(alloc: Global, at: u32, head: Head, body: Parsed) -> Result<Parsed, M
     ensures height { IfOk result (λ x. measured x) }
 {
     let height = body.height + 1;
-    let body = Box::new(alloc, body.tree)?;
+    let body = body.tree;
     let function = SFun {
         name: head.name,
         arg: head.argument.name,
@@ -238,7 +238,7 @@ pub fn rec(alloc: Global, at: u32, head: Head, body: Parsed) -> Result<Parsed, M
         body,
     };
     let kind = SExprKind::Rec(function);
-    let tree = SExpr { at, kind };
+    let tree = Box::new(alloc, SExpr { at, kind })?;
     Ok(Parsed { tree, height })
 }
 
@@ -259,11 +259,11 @@ pub fn if_else(
     ensures height { IfOk result (λ x. measured x) }
 {
     let height = test.height.max(so.height.max(otherwise.height)) + 1;
-    let test = Box::new(alloc, test.tree)?;
-    let so = Box::new(alloc, so.tree)?;
-    let otherwise = Box::new(alloc, otherwise.tree)?;
+    let test = test.tree;
+    let so = so.tree;
+    let otherwise = otherwise.tree;
     let kind = SExprKind::If(test, so, otherwise);
-    let tree = SExpr { at, kind };
+    let tree = Box::new(alloc, SExpr { at, kind })?;
     Ok(Parsed { tree, height })
 }
 
@@ -283,10 +283,10 @@ pub fn marshal(
     ensures height { IfOk result (λ x. measured x) }
 {
     let height = mark.height.max(value.height) + 1;
-    let mark = Box::new(alloc, mark.tree)?;
-    let value = Box::new(alloc, value.tree)?;
+    let mark = mark.tree;
+    let value = value.tree;
     let kind = SExprKind::Marshal(mark, value, ty);
-    let tree = SExpr { at, kind };
+    let tree = Box::new(alloc, SExpr { at, kind })?;
     Ok(Parsed { tree, height })
 }
 
@@ -299,9 +299,9 @@ pub fn unmarshal(alloc: Global, at: u32, text: Parsed, ty: SType) -> Result<Pars
     ensures height { IfOk result (λ x. measured x) }
 {
     let height = text.height + 1;
-    let text = Box::new(alloc, text.tree)?;
+    let text = text.tree;
     let kind = SExprKind::Unmarshal(text, ty);
-    let tree = SExpr { at, kind };
+    let tree = Box::new(alloc, SExpr { at, kind })?;
     Ok(Parsed { tree, height })
 }
 
@@ -314,9 +314,9 @@ pub fn raise(alloc: Global, at: u32, exception: Parsed, ty: SType) -> Result<Par
     ensures height { IfOk result (λ x. measured x) }
 {
     let height = exception.height + 1;
-    let exception = Box::new(alloc, exception.tree)?;
+    let exception = exception.tree;
     let kind = SExprKind::Raise(exception, ty);
-    let tree = SExpr { at, kind };
+    let tree = Box::new(alloc, SExpr { at, kind })?;
     Ok(Parsed { tree, height })
 }
 
@@ -330,9 +330,9 @@ pub fn operation(alloc: Global, at: u32, number: u8, operand: Parsed) -> Result<
 {
     let height = operand.height + 1;
     let mut parts = Many::new(alloc);
-    parts.push(operand.tree)?;
+    parts.push(operand.tree.into_inner())?;
     let kind = SExprKind::Op(number, parts);
-    let tree = SExpr { at, kind };
+    let tree = Box::new(alloc, SExpr { at, kind })?;
     Ok(Parsed { tree, height })
 }
 
@@ -341,41 +341,37 @@ pub fn two(alloc: Global, first: Parsed, second: Parsed) -> Result<Many<SExpr>, 
     ensures { IfOk result (λ parts. parts ≡ first.tree ∷ second.tree ∷ []) }
 {
     let mut parts = Many::new(alloc);
-    parts.push(first.tree)?;
-    parts.push(second.tree)?;
+    parts.push(first.tree.into_inner())?;
+    parts.push(second.tree.into_inner())?;
     Ok(parts)
 }
 
 /// A sequence of parts, of which the highest has this height.
 #[tactic(auto, using(crate::proofs::ExprLaws::expr_laws))]
-pub fn sequence(at: u32, parts: Many<SExpr>, most: u32) -> Parsed
+pub fn sequence(alloc: Global, at: u32, parts: Many<SExpr>, most: u32) -> Result<Parsed, Memory>
     requires low { most < 2 ^ 32 - 1 }
     requires highest { most ≡ highest (trees (map expr_of parts)) }
-    ensures tree { expr_of result.tree ≡ ExSeq at (trees (map expr_of parts)) }
-    ensures height { measured result }
+    ensures tree { IfOk result (λ x. expr_of x.tree ≡ ExSeq at (trees (map expr_of parts))) }
+    ensures height { IfOk result (λ x. measured x) }
 {
     let kind = SExprKind::Seq(parts);
-    let tree = SExpr { at, kind };
-    Parsed {
-        tree,
-        height: most + 1,
-    }
+    let tree = Box::new(alloc, SExpr { at, kind })?;
+    let height = most + 1;
+    Ok(Parsed { tree, height })
 }
 
 /// A tuple of parts, of which the highest has this height.
 #[tactic(auto, using(crate::proofs::ExprLaws::expr_laws))]
-pub fn tuple(at: u32, parts: Many<SExpr>, most: u32) -> Parsed
+pub fn tuple(alloc: Global, at: u32, parts: Many<SExpr>, most: u32) -> Result<Parsed, Memory>
     requires low { most < 2 ^ 32 - 1 }
     requires highest { most ≡ highest (trees (map expr_of parts)) }
-    ensures tree { expr_of result.tree ≡ ExTuple at (trees (map expr_of parts)) }
-    ensures height { measured result }
+    ensures tree { IfOk result (λ x. expr_of x.tree ≡ ExTuple at (trees (map expr_of parts))) }
+    ensures height { IfOk result (λ x. measured x) }
 {
     let kind = SExprKind::Tuple(parts);
-    let tree = SExpr { at, kind };
-    Parsed {
-        tree,
-        height: most + 1,
-    }
+    let tree = Box::new(alloc, SExpr { at, kind })?;
+    let height = most + 1;
+    Ok(Parsed { tree, height })
 }
 
 /// A `match`.
@@ -388,9 +384,9 @@ pub fn match_with(alloc: Global, at: u32, choice: Choice) -> Result<Parsed, Memo
     ensures height { IfOk result (λ x. measured x) }
 {
     let height = choice.of.height.max(choice.height) + 1;
-    let of = Box::new(alloc, choice.of.tree)?;
+    let of = choice.of.tree;
     let kind = SExprKind::Match(of, choice.arms);
-    let tree = SExpr { at, kind };
+    let tree = Box::new(alloc, SExpr { at, kind })?;
     Ok(Parsed { tree, height })
 }
 
@@ -404,52 +400,52 @@ pub fn try_with(alloc: Global, at: u32, choice: Choice) -> Result<Parsed, Memory
     ensures height { IfOk result (λ x. measured x) }
 {
     let height = choice.of.height.max(choice.height) + 1;
-    let of = Box::new(alloc, choice.of.tree)?;
+    let of = choice.of.tree;
     let kind = SExprKind::Try(of, choice.arms);
-    let tree = SExpr { at, kind };
+    let tree = Box::new(alloc, SExpr { at, kind })?;
     Ok(Parsed { tree, height })
 }
 
 /// A constant.
 #[tactic(auto, using(crate::proofs::ExprLaws::expr_laws))]
-pub fn number(at: u32, n: i64) -> Parsed
-    ensures tree { expr_of result.tree ≡ ExInt at n }
-    ensures height { measured result }
+pub fn number(alloc: Global, at: u32, n: i64) -> Result<Parsed, Memory>
+    ensures tree { IfOk result (λ x. expr_of x.tree ≡ ExInt at n) }
+    ensures height { IfOk result (λ x. measured x) }
 {
     let kind = SExprKind::Int(n);
-    let tree = SExpr { at, kind };
-    Parsed { tree, height: 1 }
+    let tree = Box::new(alloc, SExpr { at, kind })?;
+    Ok(Parsed { tree, height: 1 })
 }
 
 /// The empty tuple.
 #[tactic(auto, using(crate::proofs::ExprLaws::expr_laws))]
-pub fn unit(at: u32) -> Parsed
-    ensures tree { expr_of result.tree ≡ ExUnit at }
-    ensures height { measured result }
+pub fn unit(alloc: Global, at: u32) -> Result<Parsed, Memory>
+    ensures tree { IfOk result (λ x. expr_of x.tree ≡ ExUnit at) }
+    ensures height { IfOk result (λ x. measured x) }
 {
     let kind = SExprKind::Unit;
-    let tree = SExpr { at, kind };
-    Parsed { tree, height: 1 }
+    let tree = Box::new(alloc, SExpr { at, kind })?;
+    Ok(Parsed { tree, height: 1 })
 }
 
 /// The empty list of a type.
 #[tactic(auto, using(crate::proofs::ExprLaws::expr_laws))]
-pub fn nil(at: u32, ty: SType) -> Parsed
-    ensures tree { expr_of result.tree ≡ ExNil at (type_of ty) }
-    ensures height { measured result }
+pub fn nil(alloc: Global, at: u32, ty: SType) -> Result<Parsed, Memory>
+    ensures tree { IfOk result (λ x. expr_of x.tree ≡ ExNil at (type_of ty)) }
+    ensures height { IfOk result (λ x. measured x) }
 {
     let kind = SExprKind::Nil(ty);
-    let tree = SExpr { at, kind };
-    Parsed { tree, height: 1 }
+    let tree = Box::new(alloc, SExpr { at, kind })?;
+    Ok(Parsed { tree, height: 1 })
 }
 
 /// `None` of a type.
 #[tactic(auto, using(crate::proofs::ExprLaws::expr_laws))]
-pub fn absent(at: u32, ty: SType) -> Parsed
-    ensures tree { expr_of result.tree ≡ ExAbsent at (type_of ty) }
-    ensures height { measured result }
+pub fn absent(alloc: Global, at: u32, ty: SType) -> Result<Parsed, Memory>
+    ensures tree { IfOk result (λ x. expr_of x.tree ≡ ExAbsent at (type_of ty)) }
+    ensures height { IfOk result (λ x. measured x) }
 {
     let kind = SExprKind::Absent(ty);
-    let tree = SExpr { at, kind };
-    Parsed { tree, height: 1 }
+    let tree = Box::new(alloc, SExpr { at, kind })?;
+    Ok(Parsed { tree, height: 1 })
 }

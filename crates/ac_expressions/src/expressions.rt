@@ -18,7 +18,7 @@ use crate::keywords::{Keyword, after_bar, next_keyword};
 use crate::leaves::leaf;
 use crate::patterns::pattern;
 use ac_syntax::{SArm, SExpr, Sign, SignKind, Stop, Symbol, after, here, next, refused_at};
-use ac_types::Many;
+use ac_types::{Box, Many};
 use std::alloc::Global;
 
 /// How high an expression may be.
@@ -76,7 +76,7 @@ fn arm<'s, 't>(
     let later = expect(Symbol::Arrow, behind)?;
     let (body, rest) = expr(alloc, depth, later)?;
     let height = body.height;
-    let body = body.tree;
+    let body = body.tree.into_inner();
     Ok(((SArm { pat, body }, height), rest))
 }
 
@@ -148,11 +148,11 @@ fn tuple<'s, 't>(
     while let Some(behind) = after(Symbol::Comma, rest) {
         let (part, later) = expr(alloc, depth, behind)?;
         height = height.max(part.height);
-        parts.push(part.tree)?;
+        parts.push(part.tree.into_inner())?;
         rest = later;
     }
     let end = expect(Symbol::Close, rest)?;
-    Ok((build::tuple(at, parts, height), end))
+    Ok((build::tuple(alloc, at, parts, height)?, end))
 }
 
 /// What stands behind a `(`.
@@ -170,16 +170,16 @@ fn opened<'s, 't>(
     ensures none { IfErr result (λ e. OnSyntax e (NoTree depth Atom (Fixed at Symbol.Open ∷ read_signs signs.now))) }
 {
     if let Some(rest) = after(Symbol::Close, signs) {
-        return Ok((build::unit(at), rest));
+        return Ok((build::unit(alloc, at)?, rest));
     }
     if let Some(behind) = after(Symbol::OpenSquare, signs) {
         let behind = expect(Symbol::CloseSquare, behind)?;
         let (ty, rest) = ascribed(alloc, Symbol::Close, behind)?;
-        return Ok((build::nil(at, ty), rest));
+        return Ok((build::nil(alloc, at, ty)?, rest));
     }
     if let Some(behind) = after(Symbol::NoneWord, signs) {
         let (ty, rest) = ascribed(alloc, Symbol::Close, behind)?;
-        return Ok((build::absent(at, ty), rest));
+        return Ok((build::absent(alloc, at, ty)?, rest));
     }
     let (first, rest) = expr(alloc, depth, signs)?;
     if let Some(end) = after(Symbol::Close, rest) {
@@ -220,6 +220,7 @@ fn atom<'s, 't>(
         return Ok((build::try_with(alloc, at, choice)?, rest));
     }
     let (tree, rest) = leaf(alloc, signs)?;
+    let tree = Box::new(alloc, tree)?;
     Ok((Parsed { tree, height: 1 }, rest))
 }
 
@@ -310,7 +311,7 @@ fn minus<'s, 't>(
     ensures none { IfErr result (λ e. OnSyntax e (NoTree depth Unary (Fixed at Symbol.Minus ∷ read_signs signs.now))) }
 {
     if let Some((n, rest)) = lone_number(signs) {
-        return Ok((build::number(at, negated(n)?), rest));
+        return Ok((build::number(alloc, at, negated(n)?)?, rest));
     }
     let (operand, rest) = unary(alloc, depth - 1, signs)?;
     Ok((build::operation(alloc, at, 5, operand)?, rest))
@@ -742,10 +743,10 @@ fn sequence<'s, 't>(
     while let Some(behind) = after(Symbol::Semicolon, rest) {
         let (next, later) = part(alloc, depth, behind)?;
         height = height.max(next.height);
-        parts.push(next.tree)?;
+        parts.push(next.tree.into_inner())?;
         rest = later;
     }
-    Ok((build::sequence(at, parts, height), rest))
+    Ok((build::sequence(alloc, at, parts, height)?, rest))
 }
 
 /// A part, or a sequence of several.
@@ -781,5 +782,5 @@ pub fn expression<'s, 't>(
     ensures none { IfErr result (λ e. OnSyntax e (NoExpr (read_signs signs.now))) }
 {
     let (parsed, rest) = expr(alloc, HIGHEST, signs)?;
-    Ok((parsed.tree, rest))
+    Ok((parsed.tree.into_inner(), rest))
 }

@@ -110,7 +110,7 @@ tuple-returns-in_err-end-clause-none t c =
 
 pub tuple-returns-clause-tree : goal.tuple-returns-clause-tree
 tuple-returns-clause-tree t c =
-    all_items _ _ _ _ _ c.loop-behind.invariant.read _ _ _ c.in_ok-end.ensures.found c.tuple.ensures.tree
+    all_items _ _ _ _ _ c.loop-behind.invariant.read _ _ _ c.in_ok-end.ensures.found c.in_ok-tuple.ensures.tree
 
 pub opened-returns-in_err-behind-clause-none : goal.opened-returns-in_err-behind-clause-none
 opened-returns-in_err-behind-clause-none t c =
@@ -330,7 +330,7 @@ sequence-returns-in_err-next-clause-none t c =
 
 pub sequence-returns-clause-tree : goal.sequence-returns-clause-tree
 sequence-returns-clause-tree t c =
-    all_parts _ _ _ _ _ c.loop-behind.invariant.read _ _ c.in_default.ensures.found c.sequence.ensures.tree
+    all_parts _ _ _ _ _ c.loop-behind.invariant.read _ _ c.in_default.ensures.found c.in_ok-sequence.ensures.tree
 
 pub atom-returns-then-depth-eq0-clause-none : goal.atom-returns-then-depth-eq0-clause-none
 atom-returns-then-depth-eq0-clause-none t c =
@@ -350,8 +350,8 @@ atom-returns-in_err-choice-clause-none t c =
     let p = err_from_is_err_and c.from_residual.result c.from_residual.ensures.1 in
     rw (p.1, p.2) (on_syntax_more _ (match_none _ _ _ pos c.in-Some-after.ensures.found) c.in_err-choice.ensures.none)
 
-pub atom-returns-in_ok-match_with-clause-tree : goal.atom-returns-in_ok-match_with-clause-tree
-atom-returns-in_ok-match_with-clause-tree t c =
+pub atom-returns-in-Some-after-clause-tree : goal.atom-returns-in-Some-after-clause-tree
+atom-returns-in-Some-after-clause-tree t c =
     let pos : 0 < c.args.depth = omega (arith, c.if-depth-eq0.false) in match_tree _ _ _ pos _ _ _ _ _ c.here-at.ensures c.in_ok-choice.ensures.tree c.in-Some-after.ensures.found c.in_ok-match_with.ensures.tree
 
 pub atom-returns-in_err-choice-2-clause-none : goal.atom-returns-in_err-choice-2-clause-none
@@ -360,8 +360,8 @@ atom-returns-in_err-choice-2-clause-none t c =
     let p = err_from_is_err_and c.from_residual-in_err-choice-2.result c.from_residual-in_err-choice-2.ensures.1 in
     rw (p.1, p.2) (on_syntax_more _ (try_none _ _ _ pos c.in-Some-after-2.ensures.found) c.in_err-choice-2.ensures.none)
 
-pub atom-returns-in_ok-try_with-clause-tree : goal.atom-returns-in_ok-try_with-clause-tree
-atom-returns-in_ok-try_with-clause-tree t c =
+pub atom-returns-in-Some-after-2-clause-tree : goal.atom-returns-in-Some-after-2-clause-tree
+atom-returns-in-Some-after-2-clause-tree t c =
     let pos : 0 < c.args.depth = omega (arith, c.if-depth-eq0.false) in try_tree _ _ _ pos _ _ _ _ _ c.here-at.ensures c.in_ok-choice-2.ensures.tree c.in-Some-after-2.ensures.found c.in_ok-try_with.ensures.tree
 
 pub atom-returns-in_err-tree-clause-none : goal.atom-returns-in_err-tree-clause-none
@@ -397,9 +397,9 @@ app-returns-clause-tree t c =
     subst (λ (x : Tree). IsTree c.args.depth App (read_signs c.args.signs.now) x (read_signs c.in_ok-item.rest.now)) (sym c.in_ok-prefixed_by.ensures.tree)
     (prefixed_tree _ _ _ _ _ c.in-Some.ensures.found pos _ _ c.in_ok-item.ensures.tree (sym c.begins_atom.ensures ∙ c.if-begins_atom.false))
 
-pub minus-returns-in_ok-negated-clause-tree : goal.minus-returns-in_ok-negated-clause-tree
-minus-returns-in_ok-negated-clause-tree t c =
-    lone_tree _ _ _ _ _ _ c.requires c.in-Some.ensures.found (c.number.ensures.tree ∙ ap (ExInt c.args.at) c.in_ok-negated.ensures)
+pub minus-returns-in-Some-clause-tree : goal.minus-returns-in-Some-clause-tree
+minus-returns-in-Some-clause-tree t c =
+    lone_tree _ _ _ _ _ _ c.requires c.in-Some.ensures.found (c.in_ok-number.ensures.tree ∙ ap (ExInt c.args.at) c.in_ok-negated.ensures)
 
 pub minus-returns-in_err-operand-clause-none : goal.minus-returns-in_err-operand-clause-none
 minus-returns-in_err-operand-clause-none t c =
@@ -432,8 +432,8 @@ unary-returns-in_err-operand-clause-none t c =
     let p = err_from_is_err_and c.from_residual.result c.from_residual.ensures.1 in
     rw (p.1, p.2) (on_syntax_more _ (not_none _ _ _ c.in-Some-after.ensures.found pos) c.in_err-operand.ensures.none)
 
-pub unary-returns-in_ok-operation-clause-tree : goal.unary-returns-in_ok-operation-clause-tree
-unary-returns-in_ok-operation-clause-tree t c =
+pub unary-returns-in-Some-after-clause-tree : goal.unary-returns-in-Some-after-clause-tree
+unary-returns-in-Some-after-clause-tree t c =
     let pos : 0 < c.args.depth = omega (arith, c.if-depth-eq0-2.false) in not_tree _ _ _ c.in-Some-after.ensures.found pos _ _ _ _ c.here-at.ensures c.in_ok-operand.ensures.tree c.in_ok-operation.ensures.tree
 
 pub unary-returns-clause-tree : goal.unary-returns-clause-tree
@@ -545,8 +545,8 @@ applied-returns-in_err-function-clause-none t c =
     let p = err_from_is_err_and c.from_residual.result c.from_residual.ensures.1 in
     rw (p.1, p.2) (on_syntax_more _ (λ n. applied_none _ _ n c.requires) c.in_err-function.ensures.none)
 
-pub applied-loop-rest-init : goal.applied-loop-rest-init
-applied-loop-rest-init t c =
+pub applied-loop-alloc-init : goal.applied-loop-alloc-init
+applied-loop-alloc-init t c =
     let h = c.in_ok-function.ensures in
     let low : height (expr_of c.in_ok-function.function.tree) ≤ c.args.depth = h.tree.low in
     record {
@@ -558,22 +558,22 @@ applied-loop-rest-init t c =
 
 pub applied-returns-then-function-depth-clause-none : goal.applied-returns-then-function-depth-clause-none
 applied-returns-then-function-depth-clause-none t c =
-    let i = c.loop-rest.invariant in
-    refused _ _ c.refused_at.ensures (same_none i.same (argument_high _ _ _ _ (sym c.begins_atom.ensures ∙ c.loop-rest-test.true) (subst (λ (n : ℕ). c.args.depth ≤ n) i.height c.if-function-depth.true)))
+    let i = c.loop-alloc.invariant in
+    refused _ _ c.refused_at.ensures (same_none i.same (argument_high _ _ _ _ (sym c.begins_atom.ensures ∙ c.loop-alloc-test.true) (subst (λ (n : ℕ). c.args.depth ≤ n) i.height c.if-function-depth.true)))
 
 pub applied-returns-in_err-next-clause-none : goal.applied-returns-in_err-next-clause-none
 applied-returns-in_err-next-clause-none t c =
     let p = err_from_is_err_and c.from_residual-in_err-next.result c.from_residual-in_err-next.ensures.1 in
-    rw (p.1, p.2) (on_syntax_more _ (λ n. same_none c.loop-rest.invariant.same (argument_none _ _ _ _ (sym c.begins_atom.ensures ∙ c.loop-rest-test.true) n)) c.in_err-next.ensures.none)
+    rw (p.1, p.2) (on_syntax_more _ (λ n. same_none c.loop-alloc.invariant.same (argument_none _ _ _ _ (sym c.begins_atom.ensures ∙ c.loop-alloc-test.true) n)) c.in_err-next.ensures.none)
 
-pub applied-loop-rest-preserved : goal.applied-loop-rest-preserved
-applied-loop-rest-preserved t c =
-    let i = c.loop-rest.invariant in
+pub applied-loop-alloc-preserved : goal.applied-loop-alloc-preserved
+applied-loop-alloc-preserved t c =
+    let i = c.loop-alloc.invariant in
     let h = c.in_ok-next.ensures in
     let low : height h.tree.parts ≤ c.args.depth - 1 = h.tree.read.low in
     record {
       same = subst (λ (x : Tree). Same c.args.depth App (read_signs c.args.signs.now) (Args c.here-at.result x) (read_signs c.in_ok-next.later.now)) (sym h.tree.is)
-          (same_then i.same (next_argument _ _ _ _ (sym c.begins_atom.ensures ∙ c.loop-rest-test.true) _ _ h.tree.read));
+          (same_then i.same (next_argument _ _ _ _ (sym c.begins_atom.ensures ∙ c.loop-alloc-test.true) _ _ h.tree.read));
       height = h.height;
       low = omega (arith, h.height, ap height h.tree.is, i.height, c.if-function-depth.false, low);
       shorter = omega (arith, i.shorter, h.shorter);
@@ -581,9 +581,9 @@ applied-loop-rest-preserved t c =
 
 pub applied-returns-clause-tree : goal.applied-returns-clause-tree
 applied-returns-clause-tree t c =
-    let i = c.loop-rest.invariant in
-    let low : height (expr_of c.loop-rest.function.tree) ≤ c.args.depth = omega (arith, i.height, i.low) in
-    i.same.back _ _ (args_ended _ _ _ _ (sym c.begins_atom.ensures ∙ c.loop-rest-test.false) low)
+    let i = c.loop-alloc.invariant in
+    let low : height (expr_of c.loop-alloc.function.tree) ≤ c.args.depth = omega (arith, i.height, i.low) in
+    i.same.back _ _ (args_ended _ _ _ _ (sym c.begins_atom.ensures ∙ c.loop-alloc-test.false) low)
 
 pub right_side-returns-in_err-right-clause-none : goal.right_side-returns-in_err-right-clause-none
 right_side-returns-in_err-right-clause-none t c =
@@ -696,15 +696,15 @@ binary-returns-else-level-eq4-clause-none t c =
 
 pub opened-returns-in-Some-clause-tree : goal.opened-returns-in-Some-clause-tree
 opened-returns-in-Some-clause-tree t c =
-    unit_tree _ _ _ _ _ c.requires c.in-Some.ensures.found c.unit.ensures.tree
+    unit_tree _ _ _ _ _ c.requires c.in-Some.ensures.found c.in_ok-unit.ensures.tree
 
-pub opened-returns-in_ok-ty-clause-tree : goal.opened-returns-in_ok-ty-clause-tree
-opened-returns-in_ok-ty-clause-tree t c =
-    nil_tree _ _ _ _ _ _ _ _ c.requires c.in-Some-after.ensures.found c.in_ok-behind.ensures.found c.in_ok-ty.ensures.found c.nil.ensures.tree
+pub opened-returns-in-Some-after-clause-tree : goal.opened-returns-in-Some-after-clause-tree
+opened-returns-in-Some-after-clause-tree t c =
+    nil_tree _ _ _ _ _ _ _ _ c.requires c.in-Some-after.ensures.found c.in_ok-behind.ensures.found c.in_ok-ty.ensures.found c.in_ok-nil.ensures.tree
 
-pub opened-returns-in_ok-ty-2-clause-tree : goal.opened-returns-in_ok-ty-2-clause-tree
-opened-returns-in_ok-ty-2-clause-tree t c =
-    absent_tree _ _ _ _ _ _ _ c.requires c.in-Some-after-2.ensures.found c.in_ok-ty-2.ensures.found c.absent.ensures.tree
+pub opened-returns-in-Some-after-2-clause-tree : goal.opened-returns-in-Some-after-2-clause-tree
+opened-returns-in-Some-after-2-clause-tree t c =
+    absent_tree _ _ _ _ _ _ _ c.requires c.in-Some-after-2.ensures.found c.in_ok-ty-2.ensures.found c.in_ok-absent.ensures.tree
 
 pub opened-returns-in-Some-after-3-clause-tree : goal.opened-returns-in-Some-after-3-clause-tree
 opened-returns-in-Some-after-3-clause-tree t c =
@@ -771,20 +771,20 @@ pub keyword_part-returns-in-Raise-clause-none : goal.keyword_part-returns-in-Rai
 keyword_part-returns-in-Raise-clause-none t c =
     IfErr-weaker c.raise.result _ _ (λ e o. on_syntax_more e (raise_none _ _ _) o) c.raise.ensures.none
 
-pub keyword_part-returns-in-Let-in-Some-clause-tree : goal.keyword_part-returns-in-Let-in-Some-clause-tree
-keyword_part-returns-in-Let-in-Some-clause-tree t c =
+pub keyword_part-returns-in-Some-clause-tree : goal.keyword_part-returns-in-Some-clause-tree
+keyword_part-returns-in-Some-clause-tree t c =
     IfOk-weaker c.let_rec.result _ _ (λ x o. let_rec_back _ _ _ _ _ _ c.requires c.in-Some.ensures.found o) c.let_rec.ensures.tree
 
-pub keyword_part-returns-in-Let-in-Some-clause-none : goal.keyword_part-returns-in-Let-in-Some-clause-none
-keyword_part-returns-in-Let-in-Some-clause-none t c =
+pub keyword_part-returns-in-Some-clause-none : goal.keyword_part-returns-in-Some-clause-none
+keyword_part-returns-in-Some-clause-none t c =
     IfErr-weaker c.let_rec.result _ _ (λ e o. on_syntax_more e (let_rec_none _ _ _ _ c.in-Some.ensures.found) o) c.let_rec.ensures.none
 
-pub keyword_part-returns-in-Let-in-None-clause-tree : goal.keyword_part-returns-in-Let-in-None-clause-tree
-keyword_part-returns-in-Let-in-None-clause-tree t c =
+pub keyword_part-returns-in-None-clause-tree : goal.keyword_part-returns-in-None-clause-tree
+keyword_part-returns-in-None-clause-tree t c =
     IfOk-weaker c.let_in.result _ _ (λ x o. let_back _ _ _ _ _ c.requires o) c.let_in.ensures.tree
 
-pub keyword_part-returns-in-Let-in-None-clause-none : goal.keyword_part-returns-in-Let-in-None-clause-none
-keyword_part-returns-in-Let-in-None-clause-none t c =
+pub keyword_part-returns-in-None-clause-none : goal.keyword_part-returns-in-None-clause-none
+keyword_part-returns-in-None-clause-none t c =
     IfErr-weaker c.let_in.result _ _ (λ e o. on_syntax_more e (let_none _ _ _ c.in-None.ensures.found) o) c.let_in.ensures.none
 
 side_left : (k : ℕ) → k ≤ 2 → side_of k ≡ ToLeft

@@ -110,16 +110,16 @@ invariant-to_left-loop-operator l = record {
 abbrev pub decreases-to_left-loop-operator : goal.decreases-to_left-loop-operator
 decreases-to_left-loop-operator l = length l.rest
 
-abbrev pub invariant-applied-loop-rest : goal.invariant-applied-loop-rest
-invariant-applied-loop-rest l = record {
+abbrev pub invariant-applied-loop-alloc : goal.invariant-applied-loop-alloc
+invariant-applied-loop-alloc l = record {
   same : Same l.depth App (read_signs l.signs) (Args l.at (expr_of l.function.tree)) (read_signs l.rest);
   height : l.function.height ≡ height (expr_of l.function.tree);
   low : l.function.height ≤ l.depth;
   shorter : length l.rest < length l.signs;
 }
 
-abbrev pub decreases-applied-loop-rest : goal.decreases-applied-loop-rest
-decreases-applied-loop-rest l = length l.rest
+abbrev pub decreases-applied-loop-alloc : goal.decreases-applied-loop-alloc
+decreases-applied-loop-alloc l = length l.rest
 
 abbrev pub invariant-tuple-loop-behind : goal.invariant-tuple-loop-behind
 invariant-tuple-loop-behind l = record {
