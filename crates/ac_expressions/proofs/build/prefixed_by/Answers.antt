@@ -7,12 +7,12 @@ use Rattle.ac_expressions.specs.Forms.{prefixed}
 use Rattle.ac_expressions.proofs.ExprLaws.{expr_of-ExnOf}
 use Rattle.ac_expressions.proofs.build.prefixed_by.Goals as goal
 
-pub returns-in-Exn-clause-tree : goal.returns-in-Exn-clause-tree
-returns-in-Exn-clause-tree c =
+pub returns-in_ok-tree-in-Exn-clause-tree : goal.returns-in_ok-tree-in-Exn-clause-tree
+returns-in_ok-tree-in-Exn-clause-tree c =
     expr_of-ExnOf c.args.at c.in-Exn.number _ ∙ ap (λ (e : SExpr). ExExnOf c.args.at c.in-Exn.number (expr_of e)) c.in_ok-item.ensures
     ∙ sym (ap (λ (x : Prefix). prefixed x c.args.at (expr_of c.args.item.tree)) c.in-Exn.is)
 
-pub returns-in-Exn-clause-height : goal.returns-in-Exn-clause-height
-returns-in-Exn-clause-height c =
+pub returns-in_ok-tree-in-Exn-clause-height : goal.returns-in_ok-tree-in-Exn-clause-height
+returns-in_ok-tree-in-Exn-clause-height c =
     let same = expr_of-ExnOf c.args.at c.in-Exn.number _ ∙ ap (λ (e : SExpr). ExExnOf c.args.at c.in-Exn.number (expr_of e)) c.in_ok-item.ensures in
     omega (arith, c.requires.item, ap height same)
