@@ -1,18 +1,22 @@
-use Rattle.std.proofs.Common.{◌≡◌, ◌<◌, ◌≤◌, ◌-◌, ◌+◌, ℕ, suc, List, [], ◌∷◌, map, refl, sym, ap, subst, ◌∙◌, arith}
+use Rattle.std.proofs.Common.{rules, ◌≡◌, ◌<◌, ◌≤◌, ◌-◌, ◌+◌, ℕ, suc, List, [], ◌∷◌, map, refl, sym, ap, subst, ◌∙◌, arith, ◌++◌}
 use Rattle.std.specs.Prelude.{neg_ℤ}
 use Rattle.std.proofs.lemmas.List.{map-append}
 use Rattle.std.proofs.lemmas.Result.{IfOk-weaker, IfErr-weaker, err_from_is_err_and}
+use Rattle.std.proofs.Common.{rules, ◌∷◌, ◌∙◌, ap, sym, subst, w64, ℤ, FitsSigned}
+use Rattle.std.proofs.lemmas.Int.{to_z-of_z}
 use Rattle.ac_syntax.specs.Signs.{Sign, Fixed}
-use Rattle.ac_syntax.specs.Trees.{PatTree, Tree, ExInt, arm_trees, height, highest_arm}
-use Rattle.ac_syntax.specs.Expressions.{Operator, Part, Binary, After, Unary, App, Args, Atom, ToLeft, ToRight, side_of, front, IsTree}
+use Rattle.ac_syntax.specs.Trees.{PatTree, Tree, ExInt, trees, arm_trees, height, highest, highest_arm}
+use Rattle.ac_syntax.specs.Expressions.{Operator, Expr, Part, Binary, After, Unary, App, Args, Atom, front, IsTree}
 use Rattle.ac_syntax.specs.ReadSigns.{read_signs}
-use Rattle.ac_syntax.specs.ReadTrees.{expr_of, arm_of}
-use Rattle.ac_syntax.specs.declared.sign.Symbol.TheVariants.{Arrow, Else, Equals, In, Then, With}
+use Rattle.ac_syntax.specs.ReadTrees.{pat_of, expr_of, arm_of}
+use Rattle.ac_syntax.specs.declared.surface.SExpr.{SExpr}
+use Rattle.ac_syntax.specs.declared.surface.SArm.{SArm}
+use Rattle.ac_syntax.specs.declared.sign.Symbol.TheVariants.{Arrow, Close, Comma, Semicolon, Else, Equals, In, Then, With}
 use Rattle.ac_syntax.proofs.OnStop.{on_syntax_more, refused}
-use Rattle.ac_expressions.specs.Parsing.{Nothing, Made}
-use Rattle.ac_expressions.specs.Forms.{Same, NoTree, operator_read, OperatorAt, IsLastOperand, IsArm, IsArms, IsParts, sequence_tree}
+use Rattle.ac_expressions.specs.Parsing.{Nothing, Before, Made}
+use Rattle.ac_expressions.specs.Forms.{Same, NoTree, IsLastPart, operator_read, OperatorAt, IsLastOperand, IsArm, IsArms, IsParts, sequence_tree}
 use Rattle.ac_expressions.proofs.ExprLaws.{arm_of-made}
-use Rattle.ac_expressions.proofs.Readers.{word_at, then, first_none, later_none, behind, no_symbol, behind_none, before, before_none, symbol_none, one_before, one_typed, one_argument, one_head}
+use Rattle.ac_expressions.proofs.Readers.{word_at, second_read, then, first_none, later_none, behind, no_symbol, behind_none, before, before_none, symbol_none, one_before, one_typed, one_argument, one_head}
 use Rattle.ac_expressions.proofs.Levels.{flat_none, one_tree, same_start, same_then, same_none, args_ended, argument_none, argument_high, next_argument, applied_none, same_applied, same_operand, prefixed_none, prefixed_tree, second_none, lone_tree, minus_none, minus_tree, not_none, not_tree, app_tree, app_none, unary_tree, unary_none, joined_height, operand_none, binary_tree, after_none, after_ended, left_step, right_step, once_step, goes_on, past_operator}
 use Rattle.ac_expressions.proofs.Words.{operators_tree, operators_none, let_back, let_none, let_rec_back, let_rec_none, fun_back, fun_none, rec_back, rec_none, if_back, if_none, marshal_back, marshal_none, unmarshal_back, unmarshal_none, raise_back, raise_none}
 use Rattle.ac_expressions.proofs.Atoms.{one_pattern, first_arm, next_arm, highest_next_arm, item_read, next_part, highest_next, unit_tree, nil_tree, absent_tree, parens_tree, tuple_high, tuple_none, tuple_made, second_item_none, second_part_none, arms_none, next_arm_none, unended_arms, all_arms, item_none, unended_items, all_items, next_part_none, all_parts, last_none, part_none, alone_tree, sequence_high, sequence_none, sequence_made, match_none, match_tree, try_none, try_tree, nil_none, absent_none, opened_none, unclosed_none, leaf_tree, leaf_none}
@@ -54,11 +58,13 @@ arm-returns-in_err-body-clause-none t c =
 
 pub arm-returns-clause-tree : goal.arm-returns-clause-tree
 arm-returns-clause-tree t c =
-    subst (λ (x : PatTree × Tree). IsArm c.args.depth (read_signs c.args.signs.now) x (read_signs c.in_ok-body.rest.now)) (sym (arm_of-made c.in_ok-pat.pat c.in_ok-body.body.tree)) (then _ (before c.in_ok-pat.ensures.tree c.in_ok-later.ensures.found) c.in_ok-body.ensures.tree)
+    let made = arm_of-made c.in_ok-pat.pat c.into_inner-body.result ∙ ap (λ (e : SExpr). (pat_of c.in_ok-pat.pat, expr_of e)) c.into_inner-body.ensures in
+    subst (λ (x : PatTree × Tree). IsArm c.args.depth (read_signs c.args.signs.now) x (read_signs c.in_ok-body.rest.now)) (sym made) (then _ (before c.in_ok-pat.ensures.tree c.in_ok-later.ensures.found) c.in_ok-body.ensures.tree)
 
 pub arm-returns-clause-height : goal.arm-returns-clause-height
 arm-returns-clause-height t c =
-    c.in_ok-body.ensures.height ∙ sym (ap (λ (x : PatTree × Tree). height x.1) (arm_of-made c.in_ok-pat.pat c.in_ok-body.body.tree))
+    let made = arm_of-made c.in_ok-pat.pat c.into_inner-body.result ∙ ap (λ (e : SExpr). (pat_of c.in_ok-pat.pat, expr_of e)) c.into_inner-body.ensures in
+    c.in_ok-body.ensures.height ∙ sym (ap (λ (x : PatTree × Tree). height x.1) made)
 
 pub arms-returns-in_err-first-clause-none : goal.arms-returns-in_err-first-clause-none
 arms-returns-in_err-first-clause-none t c =
@@ -114,7 +120,7 @@ tuple-returns-clause-tree t c =
 
 pub opened-returns-in_err-behind-clause-none : goal.opened-returns-in_err-behind-clause-none
 opened-returns-in_err-behind-clause-none t c =
-    let p = err_from_is_err_and c.from_residual.result c.from_residual.ensures.1 in
+    let p = err_from_is_err_and c.from_residual-in_err-behind.result c.from_residual-in_err-behind.ensures.1 in
     rw (p.1, p.2) (on_syntax_more _ (λ n. nil_none _ _ _ _ c.in-Some-after.ensures.found (no_symbol n)) c.in_err-behind.ensures.none)
 
 pub opened-returns-in_err-ty-clause-none : goal.opened-returns-in_err-ty-clause-none
@@ -371,11 +377,12 @@ atom-returns-in_err-tree-clause-none t c =
 
 pub atom-returns-clause-tree : goal.atom-returns-clause-tree
 atom-returns-clause-tree t c =
-    let pos : 0 < c.args.depth = omega (arith, c.if-depth-eq0.false) in leaf_tree _ _ _ _ pos c.in_ok-tree.ensures.found
+    let pos : 0 < c.args.depth = omega (arith, c.if-depth-eq0.false) in
+    subst (λ (e : SExpr). IsTree c.args.depth Atom (read_signs c.args.signs.now) (expr_of e) (read_signs c.in_ok-tree.rest.now)) (sym c.in_ok-tree-2.ensures) (leaf_tree _ _ _ _ pos c.in_ok-tree.ensures.found)
 
 pub atom-returns-clause-height : goal.atom-returns-clause-height
 atom-returns-clause-height t c =
-    sym c.in_ok-tree.ensures.found.leaf
+    sym (ap (λ (e : SExpr). height (expr_of e)) c.in_ok-tree-2.ensures ∙ c.in_ok-tree.ensures.found.leaf)
 
 pub app-returns-then-depth-eq0-clause-none : goal.app-returns-then-depth-eq0-clause-none
 app-returns-then-depth-eq0-clause-none t c =
@@ -399,7 +406,8 @@ app-returns-clause-tree t c =
 
 pub minus-returns-in-Some-clause-tree : goal.minus-returns-in-Some-clause-tree
 minus-returns-in-Some-clause-tree t c =
-    lone_tree _ _ _ _ _ _ c.requires c.in-Some.ensures.found (c.in_ok-number.ensures.tree ∙ ap (ExInt c.args.at) c.in_ok-negated.ensures)
+    let f : FitsSigned w64 c.in_ok-negated.field-0 = search rules in
+    lone_tree _ _ _ _ _ _ c.requires c.in-Some.ensures.found (c.in_ok-number.ensures.tree ∙ ap (ExInt c.args.at) (to_z-of_z w64 c.in_ok-negated.field-0 f ∙ c.in_ok-negated.ensures))
 
 pub minus-returns-in_err-operand-clause-none : goal.minus-returns-in_err-operand-clause-none
 minus-returns-in_err-operand-clause-none t c =
@@ -483,7 +491,7 @@ binary-returns-in_err-first-clause-none t c =
 pub arms-loop-behind-init : goal.arms-loop-behind-init
 arms-loop-behind-init t c =
     let h = c.in_ok-first.ensures in
-    let arms = ap (map arm_of) c.in_ok-push.ensures.ok in
+    let arms = ap (map arm_of) (c.in_ok-push.ensures.ok ∙ ap (λ (l : List SArm). l ++ c.in_ok-first.first ∷ []) c.new-arms.ensures) in
     let low : height (arm_of c.in_ok-first.first).1 ≤ c.args.depth = h.tree.second.low in
     record {
       read = first_arm _ _ _ _ _ h.tree arms;
@@ -509,12 +517,12 @@ pub tuple-loop-behind-preserved : goal.tuple-loop-behind-preserved
 tuple-loop-behind-preserved t c =
     let i = c.loop-behind.invariant in
     let h = c.in_ok-part.ensures in
-    let parts = ap (map expr_of) c.in_ok-push.ensures.ok ∙ map-append expr_of c.loop-behind.parts (c.in_ok-part.part.tree ∷ []) in
+    let parts = ap (map expr_of) (c.in_ok-push.ensures.ok ∙ ap (λ (e : SExpr). c.loop-behind.parts ++ e ∷ []) c.into_inner.ensures) ∙ map-append expr_of c.loop-behind.parts (c.in_ok-part.part.tree ∷ []) in
     let low : height (expr_of c.in_ok-part.part.tree) ≤ c.args.depth = h.tree.low in
     record {
       read = item_read _ _ _ _ _ i.read _ c.in-Some.ensures.found _ _ _ h.tree parts;
-      height = highest_next (map expr_of c.loop-behind.parts) (expr_of c.in_ok-part.part.tree) _ _ _ _ parts i.height h.height c.max-height.ensures;
-      low = omega (arith, c.max-height.ensures, i.low, low, h.height, c.requires.small);
+      height = highest_next (map expr_of c.loop-behind.parts) (expr_of c.in_ok-part.part.tree) _ _ _ _ parts i.height h.height c.max-height-in-Some.ensures;
+      low = omega (arith, c.max-height-in-Some.ensures, i.low, low, h.height, c.requires.small);
       shorter = omega (arith, i.shorter, c.in-Some.ensures.shorter, h.shorter);
     }
 
@@ -522,12 +530,12 @@ pub sequence-loop-behind-preserved : goal.sequence-loop-behind-preserved
 sequence-loop-behind-preserved t c =
     let i = c.loop-behind.invariant in
     let h = c.in_ok-next.ensures in
-    let parts = ap (map expr_of) c.in_ok-push.ensures.ok ∙ map-append expr_of c.loop-behind.parts (c.in_ok-next.next.tree ∷ []) in
+    let parts = ap (map expr_of) (c.in_ok-push.ensures.ok ∙ ap (λ (e : SExpr). c.loop-behind.parts ++ e ∷ []) c.into_inner.ensures) ∙ map-append expr_of c.loop-behind.parts (c.in_ok-next.next.tree ∷ []) in
     let low : height (expr_of c.in_ok-next.next.tree) ≤ c.args.depth = h.tree.low in
     record {
       read = next_part _ _ _ _ _ i.read _ c.in-Some.ensures.found _ _ _ h.tree parts;
-      height = highest_next (map expr_of c.loop-behind.parts) (expr_of c.in_ok-next.next.tree) _ _ _ _ parts i.height h.height c.max-height.ensures;
-      low = omega (arith, c.max-height.ensures, i.low, low, h.height, c.requires.small);
+      height = highest_next (map expr_of c.loop-behind.parts) (expr_of c.in_ok-next.next.tree) _ _ _ _ parts i.height h.height c.max-height-in-Some.ensures;
+      low = omega (arith, c.max-height-in-Some.ensures, i.low, low, h.height, c.requires.small);
       shorter = omega (arith, i.shorter, c.in-Some.ensures.shorter, h.shorter);
     }
 
@@ -725,92 +733,67 @@ opened-returns-clause-none t c =
 
 pub keyword_part-returns-in-Fun-clause-tree : goal.keyword_part-returns-in-Fun-clause-tree
 keyword_part-returns-in-Fun-clause-tree t c =
-    IfOk-weaker c.fun.result _ _ (λ x o. fun_back _ _ _ _ _ c.requires o) c.fun.ensures.tree
+    rw c.in-Fun.is (IfOk-weaker c.fun.result _ _ (λ x o. fun_back _ _ _ _ _ c.requires o) c.fun.ensures.tree)
 
 pub keyword_part-returns-in-Fun-clause-none : goal.keyword_part-returns-in-Fun-clause-none
 keyword_part-returns-in-Fun-clause-none t c =
-    IfErr-weaker c.fun.result _ _ (λ e o. on_syntax_more e (fun_none _ _ _) o) c.fun.ensures.none
+    rw c.in-Fun.is (IfErr-weaker c.fun.result _ _ (λ e o. on_syntax_more e (fun_none _ _ _) o) c.fun.ensures.none)
 
 pub keyword_part-returns-in-Rec-clause-tree : goal.keyword_part-returns-in-Rec-clause-tree
 keyword_part-returns-in-Rec-clause-tree t c =
-    IfOk-weaker c.rec.result _ _ (λ x o. rec_back _ _ _ _ _ c.requires o) c.rec.ensures.tree
+    rw c.in-Rec.is (IfOk-weaker c.rec.result _ _ (λ x o. rec_back _ _ _ _ _ c.requires o) c.rec.ensures.tree)
 
 pub keyword_part-returns-in-Rec-clause-none : goal.keyword_part-returns-in-Rec-clause-none
 keyword_part-returns-in-Rec-clause-none t c =
-    IfErr-weaker c.rec.result _ _ (λ e o. on_syntax_more e (rec_none _ _ _) o) c.rec.ensures.none
+    rw c.in-Rec.is (IfErr-weaker c.rec.result _ _ (λ e o. on_syntax_more e (rec_none _ _ _) o) c.rec.ensures.none)
 
 pub keyword_part-returns-in-If-clause-tree : goal.keyword_part-returns-in-If-clause-tree
 keyword_part-returns-in-If-clause-tree t c =
-    IfOk-weaker c.if_else.result _ _ (λ x o. if_back _ _ _ _ _ c.requires o) c.if_else.ensures.tree
+    rw c.in-If.is (IfOk-weaker c.if_else.result _ _ (λ x o. if_back _ _ _ _ _ c.requires o) c.if_else.ensures.tree)
 
 pub keyword_part-returns-in-If-clause-none : goal.keyword_part-returns-in-If-clause-none
 keyword_part-returns-in-If-clause-none t c =
-    IfErr-weaker c.if_else.result _ _ (λ e o. on_syntax_more e (if_none _ _ _) o) c.if_else.ensures.none
+    rw c.in-If.is (IfErr-weaker c.if_else.result _ _ (λ e o. on_syntax_more e (if_none _ _ _) o) c.if_else.ensures.none)
 
 pub keyword_part-returns-in-Marshal-clause-tree : goal.keyword_part-returns-in-Marshal-clause-tree
 keyword_part-returns-in-Marshal-clause-tree t c =
-    IfOk-weaker c.marshal.result _ _ (λ x o. marshal_back _ _ _ _ _ c.requires o) c.marshal.ensures.tree
+    rw c.in-Marshal.is (IfOk-weaker c.marshal.result _ _ (λ x o. marshal_back _ _ _ _ _ c.requires o) c.marshal.ensures.tree)
 
 pub keyword_part-returns-in-Marshal-clause-none : goal.keyword_part-returns-in-Marshal-clause-none
 keyword_part-returns-in-Marshal-clause-none t c =
-    IfErr-weaker c.marshal.result _ _ (λ e o. on_syntax_more e (marshal_none _ _ _) o) c.marshal.ensures.none
+    rw c.in-Marshal.is (IfErr-weaker c.marshal.result _ _ (λ e o. on_syntax_more e (marshal_none _ _ _) o) c.marshal.ensures.none)
 
 pub keyword_part-returns-in-Unmarshal-clause-tree : goal.keyword_part-returns-in-Unmarshal-clause-tree
 keyword_part-returns-in-Unmarshal-clause-tree t c =
-    IfOk-weaker c.unmarshal.result _ _ (λ x o. unmarshal_back _ _ _ _ _ c.requires o) c.unmarshal.ensures.tree
+    rw c.in-Unmarshal.is (IfOk-weaker c.unmarshal.result _ _ (λ x o. unmarshal_back _ _ _ _ _ c.requires o) c.unmarshal.ensures.tree)
 
 pub keyword_part-returns-in-Unmarshal-clause-none : goal.keyword_part-returns-in-Unmarshal-clause-none
 keyword_part-returns-in-Unmarshal-clause-none t c =
-    IfErr-weaker c.unmarshal.result _ _ (λ e o. on_syntax_more e (unmarshal_none _ _ _) o) c.unmarshal.ensures.none
+    rw c.in-Unmarshal.is (IfErr-weaker c.unmarshal.result _ _ (λ e o. on_syntax_more e (unmarshal_none _ _ _) o) c.unmarshal.ensures.none)
 
 pub keyword_part-returns-in-Raise-clause-tree : goal.keyword_part-returns-in-Raise-clause-tree
 keyword_part-returns-in-Raise-clause-tree t c =
-    IfOk-weaker c.raise.result _ _ (λ x o. raise_back _ _ _ _ _ c.requires o) c.raise.ensures.tree
+    rw c.in-Raise.is (IfOk-weaker c.raise.result _ _ (λ x o. raise_back _ _ _ _ _ c.requires o) c.raise.ensures.tree)
 
 pub keyword_part-returns-in-Raise-clause-none : goal.keyword_part-returns-in-Raise-clause-none
 keyword_part-returns-in-Raise-clause-none t c =
-    IfErr-weaker c.raise.result _ _ (λ e o. on_syntax_more e (raise_none _ _ _) o) c.raise.ensures.none
+    rw c.in-Raise.is (IfErr-weaker c.raise.result _ _ (λ e o. on_syntax_more e (raise_none _ _ _) o) c.raise.ensures.none)
 
 pub keyword_part-returns-in-Some-clause-tree : goal.keyword_part-returns-in-Some-clause-tree
 keyword_part-returns-in-Some-clause-tree t c =
-    IfOk-weaker c.let_rec.result _ _ (λ x o. let_rec_back _ _ _ _ _ _ c.requires c.in-Some.ensures.found o) c.let_rec.ensures.tree
+    rw c.in-Let.is (IfOk-weaker c.let_rec.result _ _ (λ x o. let_rec_back _ _ _ _ _ _ c.requires c.in-Some.ensures.found o) c.let_rec.ensures.tree)
 
 pub keyword_part-returns-in-Some-clause-none : goal.keyword_part-returns-in-Some-clause-none
 keyword_part-returns-in-Some-clause-none t c =
-    IfErr-weaker c.let_rec.result _ _ (λ e o. on_syntax_more e (let_rec_none _ _ _ _ c.in-Some.ensures.found) o) c.let_rec.ensures.none
+    rw c.in-Let.is (IfErr-weaker c.let_rec.result _ _ (λ e o. on_syntax_more e (let_rec_none _ _ _ _ c.in-Some.ensures.found) o) c.let_rec.ensures.none)
 
 pub keyword_part-returns-in-None-clause-tree : goal.keyword_part-returns-in-None-clause-tree
 keyword_part-returns-in-None-clause-tree t c =
-    IfOk-weaker c.let_in.result _ _ (λ x o. let_back _ _ _ _ _ c.requires o) c.let_in.ensures.tree
+    rw c.in-Let.is (IfOk-weaker c.let_in.result _ _ (λ x o. let_back _ _ _ _ _ c.requires o) c.let_in.ensures.tree)
 
 pub keyword_part-returns-in-None-clause-none : goal.keyword_part-returns-in-None-clause-none
 keyword_part-returns-in-None-clause-none t c =
-    IfErr-weaker c.let_in.result _ _ (λ e o. on_syntax_more e (let_none _ _ _ c.in-None.ensures.found) o) c.let_in.ensures.none
-
-side_left : (k : ℕ) → k ≤ 2 → side_of k ≡ ToLeft
-side_left 0 h = refl
-side_left 1 h = refl
-side_left 2 h = refl
-side_left (suc (suc (suc k))) h = absurd (omega arith)
-
-side_right : (k : ℕ) → 2 < k → k ≤ 6 → (k ≡ 4 → ⊥) → side_of k ≡ ToRight
-side_right 3 h low other = refl
-side_right 4 h low other = absurd (other refl)
-side_right 5 h low other = refl
-side_right 6 h low other = refl
-side_right 0 h low other = absurd (omega arith)
-side_right 1 h low other = absurd (omega arith)
-side_right 2 h low other = absurd (omega arith)
-side_right (suc (suc (suc (suc (suc (suc (suc k))))))) h low other = absurd (omega arith)
-
-pub binary-to_left-requires-clause-side : goal.binary-to_left-requires-clause-side
-binary-to_left-requires-clause-side t c = side_left c.args.level (omega arith)
-
-pub binary-once-requires-clause-side : goal.binary-once-requires-clause-side
-binary-once-requires-clause-side t c = let e : c.args.level ≡ 4 = omega arith in ap side_of e
-
-pub binary-to_right-requires-clause-side : goal.binary-to_right-requires-clause-side
-binary-to_right-requires-clause-side t c = side_right c.args.level (omega arith) (omega arith) (λ e. omega arith)
+    rw c.in-Let.is (IfErr-weaker c.let_in.result _ _ (λ e o. on_syntax_more e (let_none _ _ _ c.in-None.ensures.found) o) c.let_in.ensures.none)
 
 pub compared-returns-in_err-joined-clause-none : goal.compared-returns-in_err-joined-clause-none
 compared-returns-in_err-joined-clause-none t c =
@@ -843,3 +826,27 @@ once-returns-clause-none t c =
     let lv : suc (c.args.level - 1) ≡ c.args.level = omega (arith, c.requires.level.0) in
     let s = once_step _ _ c.args.depth c.args.at _ _ _ _ lv c.in-Some.ensures.found c.requires.side in
     IfErr-weaker c.compared.result _ _ (λ e o. on_syntax_more e (λ n. s.ended (λ b r v h. n b r (record { is = v; ends = λ u m w. goes_on _ _ _ _ w h }))) o) c.compared.ensures.none
+
+pub tuple-loop-behind-init : goal.tuple-loop-behind-init
+tuple-loop-behind-init t c =
+    let h = c.in_ok-second.ensures in
+    let parts = ap (map expr_of) c.in_ok-parts.ensures in
+    let low : height (expr_of c.in_ok-second.second.tree) ≤ c.args.depth = h.tree.low in
+    record {
+      read = second_read (Before Comma (IsTree c.args.depth Expr)) (Before Close (IsTree c.args.depth Expr)) h.tree parts;
+      height = omega (arith, c.max-height.ensures, c.requires.first, h.height, ap (λ (l : List Tree). highest (trees l)) parts);
+      low = omega (arith, c.max-height.ensures, c.requires.low, c.requires.small, low, h.height);
+      shorter = h.shorter;
+    }
+
+pub sequence-loop-behind-init : goal.sequence-loop-behind-init
+sequence-loop-behind-init t c =
+    let h = c.in_ok-second.ensures in
+    let parts = ap (map expr_of) c.in_ok-parts.ensures in
+    let low : height (expr_of c.in_ok-second.second.tree) ≤ c.args.depth = h.tree.low in
+    record {
+      read = second_read (Before Semicolon (IsTree c.args.depth Part)) (IsLastPart c.args.depth) h.tree parts;
+      height = omega (arith, c.max-height.ensures, c.requires.first, h.height, ap (λ (l : List Tree). highest (trees l)) parts);
+      low = omega (arith, c.max-height.ensures, c.requires.low, c.requires.small, low, h.height);
+      shorter = h.shorter;
+    }
