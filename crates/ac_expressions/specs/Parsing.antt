@@ -1,7 +1,7 @@
 -- What the parsers of patterns and expressions may answer.
-use Rattle.std.specs.Prelude.{◌≡◌, ℕ, ◌<◌, Bool, true, false, List, [], ◌∷◌, Option, Some, None}
+use Rattle.std.specs.Prelude.{◌≡◌, ℕ, ◌<◌, ◌-◌, Bool, true, false, List, [], ◌∷◌, Option, Some, None}
 use Rattle.ac_syntax.specs.Signs.{Sign, Int, Lower, Fixed}
-use Rattle.ac_syntax.specs.Trees.{NameAt, TypeTree, PatTree, PatWild, PatBool, PatAbsent, PatExn, PatTuple, PatPresent, PatExnOf, pat_tree, pat_trees, pat_height, Tree}
+use Rattle.ac_syntax.specs.Trees.{NameAt, TypeTree, PatTree, PatWild, PatBool, PatAbsent, PatExn, PatTuple, PatPresent, PatExnOf, pat_tree, pat_trees, pat_height, Tree, tree}
 use Rattle.ac_syntax.specs.Types.{IsType}
 use Rattle.ac_syntax.specs.Patterns.{exception_with_string, PatLevel, Pattern, Single, ParsesPat, IsPatTree, IsPattern}
 use Rattle.ac_syntax.specs.Expressions.{begins_atom, front, IsExpr}

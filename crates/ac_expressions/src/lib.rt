@@ -2,9 +2,14 @@
 #![tactic(auto)]
 
 mod binders;
+mod build;
+mod expressions;
 mod front;
+mod keywords;
+mod leaves;
 mod patterns;
 #[cfg(test)]
 mod tests;
 
+pub use expressions::expression;
 pub use patterns::pattern;
