@@ -1,0 +1,852 @@
+use Rattle.std.proofs.Common.{rules, ◌≡◌, ◌<◌, ◌≤◌, ◌-◌, ◌+◌, ℕ, suc, List, [], ◌∷◌, map, refl, sym, ap, subst, ◌∙◌, arith, ◌++◌}
+use Rattle.std.specs.Prelude.{neg_ℤ}
+use Rattle.std.proofs.lemmas.List.{map-append}
+use Rattle.std.proofs.lemmas.Result.{IfOk-weaker, IfErr-weaker, err_from_is_err_and}
+use Rattle.std.proofs.Common.{rules, ◌∷◌, ◌∙◌, ap, sym, subst, w64, ℤ, FitsSigned}
+use Rattle.std.proofs.lemmas.Int.{to_z-of_z}
+use Rattle.ac_syntax.specs.Signs.{Sign, Fixed}
+use Rattle.ac_syntax.specs.Trees.{PatTree, Tree, ExInt, trees, arm_trees, height, highest, highest_arm}
+use Rattle.ac_syntax.specs.Expressions.{Operator, Expr, Part, Binary, After, Unary, App, Args, Atom, front, IsTree}
+use Rattle.ac_syntax.specs.ReadSigns.{read_signs}
+use Rattle.ac_syntax.specs.ReadTrees.{pat_of, expr_of, arm_of}
+use Rattle.ac_syntax.specs.declared.surface.SExpr.{SExpr}
+use Rattle.ac_syntax.specs.declared.surface.SArm.{SArm}
+use Rattle.ac_syntax.specs.declared.sign.Symbol.TheVariants.{Arrow, Close, Comma, Semicolon, Else, Equals, In, Then, With}
+use Rattle.ac_syntax.proofs.OnStop.{on_syntax_more, refused}
+use Rattle.ac_expressions.specs.Parsing.{Nothing, Before, Made}
+use Rattle.ac_expressions.specs.Forms.{Same, NoTree, IsLastPart, operator_read, OperatorAt, IsLastOperand, IsArm, IsArms, IsParts, sequence_tree}
+use Rattle.ac_expressions.proofs.ExprLaws.{arm_of-made}
+use Rattle.ac_expressions.proofs.Readers.{word_at, second_read, then, first_none, later_none, behind, no_symbol, behind_none, before, before_none, symbol_none, one_before, one_typed, one_argument, one_head}
+use Rattle.ac_expressions.proofs.Levels.{flat_none, one_tree, same_start, same_then, same_none, args_ended, argument_none, argument_high, next_argument, applied_none, same_applied, same_operand, prefixed_none, prefixed_tree, second_none, lone_tree, minus_none, minus_tree, not_none, not_tree, app_tree, app_none, unary_tree, unary_none, joined_height, operand_none, binary_tree, after_none, after_ended, left_step, right_step, once_step, goes_on, past_operator}
+use Rattle.ac_expressions.proofs.Words.{operators_tree, operators_none, let_back, let_none, let_rec_back, let_rec_none, fun_back, fun_none, rec_back, rec_none, if_back, if_none, marshal_back, marshal_none, unmarshal_back, unmarshal_none, raise_back, raise_none}
+use Rattle.ac_expressions.proofs.Atoms.{one_pattern, first_arm, next_arm, highest_next_arm, item_read, next_part, highest_next, unit_tree, nil_tree, absent_tree, parens_tree, tuple_high, tuple_none, tuple_made, second_item_none, second_part_none, arms_none, next_arm_none, unended_arms, all_arms, item_none, unended_items, all_items, next_part_none, all_parts, last_none, part_none, alone_tree, sequence_high, sequence_none, sequence_made, match_none, match_tree, try_none, try_tree, nil_none, absent_none, opened_none, unclosed_none, leaf_tree, leaf_none}
+use Rattle.ac_expressions.proofs.NoForms.{unbefore, arm_no_pattern, arm_no_arrow, arm_no_body, choice_no_arms, let_no_bound, let_no_body, let_rec_no_bound, let_rec_no_body, rec_no_body, fun_no_arrow, fun_no_body, if_no_so, if_no_otherwise, marshal_no_value, marshal_no_type, unmarshal_no_type, raise_no_type}
+use Rattle.ac_expressions.proofs.expressions.+expressions.Goals as goal
+
+no_operand : {level depth : ℕ} {ts : List Sign} → NoTree depth (Binary (level - 1)) ts → Nothing (IsLastOperand level depth) ts
+no_operand none' e s o = none' e s o.is
+
+not_last : {level depth : ℕ} {o : Operator} {b : Tree} {ts rest behind : List Sign} → IsTree depth (Binary (level - 1)) ts b rest → OperatorAt level o rest behind → Nothing (IsLastOperand level depth) ts
+not_last {level} {depth} {o} {behind = behind} v w e s l =
+    let d = one_tree depth (Binary (level - 1)) _ _ _ _ _ v l.is in
+    l.ends o behind (subst (λ (m : List Sign). OperatorAt level o m behind) d.1 w)
+
+pub before-returns-in_err-tree-clause-none : goal.before-returns-in_err-tree-clause-none
+before-returns-in_err-tree-clause-none t c =
+    let p = err_from_is_err_and c.from_residual.result c.from_residual.ensures.1 in
+    rw (p.1, p.2) (on_syntax_more _ before_none c.in_err-tree.ensures.none)
+
+pub before-returns-in_err-rest-clause-none : goal.before-returns-in_err-rest-clause-none
+before-returns-in_err-rest-clause-none t c =
+    let p = err_from_is_err_and c.from_residual-in_err-rest.result c.from_residual-in_err-rest.ensures.1 in
+    rw (p.1, p.2) (on_syntax_more _ (unbefore _ _ _ _ _ c.in_ok-tree.ensures.tree) c.in_err-rest.ensures.none)
+
+pub arm-returns-in_err-pat-clause-none : goal.arm-returns-in_err-pat-clause-none
+arm-returns-in_err-pat-clause-none t c =
+    let p = err_from_is_err_and c.from_residual.result c.from_residual.ensures.1 in
+    rw (p.1, p.2) (on_syntax_more _ (arm_no_pattern _ _) c.in_err-pat.ensures.none)
+
+pub arm-returns-in_err-later-clause-none : goal.arm-returns-in_err-later-clause-none
+arm-returns-in_err-later-clause-none t c =
+    let p = err_from_is_err_and c.from_residual-in_err-later.result c.from_residual-in_err-later.ensures.1 in
+    rw (p.1, p.2) (on_syntax_more _ (arm_no_arrow _ _ _ _ c.in_ok-pat.ensures.tree) c.in_err-later.ensures.none)
+
+pub arm-returns-in_err-body-clause-none : goal.arm-returns-in_err-body-clause-none
+arm-returns-in_err-body-clause-none t c =
+    let p = err_from_is_err_and c.from_residual-in_err-body.result c.from_residual-in_err-body.ensures.1 in
+    rw (p.1, p.2) (on_syntax_more _ (arm_no_body _ _ _ _ c.in_ok-pat.ensures.tree _ c.in_ok-later.ensures.found) c.in_err-body.ensures.none)
+
+pub arm-returns-clause-tree : goal.arm-returns-clause-tree
+arm-returns-clause-tree t c =
+    let made = arm_of-made c.in_ok-pat.pat c.into_inner-body.result ∙ ap (λ (e : SExpr). (pat_of c.in_ok-pat.pat, expr_of e)) c.into_inner-body.ensures in
+    subst (λ (x : PatTree × Tree). IsArm c.args.depth (read_signs c.args.signs.now) x (read_signs c.in_ok-body.rest.now)) (sym made) (then _ (before c.in_ok-pat.ensures.tree c.in_ok-later.ensures.found) c.in_ok-body.ensures.tree)
+
+pub arm-returns-clause-height : goal.arm-returns-clause-height
+arm-returns-clause-height t c =
+    let made = arm_of-made c.in_ok-pat.pat c.into_inner-body.result ∙ ap (λ (e : SExpr). (pat_of c.in_ok-pat.pat, expr_of e)) c.into_inner-body.ensures in
+    c.in_ok-body.ensures.height ∙ sym (ap (λ (x : PatTree × Tree). height x.1) made)
+
+pub arms-returns-in_err-first-clause-none : goal.arms-returns-in_err-first-clause-none
+arms-returns-in_err-first-clause-none t c =
+    let p = err_from_is_err_and c.from_residual.result c.from_residual.ensures.1 in
+    rw (p.1, p.2) (on_syntax_more _ (arms_none _ _) c.in_err-first.ensures.none)
+
+pub arms-returns-in_err-next-clause-none : goal.arms-returns-in_err-next-clause-none
+arms-returns-in_err-next-clause-none t c =
+    let p = err_from_is_err_and c.from_residual-in_err-next.result c.from_residual-in_err-next.ensures.1 in
+    rw (p.1, p.2) (on_syntax_more _ (next_arm_none _ _ _ _ c.loop-behind.invariant.read _ c.in-Some.ensures.found) c.in_err-next.ensures.none)
+
+pub arms-returns-in_err-end-clause-none : goal.arms-returns-in_err-end-clause-none
+arms-returns-in_err-end-clause-none t c =
+    let p = err_from_is_err_and c.from_residual-in_err-end.result c.from_residual-in_err-end.ensures.1 in
+    rw (p.1, p.2) (on_syntax_more _ (unended_arms _ _ _ _ c.loop-behind.invariant.read c.in_default.ensures.found) c.in_err-end.ensures.none)
+
+pub arms-returns-clause-tree : goal.arms-returns-clause-tree
+arms-returns-clause-tree t c =
+    all_arms _ _ _ _ c.loop-behind.invariant.read _ c.in_ok-end.ensures.found
+
+pub choice-returns-in_err-of-clause-none : goal.choice-returns-in_err-of-clause-none
+choice-returns-in_err-of-clause-none t c =
+    let p = err_from_is_err_and c.from_residual.result c.from_residual.ensures.1 in
+    rw (p.1, p.2) (on_syntax_more _ first_none c.in_err-of.ensures.none)
+
+pub choice-returns-in_err-arms-clause-none : goal.choice-returns-in_err-arms-clause-none
+choice-returns-in_err-arms-clause-none t c =
+    let p = err_from_is_err_and c.from_residual-in_err-arms.result c.from_residual-in_err-arms.ensures.1 in
+    rw (p.1, p.2) (on_syntax_more _ (choice_no_arms _ _ _ _ _ c.in_ok-of.ensures.tree c.after_bar.ensures.found) c.in_err-arms.ensures.none)
+
+pub choice-returns-clause-tree : goal.choice-returns-clause-tree
+choice-returns-clause-tree t c =
+    then _ c.in_ok-of.ensures.tree (subst (λ (l : List Sign). IsArms c.args.depth l (map arm_of c.in_ok-arms.arms) (read_signs c.in_ok-arms.rest.now)) c.after_bar.ensures.found c.in_ok-arms.ensures.tree)
+
+pub tuple-returns-in_err-second-clause-none : goal.tuple-returns-in_err-second-clause-none
+tuple-returns-in_err-second-clause-none t c =
+    let p = err_from_is_err_and c.from_residual.result c.from_residual.ensures.1 in
+    rw (p.1, p.2) (on_syntax_more _ (second_item_none _ _) c.in_err-second.ensures.none)
+
+pub tuple-returns-in_err-part-clause-none : goal.tuple-returns-in_err-part-clause-none
+tuple-returns-in_err-part-clause-none t c =
+    let p = err_from_is_err_and c.from_residual-in_err-part.result c.from_residual-in_err-part.ensures.1 in
+    rw (p.1, p.2) (on_syntax_more _ (item_none _ _ _ _ _ c.loop-behind.invariant.read _ c.in-Some.ensures.found) c.in_err-part.ensures.none)
+
+pub tuple-returns-in_err-end-clause-none : goal.tuple-returns-in_err-end-clause-none
+tuple-returns-in_err-end-clause-none t c =
+    let p = err_from_is_err_and c.from_residual-in_err-end.result c.from_residual-in_err-end.ensures.1 in
+    rw (p.1, p.2) (on_syntax_more _ (unended_items _ _ _ _ _ c.loop-behind.invariant.read c.in_default.ensures.found) c.in_err-end.ensures.none)
+
+pub tuple-returns-clause-tree : goal.tuple-returns-clause-tree
+tuple-returns-clause-tree t c =
+    all_items _ _ _ _ _ c.loop-behind.invariant.read _ _ _ c.in_ok-end.ensures.found c.in_ok-tuple.ensures.tree
+
+pub opened-returns-in_err-behind-clause-none : goal.opened-returns-in_err-behind-clause-none
+opened-returns-in_err-behind-clause-none t c =
+    let p = err_from_is_err_and c.from_residual-in_err-behind.result c.from_residual-in_err-behind.ensures.1 in
+    rw (p.1, p.2) (on_syntax_more _ (λ n. nil_none _ _ _ _ c.in-Some-after.ensures.found (no_symbol n)) c.in_err-behind.ensures.none)
+
+pub opened-returns-in_err-ty-clause-none : goal.opened-returns-in_err-ty-clause-none
+opened-returns-in_err-ty-clause-none t c =
+    let p = err_from_is_err_and c.from_residual-in_err-ty.result c.from_residual-in_err-ty.ensures.1 in
+    rw (p.1, p.2) (on_syntax_more _ (λ n. nil_none _ _ _ _ c.in-Some-after.ensures.found (behind_none c.in_ok-behind.ensures.found n)) c.in_err-ty.ensures.none)
+
+pub opened-returns-in_err-ty-2-clause-none : goal.opened-returns-in_err-ty-2-clause-none
+opened-returns-in_err-ty-2-clause-none t c =
+    let p = err_from_is_err_and c.from_residual-in_err-ty-2.result c.from_residual-in_err-ty-2.ensures.1 in
+    rw (p.1, p.2) (on_syntax_more _ (absent_none _ _ _ _ c.in-Some-after-2.ensures.found) c.in_err-ty-2.ensures.none)
+
+pub opened-returns-in_err-first-clause-none : goal.opened-returns-in_err-first-clause-none
+opened-returns-in_err-first-clause-none t c =
+    let p = err_from_is_err_and c.from_residual-in_err-first.result c.from_residual-in_err-first.ensures.1 in
+    rw (p.1, p.2) (on_syntax_more _ (opened_none _ _ _ c.in_default.ensures.found c.in_default-after.ensures.found c.in_default-after-2.ensures.found) c.in_err-first.ensures.none)
+
+pub opened-returns-in_err-behind-2-clause-none : goal.opened-returns-in_err-behind-2-clause-none
+opened-returns-in_err-behind-2-clause-none t c =
+    let p = err_from_is_err_and c.from_residual-in_err-behind-2.result c.from_residual-in_err-behind-2.ensures.1 in
+    rw (p.1, p.2) (on_syntax_more _ (unclosed_none _ _ _ c.in_default.ensures.found c.in_default-after.ensures.found c.in_default-after-2.ensures.found _ _ c.in_ok-first.ensures.tree c.in_default-after-3.ensures.found) c.in_err-behind-2.ensures.none)
+
+pub let_in-returns-in_err-binder-clause-none : goal.let_in-returns-in_err-binder-clause-none
+let_in-returns-in_err-binder-clause-none t c =
+    let p = err_from_is_err_and c.from_residual.result c.from_residual.ensures.1 in
+    rw (p.1, p.2) (on_syntax_more _ first_none c.in_err-binder.ensures.none)
+
+pub let_in-returns-in_err-bound-clause-none : goal.let_in-returns-in_err-bound-clause-none
+let_in-returns-in_err-bound-clause-none t c =
+    let p = err_from_is_err_and c.from_residual-in_err-bound.result c.from_residual-in_err-bound.ensures.1 in
+    rw (p.1, p.2) (on_syntax_more _ (let_no_bound _ _ _ _ c.in_ok-binder.ensures.found) c.in_err-bound.ensures.none)
+
+pub let_in-returns-in_err-body-clause-none : goal.let_in-returns-in_err-body-clause-none
+let_in-returns-in_err-body-clause-none t c =
+    let p = err_from_is_err_and c.from_residual-in_err-body.result c.from_residual-in_err-body.ensures.1 in
+    rw (p.1, p.2) (on_syntax_more _ (let_no_body _ _ _ _ c.in_ok-binder.ensures.found _ _ c.in_ok-bound.ensures.tree) c.in_err-body.ensures.none)
+
+pub let_in-returns-clause-tree : goal.let_in-returns-clause-tree
+let_in-returns-clause-tree t c =
+    record { parts = _; is = c.in_ok-let_in.ensures.tree; read = then _ c.in_ok-binder.ensures.found (then _ c.in_ok-bound.ensures.tree c.in_ok-body.ensures.tree) }
+
+pub let_rec-returns-in_err-head-clause-none : goal.let_rec-returns-in_err-head-clause-none
+let_rec-returns-in_err-head-clause-none t c =
+    let p = err_from_is_err_and c.from_residual.result c.from_residual.ensures.1 in
+    rw (p.1, p.2) (on_syntax_more _ first_none c.in_err-head.ensures.none)
+
+pub let_rec-returns-in_err-bound-clause-none : goal.let_rec-returns-in_err-bound-clause-none
+let_rec-returns-in_err-bound-clause-none t c =
+    let p = err_from_is_err_and c.from_residual-in_err-bound.result c.from_residual-in_err-bound.ensures.1 in
+    rw (p.1, p.2) (on_syntax_more _ (let_rec_no_bound _ _ _ _ c.in_ok-head.ensures.found) c.in_err-bound.ensures.none)
+
+pub let_rec-returns-in_err-body-clause-none : goal.let_rec-returns-in_err-body-clause-none
+let_rec-returns-in_err-body-clause-none t c =
+    let p = err_from_is_err_and c.from_residual-in_err-body.result c.from_residual-in_err-body.ensures.1 in
+    rw (p.1, p.2) (on_syntax_more _ (let_rec_no_body _ _ _ _ c.in_ok-head.ensures.found _ _ c.in_ok-bound.ensures.tree) c.in_err-body.ensures.none)
+
+pub let_rec-returns-clause-tree : goal.let_rec-returns-clause-tree
+let_rec-returns-clause-tree t c =
+    record { parts = _; is = c.in_ok-let_rec.ensures.tree; read = then _ c.in_ok-head.ensures.found (then _ c.in_ok-bound.ensures.tree c.in_ok-body.ensures.tree) }
+
+pub fun-returns-in_err-binder-clause-none : goal.fun-returns-in_err-binder-clause-none
+fun-returns-in_err-binder-clause-none t c =
+    let p = err_from_is_err_and c.from_residual.result c.from_residual.ensures.1 in
+    rw (p.1, p.2) (on_syntax_more _ first_none c.in_err-binder.ensures.none)
+
+pub fun-returns-in_err-later-clause-none : goal.fun-returns-in_err-later-clause-none
+fun-returns-in_err-later-clause-none t c =
+    let p = err_from_is_err_and c.from_residual-in_err-later.result c.from_residual-in_err-later.ensures.1 in
+    rw (p.1, p.2) (on_syntax_more _ (fun_no_arrow _ _ _ _ c.in_ok-binder.ensures.found) c.in_err-later.ensures.none)
+
+pub fun-returns-in_err-body-clause-none : goal.fun-returns-in_err-body-clause-none
+fun-returns-in_err-body-clause-none t c =
+    let p = err_from_is_err_and c.from_residual-in_err-body.result c.from_residual-in_err-body.ensures.1 in
+    rw (p.1, p.2) (on_syntax_more _ (fun_no_body _ _ _ _ c.in_ok-binder.ensures.found _ c.in_ok-later.ensures.found) c.in_err-body.ensures.none)
+
+pub fun-returns-clause-tree : goal.fun-returns-clause-tree
+fun-returns-clause-tree t c =
+    record { parts = _; is = c.in_ok-fun.ensures.tree; read = then _ c.in_ok-binder.ensures.found (behind c.in_ok-later.ensures.found c.in_ok-body.ensures.tree) }
+
+pub rec-returns-in_err-head-clause-none : goal.rec-returns-in_err-head-clause-none
+rec-returns-in_err-head-clause-none t c =
+    let p = err_from_is_err_and c.from_residual.result c.from_residual.ensures.1 in
+    rw (p.1, p.2) (on_syntax_more _ first_none c.in_err-head.ensures.none)
+
+pub rec-returns-in_err-body-clause-none : goal.rec-returns-in_err-body-clause-none
+rec-returns-in_err-body-clause-none t c =
+    let p = err_from_is_err_and c.from_residual-in_err-body.result c.from_residual-in_err-body.ensures.1 in
+    rw (p.1, p.2) (on_syntax_more _ (rec_no_body _ _ _ _ c.in_ok-head.ensures.found) c.in_err-body.ensures.none)
+
+pub rec-returns-clause-tree : goal.rec-returns-clause-tree
+rec-returns-clause-tree t c =
+    record { parts = _; is = c.in_ok-rec.ensures.tree; read = then _ c.in_ok-head.ensures.found c.in_ok-body.ensures.tree }
+
+pub if_else-returns-in_err-test-clause-none : goal.if_else-returns-in_err-test-clause-none
+if_else-returns-in_err-test-clause-none t c =
+    let p = err_from_is_err_and c.from_residual.result c.from_residual.ensures.1 in
+    rw (p.1, p.2) (on_syntax_more _ first_none c.in_err-test.ensures.none)
+
+pub if_else-returns-in_err-so-clause-none : goal.if_else-returns-in_err-so-clause-none
+if_else-returns-in_err-so-clause-none t c =
+    let p = err_from_is_err_and c.from_residual-in_err-so.result c.from_residual-in_err-so.ensures.1 in
+    rw (p.1, p.2) (on_syntax_more _ (if_no_so _ _ _ _ c.in_ok-test.ensures.tree) c.in_err-so.ensures.none)
+
+pub if_else-returns-in_err-otherwise-clause-none : goal.if_else-returns-in_err-otherwise-clause-none
+if_else-returns-in_err-otherwise-clause-none t c =
+    let p = err_from_is_err_and c.from_residual-in_err-otherwise.result c.from_residual-in_err-otherwise.ensures.1 in
+    rw (p.1, p.2) (on_syntax_more _ (if_no_otherwise _ _ _ _ c.in_ok-test.ensures.tree _ _ c.in_ok-so.ensures.tree) c.in_err-otherwise.ensures.none)
+
+pub if_else-returns-clause-tree : goal.if_else-returns-clause-tree
+if_else-returns-clause-tree t c =
+    record { parts = _; is = c.in_ok-if_else.ensures.tree; read = then _ c.in_ok-test.ensures.tree (then _ c.in_ok-so.ensures.tree c.in_ok-otherwise.ensures.tree) }
+
+pub marshal-returns-in_err-mark-clause-none : goal.marshal-returns-in_err-mark-clause-none
+marshal-returns-in_err-mark-clause-none t c =
+    let p = err_from_is_err_and c.from_residual.result c.from_residual.ensures.1 in
+    rw (p.1, p.2) (on_syntax_more _ first_none c.in_err-mark.ensures.none)
+
+pub marshal-returns-in_err-value-clause-none : goal.marshal-returns-in_err-value-clause-none
+marshal-returns-in_err-value-clause-none t c =
+    let p = err_from_is_err_and c.from_residual-in_err-value.result c.from_residual-in_err-value.ensures.1 in
+    rw (p.1, p.2) (on_syntax_more _ (marshal_no_value _ _ _ _ c.in_ok-mark.ensures.tree) c.in_err-value.ensures.none)
+
+pub marshal-returns-in_err-ty-clause-none : goal.marshal-returns-in_err-ty-clause-none
+marshal-returns-in_err-ty-clause-none t c =
+    let p = err_from_is_err_and c.from_residual-in_err-ty.result c.from_residual-in_err-ty.ensures.1 in
+    rw (p.1, p.2) (on_syntax_more _ (marshal_no_type _ _ _ _ c.in_ok-mark.ensures.tree _ _ c.in_ok-value.ensures.tree) c.in_err-ty.ensures.none)
+
+pub marshal-returns-clause-tree : goal.marshal-returns-clause-tree
+marshal-returns-clause-tree t c =
+    record { parts = _; is = c.in_ok-marshal.ensures.tree; read = then _ c.in_ok-mark.ensures.tree (then _ c.in_ok-value.ensures.tree c.in_ok-ty.ensures.found) }
+
+pub unmarshal-returns-in_err-text-clause-none : goal.unmarshal-returns-in_err-text-clause-none
+unmarshal-returns-in_err-text-clause-none t c =
+    let p = err_from_is_err_and c.from_residual.result c.from_residual.ensures.1 in
+    rw (p.1, p.2) (on_syntax_more _ first_none c.in_err-text.ensures.none)
+
+pub unmarshal-returns-in_err-ty-clause-none : goal.unmarshal-returns-in_err-ty-clause-none
+unmarshal-returns-in_err-ty-clause-none t c =
+    let p = err_from_is_err_and c.from_residual-in_err-ty.result c.from_residual-in_err-ty.ensures.1 in
+    rw (p.1, p.2) (on_syntax_more _ (unmarshal_no_type _ _ _ _ c.in_ok-text.ensures.tree) c.in_err-ty.ensures.none)
+
+pub unmarshal-returns-clause-tree : goal.unmarshal-returns-clause-tree
+unmarshal-returns-clause-tree t c =
+    record { parts = _; is = c.in_ok-unmarshal.ensures.tree; read = then _ c.in_ok-text.ensures.tree c.in_ok-ty.ensures.found }
+
+pub raise-returns-in_err-exception-clause-none : goal.raise-returns-in_err-exception-clause-none
+raise-returns-in_err-exception-clause-none t c =
+    let p = err_from_is_err_and c.from_residual.result c.from_residual.ensures.1 in
+    rw (p.1, p.2) (on_syntax_more _ first_none c.in_err-exception.ensures.none)
+
+pub raise-returns-in_err-ty-clause-none : goal.raise-returns-in_err-ty-clause-none
+raise-returns-in_err-ty-clause-none t c =
+    let p = err_from_is_err_and c.from_residual-in_err-ty.result c.from_residual-in_err-ty.ensures.1 in
+    rw (p.1, p.2) (on_syntax_more _ (raise_no_type _ _ _ _ c.in_ok-exception.ensures.tree) c.in_err-ty.ensures.none)
+
+pub raise-returns-clause-tree : goal.raise-returns-clause-tree
+raise-returns-clause-tree t c =
+    record { parts = _; is = c.in_ok-raise.ensures.tree; read = then _ c.in_ok-exception.ensures.tree c.in_ok-ty.ensures.found }
+
+pub part-returns-in_default-clause-tree : goal.part-returns-in_default-clause-tree
+part-returns-in_default-clause-tree t c =
+    IfOk-weaker c.binary.result _ _ (λ x o. operators_tree _ _ _ _ o) c.binary.ensures.tree
+
+pub part-returns-in_default-clause-none : goal.part-returns-in_default-clause-none
+part-returns-in_default-clause-none t c =
+    IfErr-weaker c.binary.result _ _ (λ e o. on_syntax_more e (operators_none _ _ c.in_default.ensures.found) o) c.binary.ensures.none
+
+pub part-returns-then-depth-eq0-clause-none : goal.part-returns-then-depth-eq0-clause-none
+part-returns-then-depth-eq0-clause-none t c =
+    refused _ _ c.refused_at.ensures (flat_none _ _ _ c.if-depth-eq0.true)
+
+pub part-returns-clause-tree : goal.part-returns-clause-tree
+part-returns-clause-tree t c =
+    IfOk-weaker c.keyword_part.result _ _ (λ x o. subst (λ (l : List Sign). IsTree c.args.depth Part l (expr_of x.0.tree) (read_signs x.1.now)) (sym (word_at c.in-Some.ensures.found c.here.ensures)) o) c.keyword_part.ensures.tree
+
+pub part-returns-clause-none : goal.part-returns-clause-none
+part-returns-clause-none t c =
+    IfErr-weaker c.keyword_part.result _ _ (λ e o. on_syntax_more e (λ n. subst (λ (l : List Sign). NoTree c.args.depth Part l) (sym (word_at c.in-Some.ensures.found c.here.ensures)) n) o) c.keyword_part.ensures.none
+
+pub expr-returns-in_err-first-clause-none : goal.expr-returns-in_err-first-clause-none
+expr-returns-in_err-first-clause-none t c =
+    let p = err_from_is_err_and c.from_residual.result c.from_residual.ensures.1 in
+    rw (p.1, p.2) (on_syntax_more _ (part_none _ _) c.in_err-first.ensures.none)
+
+pub expr-returns-in_default-clause-tree : goal.expr-returns-in_default-clause-tree
+expr-returns-in_default-clause-tree t c =
+    alone_tree _ _ _ _ c.in_ok-first.ensures.tree c.in_default.ensures.found
+
+pub expr-returns-then-first-depth-clause-none : goal.expr-returns-then-first-depth-clause-none
+expr-returns-then-first-depth-clause-none t c =
+    refused _ _ c.refused_at.ensures (sequence_high _ _ _ _ _ c.in_ok-first.ensures.tree c.in-Some.ensures.found (subst (λ (n : ℕ). c.args.depth ≤ n) c.in_ok-first.ensures.height c.if-first-depth.true))
+
+pub expr-returns-clause-tree : goal.expr-returns-clause-tree
+expr-returns-clause-tree t c =
+    let low : height (expr_of c.in_ok-first.first.tree) < c.args.depth = omega (arith, c.in_ok-first.ensures.height, c.if-first-depth.false) in
+    IfOk-weaker c.sequence.result _ _
+    (λ x o. sequence_made _ _ _ _ _ c.in_ok-first.ensures.tree c.in-Some.ensures.found _ _ low
+    (subst (λ (at : ℕ). Made (IsParts (c.args.depth - 1)) (sequence_tree at (expr_of c.in_ok-first.first.tree)) (read_signs c.in-Some.behind.now) (expr_of x.0.tree) (read_signs x.1.now)) c.here.ensures o)) c.sequence.ensures.tree
+
+pub expr-returns-clause-none : goal.expr-returns-clause-none
+expr-returns-clause-none t c =
+    IfErr-weaker c.sequence.result _ _ (λ e o. on_syntax_more e (sequence_none _ _ _ _ _ c.in_ok-first.ensures.tree c.in-Some.ensures.found) o) c.sequence.ensures.none
+
+pub sequence-returns-in_err-second-clause-none : goal.sequence-returns-in_err-second-clause-none
+sequence-returns-in_err-second-clause-none t c =
+    let p = err_from_is_err_and c.from_residual.result c.from_residual.ensures.1 in
+    rw (p.1, p.2) (on_syntax_more _ (second_part_none _ _) c.in_err-second.ensures.none)
+
+pub sequence-returns-in_err-next-clause-none : goal.sequence-returns-in_err-next-clause-none
+sequence-returns-in_err-next-clause-none t c =
+    let p = err_from_is_err_and c.from_residual-in_err-next.result c.from_residual-in_err-next.ensures.1 in
+    rw (p.1, p.2) (on_syntax_more _ (next_part_none _ _ _ _ _ c.loop-behind.invariant.read _ c.in-Some.ensures.found) c.in_err-next.ensures.none)
+
+pub sequence-returns-clause-tree : goal.sequence-returns-clause-tree
+sequence-returns-clause-tree t c =
+    all_parts _ _ _ _ _ c.loop-behind.invariant.read _ _ c.in_default.ensures.found c.in_ok-sequence.ensures.tree
+
+pub atom-returns-then-depth-eq0-clause-none : goal.atom-returns-then-depth-eq0-clause-none
+atom-returns-then-depth-eq0-clause-none t c =
+    refused _ _ c.refused_at.ensures (flat_none _ _ _ c.if-depth-eq0.true)
+
+pub atom-returns-in-Some-clause-tree : goal.atom-returns-in-Some-clause-tree
+atom-returns-in-Some-clause-tree t c =
+    IfOk-weaker c.opened.result _ _ (λ x o. subst (λ (l : List Sign). IsTree c.args.depth Atom l (expr_of x.0.tree) (read_signs x.1.now)) (sym (word_at c.in-Some.ensures.found c.here-at.ensures)) o) c.opened.ensures.tree
+
+pub atom-returns-in-Some-clause-none : goal.atom-returns-in-Some-clause-none
+atom-returns-in-Some-clause-none t c =
+    IfErr-weaker c.opened.result _ _ (λ e o. on_syntax_more e (λ n. subst (λ (l : List Sign). NoTree c.args.depth Atom l) (sym (word_at c.in-Some.ensures.found c.here-at.ensures)) n) o) c.opened.ensures.none
+
+pub atom-returns-in_err-choice-clause-none : goal.atom-returns-in_err-choice-clause-none
+atom-returns-in_err-choice-clause-none t c =
+    let pos : 0 < c.args.depth = omega (arith, c.if-depth-eq0.false) in
+    let p = err_from_is_err_and c.from_residual.result c.from_residual.ensures.1 in
+    rw (p.1, p.2) (on_syntax_more _ (match_none _ _ _ pos c.in-Some-after.ensures.found) c.in_err-choice.ensures.none)
+
+pub atom-returns-in-Some-after-clause-tree : goal.atom-returns-in-Some-after-clause-tree
+atom-returns-in-Some-after-clause-tree t c =
+    let pos : 0 < c.args.depth = omega (arith, c.if-depth-eq0.false) in match_tree _ _ _ pos _ _ _ _ _ c.here-at.ensures c.in_ok-choice.ensures.tree c.in-Some-after.ensures.found c.in_ok-match_with.ensures.tree
+
+pub atom-returns-in_err-choice-2-clause-none : goal.atom-returns-in_err-choice-2-clause-none
+atom-returns-in_err-choice-2-clause-none t c =
+    let pos : 0 < c.args.depth = omega (arith, c.if-depth-eq0.false) in
+    let p = err_from_is_err_and c.from_residual-in_err-choice-2.result c.from_residual-in_err-choice-2.ensures.1 in
+    rw (p.1, p.2) (on_syntax_more _ (try_none _ _ _ pos c.in-Some-after-2.ensures.found) c.in_err-choice-2.ensures.none)
+
+pub atom-returns-in-Some-after-2-clause-tree : goal.atom-returns-in-Some-after-2-clause-tree
+atom-returns-in-Some-after-2-clause-tree t c =
+    let pos : 0 < c.args.depth = omega (arith, c.if-depth-eq0.false) in try_tree _ _ _ pos _ _ _ _ _ c.here-at.ensures c.in_ok-choice-2.ensures.tree c.in-Some-after-2.ensures.found c.in_ok-try_with.ensures.tree
+
+pub atom-returns-in_err-tree-clause-none : goal.atom-returns-in_err-tree-clause-none
+atom-returns-in_err-tree-clause-none t c =
+    let p = err_from_is_err_and c.from_residual-in_err-tree.result c.from_residual-in_err-tree.ensures.1 in
+    rw (p.1, p.2) (on_syntax_more _ (λ f. leaf_none _ _ (f c.in_default.ensures.found c.in_default-after.ensures.found c.in_default-after-2.ensures.found)) c.in_err-tree.ensures.none)
+
+pub atom-returns-clause-tree : goal.atom-returns-clause-tree
+atom-returns-clause-tree t c =
+    let pos : 0 < c.args.depth = omega (arith, c.if-depth-eq0.false) in
+    subst (λ (e : SExpr). IsTree c.args.depth Atom (read_signs c.args.signs.now) (expr_of e) (read_signs c.in_ok-tree.rest.now)) (sym c.in_ok-tree-2.ensures) (leaf_tree _ _ _ _ pos c.in_ok-tree.ensures.found)
+
+pub atom-returns-clause-height : goal.atom-returns-clause-height
+atom-returns-clause-height t c =
+    sym (ap (λ (e : SExpr). height (expr_of e)) c.in_ok-tree-2.ensures ∙ c.in_ok-tree.ensures.found.leaf)
+
+pub app-returns-then-depth-eq0-clause-none : goal.app-returns-then-depth-eq0-clause-none
+app-returns-then-depth-eq0-clause-none t c =
+    refused _ _ c.refused_at.ensures (flat_none _ _ _ c.if-depth-eq0.true)
+
+pub app-returns-in_err-item-clause-none : goal.app-returns-in_err-item-clause-none
+app-returns-in_err-item-clause-none t c =
+    let pos : 0 < c.args.depth = omega (arith, c.if-depth-eq0.false) in
+    let p = err_from_is_err_and c.from_residual.result c.from_residual.ensures.1 in
+    rw (p.1, p.2) (on_syntax_more _ (prefixed_none _ _ _ _ _ c.in-Some.ensures.found pos) c.in_err-item.ensures.none)
+
+pub app-returns-then-begins_atom-clause-none : goal.app-returns-then-begins_atom-clause-none
+app-returns-then-begins_atom-clause-none t c =
+    let pos : 0 < c.args.depth = omega (arith, c.if-depth-eq0.false) in refused _ _ c.refused_at-then-begins_atom.ensures (second_none _ _ _ _ _ c.in-Some.ensures.found pos _ _ c.in_ok-item.ensures.tree (sym c.begins_atom.ensures ∙ c.if-begins_atom.true))
+
+pub app-returns-clause-tree : goal.app-returns-clause-tree
+app-returns-clause-tree t c =
+    let pos : 0 < c.args.depth = omega (arith, c.if-depth-eq0.false) in
+    subst (λ (x : Tree). IsTree c.args.depth App (read_signs c.args.signs.now) x (read_signs c.in_ok-item.rest.now)) (sym c.in_ok-prefixed_by.ensures.tree)
+    (prefixed_tree _ _ _ _ _ c.in-Some.ensures.found pos _ _ c.in_ok-item.ensures.tree (sym c.begins_atom.ensures ∙ c.if-begins_atom.false))
+
+pub minus-returns-in-Some-clause-tree : goal.minus-returns-in-Some-clause-tree
+minus-returns-in-Some-clause-tree t c =
+    let f : FitsSigned w64 c.in_ok-negated.field-0 = search rules in
+    lone_tree _ _ _ _ _ _ c.requires c.in-Some.ensures.found (c.in_ok-number.ensures.tree ∙ ap (ExInt c.args.at) (to_z-of_z w64 c.in_ok-negated.field-0 f ∙ c.in_ok-negated.ensures))
+
+pub minus-returns-in_err-operand-clause-none : goal.minus-returns-in_err-operand-clause-none
+minus-returns-in_err-operand-clause-none t c =
+    let p = err_from_is_err_and c.from_residual-in_err-operand.result c.from_residual-in_err-operand.ensures.1 in
+    rw (p.1, p.2) (on_syntax_more _ (minus_none _ _ _ c.in_default.ensures.found c.requires) c.in_err-operand.ensures.none)
+
+pub minus-returns-clause-tree : goal.minus-returns-clause-tree
+minus-returns-clause-tree t c =
+    minus_tree _ _ _ c.in_default.ensures.found c.requires _ _ _ c.in_ok-operand.ensures.tree c.in_ok-operation.ensures.tree
+
+pub unary-returns-then-depth-eq0-clause-none : goal.unary-returns-then-depth-eq0-clause-none
+unary-returns-then-depth-eq0-clause-none t c =
+    refused _ _ c.refused_at.ensures (flat_none _ _ _ c.if-depth-eq0.true)
+
+pub unary-returns-in-Some-clause-tree : goal.unary-returns-in-Some-clause-tree
+unary-returns-in-Some-clause-tree t c =
+    IfOk-weaker c.minus.result _ _ (λ x o. subst (λ (l : List Sign). IsTree c.args.depth Unary l (expr_of x.0.tree) (read_signs x.1.now)) (sym (word_at c.in-Some.ensures.found c.here-at.ensures)) o) c.minus.ensures.tree
+
+pub unary-returns-in-Some-clause-none : goal.unary-returns-in-Some-clause-none
+unary-returns-in-Some-clause-none t c =
+    IfErr-weaker c.minus.result _ _ (λ e o. on_syntax_more e (λ n. subst (λ (l : List Sign). NoTree c.args.depth Unary l) (sym (word_at c.in-Some.ensures.found c.here-at.ensures)) n) o) c.minus.ensures.none
+
+pub unary-returns-then-depth-eq0-2-clause-none : goal.unary-returns-then-depth-eq0-2-clause-none
+unary-returns-then-depth-eq0-2-clause-none t c =
+    refused _ _ c.refused_at-then-depth-eq0-2.ensures (flat_none _ _ _ c.if-depth-eq0-2.true)
+
+pub unary-returns-in_err-operand-clause-none : goal.unary-returns-in_err-operand-clause-none
+unary-returns-in_err-operand-clause-none t c =
+    let pos : 0 < c.args.depth = omega (arith, c.if-depth-eq0-2.false) in
+    let p = err_from_is_err_and c.from_residual.result c.from_residual.ensures.1 in
+    rw (p.1, p.2) (on_syntax_more _ (not_none _ _ _ c.in-Some-after.ensures.found pos) c.in_err-operand.ensures.none)
+
+pub unary-returns-in-Some-after-clause-tree : goal.unary-returns-in-Some-after-clause-tree
+unary-returns-in-Some-after-clause-tree t c =
+    let pos : 0 < c.args.depth = omega (arith, c.if-depth-eq0-2.false) in not_tree _ _ _ c.in-Some-after.ensures.found pos _ _ _ _ c.here-at.ensures c.in_ok-operand.ensures.tree c.in_ok-operation.ensures.tree
+
+pub unary-returns-clause-tree : goal.unary-returns-clause-tree
+unary-returns-clause-tree t c =
+    IfOk-weaker c.app.result _ _ (λ x o. app_tree _ _ _ _ o) c.app.ensures.tree
+
+pub unary-returns-clause-none : goal.unary-returns-clause-none
+unary-returns-clause-none t c =
+    IfErr-weaker c.app.result _ _ (λ e o. on_syntax_more e (app_none _ _ c.in_default.ensures.found c.in_default-after.ensures.found) o) c.app.ensures.none
+
+pub to_right-returns-in_default-clause-tree : goal.to_right-returns-in_default-clause-tree
+to_right-returns-in_default-clause-tree t c =
+    let low : height (expr_of c.args.first.tree) ≤ c.args.depth = omega (arith, c.requires.first, c.requires.low) in
+    after_ended _ _ _ _ _ c.requires.level.0 c.requires.level.1 low c.requires.stops c.in_default.ensures.found
+
+pub to_right-returns-then-first-depth-clause-none : goal.to_right-returns-then-first-depth-clause-none
+to_right-returns-then-first-depth-clause-none t c =
+    let lv : suc (c.args.level - 1) ≡ c.args.level = omega (arith, c.requires.level.0) in
+    let s = right_step _ _ c.args.depth c.args.at _ _ _ _ lv c.in-Some.ensures.found c.requires.side in
+    refused _ _ c.refused_at.ensures (s.high (subst (λ (n : ℕ). c.args.depth ≤ n) c.requires.first c.if-first-depth.true))
+
+pub once-returns-in_default-clause-tree : goal.once-returns-in_default-clause-tree
+once-returns-in_default-clause-tree t c =
+    let low : height (expr_of c.args.first.tree) ≤ c.args.depth = omega (arith, c.requires.first, c.requires.low) in
+    after_ended _ _ _ _ _ c.requires.level.0 c.requires.level.1 low c.requires.stops c.in_default.ensures.found
+
+pub once-returns-then-first-depth-clause-none : goal.once-returns-then-first-depth-clause-none
+once-returns-then-first-depth-clause-none t c =
+    let lv : suc (c.args.level - 1) ≡ c.args.level = omega (arith, c.requires.level.0) in
+    let s = once_step _ _ c.args.depth c.args.at _ _ _ _ lv c.in-Some.ensures.found c.requires.side in
+    refused _ _ c.refused_at.ensures (s.high (subst (λ (n : ℕ). c.args.depth ≤ n) c.requires.first c.if-first-depth.true))
+
+pub binary-returns-then-level-eq0-clause-tree : goal.binary-returns-then-level-eq0-clause-tree
+binary-returns-then-level-eq0-clause-tree t c =
+    IfOk-weaker c.unary.result _ _ (λ x o. unary_tree _ _ _ _ _ c.if-level-eq0.true o) c.unary.ensures.tree
+
+pub binary-returns-then-level-eq0-clause-none : goal.binary-returns-then-level-eq0-clause-none
+binary-returns-then-level-eq0-clause-none t c =
+    IfErr-weaker c.unary.result _ _ (λ e o. on_syntax_more e (unary_none _ _ _ c.if-level-eq0.true) o) c.unary.ensures.none
+
+pub binary-returns-in_err-first-clause-none : goal.binary-returns-in_err-first-clause-none
+binary-returns-in_err-first-clause-none t c =
+    let lv : suc (c.args.level - 1) ≡ c.args.level = omega (arith, c.if-level-eq0.false) in
+    let p = err_from_is_err_and c.from_residual.result c.from_residual.ensures.1 in
+    rw (p.1, p.2) (on_syntax_more _ (operand_none _ _ _ _ lv) c.in_err-first.ensures.none)
+
+pub arms-loop-behind-init : goal.arms-loop-behind-init
+arms-loop-behind-init t c =
+    let h = c.in_ok-first.ensures in
+    let arms = ap (map arm_of) (c.in_ok-push.ensures.ok ∙ ap (λ (l : List SArm). l ++ c.in_ok-first.first ∷ []) c.new-arms.ensures) in
+    let low : height (arm_of c.in_ok-first.first).1 ≤ c.args.depth = h.tree.second.low in
+    record {
+      read = first_arm _ _ _ _ _ h.tree arms;
+      height = omega (arith, h.height, ap (λ (l : List (PatTree × Tree)). highest_arm (arm_trees l)) arms);
+      low = omega (arith, h.height, low);
+      shorter = h.shorter;
+    }
+
+pub arms-loop-behind-preserved : goal.arms-loop-behind-preserved
+arms-loop-behind-preserved t c =
+    let i = c.loop-behind.invariant in
+    let h = c.in_ok-next.ensures in
+    let arms = ap (map arm_of) c.in_ok-push-2.ensures.ok ∙ map-append arm_of c.loop-behind.arms (c.in_ok-next.next ∷ []) in
+    let low : height (arm_of c.in_ok-next.next).1 ≤ c.args.depth = h.tree.second.low in
+    record {
+      read = next_arm _ _ _ _ i.read _ c.in-Some.ensures.found _ _ _ h.tree arms;
+      height = highest_next_arm (map arm_of c.loop-behind.arms) (arm_of c.in_ok-next.next) _ _ _ _ arms i.height h.height c.max-height.ensures;
+      low = omega (arith, c.max-height.ensures, i.low, low, h.height);
+      shorter = omega (arith, i.shorter, c.in-Some.ensures.shorter, h.shorter);
+    }
+
+pub tuple-loop-behind-preserved : goal.tuple-loop-behind-preserved
+tuple-loop-behind-preserved t c =
+    let i = c.loop-behind.invariant in
+    let h = c.in_ok-part.ensures in
+    let parts = ap (map expr_of) (c.in_ok-push.ensures.ok ∙ ap (λ (e : SExpr). c.loop-behind.parts ++ e ∷ []) c.into_inner.ensures) ∙ map-append expr_of c.loop-behind.parts (c.in_ok-part.part.tree ∷ []) in
+    let low : height (expr_of c.in_ok-part.part.tree) ≤ c.args.depth = h.tree.low in
+    record {
+      read = item_read _ _ _ _ _ i.read _ c.in-Some.ensures.found _ _ _ h.tree parts;
+      height = highest_next (map expr_of c.loop-behind.parts) (expr_of c.in_ok-part.part.tree) _ _ _ _ parts i.height h.height c.max-height-in-Some.ensures;
+      low = omega (arith, c.max-height-in-Some.ensures, i.low, low, h.height, c.requires.small);
+      shorter = omega (arith, i.shorter, c.in-Some.ensures.shorter, h.shorter);
+    }
+
+pub sequence-loop-behind-preserved : goal.sequence-loop-behind-preserved
+sequence-loop-behind-preserved t c =
+    let i = c.loop-behind.invariant in
+    let h = c.in_ok-next.ensures in
+    let parts = ap (map expr_of) (c.in_ok-push.ensures.ok ∙ ap (λ (e : SExpr). c.loop-behind.parts ++ e ∷ []) c.into_inner.ensures) ∙ map-append expr_of c.loop-behind.parts (c.in_ok-next.next.tree ∷ []) in
+    let low : height (expr_of c.in_ok-next.next.tree) ≤ c.args.depth = h.tree.low in
+    record {
+      read = next_part _ _ _ _ _ i.read _ c.in-Some.ensures.found _ _ _ h.tree parts;
+      height = highest_next (map expr_of c.loop-behind.parts) (expr_of c.in_ok-next.next.tree) _ _ _ _ parts i.height h.height c.max-height-in-Some.ensures;
+      low = omega (arith, c.max-height-in-Some.ensures, i.low, low, h.height, c.requires.small);
+      shorter = omega (arith, i.shorter, c.in-Some.ensures.shorter, h.shorter);
+    }
+
+pub next_argument-returns-in_err-argument-clause-none : goal.next_argument-returns-in_err-argument-clause-none
+next_argument-returns-in_err-argument-clause-none t c =
+    let p = err_from_is_err_and c.from_residual.result c.from_residual.ensures.1 in
+    rw (p.1, p.2) c.in_err-argument.ensures.none
+
+pub next_argument-returns-clause-tree : goal.next_argument-returns-clause-tree
+next_argument-returns-clause-tree t c =
+    record { parts = _; is = c.in_ok-application.ensures.tree; read = c.in_ok-argument.ensures.tree }
+
+pub applied-returns-in_err-function-clause-none : goal.applied-returns-in_err-function-clause-none
+applied-returns-in_err-function-clause-none t c =
+    let p = err_from_is_err_and c.from_residual.result c.from_residual.ensures.1 in
+    rw (p.1, p.2) (on_syntax_more _ (λ n. applied_none _ _ n c.requires) c.in_err-function.ensures.none)
+
+pub applied-loop-alloc-init : goal.applied-loop-alloc-init
+applied-loop-alloc-init t c =
+    let h = c.in_ok-function.ensures in
+    let low : height (expr_of c.in_ok-function.function.tree) ≤ c.args.depth = h.tree.low in
+    record {
+      same = subst (λ (at : ℕ). Same c.args.depth App (read_signs c.args.signs.now) (Args at (expr_of c.in_ok-function.function.tree)) (read_signs c.in_ok-function.rest.now)) (sym c.here-at.ensures) (same_applied _ _ _ _ h.tree c.requires);
+      height = h.height;
+      low = omega (arith, h.height, low);
+      shorter = h.shorter;
+    }
+
+pub applied-returns-then-function-depth-clause-none : goal.applied-returns-then-function-depth-clause-none
+applied-returns-then-function-depth-clause-none t c =
+    let i = c.loop-alloc.invariant in
+    refused _ _ c.refused_at.ensures (same_none i.same (argument_high _ _ _ _ (sym c.begins_atom.ensures ∙ c.loop-alloc-test.true) (subst (λ (n : ℕ). c.args.depth ≤ n) i.height c.if-function-depth.true)))
+
+pub applied-returns-in_err-next-clause-none : goal.applied-returns-in_err-next-clause-none
+applied-returns-in_err-next-clause-none t c =
+    let p = err_from_is_err_and c.from_residual-in_err-next.result c.from_residual-in_err-next.ensures.1 in
+    rw (p.1, p.2) (on_syntax_more _ (λ n. same_none c.loop-alloc.invariant.same (argument_none _ _ _ _ (sym c.begins_atom.ensures ∙ c.loop-alloc-test.true) n)) c.in_err-next.ensures.none)
+
+pub applied-loop-alloc-preserved : goal.applied-loop-alloc-preserved
+applied-loop-alloc-preserved t c =
+    let i = c.loop-alloc.invariant in
+    let h = c.in_ok-next.ensures in
+    let low : height h.tree.parts ≤ c.args.depth - 1 = h.tree.read.low in
+    record {
+      same = subst (λ (x : Tree). Same c.args.depth App (read_signs c.args.signs.now) (Args c.here-at.result x) (read_signs c.in_ok-next.later.now)) (sym h.tree.is)
+          (same_then i.same (next_argument _ _ _ _ (sym c.begins_atom.ensures ∙ c.loop-alloc-test.true) _ _ h.tree.read));
+      height = h.height;
+      low = omega (arith, h.height, ap height h.tree.is, i.height, c.if-function-depth.false, low);
+      shorter = omega (arith, i.shorter, h.shorter);
+    }
+
+pub applied-returns-clause-tree : goal.applied-returns-clause-tree
+applied-returns-clause-tree t c =
+    let i = c.loop-alloc.invariant in
+    let low : height (expr_of c.loop-alloc.function.tree) ≤ c.args.depth = omega (arith, i.height, i.low) in
+    i.same.back _ _ (args_ended _ _ _ _ (sym c.begins_atom.ensures ∙ c.loop-alloc-test.false) low)
+
+pub right_side-returns-in_err-right-clause-none : goal.right_side-returns-in_err-right-clause-none
+right_side-returns-in_err-right-clause-none t c =
+    let p = err_from_is_err_and c.from_residual.result c.from_residual.ensures.1 in
+    rw (p.1, p.2) c.in_err-right.ensures.none
+
+pub right_side-returns-clause-tree : goal.right_side-returns-clause-tree
+right_side-returns-clause-tree t c =
+    record { parts = _; is = c.in_ok-join.ensures.tree; read = c.in_ok-right.ensures.tree }
+
+pub to_left-returns-in_err-left-clause-none : goal.to_left-returns-in_err-left-clause-none
+to_left-returns-in_err-left-clause-none t c =
+    let lv : suc (c.args.level - 1) ≡ c.args.level = omega (arith, c.requires.level.0) in
+    let p = err_from_is_err_and c.from_residual.result c.from_residual.ensures.1 in
+    rw (p.1, p.2) (on_syntax_more _ (operand_none _ _ _ _ lv) c.in_err-left.ensures.none)
+
+pub to_left-loop-operator-init : goal.to_left-loop-operator-init
+to_left-loop-operator-init t c =
+    let lv : suc (c.args.level - 1) ≡ c.args.level = omega (arith, c.requires.level.0) in
+    let h = c.in_ok-left.ensures in
+    let low : height (expr_of c.in_ok-left.left.tree) ≤ c.args.depth = h.tree.low in
+    let stops : suc (c.args.level - 1) < front (read_signs c.in_ok-left.rest.now) = h.tree.stops in
+    record {
+      same = subst (λ (at : ℕ). Same c.args.depth (Binary c.args.level) (read_signs c.args.signs.now) (After c.args.level at (expr_of c.in_ok-left.left.tree)) (read_signs c.in_ok-left.rest.now)) (sym c.here-at.ensures)
+          (same_operand _ _ _ _ lv _ _ h.tree);
+      height = h.height;
+      low = omega (arith, h.height, low);
+      stops = omega (arith, stops);
+      shorter = h.shorter;
+    }
+
+pub to_left-returns-then-left-depth-clause-none : goal.to_left-returns-then-left-depth-clause-none
+to_left-returns-then-left-depth-clause-none t c =
+    let lv : suc (c.args.level - 1) ≡ c.args.level = omega (arith, c.requires.level.0) in
+    let i = c.loop-operator.invariant in
+    let s = left_step _ _ c.args.depth c.here-at.result _ _ _ _ lv c.in-Some.ensures.found c.requires.side in
+    refused _ _ c.refused_at.ensures (same_none i.same (s.high (subst (λ (n : ℕ). c.args.depth ≤ n) i.height c.if-left-depth.true)))
+
+pub to_left-returns-in_err-joined-clause-none : goal.to_left-returns-in_err-joined-clause-none
+to_left-returns-in_err-joined-clause-none t c =
+    let lv : suc (c.args.level - 1) ≡ c.args.level = omega (arith, c.requires.level.0) in
+    let s = left_step _ _ c.args.depth c.here-at.result _ _ _ _ lv c.in-Some.ensures.found c.requires.side in
+    let p = err_from_is_err_and c.from_residual-in_err-joined.result c.from_residual-in_err-joined.ensures.1 in
+    rw (p.1, p.2) (on_syntax_more _ (λ n. same_none c.loop-operator.invariant.same (s.refused n)) c.in_err-joined.ensures.none)
+
+pub to_left-loop-operator-preserved : goal.to_left-loop-operator-preserved
+to_left-loop-operator-preserved t c =
+    let lv : suc (c.args.level - 1) ≡ c.args.level = omega (arith, c.requires.level.0) in
+    let s = left_step _ _ c.args.depth c.here-at.result _ _ _ _ lv c.in-Some.ensures.found c.requires.side in
+    let i = c.loop-operator.invariant in
+    let h = c.in_ok-joined.ensures in
+    let stops : suc (c.args.level - 1) < front (read_signs c.in_ok-joined.later.now) = h.tree.read.stops in
+    let low : height h.tree.parts ≤ c.args.depth - 1 = h.tree.read.low in
+    record {
+      same = subst (λ (x : Tree). Same c.args.depth (Binary c.args.level) (read_signs c.args.signs.now) (After c.args.level c.here-at.result x) (read_signs c.in_ok-joined.later.now)) (sym h.tree.is)
+          (same_then i.same (s.next _ _ h.tree.read));
+      height = h.height;
+      low = omega (arith, h.height, ap height h.tree.is, joined_height c.here-at.result (operator_read c.in-Some.operator) (expr_of c.loop-operator.left.tree) h.tree.parts, i.height, c.if-left-depth.false, low);
+      stops = omega (arith, stops);
+      shorter = omega (arith, i.shorter, c.in-Some.ensures.shorter, h.shorter);
+    }
+
+pub to_left-returns-clause-tree : goal.to_left-returns-clause-tree
+to_left-returns-clause-tree t c =
+    let i = c.loop-operator.invariant in
+    let low : height (expr_of c.loop-operator.left.tree) ≤ c.args.depth = omega (arith, i.height, i.low) in
+    i.same.back _ _ (after_ended _ _ _ _ _ c.requires.level.0 c.requires.level.1 low i.stops c.in_default.ensures.found)
+
+pub to_right-returns-clause-tree : goal.to_right-returns-clause-tree
+to_right-returns-clause-tree t c =
+    let lv : suc (c.args.level - 1) ≡ c.args.level = omega (arith, c.requires.level.0) in
+    let s = right_step _ _ c.args.depth c.args.at _ _ _ _ lv c.in-Some.ensures.found c.requires.side in
+    let low : height (expr_of c.args.first.tree) < c.args.depth = omega (arith, c.requires.first, c.if-first-depth.false) in
+    IfOk-weaker c.right_side.result _ _
+    (λ x o. subst (λ (e : Tree). IsTree c.args.depth (After c.args.level c.args.at (expr_of c.args.first.tree)) (read_signs c.args.signs.now) e (read_signs x.1.now)) (sym o.is) (s.made _ _ o.read low o.read.stops)) c.right_side.ensures.tree
+
+pub to_right-returns-clause-none : goal.to_right-returns-clause-none
+to_right-returns-clause-none t c =
+    let lv : suc (c.args.level - 1) ≡ c.args.level = omega (arith, c.requires.level.0) in
+    let s = right_step _ _ c.args.depth c.args.at _ _ _ _ lv c.in-Some.ensures.found c.requires.side in
+    IfErr-weaker c.right_side.result _ _ (λ e o. on_syntax_more e (λ n. s.refused n) o) c.right_side.ensures.none
+
+pub binary-returns-then-level-eq4-clause-tree : goal.binary-returns-then-level-eq4-clause-tree
+binary-returns-then-level-eq4-clause-tree t c =
+    let lv : suc (c.args.level - 1) ≡ c.args.level = omega (arith, c.if-level-eq0.false) in
+    IfOk-weaker c.once.result _ _
+    (λ x o. binary_tree _ _ _ _ lv _ _ c.in_ok-first.ensures.tree _ _
+    (subst (λ (at : ℕ). IsTree c.args.depth (After c.args.level at (expr_of c.in_ok-first.first.tree)) (read_signs c.in_ok-first.rest.now) (expr_of x.0.tree) (read_signs x.1.now)) c.here-at.ensures o)) c.once.ensures.tree
+
+pub binary-returns-then-level-eq4-clause-none : goal.binary-returns-then-level-eq4-clause-none
+binary-returns-then-level-eq4-clause-none t c =
+    let lv : suc (c.args.level - 1) ≡ c.args.level = omega (arith, c.if-level-eq0.false) in
+    IfErr-weaker c.once.result _ _
+    (λ e o. on_syntax_more e (λ n. after_none _ _ _ _ lv _ _ c.in_ok-first.ensures.tree
+    (subst (λ (at : ℕ). NoTree c.args.depth (After c.args.level at (expr_of c.in_ok-first.first.tree)) (read_signs c.in_ok-first.rest.now)) c.here-at.ensures n)) o) c.once.ensures.none
+
+pub binary-returns-else-level-eq4-clause-tree : goal.binary-returns-else-level-eq4-clause-tree
+binary-returns-else-level-eq4-clause-tree t c =
+    let lv : suc (c.args.level - 1) ≡ c.args.level = omega (arith, c.if-level-eq0.false) in
+    IfOk-weaker c.to_right.result _ _
+    (λ x o. binary_tree _ _ _ _ lv _ _ c.in_ok-first.ensures.tree _ _
+    (subst (λ (at : ℕ). IsTree c.args.depth (After c.args.level at (expr_of c.in_ok-first.first.tree)) (read_signs c.in_ok-first.rest.now) (expr_of x.0.tree) (read_signs x.1.now)) c.here-at.ensures o)) c.to_right.ensures.tree
+
+pub binary-returns-else-level-eq4-clause-none : goal.binary-returns-else-level-eq4-clause-none
+binary-returns-else-level-eq4-clause-none t c =
+    let lv : suc (c.args.level - 1) ≡ c.args.level = omega (arith, c.if-level-eq0.false) in
+    IfErr-weaker c.to_right.result _ _
+    (λ e o. on_syntax_more e (λ n. after_none _ _ _ _ lv _ _ c.in_ok-first.ensures.tree
+    (subst (λ (at : ℕ). NoTree c.args.depth (After c.args.level at (expr_of c.in_ok-first.first.tree)) (read_signs c.in_ok-first.rest.now)) c.here-at.ensures n)) o) c.to_right.ensures.none
+
+pub opened-returns-in-Some-clause-tree : goal.opened-returns-in-Some-clause-tree
+opened-returns-in-Some-clause-tree t c =
+    unit_tree _ _ _ _ _ c.requires c.in-Some.ensures.found c.in_ok-unit.ensures.tree
+
+pub opened-returns-in-Some-after-clause-tree : goal.opened-returns-in-Some-after-clause-tree
+opened-returns-in-Some-after-clause-tree t c =
+    nil_tree _ _ _ _ _ _ _ _ c.requires c.in-Some-after.ensures.found c.in_ok-behind.ensures.found c.in_ok-ty.ensures.found c.in_ok-nil.ensures.tree
+
+pub opened-returns-in-Some-after-2-clause-tree : goal.opened-returns-in-Some-after-2-clause-tree
+opened-returns-in-Some-after-2-clause-tree t c =
+    absent_tree _ _ _ _ _ _ _ c.requires c.in-Some-after-2.ensures.found c.in_ok-ty-2.ensures.found c.in_ok-absent.ensures.tree
+
+pub opened-returns-in-Some-after-3-clause-tree : goal.opened-returns-in-Some-after-3-clause-tree
+opened-returns-in-Some-after-3-clause-tree t c =
+    parens_tree _ _ _ c.in_default.ensures.found c.in_default-after.ensures.found c.in_default-after-2.ensures.found _ _ c.in_ok-first.ensures.tree _ c.in-Some-after-3.ensures.found
+
+pub opened-returns-then-first-depth-clause-none : goal.opened-returns-then-first-depth-clause-none
+opened-returns-then-first-depth-clause-none t c =
+    refused _ _ c.refused_at.ensures (tuple_high _ _ _ c.in_default.ensures.found c.in_default-after.ensures.found c.in_default-after-2.ensures.found _ _ c.in_ok-first.ensures.tree _ c.in_default-after-3.ensures.found c.in_ok-behind-2.ensures.found (subst (λ (n : ℕ). c.args.depth ≤ n) c.in_ok-first.ensures.height c.if-first-depth.true))
+
+pub opened-returns-clause-tree : goal.opened-returns-clause-tree
+opened-returns-clause-tree t c =
+    let low : height (expr_of c.in_ok-first.first.tree) < c.args.depth = omega (arith, c.in_ok-first.ensures.height, c.if-first-depth.false) in
+    IfOk-weaker c.tuple.result _ _ (λ x o. tuple_made _ _ _ c.in_default.ensures.found c.in_default-after.ensures.found c.in_default-after-2.ensures.found _ _ c.in_ok-first.ensures.tree _ c.in_default-after-3.ensures.found c.in_ok-behind-2.ensures.found _ _ low o) c.tuple.ensures.tree
+
+pub opened-returns-clause-none : goal.opened-returns-clause-none
+opened-returns-clause-none t c =
+    IfErr-weaker c.tuple.result _ _ (λ e o. on_syntax_more e (tuple_none _ _ _ c.in_default.ensures.found c.in_default-after.ensures.found c.in_default-after-2.ensures.found _ _ c.in_ok-first.ensures.tree _ c.in_default-after-3.ensures.found c.in_ok-behind-2.ensures.found) o) c.tuple.ensures.none
+
+pub keyword_part-returns-in-Fun-clause-tree : goal.keyword_part-returns-in-Fun-clause-tree
+keyword_part-returns-in-Fun-clause-tree t c =
+    rw c.in-Fun.is (IfOk-weaker c.fun.result _ _ (λ x o. fun_back _ _ _ _ _ c.requires o) c.fun.ensures.tree)
+
+pub keyword_part-returns-in-Fun-clause-none : goal.keyword_part-returns-in-Fun-clause-none
+keyword_part-returns-in-Fun-clause-none t c =
+    rw c.in-Fun.is (IfErr-weaker c.fun.result _ _ (λ e o. on_syntax_more e (fun_none _ _ _) o) c.fun.ensures.none)
+
+pub keyword_part-returns-in-Rec-clause-tree : goal.keyword_part-returns-in-Rec-clause-tree
+keyword_part-returns-in-Rec-clause-tree t c =
+    rw c.in-Rec.is (IfOk-weaker c.rec.result _ _ (λ x o. rec_back _ _ _ _ _ c.requires o) c.rec.ensures.tree)
+
+pub keyword_part-returns-in-Rec-clause-none : goal.keyword_part-returns-in-Rec-clause-none
+keyword_part-returns-in-Rec-clause-none t c =
+    rw c.in-Rec.is (IfErr-weaker c.rec.result _ _ (λ e o. on_syntax_more e (rec_none _ _ _) o) c.rec.ensures.none)
+
+pub keyword_part-returns-in-If-clause-tree : goal.keyword_part-returns-in-If-clause-tree
+keyword_part-returns-in-If-clause-tree t c =
+    rw c.in-If.is (IfOk-weaker c.if_else.result _ _ (λ x o. if_back _ _ _ _ _ c.requires o) c.if_else.ensures.tree)
+
+pub keyword_part-returns-in-If-clause-none : goal.keyword_part-returns-in-If-clause-none
+keyword_part-returns-in-If-clause-none t c =
+    rw c.in-If.is (IfErr-weaker c.if_else.result _ _ (λ e o. on_syntax_more e (if_none _ _ _) o) c.if_else.ensures.none)
+
+pub keyword_part-returns-in-Marshal-clause-tree : goal.keyword_part-returns-in-Marshal-clause-tree
+keyword_part-returns-in-Marshal-clause-tree t c =
+    rw c.in-Marshal.is (IfOk-weaker c.marshal.result _ _ (λ x o. marshal_back _ _ _ _ _ c.requires o) c.marshal.ensures.tree)
+
+pub keyword_part-returns-in-Marshal-clause-none : goal.keyword_part-returns-in-Marshal-clause-none
+keyword_part-returns-in-Marshal-clause-none t c =
+    rw c.in-Marshal.is (IfErr-weaker c.marshal.result _ _ (λ e o. on_syntax_more e (marshal_none _ _ _) o) c.marshal.ensures.none)
+
+pub keyword_part-returns-in-Unmarshal-clause-tree : goal.keyword_part-returns-in-Unmarshal-clause-tree
+keyword_part-returns-in-Unmarshal-clause-tree t c =
+    rw c.in-Unmarshal.is (IfOk-weaker c.unmarshal.result _ _ (λ x o. unmarshal_back _ _ _ _ _ c.requires o) c.unmarshal.ensures.tree)
+
+pub keyword_part-returns-in-Unmarshal-clause-none : goal.keyword_part-returns-in-Unmarshal-clause-none
+keyword_part-returns-in-Unmarshal-clause-none t c =
+    rw c.in-Unmarshal.is (IfErr-weaker c.unmarshal.result _ _ (λ e o. on_syntax_more e (unmarshal_none _ _ _) o) c.unmarshal.ensures.none)
+
+pub keyword_part-returns-in-Raise-clause-tree : goal.keyword_part-returns-in-Raise-clause-tree
+keyword_part-returns-in-Raise-clause-tree t c =
+    rw c.in-Raise.is (IfOk-weaker c.raise.result _ _ (λ x o. raise_back _ _ _ _ _ c.requires o) c.raise.ensures.tree)
+
+pub keyword_part-returns-in-Raise-clause-none : goal.keyword_part-returns-in-Raise-clause-none
+keyword_part-returns-in-Raise-clause-none t c =
+    rw c.in-Raise.is (IfErr-weaker c.raise.result _ _ (λ e o. on_syntax_more e (raise_none _ _ _) o) c.raise.ensures.none)
+
+pub keyword_part-returns-in-Some-clause-tree : goal.keyword_part-returns-in-Some-clause-tree
+keyword_part-returns-in-Some-clause-tree t c =
+    rw c.in-Let.is (IfOk-weaker c.let_rec.result _ _ (λ x o. let_rec_back _ _ _ _ _ _ c.requires c.in-Some.ensures.found o) c.let_rec.ensures.tree)
+
+pub keyword_part-returns-in-Some-clause-none : goal.keyword_part-returns-in-Some-clause-none
+keyword_part-returns-in-Some-clause-none t c =
+    rw c.in-Let.is (IfErr-weaker c.let_rec.result _ _ (λ e o. on_syntax_more e (let_rec_none _ _ _ _ c.in-Some.ensures.found) o) c.let_rec.ensures.none)
+
+pub keyword_part-returns-in-None-clause-tree : goal.keyword_part-returns-in-None-clause-tree
+keyword_part-returns-in-None-clause-tree t c =
+    rw c.in-Let.is (IfOk-weaker c.let_in.result _ _ (λ x o. let_back _ _ _ _ _ c.requires o) c.let_in.ensures.tree)
+
+pub keyword_part-returns-in-None-clause-none : goal.keyword_part-returns-in-None-clause-none
+keyword_part-returns-in-None-clause-none t c =
+    rw c.in-Let.is (IfErr-weaker c.let_in.result _ _ (λ e o. on_syntax_more e (let_none _ _ _ c.in-None.ensures.found) o) c.let_in.ensures.none)
+
+pub compared-returns-in_err-joined-clause-none : goal.compared-returns-in_err-joined-clause-none
+compared-returns-in_err-joined-clause-none t c =
+    let p = err_from_is_err_and c.from_residual.result c.from_residual.ensures.1 in
+    rw (p.1, p.2) (on_syntax_more _ no_operand c.in_err-joined.ensures.none)
+
+pub compared-returns-in-Some-clause-none : goal.compared-returns-in-Some-clause-none
+compared-returns-in-Some-clause-none t c =
+    refused _ _ c.refused_at.ensures (not_last c.in_ok-joined.ensures.tree.read c.in-Some.ensures.found)
+
+pub compared-returns-in-None-clause-tree : goal.compared-returns-in-None-clause-tree
+compared-returns-in-None-clause-tree t c =
+    let m = c.in_ok-joined.ensures.tree in
+    record { parts = m.parts; is = m.is; read = record { is = m.read; ends = c.in-None.ensures.found } }
+
+pub once-returns-clause-tree : goal.once-returns-clause-tree
+once-returns-clause-tree t c =
+    let lv : suc (c.args.level - 1) ≡ c.args.level = omega (arith, c.requires.level.0) in
+    let s = once_step _ _ c.args.depth c.args.at _ _ _ _ lv c.in-Some.ensures.found c.requires.side in
+    let low : height (expr_of c.args.first.tree) < c.args.depth = omega (arith, c.requires.first, c.if-first-depth.false) in
+    IfOk-weaker c.compared.result _ _
+    (λ x o.
+    let stops : suc (c.args.level - 1) < front (read_signs x.1.now) = o.read.is.stops in
+    let level : c.args.level < front (read_signs x.1.now) = omega (arith, stops) in
+    subst (λ (e : Tree). IsTree c.args.depth (After c.args.level c.args.at (expr_of c.args.first.tree)) (read_signs c.args.signs.now) e (read_signs x.1.now)) (sym o.is)
+    (s.made _ _ o.read.is low (past_operator _ _ c.requires.level.0 c.requires.level.1 level o.read.ends))) c.compared.ensures.tree
+
+pub once-returns-clause-none : goal.once-returns-clause-none
+once-returns-clause-none t c =
+    let lv : suc (c.args.level - 1) ≡ c.args.level = omega (arith, c.requires.level.0) in
+    let s = once_step _ _ c.args.depth c.args.at _ _ _ _ lv c.in-Some.ensures.found c.requires.side in
+    IfErr-weaker c.compared.result _ _ (λ e o. on_syntax_more e (λ n. s.ended (λ b r v h. n b r (record { is = v; ends = λ u m w. goes_on _ _ _ _ w h }))) o) c.compared.ensures.none
+
+pub tuple-loop-behind-init : goal.tuple-loop-behind-init
+tuple-loop-behind-init t c =
+    let h = c.in_ok-second.ensures in
+    let parts = ap (map expr_of) c.in_ok-parts.ensures in
+    let low : height (expr_of c.in_ok-second.second.tree) ≤ c.args.depth = h.tree.low in
+    record {
+      read = second_read (Before Comma (IsTree c.args.depth Expr)) (Before Close (IsTree c.args.depth Expr)) h.tree parts;
+      height = omega (arith, c.max-height.ensures, c.requires.first, h.height, ap (λ (l : List Tree). highest (trees l)) parts);
+      low = omega (arith, c.max-height.ensures, c.requires.low, c.requires.small, low, h.height);
+      shorter = h.shorter;
+    }
+
+pub sequence-loop-behind-init : goal.sequence-loop-behind-init
+sequence-loop-behind-init t c =
+    let h = c.in_ok-second.ensures in
+    let parts = ap (map expr_of) c.in_ok-parts.ensures in
+    let low : height (expr_of c.in_ok-second.second.tree) ≤ c.args.depth = h.tree.low in
+    record {
+      read = second_read (Before Semicolon (IsTree c.args.depth Part)) (IsLastPart c.args.depth) h.tree parts;
+      height = omega (arith, c.max-height.ensures, c.requires.first, h.height, ap (λ (l : List Tree). highest (trees l)) parts);
+      low = omega (arith, c.max-height.ensures, c.requires.low, c.requires.small, low, h.height);
+      shorter = h.shorter;
+    }

@@ -1,0 +1,162 @@
+use Rattle.std.proofs.Common.{◌<◌, ◌≤◌, ◌-◌, ◌+◌, ℕ, List, [], ◌∷◌, map, refl, sym, ap, subst, ◌∙◌, arith}
+use Rattle.std.proofs.lemmas.List.{map-append}
+use Rattle.std.proofs.lemmas.Result.{IfOk-weaker, IfErr-weaker, err_from_is_err_and}
+use Rattle.ac_syntax.specs.Signs.{Sign}
+use Rattle.ac_syntax.specs.Trees.{PatTree, PatCons, pat_height}
+use Rattle.ac_syntax.specs.Patterns.{Pattern, Prefixed, Single, IsPatTree}
+use Rattle.ac_syntax.specs.ReadSigns.{read_signs}
+use Rattle.ac_syntax.specs.ReadTrees.{pat_of}
+use Rattle.ac_syntax.proofs.OnStop.{on_syntax_more, refused}
+use Rattle.ac_expressions.specs.Parsing.{NoPat}
+use Rattle.ac_expressions.proofs.Readers.{word_at}
+use Rattle.ac_expressions.proofs.PatLaws.{pat_of-Tuple, pat_of-Unit}
+use Rattle.ac_expressions.proofs.PatSteps.{flat_pat, one_pat, pat_alone, pat_none, pat_cons, cons_none, cons_high, prefixed_tree, prefixed_none, single_tree, single_none, unit_pat, var_pat, var_none, opened_none, unclosed_none, tuple_high, tuple_none, tuple_tree, parens_tree, leaf_tree, leaf_none, tuple_of, second_none, part_none, part_read, unended_none, highest_next}
+use Rattle.ac_expressions.proofs.patterns.+patterns.Goals as goal
+
+pub whole-returns-in_err-head-clause-none : goal.whole-returns-in_err-head-clause-none
+whole-returns-in_err-head-clause-none t c =
+    let p = err_from_is_err_and c.from_residual.result c.from_residual.ensures.1 in
+    rw (p.1, p.2) (on_syntax_more _ (pat_none _ _) c.in_err-head.ensures.none)
+
+pub whole-returns-in_default-clause-tree : goal.whole-returns-in_default-clause-tree
+whole-returns-in_default-clause-tree t c = pat_alone _ _ _ _ c.in_ok-head.ensures.tree c.in_default.ensures.found
+
+pub whole-returns-then-head-depth-clause-none : goal.whole-returns-then-head-depth-clause-none
+whole-returns-then-head-depth-clause-none t c =
+    refused _ _ c.refused_at.ensures (cons_high _ _ _ _ _ c.in_ok-head.ensures.tree c.in-Some.ensures.found (subst (λ (n : ℕ). c.args.depth ≤ n) c.in_ok-head.ensures.height c.if-head-depth.true))
+
+pub whole-returns-in_err-tail-clause-none : goal.whole-returns-in_err-tail-clause-none
+whole-returns-in_err-tail-clause-none t c =
+    let p = err_from_is_err_and c.from_residual-in_err-tail.result c.from_residual-in_err-tail.ensures.1 in
+    rw (p.1, p.2) (on_syntax_more _ (cons_none _ _ _ _ _ c.in_ok-head.ensures.tree c.in-Some.ensures.found) c.in_err-tail.ensures.none)
+
+pub whole-returns-clause-tree : goal.whole-returns-clause-tree
+whole-returns-clause-tree t c =
+    let made = c.in_ok-cons.ensures.tree ∙ ap (λ (at : ℕ). PatCons at (pat_of c.in_ok-head.head.tree) (pat_of c.in_ok-tail.tail.tree)) c.here.ensures in
+    let low : pat_height (pat_of c.in_ok-head.head.tree) < c.args.depth = omega (arith, c.in_ok-head.ensures.height, c.if-head-depth.false) in
+    subst (λ (u : PatTree). IsPatTree c.args.depth Pattern (read_signs c.args.signs.now) u (read_signs c.in_ok-tail.end.now)) (sym made)
+    (pat_cons _ _ _ _ _ c.in_ok-head.ensures.tree c.in-Some.ensures.found _ _ c.in_ok-tail.ensures.tree low)
+
+pub prefixed-returns-in_default-clause-tree : goal.prefixed-returns-in_default-clause-tree
+prefixed-returns-in_default-clause-tree t c = IfOk-weaker c.single.result _ _ (λ x o. single_tree _ _ _ _ o) c.single.ensures.tree
+
+pub prefixed-returns-in_default-clause-none : goal.prefixed-returns-in_default-clause-none
+prefixed-returns-in_default-clause-none t c = IfErr-weaker c.single.result _ _ (λ e o. on_syntax_more e (single_none _ _ c.in_default.ensures.found) o) c.single.ensures.none
+
+pub prefixed-returns-then-depth-eq0-clause-none : goal.prefixed-returns-then-depth-eq0-clause-none
+prefixed-returns-then-depth-eq0-clause-none t c = refused _ _ c.refused_at.ensures (flat_pat _ _ _ c.if-depth-eq0.true)
+
+pub prefixed-returns-in_err-item-clause-none : goal.prefixed-returns-in_err-item-clause-none
+prefixed-returns-in_err-item-clause-none t c =
+    let pos : 0 < c.args.depth = omega (arith, c.if-depth-eq0.false) in
+    let p = err_from_is_err_and c.from_residual.result c.from_residual.ensures.1 in
+    rw (p.1, p.2) (on_syntax_more _ (prefixed_none _ _ _ _ _ c.in-Some.ensures.found pos) c.in_err-item.ensures.none)
+
+pub prefixed-returns-clause-tree : goal.prefixed-returns-clause-tree
+prefixed-returns-clause-tree t c =
+    let pos : 0 < c.args.depth = omega (arith, c.if-depth-eq0.false) in
+    subst (λ (u : PatTree). IsPatTree c.args.depth Prefixed (read_signs c.args.signs.now) u (read_signs c.in_ok-item.rest.now)) (sym c.in_ok-prefixed_by.ensures.tree)
+    (prefixed_tree _ _ _ _ _ c.in-Some.ensures.found pos _ _ c.in_ok-item.ensures.tree)
+
+pub single-returns-then-depth-eq0-clause-none : goal.single-returns-then-depth-eq0-clause-none
+single-returns-then-depth-eq0-clause-none t c = refused _ _ c.refused_at.ensures (flat_pat _ _ _ c.if-depth-eq0.true)
+
+pub single-returns-in-Some-clause-tree : goal.single-returns-in-Some-clause-tree
+single-returns-in-Some-clause-tree t c =
+    IfOk-weaker c.opened.result _ _
+    (λ x o. subst (λ (l : List Sign). IsPatTree c.args.depth Single l (pat_of x.0.tree) (read_signs x.1.now)) (sym (word_at c.in-Some.ensures.found c.here.ensures)) o) c.opened.ensures.tree
+
+pub single-returns-in-Some-clause-none : goal.single-returns-in-Some-clause-none
+single-returns-in-Some-clause-none t c =
+    IfErr-weaker c.opened.result _ _
+    (λ e o. on_syntax_more e (λ n. subst (λ (l : List Sign). NoPat c.args.depth Single l) (sym (word_at c.in-Some.ensures.found c.here.ensures)) n) o) c.opened.ensures.none
+
+pub single-returns-in_err-tree-clause-none : goal.single-returns-in_err-tree-clause-none
+single-returns-in_err-tree-clause-none t c =
+    let p = err_from_is_err_and c.from_residual.result c.from_residual.ensures.1 in
+    rw (p.1, p.2) (on_syntax_more _ (λ f. leaf_none _ _ (f c.in_default.ensures.found)) c.in_err-tree.ensures.none)
+
+pub single-returns-clause-tree : goal.single-returns-clause-tree
+single-returns-clause-tree t c =
+    let pos : 0 < c.args.depth = omega (arith, c.if-depth-eq0.false) in leaf_tree _ _ _ _ pos c.in_ok-tree.ensures.found
+
+pub single-returns-clause-height : goal.single-returns-clause-height
+single-returns-clause-height t c = sym c.in_ok-tree.ensures.found.leaf
+
+pub tuple-returns-in_err-second-clause-none : goal.tuple-returns-in_err-second-clause-none
+tuple-returns-in_err-second-clause-none t c =
+    let p = err_from_is_err_and c.from_residual.result c.from_residual.ensures.1 in
+    rw (p.1, p.2) (on_syntax_more _ (second_none _ _) c.in_err-second.ensures.none)
+
+pub tuple-returns-in_err-part-clause-none : goal.tuple-returns-in_err-part-clause-none
+tuple-returns-in_err-part-clause-none t c =
+    let p = err_from_is_err_and c.from_residual-in_err-part.result c.from_residual-in_err-part.ensures.1 in
+    rw (p.1, p.2) (on_syntax_more _ (part_none _ _ _ _ _ c.loop-behind.invariant.read _ c.in-Some.ensures.found) c.in_err-part.ensures.none)
+
+pub tuple-loop-behind-preserved : goal.tuple-loop-behind-preserved
+tuple-loop-behind-preserved t c =
+    let parts = ap (map pat_of) c.in_ok-push-3.ensures.ok ∙ map-append pat_of c.loop-behind.parts (c.in_ok-part.part.tree ∷ []) in
+    let low : pat_height (pat_of c.in_ok-part.part.tree) ≤ c.args.depth - 1 = c.in_ok-part.ensures.tree.low in
+    record {
+      read = part_read _ _ _ _ _ c.loop-behind.invariant.read _ c.in-Some.ensures.found _ _ _ c.in_ok-part.ensures.tree parts;
+      height = highest_next (map pat_of c.loop-behind.parts) (pat_of c.in_ok-part.part.tree) _ _ _ _ parts c.loop-behind.invariant.height c.in_ok-part.ensures.height c.max-height-in-Some.ensures;
+      low = omega (arith, c.max-height-in-Some.ensures, c.loop-behind.invariant.low, low, c.in_ok-part.ensures.height);
+      shorter = omega (arith, c.loop-behind.invariant.shorter, c.in-Some.ensures.shorter, c.in_ok-part.ensures.shorter);
+    }
+
+pub tuple-returns-in_err-end-clause-none : goal.tuple-returns-in_err-end-clause-none
+tuple-returns-in_err-end-clause-none t c =
+    let p = err_from_is_err_and c.from_residual-in_err-end.result c.from_residual-in_err-end.ensures.1 in
+    rw (p.1, p.2) (on_syntax_more _ (unended_none _ _ _ _ _ c.loop-behind.invariant.read c.in_default.ensures.found) c.in_err-end.ensures.none)
+
+pub tuple-returns-clause-tree : goal.tuple-returns-clause-tree
+tuple-returns-clause-tree t c =
+    tuple_of _ _ _ _ _ c.loop-behind.invariant.read _ _ _ c.in_ok-end.ensures.found (pat_of-Tuple c.args.at c.loop-behind.parts)
+
+pub tuple-returns-clause-height : goal.tuple-returns-clause-height
+tuple-returns-clause-height t c =
+    ap (λ (n : ℕ). n + 1) c.loop-behind.invariant.height ∙ sym (ap pat_height (pat_of-Tuple c.args.at c.loop-behind.parts))
+
+pub opened-returns-in-Some-clause-tree : goal.opened-returns-in-Some-clause-tree
+opened-returns-in-Some-clause-tree t c =
+    unit_pat _ _ _ _ _ c.requires c.in-Some.ensures.found (pat_of-Unit c.args.at)
+
+pub opened-returns-in-Some-clause-height : goal.opened-returns-in-Some-clause-height
+opened-returns-in-Some-clause-height t c =
+    sym (ap pat_height (pat_of-Unit c.args.at))
+
+pub opened-returns-in_err-binder-clause-none : goal.opened-returns-in_err-binder-clause-none
+opened-returns-in_err-binder-clause-none t c =
+    let p = err_from_is_err_and c.from_residual.result c.from_residual.ensures.1 in
+    rw (p.1, p.2) (on_syntax_more _ (λ n. var_none _ _ _ n (sym c.begins_name.ensures ∙ c.if-begins_name.true)) c.in_err-binder.ensures.none)
+
+pub opened-returns-then-begins_name-clause-tree : goal.opened-returns-then-begins_name-clause-tree
+opened-returns-then-begins_name-clause-tree t c =
+    var_pat _ _ _ _ _ _ c.requires c.in_ok-binder.ensures.found c.variable.ensures.tree
+
+pub opened-returns-in_err-first-clause-none : goal.opened-returns-in_err-first-clause-none
+opened-returns-in_err-first-clause-none t c =
+    let p = err_from_is_err_and c.from_residual-in_err-first.result c.from_residual-in_err-first.ensures.1 in
+    rw (p.1, p.2) (on_syntax_more _ (opened_none _ _ _ c.in_default.ensures.found (sym c.begins_name.ensures ∙ c.if-begins_name.false)) c.in_err-first.ensures.none)
+
+pub opened-returns-in-Some-after-clause-tree : goal.opened-returns-in-Some-after-clause-tree
+opened-returns-in-Some-after-clause-tree t c =
+    parens_tree _ _ _ c.in_default.ensures.found (sym c.begins_name.ensures ∙ c.if-begins_name.false) _ _ c.in_ok-first.ensures.tree _ c.in-Some-after.ensures.found
+
+pub opened-returns-in_err-behind-clause-none : goal.opened-returns-in_err-behind-clause-none
+opened-returns-in_err-behind-clause-none t c =
+    let p = err_from_is_err_and c.from_residual-in_err-behind.result c.from_residual-in_err-behind.ensures.1 in
+    rw (p.1, p.2) (on_syntax_more _ (unclosed_none _ _ _ c.in_default.ensures.found (sym c.begins_name.ensures ∙ c.if-begins_name.false) _ _ c.in_ok-first.ensures.tree c.in_default-after.ensures.found) c.in_err-behind.ensures.none)
+
+pub opened-returns-then-first-depth-clause-none : goal.opened-returns-then-first-depth-clause-none
+opened-returns-then-first-depth-clause-none t c =
+    refused _ _ c.refused_at.ensures (tuple_high _ _ _ c.in_default.ensures.found (sym c.begins_name.ensures ∙ c.if-begins_name.false) _ _ c.in_ok-first.ensures.tree _ c.in_default-after.ensures.found c.in_ok-behind.ensures.found (subst (λ (n : ℕ). c.args.depth ≤ n) c.in_ok-first.ensures.height c.if-first-depth.true))
+
+pub opened-returns-clause-tree : goal.opened-returns-clause-tree
+opened-returns-clause-tree t c =
+    let low : pat_height (pat_of c.in_ok-first.first.tree) < c.args.depth = omega (arith, c.in_ok-first.ensures.height, c.if-first-depth.false) in
+    IfOk-weaker c.tuple.result _ _ (λ x o. tuple_tree _ _ _ c.in_default.ensures.found (sym c.begins_name.ensures ∙ c.if-begins_name.false) _ _ c.in_ok-first.ensures.tree _ c.in_default-after.ensures.found c.in_ok-behind.ensures.found _ _ low o) c.tuple.ensures.tree
+
+pub opened-returns-clause-none : goal.opened-returns-clause-none
+opened-returns-clause-none t c =
+    IfErr-weaker c.tuple.result _ _ (λ e o. on_syntax_more e (tuple_none _ _ _ c.in_default.ensures.found (sym c.begins_name.ensures ∙ c.if-begins_name.false) _ _ c.in_ok-first.ensures.tree _ c.in_default-after.ensures.found c.in_ok-behind.ensures.found) o) c.tuple.ensures.none

@@ -1,0 +1,18 @@
+use Rattle.std.proofs.Common.{◌+◌, ◌∙◌, ap, sym, arith}
+use Rattle.ac_syntax.specs.Trees.{PatExnOf, pat_height}
+use Rattle.ac_syntax.specs.ReadTrees.{pat_of}
+use Rattle.ac_syntax.specs.declared.surface.SPat.{SPat}
+use Rattle.ac_expressions.specs.declared.front.Prefix.{Prefix}
+use Rattle.ac_expressions.specs.Parsing.{prefixed_pat}
+use Rattle.ac_expressions.proofs.PatLaws.{pat_of-ExnOf}
+use Rattle.ac_expressions.proofs.patterns.prefixed_by.Goals as goal
+
+pub returns-in-Exn-clause-tree : goal.returns-in-Exn-clause-tree
+returns-in-Exn-clause-tree c =
+    pat_of-ExnOf c.args.at c.in-Exn.number _ ∙ ap (λ (p : SPat). PatExnOf c.args.at c.in-Exn.number (pat_of p)) c.in_ok-item.ensures
+    ∙ sym (ap (λ (x : Prefix). prefixed_pat x c.args.at (pat_of c.args.item.tree)) c.in-Exn.is)
+
+pub returns-in-Exn-clause-height : goal.returns-in-Exn-clause-height
+returns-in-Exn-clause-height c =
+    let same = pat_of-ExnOf c.args.at c.in-Exn.number _ ∙ ap (λ (p : SPat). PatExnOf c.args.at c.in-Exn.number (pat_of p)) c.in_ok-item.ensures in
+    omega (arith, c.requires.item, ap pat_height same)

@@ -1,0 +1,132 @@
+// Lower names with their types.
+
+ghost use Rattle.std.specs.Prelude.{◌≡◌, ◌<◌, length, IfOk, IfErr};
+ghost use Rattle.ac_syntax.specs.ReadSigns.{read_signs};
+ghost use Rattle.ac_syntax.specs.ReadTrees.{type_of};
+ghost use Rattle.ac_syntax.specs.Types.{IsType};
+ghost use Rattle.ac_syntax.specs.Parsing.{OnSyntax};
+ghost use Rattle.ac_expressions.specs.Parsing.{Nothing, Behind, Before, IsAscribed, IsTyped, IsArgument, IsHead, IsLastType, binder_of, head_of};
+
+use crate::front::{ends_part, expect, name};
+use ac_syntax::{HIGHEST_TYPE, SName, SType, Sign, Stop, Symbol, refused_at, whole_type};
+use std::alloc::Global;
+
+/// A name with its type.
+#[derive(Drop)]
+pub struct Binder {
+    pub name: SName,
+    pub ty: SType,
+}
+
+/// A function's name, argument and result.
+#[derive(Drop)]
+pub struct Head {
+    pub name: SName,
+    pub argument: Binder,
+    pub result: SType,
+}
+
+/// A type with this symbol behind it.
+fn type_before<'s, 't>(
+    alloc: Global,
+    symbol: Symbol,
+    signs: &'s [Sign<'t>],
+) -> Result<(SType, &'s [Sign<'t>]), Stop>
+    ensures found { IfOk result (λ x. Before symbol IsType (read_signs signs.now) (type_of x.0) (read_signs x.1.now)) }
+    ensures shorter { IfOk result (λ x. length x.1.now < length signs.now) }
+    ensures none { IfErr result (λ e. OnSyntax e (Nothing (Before symbol IsType) (read_signs signs.now))) }
+{
+    let (ty, behind) = whole_type(alloc, HIGHEST_TYPE, signs)?;
+    let rest = expect(symbol, behind)?;
+    Ok((ty.tree, rest))
+}
+
+/// `: type`, with this symbol behind it.
+pub fn ascribed<'s, 't>(
+    alloc: Global,
+    symbol: Symbol,
+    signs: &'s [Sign<'t>],
+) -> Result<(SType, &'s [Sign<'t>]), Stop>
+    ensures found { IfOk result (λ x. IsAscribed symbol (read_signs signs.now) (type_of x.0) (read_signs x.1.now)) }
+    ensures shorter { IfOk result (λ x. length x.1.now < length signs.now) }
+    ensures none { IfErr result (λ e. OnSyntax e (Nothing (IsAscribed symbol) (read_signs signs.now))) }
+{
+    let behind = expect(Symbol::Colon, signs)?;
+    type_before(alloc, symbol, behind)
+}
+
+/// `name : type`, with this symbol behind it.
+pub fn typed<'s, 't>(
+    alloc: Global,
+    symbol: Symbol,
+    signs: &'s [Sign<'t>],
+) -> Result<(Binder, &'s [Sign<'t>]), Stop>
+    ensures found { IfOk result (λ x. IsTyped symbol (read_signs signs.now) (binder_of x.0) (read_signs x.1.now)) }
+    ensures shorter { IfOk result (λ x. length x.1.now < length signs.now) }
+    ensures none { IfErr result (λ e. OnSyntax e (Nothing (IsTyped symbol) (read_signs signs.now))) }
+{
+    let (name, behind) = name(alloc, signs)?;
+    let (ty, rest) = ascribed(alloc, symbol, behind)?;
+    Ok((Binder { name, ty }, rest))
+}
+
+/// `( name : type )`.
+pub fn argument<'s, 't>(
+    alloc: Global,
+    signs: &'s [Sign<'t>],
+) -> Result<(Binder, &'s [Sign<'t>]), Stop>
+    ensures found { IfOk result (λ x. IsArgument (read_signs signs.now) (binder_of x.0) (read_signs x.1.now)) }
+    ensures shorter { IfOk result (λ x. length x.1.now < length signs.now) }
+    ensures none { IfErr result (λ e. OnSyntax e (Nothing IsArgument (read_signs signs.now))) }
+{
+    let inner = expect(Symbol::Open, signs)?;
+    typed(alloc, Symbol::Close, inner)
+}
+
+/// `name ( name : type ) : type =`.
+pub fn function_head<'s, 't>(
+    alloc: Global,
+    signs: &'s [Sign<'t>],
+) -> Result<(Head, &'s [Sign<'t>]), Stop>
+    ensures found { IfOk result (λ x. IsHead (read_signs signs.now) (head_of x.0) (read_signs x.1.now)) }
+    ensures shorter { IfOk result (λ x. length x.1.now < length signs.now) }
+    ensures none { IfErr result (λ e. OnSyntax e (Nothing IsHead (read_signs signs.now))) }
+{
+    let (name, behind) = name(alloc, signs)?;
+    let (argument, later) = argument(alloc, behind)?;
+    let (result, rest) = ascribed(alloc, Symbol::Equals, later)?;
+    let head = Head {
+        name,
+        argument,
+        result,
+    };
+    Ok((head, rest))
+}
+
+/// A type behind which a part ends.
+fn last_type<'s, 't>(alloc: Global, signs: &'s [Sign<'t>]) -> Result<(SType, &'s [Sign<'t>]), Stop>
+    ensures found { IfOk result (λ x. IsLastType (read_signs signs.now) (type_of x.0) (read_signs x.1.now)) }
+    ensures shorter { IfOk result (λ x. length x.1.now < length signs.now) }
+    ensures none { IfErr result (λ e. OnSyntax e (Nothing IsLastType (read_signs signs.now))) }
+{
+    let (ty, rest) = whole_type(alloc, HIGHEST_TYPE, signs)?;
+    if ends_part(rest) {
+        Ok((ty.tree, rest))
+    } else {
+        Err(refused_at(rest))
+    }
+}
+
+/// This symbol, and a type behind which a part ends.
+pub fn type_behind<'s, 't>(
+    alloc: Global,
+    symbol: Symbol,
+    signs: &'s [Sign<'t>],
+) -> Result<(SType, &'s [Sign<'t>]), Stop>
+    ensures found { IfOk result (λ x. Behind symbol IsLastType (read_signs signs.now) (type_of x.0) (read_signs x.1.now)) }
+    ensures shorter { IfOk result (λ x. length x.1.now < length signs.now) }
+    ensures none { IfErr result (λ e. OnSyntax e (Nothing (Behind symbol IsLastType) (read_signs signs.now))) }
+{
+    let behind = expect(symbol, signs)?;
+    last_type(alloc, behind)
+}

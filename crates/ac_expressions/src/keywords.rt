@@ -1,0 +1,60 @@
+// Words that begin a part, and the bar in front of arms.
+
+ghost use Rattle.std.specs.Prelude.{◌≡◌, ◌<◌, ◌≤◌, length, IfSome, MatchOption};
+ghost use Rattle.ac_syntax.specs.Expressions.{after_bar};
+ghost use Rattle.ac_syntax.specs.ReadSigns.{read_signs};
+ghost use Rattle.ac_syntax.specs.Parsing.{SymbolAt};
+ghost use Rattle.ac_expressions.specs.Forms.{keyword_symbol, NoKeyword};
+
+use ac_syntax::{Sign, SignKind, Symbol, after, next};
+
+/// A word that begins a part.
+#[derive(Clone, Copy, Debug, PartialEq, Eq)]
+pub enum Keyword {
+    Let,
+    Fun,
+    Rec,
+    If,
+    Marshal,
+    Unmarshal,
+    Raise,
+}
+
+fn keyword_of(symbol: Symbol) -> Option<Keyword>
+    ensures { MatchOption result ((k : Keyword) → symbol ≡ keyword_symbol k → ⊥) (λ k. symbol ≡ keyword_symbol k) }
+{
+    match symbol {
+        Symbol::Let => Some(Keyword::Let),
+        Symbol::Fun => Some(Keyword::Fun),
+        Symbol::Rec => Some(Keyword::Rec),
+        Symbol::If => Some(Keyword::If),
+        Symbol::Marshal => Some(Keyword::Marshal),
+        Symbol::Unmarshal => Some(Keyword::Unmarshal),
+        Symbol::Raise => Some(Keyword::Raise),
+        _ => None,
+    }
+}
+
+/// A word at the front that begins a part.
+pub fn next_keyword<'s, 't>(signs: &'s [Sign<'t>]) -> Option<(Keyword, &'s [Sign<'t>])>
+    ensures found { MatchOption result (NoKeyword (read_signs signs.now)) (λ x. SymbolAt (keyword_symbol x.0) (read_signs signs.now) (read_signs x.1.now)) }
+    ensures shorter { IfSome result (λ x. length x.1.now < length signs.now) }
+{
+    let (first, rest) = next(signs)?;
+    let SignKind::Fixed(symbol) = first.kind else {
+        return None;
+    };
+    let keyword = keyword_of(symbol)?;
+    Some((keyword, rest))
+}
+
+/// What stands behind a `|`, where one stands here.
+pub fn after_bar<'s, 't>(signs: &'s [Sign<'t>]) -> &'s [Sign<'t>]
+    ensures found { read_signs result.now ≡ after_bar (read_signs signs.now) }
+    ensures within { length result.now ≤ length signs.now }
+{
+    if let Some(rest) = after(Symbol::Bar, signs) {
+        return rest;
+    }
+    signs
+}

@@ -1,0 +1,78 @@
+// Expressions that are leaves.
+
+ghost use Rattle.std.specs.Prelude.{◌≡◌, ◌<◌, ℕ, ◌∷◌, length, IfOk, IfErr, MatchOption, Some, None};
+ghost use Rattle.ac_syntax.specs.Signs.{Upper};
+ghost use Rattle.ac_syntax.specs.ReadSigns.{read_signs};
+ghost use Rattle.ac_syntax.specs.ReadTrees.{expr_of, expr_kind_of};
+ghost use Rattle.ac_syntax.specs.Parsing.{OnSyntax, NoSymbol};
+ghost use Rattle.ac_expressions.specs.Forms.{base_expr, LeafAt, NoLeaf};
+
+use crate::front::{constant, expect, name};
+use ac_syntax::{SExpr, SExprKind, SName, Sign, SignKind, Stop, Symbol, next, refused_at};
+use ac_types::Word;
+use std::alloc::Global;
+
+#[tactic(auto, using(crate::proofs::ExprLaws::expr_laws))]
+fn base_kind(symbol: Symbol) -> Option<SExprKind>
+    ensures { (at : ℕ) → MatchOption result (base_expr symbol at ≡ None) (λ kind. base_expr symbol at ≡ Some (expr_kind_of kind at)) }
+{
+    match symbol {
+        Symbol::True => Some(SExprKind::Bool(true)),
+        Symbol::False => Some(SExprKind::Bool(false)),
+        Symbol::NotFound => Some(SExprKind::Exn(2, None)),
+        Symbol::DivisionByZero => Some(SExprKind::Exn(3, None)),
+        Symbol::MatchFailure => Some(SExprKind::Exn(4, None)),
+        Symbol::EndOfFile => Some(SExprKind::Exn(5, None)),
+        _ => None,
+    }
+}
+
+/// A field of another module: what stands behind the module's name.
+fn field<'s, 't>(
+    alloc: Global,
+    at: u32,
+    word: &Word,
+    signs: &'s [Sign<'t>],
+) -> Result<(SExpr, &'s [Sign<'t>]), Stop>
+    ensures found { IfOk result (λ x. LeafAt (Upper at word.now ∷ read_signs signs.now) (expr_of x.0) (read_signs x.1.now)) }
+    ensures shorter { IfOk result (λ x. length x.1.now < length signs.now) }
+    ensures none { IfErr result (λ e. OnSyntax e (NoLeaf (Upper at word.now ∷ read_signs signs.now))) }
+{
+    let behind = expect(Symbol::Dot, signs)?;
+    let (field, rest) = name(alloc, behind)?;
+    let word = word.copy(alloc)?;
+    let kind = SExprKind::Of(SName { at, word }, field);
+    Ok((SExpr { at, kind }, rest))
+}
+
+/// An atom that is a leaf and begins with no `(`, `match` or `try`.
+pub fn leaf<'s, 't>(alloc: Global, signs: &'s [Sign<'t>]) -> Result<(SExpr, &'s [Sign<'t>]), Stop>
+    ensures found { IfOk result (λ x. LeafAt (read_signs signs.now) (expr_of x.0) (read_signs x.1.now)) }
+    ensures shorter { IfOk result (λ x. length x.1.now < length signs.now) }
+    ensures none { IfErr result (λ e. OnSyntax e (NoSymbol Symbol.Open (read_signs signs.now) → NoSymbol Symbol.Match (read_signs signs.now) → NoSymbol Symbol.Try (read_signs signs.now) → NoLeaf (read_signs signs.now))) }
+{
+    let Some((first, rest)) = next(signs) else {
+        return Err(refused_at(signs));
+    };
+    let at = first.at;
+    match first.kind {
+        SignKind::Int(n) => {
+            let kind = SExprKind::Int(constant(n)?);
+            Ok((SExpr { at, kind }, rest))
+        }
+        SignKind::Str(text) => {
+            let kind = SExprKind::Str(text.copy(alloc)?);
+            Ok((SExpr { at, kind }, rest))
+        }
+        SignKind::Lower(word) => {
+            let kind = SExprKind::Var(word.copy(alloc)?);
+            Ok((SExpr { at, kind }, rest))
+        }
+        SignKind::Upper(word) => field(alloc, at, word, rest),
+        SignKind::Fixed(symbol) => match base_kind(symbol) {
+            Some(kind) => Ok((SExpr { at, kind }, rest)),
+            None => Err(refused_at(signs)),
+        },
+        SignKind::Other => Err(refused_at(signs)),
+    }
+}

@@ -1,0 +1,313 @@
+// Patterns, by recursive descent. Each parser takes the front of the signs and gives what is left.
+// A pattern may have the height `depth` at most: what would be higher is refused on the way down.
+
+ghost use Rattle.std.specs.Prelude.{◌≡◌, ◌<◌, ◌≤◌, ◌-◌, ◌^◌, ◌∷◌, ℕ, max, length, map, IfOk, IfErr, MatchOption, Some, None, pos, neg_ℤ};
+ghost use Rattle.ac_syntax.specs.Signs.{Fixed};
+ghost use Rattle.ac_syntax.specs.Trees.{PatVar, PatInt, PatNil, PatCons, PatTuple, pat_trees, pat_height};
+ghost use Rattle.ac_syntax.specs.Patterns.{Pattern, Prefixed, Single, IsPatTree, IsPattern};
+ghost use Rattle.ac_syntax.specs.ReadSigns.{read_signs};
+ghost use Rattle.ac_syntax.specs.ReadTrees.{pat_of, pat_kind_of};
+ghost use Rattle.ac_syntax.specs.Parsing.{OnSyntax, NoSymbol};
+ghost use Rattle.ac_expressions.specs.Parsing.{NoPattern, Nothing, IsTyped, NoPat, prefixed_pat, base_pat, PatLeafAt, NoPatLeaf, IsPats, PatTupleOf, pat_measured, binder_of};
+
+use crate::binders::{Binder, typed};
+use crate::front::{Prefix, begins_name, constant, expect, negated, next_number, next_prefix};
+use ac_syntax::{SPat, SPatKind, Sign, SignKind, Stop, Symbol, after, here, next, refused_at};
+use ac_types::{Box, Many, Memory};
+use std::alloc::Global;
+
+/// How high a pattern by itself may be.
+const HIGHEST_PATTERN: u32 = 500;
+
+/// A pattern, and its height.
+#[derive(Drop)]
+pub struct ParsedPat {
+    pub tree: SPat,
+    pub height: u32,
+}
+
+/// A list's head and tail.
+#[tactic(auto, using(crate::proofs::PatLaws::pat_laws))]
+fn cons(alloc: Global, at: u32, head: ParsedPat, tail: ParsedPat) -> Result<ParsedPat, Memory>
+    requires low { max head.height tail.height < 2 ^ 32 - 1 }
+    requires head { pat_measured head }
+    requires tail { pat_measured tail }
+    ensures tree { IfOk result (λ x. pat_of x.tree ≡ PatCons at (pat_of head.tree) (pat_of tail.tree)) }
+    ensures height { IfOk result (λ x. pat_measured x) }
+{
+    let height = head.height.max(tail.height) + 1;
+    let head = Box::new(alloc, head.tree)?;
+    let tail = Box::new(alloc, tail.tree)?;
+    let kind = SPatKind::Cons(head, tail);
+    Ok(ParsedPat {
+        tree: SPat { at, kind },
+        height,
+    })
+}
+
+/// A pattern with the word that takes it.
+#[tactic(auto, using(crate::proofs::PatLaws::pat_laws))]
+fn prefixed_by(alloc: Global, at: u32, prefix: Prefix, item: ParsedPat) -> Result<ParsedPat, Memory>
+    requires low { item.height < 2 ^ 32 - 1 }
+    requires item { pat_measured item }
+    ensures tree { IfOk result (λ x. pat_of x.tree ≡ prefixed_pat prefix at (pat_of item.tree)) }
+    ensures height { IfOk result (λ x. pat_measured x) }
+{
+    let height = item.height + 1;
+    let item = Box::new(alloc, item.tree)?;
+    match prefix {
+        Prefix::Present => {
+            let kind = SPatKind::Present(item);
+            let tree = SPat { at, kind };
+            Ok(ParsedPat { tree, height })
+        }
+        Prefix::Exn(number) => {
+            let kind = SPatKind::Exn(number, Some(item));
+            let tree = SPat { at, kind };
+            Ok(ParsedPat { tree, height })
+        }
+    }
+}
+
+/// A variable with its type.
+#[tactic(auto, using(crate::proofs::PatLaws::pat_laws))]
+fn variable(at: u32, binder: Binder) -> ParsedPat
+    ensures tree { pat_of result.tree ≡ PatVar at (binder_of binder).0 (binder_of binder).1 }
+    ensures height { pat_measured result }
+{
+    let kind = SPatKind::Var(binder.name, binder.ty);
+    ParsedPat {
+        tree: SPat { at, kind },
+        height: 1,
+    }
+}
+
+#[tactic(auto, using(crate::proofs::PatLaws::pat_laws))]
+fn base_kind(symbol: Symbol) -> Option<SPatKind>
+    ensures { (at : ℕ) → MatchOption result (base_pat symbol at ≡ None) (λ kind. base_pat symbol at ≡ Some (pat_kind_of kind at)) }
+{
+    match symbol {
+        Symbol::Wild => Some(SPatKind::Wild),
+        Symbol::True => Some(SPatKind::Bool(true)),
+        Symbol::False => Some(SPatKind::Bool(false)),
+        Symbol::NoneWord => Some(SPatKind::Absent),
+        Symbol::NotFound => Some(SPatKind::Exn(2, None)),
+        Symbol::DivisionByZero => Some(SPatKind::Exn(3, None)),
+        Symbol::MatchFailure => Some(SPatKind::Exn(4, None)),
+        Symbol::EndOfFile => Some(SPatKind::Exn(5, None)),
+        _ => None,
+    }
+}
+
+/// A number behind its `-`.
+fn negative<'s, 't>(at: u32, signs: &'s [Sign<'t>]) -> Result<(SPat, &'s [Sign<'t>]), Stop>
+    ensures found { IfOk result (λ x. PatLeafAt (Fixed at Symbol.Minus ∷ read_signs signs.now) (pat_of x.0) (read_signs x.1.now)) }
+    ensures shorter { IfOk result (λ x. length x.1.now < length signs.now) }
+    ensures none { IfErr result (λ e. OnSyntax e (NoPatLeaf (Fixed at Symbol.Minus ∷ read_signs signs.now))) }
+{
+    let Some((n, rest)) = next_number(signs) else {
+        return Err(refused_at(signs));
+    };
+    let kind = SPatKind::Int(negated(n)?);
+    Ok((SPat { at, kind }, rest))
+}
+
+/// The empty list: what stands behind a `[`.
+fn nil<'s, 't>(at: u32, signs: &'s [Sign<'t>]) -> Result<(SPat, &'s [Sign<'t>]), Stop>
+    ensures found { IfOk result (λ x. PatLeafAt (Fixed at Symbol.OpenSquare ∷ read_signs signs.now) (pat_of x.0) (read_signs x.1.now)) }
+    ensures shorter { IfOk result (λ x. length x.1.now < length signs.now) }
+    ensures none { IfErr result (λ e. OnSyntax e (NoPatLeaf (Fixed at Symbol.OpenSquare ∷ read_signs signs.now))) }
+{
+    let rest = expect(Symbol::CloseSquare, signs)?;
+    let kind = SPatKind::Nil;
+    Ok((SPat { at, kind }, rest))
+}
+
+/// A pattern that is one sign.
+fn one_sign<'s, 't>(alloc: Global, signs: &'s [Sign<'t>]) -> Result<(SPat, &'s [Sign<'t>]), Stop>
+    ensures found { IfOk result (λ x. PatLeafAt (read_signs signs.now) (pat_of x.0) (read_signs x.1.now)) }
+    ensures shorter { IfOk result (λ x. length x.1.now < length signs.now) }
+    ensures none { IfErr result (λ e. OnSyntax e (NoSymbol Symbol.Open (read_signs signs.now) → NoSymbol Symbol.Minus (read_signs signs.now) → NoSymbol Symbol.OpenSquare (read_signs signs.now) → NoPatLeaf (read_signs signs.now))) }
+{
+    let Some((first, rest)) = next(signs) else {
+        return Err(refused_at(signs));
+    };
+    let at = first.at;
+    match first.kind {
+        SignKind::Int(n) => {
+            let kind = SPatKind::Int(constant(n)?);
+            Ok((SPat { at, kind }, rest))
+        }
+        SignKind::Str(text) => {
+            let kind = SPatKind::Str(text.copy(alloc)?);
+            Ok((SPat { at, kind }, rest))
+        }
+        SignKind::Fixed(symbol) => match base_kind(symbol) {
+            Some(kind) => Ok((SPat { at, kind }, rest)),
+            None => Err(refused_at(signs)),
+        },
+        SignKind::Lower(_) | SignKind::Upper(_) | SignKind::Other => Err(refused_at(signs)),
+    }
+}
+
+/// A pattern that is a leaf and begins with no `(`.
+fn leaf<'s, 't>(alloc: Global, signs: &'s [Sign<'t>]) -> Result<(SPat, &'s [Sign<'t>]), Stop>
+    ensures found { IfOk result (λ x. PatLeafAt (read_signs signs.now) (pat_of x.0) (read_signs x.1.now)) }
+    ensures shorter { IfOk result (λ x. length x.1.now < length signs.now) }
+    ensures none { IfErr result (λ e. OnSyntax e (NoSymbol Symbol.Open (read_signs signs.now) → NoPatLeaf (read_signs signs.now))) }
+{
+    let at = here(signs);
+    if let Some(behind) = after(Symbol::Minus, signs) {
+        return negative(at, behind);
+    }
+    if let Some(behind) = after(Symbol::OpenSquare, signs) {
+        return nil(at, behind);
+    }
+    one_sign(alloc, signs)
+}
+
+/// The tuple of a first pattern and those behind its comma.
+#[cycle(patterns)]
+fn tuple<'s, 't>(
+    alloc: Global,
+    depth: u32,
+    at: u32,
+    first: ParsedPat,
+    signs: &'s [Sign<'t>],
+) -> Result<(ParsedPat, &'s [Sign<'t>]), Stop>
+    requires low { first.height < depth }
+    requires first { pat_measured first }
+    ensures tree { IfOk result (λ x. PatTupleOf (depth - 1) at (pat_of first.tree) (read_signs signs.now) (pat_of x.0.tree) (read_signs x.1.now)) }
+    ensures height { IfOk result (λ x. pat_measured x.0) }
+    ensures shorter { IfOk result (λ x. length x.1.now < length signs.now) }
+    ensures none { IfErr result (λ e. OnSyntax e (Nothing (IsPats (depth - 1)) (read_signs signs.now))) }
+{
+    let (second, mut rest) = whole(alloc, depth - 1, signs)?;
+    let mut height = first.height.max(second.height);
+    let mut parts = Many::new(alloc);
+    parts.push(first.tree)?;
+    parts.push(second.tree)?;
+    while let Some(behind) = after(Symbol::Comma, rest) {
+        let (part, later) = whole(alloc, depth - 1, behind)?;
+        height = height.max(part.height);
+        parts.push(part.tree)?;
+        rest = later;
+    }
+    let end = expect(Symbol::Close, rest)?;
+    let kind = SPatKind::Tuple(parts);
+    let tree = SPat { at, kind };
+    let height = height + 1;
+    Ok((ParsedPat { tree, height }, end))
+}
+
+/// What stands behind a `(`.
+#[cycle(patterns)]
+fn opened<'s, 't>(
+    alloc: Global,
+    depth: u32,
+    at: u32,
+    signs: &'s [Sign<'t>],
+) -> Result<(ParsedPat, &'s [Sign<'t>]), Stop>
+    requires { 0 < depth }
+    ensures tree { IfOk result (λ x. IsPatTree depth Single (Fixed at Symbol.Open ∷ read_signs signs.now) (pat_of x.0.tree) (read_signs x.1.now)) }
+    ensures height { IfOk result (λ x. pat_measured x.0) }
+    ensures shorter { IfOk result (λ x. length x.1.now < length signs.now) }
+    ensures none { IfErr result (λ e. OnSyntax e (NoPat depth Single (Fixed at Symbol.Open ∷ read_signs signs.now))) }
+{
+    if let Some(rest) = after(Symbol::Close, signs) {
+        let kind = SPatKind::Unit;
+        let tree = SPat { at, kind };
+        return Ok((ParsedPat { tree, height: 1 }, rest));
+    }
+    if begins_name(signs) {
+        let (binder, rest) = typed(alloc, Symbol::Close, signs)?;
+        return Ok((variable(at, binder), rest));
+    }
+    let (first, rest) = whole(alloc, depth, signs)?;
+    if let Some(end) = after(Symbol::Close, rest) {
+        return Ok((first, end));
+    }
+    let behind = expect(Symbol::Comma, rest)?;
+    if first.height >= depth {
+        return Err(refused_at(rest));
+    }
+    tuple(alloc, depth, at, first, behind)
+}
+
+/// A leaf, or a pattern in parentheses.
+#[cycle(patterns)]
+fn single<'s, 't>(
+    alloc: Global,
+    depth: u32,
+    signs: &'s [Sign<'t>],
+) -> Result<(ParsedPat, &'s [Sign<'t>]), Stop>
+    ensures tree { IfOk result (λ x. IsPatTree depth Single (read_signs signs.now) (pat_of x.0.tree) (read_signs x.1.now)) }
+    ensures height { IfOk result (λ x. pat_measured x.0) }
+    ensures shorter { IfOk result (λ x. length x.1.now < length signs.now) }
+    ensures none { IfErr result (λ e. OnSyntax e (NoPat depth Single (read_signs signs.now))) }
+{
+    if depth == 0 {
+        return Err(refused_at(signs));
+    }
+    if let Some(inner) = after(Symbol::Open, signs) {
+        return opened(alloc, depth, here(signs), inner);
+    }
+    let (tree, rest) = leaf(alloc, signs)?;
+    Ok((ParsedPat { tree, height: 1 }, rest))
+}
+
+/// A single pattern, or one behind a word that takes it.
+#[cycle(patterns)]
+fn prefixed<'s, 't>(
+    alloc: Global,
+    depth: u32,
+    signs: &'s [Sign<'t>],
+) -> Result<(ParsedPat, &'s [Sign<'t>]), Stop>
+    ensures tree { IfOk result (λ x. IsPatTree depth Prefixed (read_signs signs.now) (pat_of x.0.tree) (read_signs x.1.now)) }
+    ensures height { IfOk result (λ x. pat_measured x.0) }
+    ensures shorter { IfOk result (λ x. length x.1.now < length signs.now) }
+    ensures none { IfErr result (λ e. OnSyntax e (NoPat depth Prefixed (read_signs signs.now))) }
+{
+    let Some((prefix, at, behind)) = next_prefix(signs) else {
+        return single(alloc, depth, signs);
+    };
+    if depth == 0 {
+        return Err(refused_at(signs));
+    }
+    let (item, rest) = single(alloc, depth - 1, behind)?;
+    Ok((prefixed_by(alloc, at, prefix, item)?, rest))
+}
+
+/// A pattern of at most this height.
+#[cycle(patterns)]
+fn whole<'s, 't>(
+    alloc: Global,
+    depth: u32,
+    signs: &'s [Sign<'t>],
+) -> Result<(ParsedPat, &'s [Sign<'t>]), Stop>
+    ensures tree { IfOk result (λ x. IsPatTree depth Pattern (read_signs signs.now) (pat_of x.0.tree) (read_signs x.1.now)) }
+    ensures height { IfOk result (λ x. pat_measured x.0) }
+    ensures shorter { IfOk result (λ x. length x.1.now < length signs.now) }
+    ensures none { IfErr result (λ e. OnSyntax e (NoPat depth Pattern (read_signs signs.now))) }
+{
+    let (head, rest) = prefixed(alloc, depth, signs)?;
+    let Some(behind) = after(Symbol::Cons, rest) else {
+        return Ok((head, rest));
+    };
+    if head.height >= depth {
+        return Err(refused_at(rest));
+    }
+    let (tail, end) = whole(alloc, depth - 1, behind)?;
+    Ok((cons(alloc, here(signs), head, tail)?, end))
+}
+
+/// The pattern at the front, taken as long as it can be, and what is left. It has a height of at most 500.
+/// `Syntax` where no pattern stands there.
+pub fn pattern<'s, 't>(alloc: Global, signs: &'s [Sign<'t>]) -> Result<(SPat, &'s [Sign<'t>]), Stop>
+    ensures tree { IfOk result (λ x. IsPattern (read_signs signs.now) (pat_of x.0) (read_signs x.1.now)) }
+    ensures shorter { IfOk result (λ x. length x.1.now < length signs.now) }
+    ensures none { IfErr result (λ e. OnSyntax e (NoPattern (read_signs signs.now))) }
+{
+    let (parsed, rest) = whole(alloc, HIGHEST_PATTERN, signs)?;
+    Ok((parsed.tree, rest))
+}
