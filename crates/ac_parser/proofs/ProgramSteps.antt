@@ -2,6 +2,8 @@
 use Rattle.std.proofs.Common.{◌≡◌, ℕ, List, [], ◌∷◌, ◌++◌, Some, None, refl, sym, ◌∙◌, ap, subst, append_assoc, append-nil, arith}
 use Rattle.ac_types.specs.Types.{Bytes}
 use Rattle.ac_syntax.specs.Signs.{Sign, Str, Fixed, here}
+use Rattle.ac_syntax.specs.ReadSigns.{read_signs}
+use Rattle.ac_syntax.specs.declared.sign.Sign as code
 use Rattle.ac_syntax.specs.Trees.{Tree, DefTree, MarkDef, ProgramTree}
 use Rattle.ac_syntax.specs.Expressions.{IsExpr}
 use Rattle.ac_syntax.specs.Programs.{ParsesDef, module_, import_version, import_name, mark, ParsesProgram, main, definition, IsProgram, program, IsModule, module_alone}
@@ -12,7 +14,7 @@ use Rattle.ac_syntax.proofs.UniqueTypes.{tail_eq}
 use Rattle.ac_syntax.proofs.UniqueExpressions.{same_expr}
 use Rattle.ac_syntax.proofs.Fronts.{begins_not}
 use Rattle.ac_expressions.specs.Parsing.{NoExpr}
-use Rattle.ac_parser.specs.Parsing.{TextAt, NoText, OnlyRead, NoRead, Anything, NoComma, NothingGoesOn, NoTree}
+use Rattle.ac_parser.specs.Parsing.{TextAt, NoText, OnlyRead, NoRead, Anything, NoComma, NothingGoesOn, LeftDefs, DefsSoFar, NoTree}
 use Rattle.ac_parser.proofs.Fronts.{head_eq}
 use Rattle.ac_parser.proofs.Lists.{none_at}
 use Rattle.ac_parser.proofs.VersionSteps.{nothing_is_none}
@@ -105,16 +107,6 @@ program_no_comma (definition mark q) rest c = comma_is_no_mark c.is
 program_at : {r s : List Sign} {ds : List DefTree} {e : Tree} → r ≡ s → ParsesProgram s ds e → ParsesProgram r ds e
 program_at {ds = ds} {e = e} is p = subst (λ (u : List Sign). ParsesProgram u ds e) (sym is) p
 
-record LeftDefs (done : List DefTree) (rest : List Sign) (ds : List DefTree) (e : Tree) : Type 0 where
-  left : List DefTree
-  is : ds ≡ done ++ left
-  parses : ParsesProgram rest left e
-
--- behind the definitions done the program goes on at the rest
-pub record DefsSoFar (ts : List Sign) (done : List DefTree) (rest : List Sign) : Type 0 where
-  back : (ds : List DefTree) (e : Tree) → ParsesProgram rest ds e → ParsesProgram ts (done ++ ds) e
-  forth : (ds : List DefTree) (e : Tree) → ParsesProgram ts ds e → LeftDefs done rest ds e
-
 pub no_defs_yet : (ts : List Sign) → DefsSoFar ts [] ts
 no_defs_yet ts = record { back = λ ds e p. p; forth = λ ds e p. record { left = ds; is = refl; parses = p } }
 
@@ -134,8 +126,8 @@ nothing_none none (main p) = none.no_expr _ _ p
 nothing_none none (definition c q) = none.no_def _ _ c (program_no_comma q)
 
 no_main : {ts : List Sign} {ds : List DefTree} {e : Tree} → NoRead ParsesDef Anything ts → NoExpr ts → ParsesProgram ts ds e → ⊥
-no_main none no (main p) = no _ _ p
-no_main none no (definition c q) = none _ _ c tt
+no_main none absent (main p) = absent _ _ p
+no_main none absent (definition c q) = none _ _ c tt
 
 more_none : {ts rest : List Sign} {ds : List DefTree} {e f : Tree} → NoRead ParsesDef Anything ts → IsExpr ts f rest → (rest ≡ [] → ⊥) → ParsesProgram ts ds e → ⊥
 more_none none q more (main p) = more (same_expr q p).1
@@ -159,7 +151,7 @@ module _ (ts : List Sign) (done : List DefTree) (rest : List Sign) (so : DefsSoF
 
   module _ (none : NoRead ParsesDef Anything rest) where
     pub no_expression : NoExpr rest → NoTree IsProgram ts
-    no_expression no p is = program_parts is (λ ds e q. no_main none no (so.forth ds e q).parses)
+    no_expression absent p is = program_parts is (λ ds e q. no_main none absent (so.forth ds e q).parses)
 
     pub more_behind : (f : Tree) (end : List Sign) → IsExpr rest f end → (end ≡ [] → ⊥) → NoTree IsProgram ts
     more_behind f end x more p is = program_parts is (λ ds e q. more_none none x more (so.forth ds e q).parses)
@@ -168,6 +160,13 @@ module _ (ts : List Sign) (done : List DefTree) (rest : List Sign) (so : DefsSoF
   program_read e end x is =
       let whole = so.back [] e (main (subst (λ (l : List Sign). IsExpr rest e l) is x)) in
       subst (λ (l : List DefTree). IsProgram ts (record { defs = l; expr = Some e })) (append-nil done) (program whole)
+
+-- the rest is the signs of the code
+pub end_at : (signs rest : List code.Sign) → rest ≡ signs → NoRead ParsesDef Anything (read_signs signs) → NoRead ParsesDef Anything (read_signs rest)
+end_at signs rest is none = none_at ParsesDef Anything (ap read_signs is) none
+
+pub so_far_at : (ts : List Sign) (done : List DefTree) (signs rest : List code.Sign) → rest ≡ signs → DefsSoFar ts done (read_signs signs) → DefsSoFar ts done (read_signs rest)
+so_far_at ts done signs rest is so = subst (λ (l : List code.Sign). DefsSoFar ts done (read_signs l)) (sym is) so
 
 -- modules alone
 

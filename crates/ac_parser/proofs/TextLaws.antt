@@ -16,7 +16,7 @@ use Rattle.ac_syntax.specs.Parsing.{OnSyntax}
 use Rattle.ac_syntax.proofs.UniquePrograms.{same_program, same_module}
 use Rattle.ac_syntax.proofs.UniqueTypes.{tail_eq}
 use Rattle.ac_parser.specs.Parsing.{NoTree}
-use Rattle.ac_parser.specs.Texts.{IsRead, HasTree, Refused, too_long, lexical, too_deep, syntax, IsFault, FaultAt, SameCause, same, both_syntax}
+use Rattle.ac_parser.specs.Texts.{IsRead, HasTree, Unread, too_long, lexical, too_deep, Refused, unread, syntax, IsUnread, IsFault, FaultAt, memory, at_place, SameCause, same, both_syntax}
 use Rattle.ac_parser.proofs.Fronts.{head_eq}
 
 -- the first sign at which too many openers are unclosed
@@ -69,39 +69,57 @@ one_module_text text p q x y =
 deep_at : {text : Bytes} {at : ℕ} {ts us : List Token} → Tokens text ts → Tokens text us → IsDeep (signs us) at → IsDeep (signs ts) at
 deep_at {text} {at} {ts} {us} p q d = subst (λ (l : List Token). IsDeep (signs l) at) (lexed.same_tokens text us ts q p) d
 
+tree_and_unread : (text : Bytes) (ts : List Token) (e : ParseFault) → IsRead text ts → Unread text e → ⊥
+tree_and_unread text ts e x (too_long long) = let short = x.short in absurd (omega arith)
+tree_and_unread text ts e x (lexical {at = at} short fails) = lexed.no_failure text ts at x.lexed fails
+tree_and_unread text ts e x (too_deep short tokens deep) = shallow_or_deep x.shallow (deep_at x.lexed tokens deep)
+
 pub tree_and_refusal : (G : List Sign → ProgramTree → Type 0) (text : Bytes) (p : ProgramTree) (e : ParseFault) → HasTree G text p → Refused G text e → ⊥
-tree_and_refusal G text p e x (too_long long) = let short = x.read.short in omega arith
-tree_and_refusal G text p e x (lexical {at = at} short fails) = lexed.no_failure text x.tokens at x.read.lexed fails
-tree_and_refusal G text p e x (too_deep short tokens deep) = shallow_or_deep x.read.shallow (deep_at x.read.lexed tokens deep)
+tree_and_refusal G text p e x (unread u) = tree_and_unread text x.tokens e x.read u
 tree_and_refusal G text p e x (syntax {tokens = ts} read none here) =
     none p (subst (λ (l : List Token). G (signs l) p) (lexed.same_tokens text x.tokens ts x.read.lexed read.lexed) x.is)
 
 same_at : {e f : ParseFault} → e ≡ f → SameCause e f
 same_at {e} {f} is = subst (λ (g : ParseFault). SameCause e g) is same
 
+one_unread : (text : Bytes) (e f : ParseFault) → Unread text e → Unread text f → SameCause e f
+one_unread text e f (too_long p) (too_long q) = same
+one_unread text e f (too_long p) (lexical q fails) = absurd (omega arith)
+one_unread text e f (too_long p) (too_deep q ts d) = absurd (omega arith)
+one_unread text e f (lexical p fails) (too_long q) = absurd (omega arith)
+one_unread text e f (lexical {at = n} p fails) (lexical {at = m} q gone) = same_at (ap fault.Lexical (lexed.same_place text n m fails gone))
+one_unread text e f (lexical {at = n} p fails) (too_deep {tokens = ts} q tokens d) = absurd (lexed.no_failure text ts n tokens fails)
+one_unread text e f (too_deep p tokens d) (too_long q) = absurd (omega arith)
+one_unread text e f (too_deep {tokens = ts} p tokens d) (lexical {at = m} q fails) = absurd (lexed.no_failure text ts m tokens fails)
+one_unread text e f (too_deep p tokens d) (too_deep q others c) = same_at (ap fault.TooDeep (one_deep d (deep_at tokens others c)))
+
 pub one_refusal : (G : List Sign → ProgramTree → Type 0) (text : Bytes) (e f : ParseFault) → Refused G text e → Refused G text f → SameCause e f
-one_refusal G text e f (too_long p) (too_long q) = same
-one_refusal G text e f (too_long p) (lexical q fails) = absurd (omega arith)
-one_refusal G text e f (too_long p) (too_deep q ts d) = absurd (omega arith)
-one_refusal G text e f (too_long p) (syntax r none here) = let q = r.short in absurd (omega arith)
-one_refusal G text e f (lexical p fails) (too_long q) = absurd (omega arith)
-one_refusal G text e f (lexical {at = n} p fails) (lexical {at = m} q gone) = same_at (ap fault.Lexical (lexed.same_place text n m fails gone))
-one_refusal G text e f (lexical {at = n} p fails) (too_deep {tokens = ts} q tokens d) = absurd (lexed.no_failure text ts n tokens fails)
-one_refusal G text e f (lexical {at = n} p fails) (syntax {tokens = ts} r none here) = absurd (lexed.no_failure text ts n r.lexed fails)
-one_refusal G text e f (too_deep p tokens d) (too_long q) = absurd (omega arith)
-one_refusal G text e f (too_deep {tokens = ts} p tokens d) (lexical {at = m} q fails) = absurd (lexed.no_failure text ts m tokens fails)
-one_refusal G text e f (too_deep p tokens d) (too_deep q others c) = same_at (ap fault.TooDeep (one_deep d (deep_at tokens others c)))
-one_refusal G text e f (too_deep p tokens d) (syntax r none here) = shallow_or_deep r.shallow (deep_at r.lexed tokens d)
-one_refusal G text e f (syntax r none here) (too_long q) = let p = r.short in absurd (omega arith)
-one_refusal G text e f (syntax {tokens = ts} r none here) (lexical {at = m} q fails) = absurd (lexed.no_failure text ts m r.lexed fails)
-one_refusal G text e f (syntax r none here) (too_deep q tokens d) = shallow_or_deep r.shallow (deep_at r.lexed tokens d)
-one_refusal G text e f (syntax r none here) (syntax s no there) = both_syntax
+one_refusal G text e f (unread u) (unread v) = one_unread text e f u v
+one_refusal G text e f (unread u) (syntax {tokens = ts} r none here) = absurd (tree_and_unread text ts e r u)
+one_refusal G text e f (syntax {tokens = ts} r none here) (unread v) = absurd (tree_and_unread text ts f r v)
+one_refusal G text e f (syntax r none here) (syntax s never there) = both_syntax
 
 -- what the parsers say, over the text
 
 pub fault_of : (G : List Sign → ProgramTree → Type 0) (text : Bytes) (tokens : List Token) (s : Stop) (e : ParseFault) → IsRead text tokens → FaultAt tokens (length text) s e → OnSyntax s (NoTree G (signs tokens)) → IsFault G text e
-fault_of G text tokens stop.Memory e read is none = subst (λ (x : ParseFault). IsFault G text x) (sym is) read.short
-fault_of G text tokens (stop.Syntax left) e read is none = subst (λ (x : ParseFault). IsFault G text x) (sym is.1.0) (syntax read none is.1.1)
+fault_of G text tokens s e read memory none = read.short
+fault_of G text tokens s e read (at_place here) none = syntax read none here
 
 pub has_tree : (G : List Sign → ProgramTree → Type 0) (text : Bytes) (tokens : List Token) (tree : ProgramTree) → IsRead text tokens → G (signs tokens) tree → HasTree G text tree
 has_tree G text tokens tree read t = record { tokens = tokens; read = read; is = t }
+
+pub unread_fault : (G : List Sign → ProgramTree → Type 0) (text : Bytes) (e : ParseFault) → IsUnread text e → IsFault G text e
+unread_fault G text (fault.TooLong len) u = unread u
+unread_fault G text (fault.Lexical at) u = unread u
+unread_fault G text (fault.TooDeep at) u = unread u
+unread_fault G text (fault.Syntax at) u = unread u
+unread_fault G text fault.Memory u = u
+
+pub long_text : (text : Bytes) (len : ℕ) → (longest_text < length text) × (len ≡ length text) → Unread text (fault.TooLong len)
+long_text text len is = subst (λ (n : ℕ). Unread text (fault.TooLong n)) (sym is.1) (too_long is.0)
+
+pub unlexed_text : (text : Bytes) (at : ℕ) → (length text ≤ longest_text) × FailsAt text at → Unread text (fault.Lexical at)
+unlexed_text text at is = lexical is.0 is.1
+
+pub deep_text : (text : Bytes) (tokens : List Token) (at : ℕ) → length text ≤ longest_text → Tokens text tokens → IsDeep (signs tokens) at → Unread text (fault.TooDeep at)
+deep_text text tokens at short lexes deep = too_deep short lexes deep

@@ -1,5 +1,5 @@
 -- What the parsers may answer.
-use Rattle.std.specs.Prelude.{◌≡◌, ℕ, List, ◌∷◌, Option, Some, None}
+use Rattle.std.specs.Prelude.{◌≡◌, ℕ, List, ◌∷◌, ◌++◌, Option, Some, None}
 use Rattle.ac_types.specs.Types.{Bytes}
 use Rattle.ac_types.specs.Sigs.{Atom, Constraint, Resolve}
 use Rattle.ac_version.specs.declared.read.VToken.{VToken}
@@ -7,10 +7,10 @@ use Rattle.ac_version.specs.declared.read.VersionFault.{VersionFault}
 use Rattle.ac_version.specs.declared.read.VersionFault.TheVariants as bad
 use Rattle.ac_version.specs.Reading.{ReadsConstraint}
 use Rattle.ac_syntax.specs.Signs.{Sign, Str, Lower, Upper, Fixed}
-use Rattle.ac_syntax.specs.Trees.{NameAt, Tree, AbbrevTree, SigTree, WantsTree, WantsVersion, WantsName, ProgramTree}
+use Rattle.ac_syntax.specs.Trees.{NameAt, Tree, AbbrevTree, SigTree, WantsTree, WantsVersion, WantsName, DefTree, ProgramTree}
 use Rattle.ac_syntax.specs.Types.{IsType}
 use Rattle.ac_syntax.specs.Expressions.{IsExpr}
-use Rattle.ac_syntax.specs.Programs.{IsSig, vtoken_of, VTokens, ParsesVersion, ParsesLike, ParsesDef, resolve_of}
+use Rattle.ac_syntax.specs.Programs.{IsSig, vtoken_of, VTokens, ParsesVersion, ParsesLike, ParsesDef, ParsesProgram, resolve_of}
 use Rattle.ac_syntax.specs.Parsing.{SymbolAt, NoSymbol}
 use Rattle.ac_syntax.specs.declared.stop.Stop.{Stop}
 use Rattle.ac_syntax.specs.declared.stop.Stop.TheVariants as stop
@@ -118,6 +118,17 @@ pub data DemandAt : List Sign → WantsTree × Option (List AbbrevTree) → List
   by_version : {constraint : Constraint} {like : Option (List AbbrevTree)} {ts r rest : List Sign}
       → ConstraintAt ts constraint r → LikeAt r like rest → DemandAt ts (WantsVersion constraint, like) rest
   by_name : {name : NameAt} {ts rest : List Sign} → NameWanted ts name rest → DemandAt ts (WantsName name, None) rest
+
+-- the definitions are those done and those that stand at the rest
+pub record LeftDefs (done : List DefTree) (rest : List Sign) (ds : List DefTree) (e : Tree) : Type 0 where
+  pub left : List DefTree
+  pub is : ds ≡ done ++ left
+  pub parses : ParsesProgram rest left e
+
+-- behind the definitions done the program goes on at the rest
+pub record DefsSoFar (ts : List Sign) (done : List DefTree) (rest : List Sign) : Type 0 where
+  pub back : (ds : List DefTree) (e : Tree) → ParsesProgram rest ds e → ParsesProgram ts (done ++ ds) e
+  pub forth : (ds : List DefTree) (e : Tree) → ParsesProgram ts ds e → LeftDefs done rest ds e
 
 -- neither a definition nor an expression begins here
 pub record NothingGoesOn (ts : List Sign) : Type 0 where

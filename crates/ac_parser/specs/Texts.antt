@@ -30,14 +30,22 @@ token_place token = token.at
 abbrev pub IsPlace : List Token → ℕ → ℕ → Type 0
 IsPlace tokens end at = (at ≡ end) ⊎ ((i : ℕ) × (option_map token_place (slice_get tokens i) ≡ Some at))
 
--- the text is refused: it is too long, or has no tokens, or too many openers are unclosed, or its signs have no tree by the grammar
+-- the text is not read: it is too long, or has no tokens, or too many openers are unclosed
+pub data Unread (text : Bytes) : ParseFault → Type 0 where
+  too_long : longest_text < length text → Unread text (fault.TooLong (length text))
+  lexical : {at : ℕ} → length text ≤ longest_text → FailsAt text at → Unread text (fault.Lexical at)
+  too_deep : {at : ℕ} {tokens : List Token} → length text ≤ longest_text → Tokens text tokens → IsDeep (signs tokens) at → Unread text (fault.TooDeep at)
+
+-- the text is refused: it is not read, or its signs have no tree by the grammar
 pub data Refused (Grammar : List Sign → ProgramTree → Type 0) (text : Bytes) : ParseFault → Type 0 where
-  too_long : longest_text < length text → Refused Grammar text (fault.TooLong (length text))
-  lexical : {at : ℕ} → length text ≤ longest_text → FailsAt text at → Refused Grammar text (fault.Lexical at)
-  too_deep : {at : ℕ} {tokens : List Token} → length text ≤ longest_text → Tokens text tokens → IsDeep (signs tokens) at → Refused Grammar text (fault.TooDeep at)
+  unread : {e : ParseFault} → Unread text e → Refused Grammar text e
   syntax : {at : ℕ} {tokens : List Token} → IsRead text tokens → ((tree : ProgramTree) → Grammar (signs tokens) tree → ⊥) → IsPlace tokens (length text) at → Refused Grammar text (fault.Syntax at)
 
 -- what a fault says of the text; memory may run out at any that is not too long
+abbrev pub IsUnread : Bytes → ParseFault → Type 0
+IsUnread text fault.Memory = length text ≤ longest_text
+IsUnread text e = Unread text e
+
 abbrev pub IsFault : (List Sign → ProgramTree → Type 0) → Bytes → ParseFault → Type 0
 IsFault Grammar text fault.Memory = length text ≤ longest_text
 IsFault Grammar text e = Refused Grammar text e
@@ -48,6 +56,6 @@ pub data SameCause : ParseFault → ParseFault → Type 0 where
   both_syntax : {a b : ℕ} → SameCause (fault.Syntax a) (fault.Syntax b)
 
 -- the fault that a stop of the parser is answered by
-abbrev pub FaultAt : List Token → ℕ → Stop → ParseFault → Type 0
-FaultAt tokens end stop.Memory e = e ≡ fault.Memory
-FaultAt tokens end (stop.Syntax left) e = (at : ℕ) × (e ≡ fault.Syntax at) × IsPlace tokens end at
+pub data FaultAt (tokens : List Token) (end : ℕ) : Stop → ParseFault → Type 0 where
+  memory : FaultAt tokens end stop.Memory fault.Memory
+  at_place : {left at : ℕ} → IsPlace tokens end at → FaultAt tokens end (stop.Syntax left) (fault.Syntax at)

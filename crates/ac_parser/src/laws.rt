@@ -1,8 +1,7 @@
 // What holds of every text.
 
-ghost use Rattle.std.specs.Prelude.{◌≡◌, List};
+ghost use Rattle.std.specs.Prelude.{◌≡◌};
 ghost use Rattle.ac_types.specs.Types.{Bytes};
-ghost use Rattle.ac_syntax.specs.Signs.{Sign};
 ghost use Rattle.ac_syntax.specs.Trees.{ProgramTree};
 ghost use Rattle.ac_syntax.specs.Programs.{IsProgram, IsModule};
 ghost use Rattle.ac_syntax.specs.declared.fault.ParseFault.{ParseFault};
@@ -20,10 +19,12 @@ pub fn one_module()
 
 /// A text that has a tree is not refused.
 pub fn tree_or_refused()
-    ensures { (G : List Sign → ProgramTree → Type 0) (text : Bytes) (p : ProgramTree) (e : ParseFault) → HasTree G text p → Refused G text e → ⊥ }
+    ensures program { (text : Bytes) (p : ProgramTree) (e : ParseFault) → HasTree IsProgram text p → Refused IsProgram text e → ⊥ }
+    ensures module { (text : Bytes) (p : ProgramTree) (e : ParseFault) → HasTree IsModule text p → Refused IsModule text e → ⊥ }
 {}
 
-/// A text is refused for one cause at most, at one place at most where it isn't a fault of syntax.
+/// A text is refused for one cause at most, and at one place at most where it isn't a fault of syntax.
 pub fn one_cause()
-    ensures { (G : List Sign → ProgramTree → Type 0) (text : Bytes) (e f : ParseFault) → Refused G text e → Refused G text f → SameCause e f }
+    ensures program { (text : Bytes) (e f : ParseFault) → Refused IsProgram text e → Refused IsProgram text f → SameCause e f }
+    ensures module { (text : Bytes) (e f : ParseFault) → Refused IsModule text e → Refused IsModule text f → SameCause e f }
 {}

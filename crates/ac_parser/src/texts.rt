@@ -1,13 +1,9 @@
 // From the bytes of a text to its tree.
 
-ghost use Rattle.std.specs.Prelude.{◌≡◌, ◌≤◌, length, List, IfOk, IfErr};
-ghost use Rattle.ac_syntax.specs.Signs.{Sign, signs};
-ghost use Rattle.ac_syntax.specs.Trees.{ProgramTree};
+ghost use Rattle.std.specs.Prelude.{◌≤◌, IfOk, IfErr};
 ghost use Rattle.ac_syntax.specs.Programs.{IsProgram, IsModule};
 ghost use Rattle.ac_syntax.specs.ReadTrees.{surface_of};
-ghost use Rattle.ac_syntax.specs.Parsing.{OnSyntax};
-ghost use Rattle.ac_parser.specs.Parsing.{NoTree};
-ghost use Rattle.ac_parser.specs.Texts.{IsRead, HasTree, IsPlace, IsFault, FaultAt};
+ghost use Rattle.ac_parser.specs.Texts.{IsRead, HasTree, IsPlace, IsUnread, IsFault, FaultAt};
 
 use crate::programs::{module_alone, program};
 use ac_lexer::{LexFault, Token, lex};
@@ -18,7 +14,7 @@ use std::alloc::Global;
 /// The tokens of a text, where it is not too long, has tokens and is shallow.
 fn tokens(alloc: Global, text: &[u8]) -> Result<Many<Token>, ParseFault>
     ensures read { IfOk result (λ tokens. IsRead text.now tokens) }
-    ensures fault { IfErr result (λ e. (G : List Sign → ProgramTree → Type 0) → IsFault G text.now e) }
+    ensures fault { IfErr result (λ e. IsUnread text.now e) }
 {
     let found = match lex(alloc, text) {
         Ok(found) => found,
