@@ -16,7 +16,7 @@ use Rattle.ac_syntax.specs.Parsing.{OnSyntax}
 use Rattle.ac_syntax.proofs.UniquePrograms.{same_program, same_module}
 use Rattle.ac_syntax.proofs.UniqueTypes.{tail_eq}
 use Rattle.ac_parser.specs.Parsing.{NoTree}
-use Rattle.ac_parser.specs.Texts.{IsRead, HasTree, Unread, too_long, lexical, too_deep, Refused, unread, syntax, IsUnread, IsFault, FaultAt, memory, at_place, SameCause, same, both_syntax}
+use Rattle.ac_parser.specs.Texts.{IsRead, HasTree, IsPlace, Unread, too_long, lexical, too_deep, Refused, unread, syntax, IsUnread, IsFault, FaultAt, memory, at_place, SameCause, same, both_syntax}
 use Rattle.ac_parser.proofs.Fronts.{head_eq}
 
 -- the first sign at which too many openers are unclosed
@@ -123,3 +123,9 @@ unlexed_text text at is = lexical is.0 is.1
 
 pub deep_text : (text : Bytes) (tokens : List Token) (at : ℕ) → length text ≤ longest_text → Tokens text tokens → IsDeep (signs tokens) at → Unread text (fault.TooDeep at)
 deep_text text tokens at short lexes deep = too_deep short lexes deep
+
+pub memory_fault : (tokens : List Token) (end : ℕ) (s : Stop) → s ≡ stop.Memory → FaultAt tokens end s fault.Memory
+memory_fault tokens end s is = subst (λ (x : Stop). FaultAt tokens end x fault.Memory) (sym is) memory
+
+pub syntax_fault : (tokens : List Token) (end left at : ℕ) (s : Stop) → s ≡ stop.Syntax left → IsPlace tokens end at → FaultAt tokens end s (fault.Syntax at)
+syntax_fault tokens end left at s is here = subst (λ (x : Stop). FaultAt tokens end x (fault.Syntax at)) (sym is) (at_place here)

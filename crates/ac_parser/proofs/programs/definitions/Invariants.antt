@@ -4,8 +4,8 @@ use Rattle.ac_syntax.specs.ReadTrees.{def_of}
 use Rattle.ac_parser.specs.Parsing.{DefsSoFar}
 use Rattle.ac_parser.proofs.programs.definitions.Given as goal
 
-abbrev pub invariant-loop-next : goal.invariant-loop-next
-invariant-loop-next l = DefsSoFar (read_signs l.signs) (map def_of l.defs) (read_signs l.rest)
+abbrev pub invariant-loop-defs : goal.invariant-loop-defs
+invariant-loop-defs l = DefsSoFar (read_signs l.signs) (map def_of l.defs) (read_signs l.rest)
 
-abbrev pub decreases-loop-next : goal.decreases-loop-next
-decreases-loop-next l = length l.rest
+abbrev pub decreases-loop-defs : goal.decreases-loop-defs
+decreases-loop-defs l = length l.rest

@@ -1,3 +1,5 @@
+use Rattle.std.proofs.Common.{◌≡◌, [], refl, sym, ap, subst, ◌∙◌}
+use Rattle.std.proofs.lemmas.Result.{err_from_is_err_and}
 use Rattle.ac_syntax.proofs.OnStop.{on_syntax_more, refused}
 use Rattle.ac_syntax.specs.declared.sign.Symbol.TheVariants as symbol
 use Rattle.ac_parser.proofs.ProgramSteps.{begins_with, no_module_word, no_module_tree, module_and_more, module_tree}
@@ -5,3 +7,8 @@ use Rattle.ac_parser.proofs.programs.module_alone.Goals as goal
 
 pub returns-in_default-clause-none : goal.returns-in_default-clause-none
 returns-in_default-clause-none c = refused _ _ c.refused_at.ensures (no_module_word _ c.in_default.ensures.found)
+
+pub returns-in_err-def-clause-none : goal.returns-in_err-def-clause-none
+returns-in_err-def-clause-none c =
+    let p = err_from_is_err_and c.from_residual.result c.from_residual.ensures.1 in
+    rw (p.1, p.2) (on_syntax_more _ (no_module_tree _ _ _ (begins_with symbol.Module _ _ _ c.in-Some.ensures.found c.here.ensures)) c.in_err-def.ensures.none)

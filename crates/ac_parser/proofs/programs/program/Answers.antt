@@ -1,0 +1,9 @@
+use Rattle.std.proofs.lemmas.Result.{err_from_is_err_and}
+use Rattle.ac_syntax.proofs.OnStop.{on_syntax_more, refused}
+use Rattle.ac_parser.proofs.ProgramSteps.{no_expression, more_behind, program_read}
+use Rattle.ac_parser.proofs.programs.program.Goals as goal
+
+pub returns-in_err-expr-clause-none : goal.returns-in_err-expr-clause-none
+returns-in_err-expr-clause-none c =
+    let p = err_from_is_err_and c.from_residual-in_err-expr.result c.from_residual-in_err-expr.ensures.1 in
+    rw (p.1, p.2) (on_syntax_more _ (no_expression _ _ _ c.in_ok-defs.ensures.defs c.in_ok-defs.ensures.end) c.in_err-expr.ensures.none)
