@@ -1,6 +1,6 @@
 // Whole programs, and modules alone.
 
-ghost use Rattle.std.specs.Prelude.{map, IfOk, IfErr};
+ghost use Rattle.std.specs.Prelude.{◌≡◌, [], map, IfOk, IfErr};
 ghost use Rattle.ac_syntax.specs.Programs.{ParsesDef, IsProgram, IsModule};
 ghost use Rattle.ac_syntax.specs.ReadSigns.{read_signs};
 ghost use Rattle.ac_syntax.specs.ReadTrees.{def_of, surface_of};
@@ -39,6 +39,19 @@ fn definitions<'s, 't>(
     }
 }
 
+/// The tree behind which nothing is left.
+fn at_end<T: Drop>(tree: T, rest: &[Sign<'_>]) -> Result<T, Stop>
+    ensures same { IfOk result (λ t. t ≡ tree) }
+    ensures end { IfOk result (λ _. read_signs rest.now ≡ []) }
+    ensures none { IfErr result (λ e. OnSyntax e (read_signs rest.now ≡ [] → ⊥)) }
+{
+    if rest.is_empty() {
+        Ok(tree)
+    } else {
+        Err(refused_at(rest))
+    }
+}
+
 /// The program of these signs.
 pub fn program(alloc: Global, signs: &[Sign<'_>]) -> Result<Surface, Stop>
     ensures tree { IfOk result (λ x. IsProgram (read_signs signs.now) (surface_of x)) }
@@ -46,9 +59,7 @@ pub fn program(alloc: Global, signs: &[Sign<'_>]) -> Result<Surface, Stop>
 {
     let (defs, rest) = definitions(alloc, signs)?;
     let (expr, end) = expression(alloc, rest)?;
-    if !end.is_empty() {
-        return Err(refused_at(end));
-    }
+    let expr = at_end(expr, end)?;
     Ok(Surface {
         defs,
         expr: Some(expr),
@@ -64,9 +75,7 @@ pub fn module_alone(alloc: Global, signs: &[Sign<'_>]) -> Result<Surface, Stop>
         return Err(refused_at(signs));
     };
     let (def, end) = module(alloc, here(signs), behind)?;
-    if !end.is_empty() {
-        return Err(refused_at(end));
-    }
+    let def = at_end(def, end)?;
     let mut defs = Many::new(alloc);
     defs.push(def)?;
     Ok(Surface { defs, expr: None })

@@ -12,3 +12,8 @@ pub returns-in_err-def-clause-none : goal.returns-in_err-def-clause-none
 returns-in_err-def-clause-none c =
     let p = err_from_is_err_and c.from_residual.result c.from_residual.ensures.1 in
     rw (p.1, p.2) (on_syntax_more _ (no_module_tree _ _ _ (begins_with symbol.Module _ _ _ c.in-Some.ensures.found c.here.ensures)) c.in_err-def.ensures.none)
+
+pub returns-in_err-def-2-clause-none : goal.returns-in_err-def-2-clause-none
+returns-in_err-def-2-clause-none c =
+    let p = err_from_is_err_and c.from_residual-in_err-def-2.result c.from_residual-in_err-def-2.ensures.1 in
+    rw (p.1, p.2) (on_syntax_more _ (module_and_more _ _ _ (begins_with symbol.Module _ _ _ c.in-Some.ensures.found c.here.ensures) _ _ c.in_ok-def.ensures.module) c.in_err-def-2.ensures.none)

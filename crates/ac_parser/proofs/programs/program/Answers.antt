@@ -7,3 +7,8 @@ pub returns-in_err-expr-clause-none : goal.returns-in_err-expr-clause-none
 returns-in_err-expr-clause-none c =
     let p = err_from_is_err_and c.from_residual-in_err-expr.result c.from_residual-in_err-expr.ensures.1 in
     rw (p.1, p.2) (on_syntax_more _ (no_expression _ _ _ c.in_ok-defs.ensures.defs c.in_ok-defs.ensures.end) c.in_err-expr.ensures.none)
+
+pub returns-in_err-expr-2-clause-none : goal.returns-in_err-expr-2-clause-none
+returns-in_err-expr-2-clause-none c =
+    let p = err_from_is_err_and c.from_residual-in_err-expr-2.result c.from_residual-in_err-expr-2.ensures.1 in
+    rw (p.1, p.2) (on_syntax_more _ (more_behind _ _ _ c.in_ok-defs.ensures.defs c.in_ok-defs.ensures.end _ _ c.in_ok-expr.ensures.tree) c.in_err-expr-2.ensures.none)
