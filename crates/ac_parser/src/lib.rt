@@ -7,8 +7,6 @@ mod imports;
 pub mod laws;
 mod modules;
 mod programs;
-#[cfg(test)]
-mod tests;
 mod texts;
 mod versions;
 

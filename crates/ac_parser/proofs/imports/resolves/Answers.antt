@@ -27,7 +27,7 @@ loop-behind-preserved c =
     let places = ap (map resolve_of) c.in_ok-push-2.ensures.ok ∙ map-append resolve_of c.loop-behind.found (c.in-Some-2.place ∷ []) in
     record {
       so_far = subst (λ (l : List Resolve). PlacesSoFar (read_signs c.args.signs.now) l (read_signs c.in-Some-2.later.now)) (sym places)
-      (next_place _ _ _ c.loop-behind.invariant.so_far _ c.in-Some-after.ensures.found _ _ (rw c.in-Some-2.is at c.in_ok-place.ensures.found));
+          (next_place _ _ _ c.loop-behind.invariant.so_far _ c.in-Some-after.ensures.found _ _ (rw c.in-Some-2.is at c.in_ok-place.ensures.found));
       shorter = omega (arith, c.loop-behind.invariant.shorter, c.in-Some-after.ensures.shorter, rw c.in-Some-2.is at c.in_ok-place.ensures.shorter);
     }
 

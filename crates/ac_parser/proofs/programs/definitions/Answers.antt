@@ -38,6 +38,7 @@ loop-defs-preserved c =
     let defs = ap (map def_of) c.in_ok-push-2.ensures.ok ∙ map-append def_of c.loop-defs.defs (c.in-Some-next.def ∷ []) in
     subst (λ (l : List DefTree). DefsSoFar (read_signs c.args.signs.now) l (read_signs c.in_ok-next.later.now)) (sym defs)
     (next_def _ _ _ c.loop-defs.invariant _ _ (rw c.in-Some-next.is at c.in_ok-next.ensures.def))
+
 pub returns-in_default-next-clause-defs : goal.returns-in_default-next-clause-defs
 returns-in_default-next-clause-defs c =
     let d = rw c.in_default-next.is at c.in_ok-next.ensures.def in
@@ -45,4 +46,3 @@ returns-in_default-next-clause-defs c =
 
 pub returns-in_default-next-clause-end : goal.returns-in_default-next-clause-end
 returns-in_default-next-clause-end c = let d = rw c.in_default-next.is at c.in_ok-next.ensures.def in end_at _ _ d.0 d.1
-

@@ -1,4 +1,4 @@
-use Rattle.std.proofs.Common.{List, sym, ap, subst, ◌∙◌}
+use Rattle.std.proofs.Common.{List, length, ap, subst, ◌∙◌}
 use Rattle.std.proofs.lemmas.Result.{err_from_is_err_and}
 use Rattle.ac_lexer.specs.declared.tokens.Token.{Token}
 use Rattle.ac_syntax.specs.Signs.{Sign, signs}
@@ -18,5 +18,5 @@ returns-in_err-found-clause-fault c =
 pub returns-clause-fault : goal.returns-clause-fault
 returns-clause-fault c =
     let all = ap read_signs c.as_slice-2.ensures.value ∙ c.in_ok-all.ensures ∙ ap signs c.as_slice.ensures in
-    fault_of IsProgram _ _ _ _ c.in_ok-found.ensures.read (subst (λ (l : List Token). FaultAt l _ c.in-Err.stop c.fault.result) c.as_slice-in-Err.ensures c.fault.ensures)
+    fault_of IsProgram _ _ _ _ c.in_ok-found.ensures.read (subst (λ (l : List Token). FaultAt l (length c.args.bytes.now) c.in-Err.stop c.fault.result) c.as_slice-in-Err.ensures c.fault.ensures)
     (on_syntax_more _ (λ (none : NoTree IsProgram (read_signs c.as_slice-2.result.now)). subst (λ (l : List Sign). NoTree IsProgram l) all none) c.in-Err.ensures.none)

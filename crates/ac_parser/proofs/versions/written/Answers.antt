@@ -11,4 +11,3 @@ returns-in_default-clause-version c = unversioned _ c.in_default.ensures.found
 pub returns-in-Ok-clause-version : goal.returns-in-Ok-clause-version
 returns-in-Ok-clause-version c =
     versioned _ _ c.in-Some.ensures.found _ _ c.in_ok-tokens.ensures.all _ (subst (λ (l : List VToken). IsVersion l (version_of c.in-Ok.version)) c.as_slice.ensures.value c.in-Ok.ensures.version)
-
