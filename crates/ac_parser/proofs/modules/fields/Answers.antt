@@ -1,0 +1,40 @@
+use Rattle.std.proofs.Common.{◌∷◌, [], List, map, sym, ap, subst, ◌∙◌, arith}
+use Rattle.std.proofs.lemmas.List.{map-append}
+use Rattle.std.proofs.lemmas.Result.{err_from_is_err_and}
+use Rattle.ac_syntax.specs.Trees.{FieldTree}
+use Rattle.ac_syntax.specs.Programs.{ParsesFields}
+use Rattle.ac_syntax.specs.ReadSigns.{read_signs}
+use Rattle.ac_syntax.specs.ReadTrees.{field_of}
+use Rattle.ac_syntax.proofs.OnStop.{on_syntax_more, refused}
+use Rattle.ac_parser.proofs.Lists.{StructSoFar, no_struct, begun, next_item, none_left, ended}
+use Rattle.ac_parser.proofs.ModuleSteps.{fields_end}
+use Rattle.ac_parser.proofs.modules.fields.Goals as goal
+
+pub returns-in_default-clause-none : goal.returns-in_default-clause-none
+returns-in_default-clause-none c = refused _ _ c.refused_at.ensures (no_struct ParsesFields _ c.in_default.ensures.found)
+
+pub loop-end-init : goal.loop-end-init
+loop-end-init c = record {
+  so_far = subst (λ (l : List FieldTree). StructSoFar ParsesFields (read_signs c.args.signs.now) l (read_signs c.in-Some.inner.now)) (sym (ap (map field_of) c.new-found.ensures)) (begun ParsesFields _ _ c.in-Some.ensures.found);
+  shorter = c.in-Some.ensures.shorter;
+}
+
+pub returns-in-Some-after-clause-fields : goal.returns-in-Some-after-clause-fields
+returns-in-Some-after-clause-fields c = ended _ _ _ _ c.loop-end.invariant.so_far _ (fields_end _ _ c.in-Some-after.ensures.found)
+
+pub returns-in-Some-after-clause-shorter : goal.returns-in-Some-after-clause-shorter
+returns-in-Some-after-clause-shorter c = omega (arith, c.loop-end.invariant.shorter, c.in-Some-after.ensures.shorter)
+
+pub returns-in_err-next-clause-none : goal.returns-in_err-next-clause-none
+returns-in_err-next-clause-none c =
+    let p = err_from_is_err_and c.from_residual.result c.from_residual.ensures.1 in
+    rw (p.1, p.2) (on_syntax_more _ (λ none. none_left _ _ _ _ c.loop-end.invariant.so_far (none c.in_default-after.ensures.found)) c.in_err-next.ensures.none)
+
+pub loop-end-preserved : goal.loop-end-preserved
+loop-end-preserved c =
+    let fields = ap (map field_of) c.in_ok-push.ensures.ok ∙ map-append field_of c.loop-end.found (c.in_ok-next.next ∷ []) in
+    let next = next_item _ _ _ _ c.loop-end.invariant.so_far _ _ c.in_ok-next.ensures.field in
+    record {
+      so_far = subst (λ (l : List FieldTree). StructSoFar ParsesFields (read_signs c.args.signs.now) l (read_signs c.in_ok-next.later.now)) (sym fields) next;
+      shorter = omega (arith, c.loop-end.invariant.shorter, c.in_ok-next.ensures.shorter);
+    }

@@ -1,0 +1,24 @@
+use Rattle.std.proofs.Common.{Some, map, sym, ap, subst}
+use Rattle.ac_syntax.specs.Trees.{Tree}
+use Rattle.ac_syntax.specs.Programs.{IsProgram}
+use Rattle.ac_syntax.specs.ReadSigns.{read_signs}
+use Rattle.ac_syntax.specs.ReadTrees.{def_of, expr_of}
+use Rattle.std.proofs.lemmas.Result.{err_from_is_err_and}
+use Rattle.ac_syntax.proofs.OnStop.{on_syntax_more, refused}
+use Rattle.ac_parser.proofs.ProgramSteps.{no_expression, more_behind, program_read}
+use Rattle.ac_parser.proofs.programs.program.Goals as goal
+
+pub returns-in_err-expr-clause-none : goal.returns-in_err-expr-clause-none
+returns-in_err-expr-clause-none c =
+    let p = err_from_is_err_and c.from_residual-in_err-expr.result c.from_residual-in_err-expr.ensures.1 in
+    rw (p.1, p.2) (on_syntax_more _ (no_expression _ _ _ c.in_ok-defs.ensures.defs c.in_ok-defs.ensures.end) c.in_err-expr.ensures.none)
+
+pub returns-in_err-expr-2-clause-none : goal.returns-in_err-expr-2-clause-none
+returns-in_err-expr-2-clause-none c =
+    let p = err_from_is_err_and c.from_residual-in_err-expr-2.result c.from_residual-in_err-expr-2.ensures.1 in
+    rw (p.1, p.2) (on_syntax_more _ (more_behind _ _ _ c.in_ok-defs.ensures.defs c.in_ok-defs.ensures.end _ _ c.in_ok-expr.ensures.tree) c.in_err-expr-2.ensures.none)
+
+pub returns-clause-tree : goal.returns-clause-tree
+returns-clause-tree c =
+    subst (λ (e : Tree). IsProgram (read_signs c.args.signs.now) (record { defs = map def_of c.in_ok-defs.defs; expr = Some e })) (ap expr_of (sym c.in_ok-expr-2.ensures.same))
+    (program_read _ _ _ c.in_ok-defs.ensures.defs _ _ c.in_ok-expr.ensures.tree c.in_ok-expr-2.ensures.end)
