@@ -11,8 +11,6 @@ mod plain;
 mod primitives;
 mod scope;
 mod seen;
-#[cfg(test)]
-mod tests;
 mod types;
 mod typing;
 
