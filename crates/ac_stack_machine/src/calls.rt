@@ -15,6 +15,7 @@ use ac_values::read::closure_in;
 use ac_values::{Node, Value};
 
 impl Engine {
+    /// Calls the closure below the argument on the stack, or stops in front of an application past the budget.
     pub fn apply(&mut self) -> Result<Step, Memory>
         requires sound { Sound self.old }
         ensures { IfOk result (λ s. Does self.new s (applies (core self.old))) }
@@ -72,6 +73,7 @@ impl Engine {
         Ok(Step::On)
     }
 
+    /// Goes back to the newest frame; the value of a field is kept.
     pub fn return_back(&mut self) -> Result<Step, Memory>
         requires sound { Sound self.old }
         ensures { IfOk result (λ s. Does self.new s (returns (core self.old).frames (core self.old))) }

@@ -18,6 +18,7 @@ use ac_values::{Node, Store, Value};
 use std::alloc::Global;
 
 impl Engine {
+    /// Keeps a handler at place `a` of the block that runs.
     pub fn try_block(&mut self, a: usize) -> Result<Step, Memory>
         requires sound { Sound self.old }
         ensures { IfOk result (λ s. Does self.new s (tries a (core self.old))) }
@@ -33,6 +34,7 @@ impl Engine {
         Ok(Step::On)
     }
 
+    /// Drops the newest handler.
     pub fn end_try(&mut self) -> Step
         requires sound { Sound self.old }
         ensures { Does self.new result (ends_try (core self.old).handlers (core self.old)) }
@@ -44,6 +46,7 @@ impl Engine {
         Step::On
     }
 
+    /// Raises the exception on the stack: the newest handler goes on, or the machine stops.
     pub fn raise(&mut self) -> Result<Step, Memory>
         requires sound { Sound self.old }
         ensures { IfOk result (λ s. Does self.new s (raises (core self.old))) }

@@ -17,6 +17,7 @@ use ac_values::read::bool_in;
 use ac_values::{Node, Value};
 
 impl Engine {
+    /// Goes on at place `a`.
     pub fn jump(&mut self, a: usize) -> Step
         requires sound { Sound self.old }
         ensures { Does self.new result (jumps a (core self.old)) }
@@ -25,6 +26,7 @@ impl Engine {
         Step::On
     }
 
+    /// Takes a truth value from the stack, and goes on at place `a` where it is false.
     pub fn jump_if_not(&mut self, a: usize) -> Step
         requires sound { Sound self.old }
         ensures { Does self.new result (jumps_if_not a (core self.old)) }
@@ -44,6 +46,7 @@ impl Engine {
 }
 
 impl Engine {
+    /// Where the newest value fits the pattern, takes it and binds the pattern's variables; else goes on at place `a`.
     pub fn test(&mut self, pat: &Pat, a: usize) -> Result<Step, Memory>
         requires sound { Sound self.old }
         ensures { IfOk result (λ s. Does self.new s (tests (pattern_of pat.now) a (core self.old))) }

@@ -22,6 +22,7 @@ pub fn has_text(number: u8) -> bool
 }
 
 impl Engine {
+    /// Pushes a string.
     pub fn push_text(&mut self, text: &Text) -> Result<Step, Memory>
         requires sound { Sound self.old }
         ensures { IfOk result (λ s. Does self.new s (Run (pushed (MStr text.now.0) (core self.old)))) }
@@ -30,6 +31,7 @@ impl Engine {
         self.push_node(Node::Str(text))
     }
 
+    /// Pushes a closure of a block with the environment.
     pub fn push_closure(&mut self, block: CodeId, recursive: bool) -> Result<Step, Memory>
         requires sound { Sound self.old }
         ensures { IfOk result (λ s. Does self.new s (Run (pushed (MClosure block.0 recursive (core self.old).env) (core self.old)))) }
@@ -42,6 +44,7 @@ impl Engine {
         })
     }
 
+    /// Pushes a closure of a block with the empty environment.
     pub fn push_constant(&mut self, block: CodeId, recursive: bool) -> Result<Step, Memory>
         requires sound { Sound self.old }
         ensures { IfOk result (λ s. Does self.new s (Run (pushed (MClosure block.0 recursive MEnd) (core self.old)))) }
@@ -53,6 +56,7 @@ impl Engine {
         })
     }
 
+    /// Pushes an exception, with the string on the stack where its number asks for one.
     pub fn make_exn(&mut self, number: u8) -> Result<Step, Memory>
         requires sound { Sound self.old }
         ensures { IfOk result (λ s. Does self.new s (makes_exn number (core self.old))) }
@@ -70,6 +74,7 @@ impl Engine {
         self.push_node(Node::Exn(number, Some(text)))
     }
 
+    /// Makes a present option of the newest value.
     pub fn make_some(&mut self) -> Result<Step, Memory>
         requires sound { Sound self.old }
         ensures { IfOk result (λ s. Does self.new s (makes_some (core self.old))) }
@@ -81,6 +86,7 @@ impl Engine {
         self.push_node(Node::Present(inner))
     }
 
+    /// Makes a list of the two newest values, a list on top of its new head.
     pub fn make_cons(&mut self) -> Result<Step, Memory>
         requires sound { Sound self.old }
         ensures { IfOk result (λ s. Does self.new s (makes_cons (core self.old))) }
@@ -95,6 +101,7 @@ impl Engine {
         self.push_node(Node::Cons(head, tail))
     }
 
+    /// Makes a tuple of the `n` newest values, the newest last.
     pub fn make_tuple(&mut self, n: usize) -> Result<Step, Memory>
         requires sound { Sound self.old }
         ensures { IfOk result (λ s. Does self.new s (makes_tuple n (core self.old))) }

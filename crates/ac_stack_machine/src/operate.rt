@@ -18,6 +18,7 @@ use ac_types::{Memory, Text};
 use ac_values::Node;
 
 impl Engine {
+    /// Takes the arguments of a primitive from the stack and pushes its answer, raises or pauses.
     pub fn primitive(&mut self, number: u8) -> Result<Step, Memory>
         requires sound { Sound self.old }
         ensures { IfOk result (λ s. Does self.new s (given (meaning number) (λ m. performs m (core self.old)))) }

@@ -14,6 +14,7 @@ use ac_types::{Memory, Ty};
 use ac_values::read::text_in;
 
 impl Engine {
+    /// Takes a value and the mark below it, and pauses.
     pub fn marshal(&mut self, ty: &Ty, home: Home) -> Result<Step, Memory>
         requires sound { Sound self.old }
         ensures { IfOk result (λ s. Does self.new s (marshals (typ_of ty.now) (home_of home) (core self.old))) }
@@ -38,6 +39,7 @@ impl Engine {
         }))
     }
 
+    /// Takes a string, and pauses.
     pub fn unmarshal(&mut self, ty: &Ty) -> Result<Step, Memory>
         requires sound { Sound self.old }
         ensures { IfOk result (λ s. Does self.new s (unmarshals (typ_of ty.now) (core self.old))) }

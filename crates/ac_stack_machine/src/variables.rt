@@ -11,6 +11,7 @@ use ac_values::Node;
 use ac_values::read::{entry, without};
 
 impl Engine {
+    /// Pushes entry `i` of the environment, counted from the newest.
     pub fn load(&mut self, i: u16) -> Result<Step, Memory>
         requires sound { Sound self.old }
         ensures { IfOk result (λ s. Does self.new s (loads i (core self.old))) }
@@ -21,6 +22,7 @@ impl Engine {
         }
     }
 
+    /// Takes a value into the environment.
     pub fn bind(&mut self) -> Result<Step, Memory>
         requires sound { Sound self.old }
         ensures { IfOk result (λ s. Does self.new s (binds (core self.old))) }
@@ -33,6 +35,7 @@ impl Engine {
         Ok(Step::On)
     }
 
+    /// Drops the `n` newest of the environment.
     pub fn unbind(&mut self, n: usize) -> Step
         requires sound { Sound self.old }
         ensures { Does self.new result (unbinds n (core self.old)) }
@@ -46,6 +49,7 @@ impl Engine {
         }
     }
 
+    /// Drops the newest value of the stack.
     pub fn drop_newest(&mut self) -> Step
         requires sound { Sound self.old }
         ensures { Does self.new result (drops (core self.old)) }
