@@ -9,6 +9,18 @@ pub record Sunk : Type 0 where
   pub bytes : List ℕ
   pub writes : Calls
 
+-- a world: the bytes that its input has left, and those of console and channel
+pub record Around : Type 0 where
+  pub left : List ℕ
+  pub console : List ℕ
+  pub channel : List ℕ
+
+-- a world some of whose calls fail, with its reads, and its prints and sends
+pub record Faulty : Type 0 where
+  pub world : Around
+  pub reads : Calls
+  pub writes : Calls
+
 -- files: their names and bytes, their reads, and their creates and appends
 pub record Filed : Type 0 where
   pub files : List MemoryFile

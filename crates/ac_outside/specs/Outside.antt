@@ -27,6 +27,12 @@ IsWithin (Bytes n) max = (0 < n) × (n ≤ max)
 IsWithin End max = Unit {0}
 IsWithin Failed max = Unit {0}
 
+-- what was taken from a place on ends by this place
+abbrev pub EndsBy : Got → ℕ → ℕ → Type 0
+EndsBy (Bytes n) from end = from + n ≤ end
+EndsBy End from end = Unit {0}
+EndsBy Failed from end = Unit {0}
+
 -- n of the bytes that are left stand at the front of the buffer
 pub record Taken (n : ℕ) (left buf : List ℕ) : Type 0 where
   pub there : n ≤ length left
@@ -37,6 +43,12 @@ abbrev pub Takes : Got → List ℕ → List ℕ → Type 0
 Takes (Bytes n) left buf = Taken n left buf
 Takes End left buf = left ≡ []
 Takes Failed left buf = Unit {0}
+
+-- the bytes that a read leaves of those that were left
+abbrev pub rest : Got → List ℕ → List ℕ
+rest (Bytes n) left = drop n left
+rest End left = left
+rest Failed left = left
 
 -- what a read of a file from a place answers
 abbrev pub Reads : Got → Option (List ℕ) → ℕ → List ℕ → Type 0

@@ -1,10 +1,11 @@
 // Files in memory.
-ghost use Rattle.std.specs.Prelude.{◌≡◌, ◌≢◌, ◌⊎◌, ◌<◌, ◌≤◌, ◌↔◌, ◌++◌, [], true, None, IsTrue, MatchOption, IfSome, OnOk, OnErr, Contains, length, drop};
+ghost use Rattle.std.specs.Prelude.{◌≡◌, ◌⊎◌, ◌<◌, ◌≤◌, ◌↔◌, ◌++◌, [], true, None, IsTrue, MatchOption, IfSome, OnOk, OnErr, Contains, length};
 ghost use Rattle.ac_outside.specs.Calls.{unused};
 ghost use Rattle.ac_outside.specs.Kept.{bytes_of, StandsAt};
-ghost use Rattle.ac_outside.specs.Outside.{Rose, IsWithin, Takes, OthersSame, NeverFall, Reads, Created, Appended, or_empty};
+ghost use Rattle.ac_outside.specs.Outside.{Rose, IsWithin, OthersSame, NeverFall, Reads, Created, Appended, or_empty};
 
 use crate::calls::Calls;
+use crate::taking::take_from;
 use crate::traits::{Files, Got, Put};
 use ac_types::{Many, Memory, Text};
 use std::alloc::Global;
@@ -148,23 +149,6 @@ impl Files for MemoryFiles {
             Err(_) => Put::Memory,
         }
     }
-}
-
-// Copies to the buffer what stands from a place on, as far as there is room.
-fn take_from(bytes: &[u8], from: u64, buf: &mut [u8]) -> Got
-    requires { 0 < length buf.old }
-    ensures bound { IsWithin result (length buf.new) }
-    ensures takes { Takes result (drop from bytes.now) buf.new }
-    ensures reads { result ≢ Got.Failed }
-{
-    let len = bytes.len() as u64;
-    if from >= len {
-        return Got::End;
-    }
-    let left = &bytes[from as usize..];
-    let count = left.len().min(buf.len());
-    buf[..count].copy_from_slice(&left[..count]);
-    Got::Bytes(count)
 }
 
 // Gives a name these bytes, in the place of those that it has.

@@ -1,4 +1,4 @@
-//! What a program meets outside: files to read and write, and sinks for its output.
+//! What a program meets outside: files to read and write, sinks for its output, and the world in which it runs.
 //!
 //! Each trait has counts of faults that never fall, and a call that answers `Failed` shows in its count. So code
 //! that is generic over a trait can't claim a fault that didn't happen. Some implementations tell what they
@@ -9,12 +9,15 @@ mod calls;
 mod files;
 mod real;
 mod sink;
+mod taking;
 #[cfg(test)]
 mod tests;
 mod traits;
+mod world;
 
 pub use calls::Calls;
 pub use files::{MemoryFile, MemoryFiles};
 pub use real::{RealFiles, RealSink};
 pub use sink::{MemorySink, SureSink};
-pub use traits::{Files, Got, Put, Sink};
+pub use traits::{Files, Got, Put, Sink, Source, World};
+pub use world::{MemoryWorld, SureWorld};

@@ -1,5 +1,8 @@
 // Calls with ample memory, and each fault once.
-use crate::{Files, Got, MemoryFile, MemoryFiles, MemorySink, Put, RealFiles, Sink, SureSink};
+use crate::{
+    Files, Got, MemoryFile, MemoryFiles, MemorySink, MemoryWorld, Put, RealFiles, Sink, Source,
+    SureSink, SureWorld, World,
+};
 use ac_types::{Many, Text};
 use std::alloc::Global;
 use std::test::Fail;
@@ -61,5 +64,42 @@ fn a_missing_file_of_the_system_is_a_failed_read(rt: HostRuntime) -> Result<(), 
     let mut files = RealFiles::new(rt.clone()?);
     let mut buf = [0u8; 1];
     assert_eq!(rt; files.read("no/such/file", 0, &mut buf), Got::Failed);
+    Ok(())
+}
+
+#[test]
+fn a_world_keeps_input_console_and_channel_apart(rt: HostRuntime) -> Result<(), Fail> {
+    let alloc = rt.alloc();
+    let mut world = SureWorld::new(alloc, Text::from_slice(alloc, b"abc")?);
+    let mut buf = [0u8; 2];
+    assert_eq!(rt; world.read(&mut buf), Got::Bytes(2));
+    assert_eq!(rt; world.print(b"p"), Put::Done);
+    assert_eq!(rt; world.read(&mut buf), Got::Bytes(1));
+    assert_eq!(rt; world.send(b"s"), Put::Done);
+    assert_eq!(rt; world.read(&mut buf), Got::End);
+    assert_eq!(rt; world.console().as_slice(), b"p".as_slice());
+    assert_eq!(rt; world.channel().as_slice(), b"s".as_slice());
+    Ok(())
+}
+
+#[test]
+fn a_world_fails_where_it_is_to(rt: HostRuntime) -> Result<(), Fail> {
+    let alloc = rt.alloc();
+    let input = Text::from_slice(alloc, b"a")?;
+    let mut world = MemoryWorld::new(
+        alloc,
+        input,
+        numbers(alloc, &[0])?,
+        numbers(alloc, &[0, 2])?,
+    );
+    let mut buf = [0u8; 1];
+    assert_eq!(rt; world.read(&mut buf), Got::Failed);
+    assert_eq!(rt; world.read(&mut buf), Got::Bytes(1));
+    assert_eq!(rt; world.print(b"1"), Put::Failed);
+    assert_eq!(rt; world.print(b"2"), Put::Done);
+    assert_eq!(rt; world.send(b"3"), Put::Failed);
+    assert_eq!(rt; world.send(b"4"), Put::Done);
+    assert_eq!(rt; world.console().as_slice(), b"2".as_slice());
+    assert_eq!(rt; world.channel().as_slice(), b"4".as_slice());
     Ok(())
 }

@@ -1,6 +1,6 @@
 // The traits of the outside, and what their calls answer.
 ghost use Rattle.std.specs.Prelude.{◌≡◌, ◌<◌, ◌≤◌, ℕ, List, Bool, IsTrue, length};
-ghost use Rattle.ac_outside.specs.Outside.{Rose, Contents, NeverFall, IsWithin, Reads, Wrote, Created, Appended, OthersSame};
+ghost use Rattle.ac_outside.specs.Outside.{Rose, Contents, NeverFall, IsWithin, Takes, rest, Reads, Wrote, Created, Appended, OthersSame};
 
 /// What a read answers.
 #[derive(Clone, Copy, Debug, PartialEq, Eq)]
@@ -40,6 +40,65 @@ pub trait Sink {
         ensures bytes { IsTrue told → Wrote result (written self.old) (written self.new) bytes.now }
         ensures cause { result ≡ Put.Failed → Rose (faults self.old) (faults self.new) }
         ensures later { faults self.old ≤ faults self.new };
+}
+
+/// A place to read from.
+pub trait Source {
+    /// Whether what is left is told.
+    ghost told: { Bool };
+
+    /// The bytes that are left.
+    ghost left: { Self → List ℕ };
+
+    /// How often a read has failed. A count that stands at 2^64 - 1 stays there.
+    ghost read_faults: { Self → ℕ };
+
+    /// What holds of the object before a read and after it.
+    ghost passes: { Self → Self → Type 0 };
+
+    /// Takes bytes from the front. A read that answers `End` or `Failed` takes none.
+    fn read(&mut self, buf: &mut [u8]) -> Got
+        requires { 0 < length buf.old }
+        ensures bound { IsWithin result (length buf.new) }
+        ensures bytes { IsTrue told → Takes result (left self.old) buf.new }
+        ensures rest { IsTrue told → left self.new ≡ rest result (left self.old) }
+        ensures cause { result ≡ Got.Failed → Rose (read_faults self.old) (read_faults self.new) }
+        ensures later { read_faults self.old ≤ read_faults self.new }
+        ensures passes { passes self.old self.new };
+}
+
+/// What a program meets while it runs: its input, a console and a channel. It tells what they have, or nothing.
+pub trait World: Source {
+    /// The bytes printed so far.
+    ghost console: { Self → List ℕ };
+
+    /// The bytes sent so far.
+    ghost channel: { Self → List ℕ };
+
+    /// How often a print or a send has failed. A count that stands at 2^64 - 1 stays there.
+    ghost write_faults: { Self → ℕ };
+
+    /// Adds the bytes of one print to the console.
+    fn print(&mut self, bytes: &[u8]) -> Put
+        ensures bytes { IsTrue Self.told → Wrote result (console self.old) (console self.new) bytes.now }
+        ensures others { IsTrue Self.told → (Self.left self.new ≡ Self.left self.old) × (channel self.new ≡ channel self.old) }
+        ensures cause { result ≡ Put.Failed → Rose (write_faults self.old) (write_faults self.new) }
+        ensures later { write_faults self.old ≤ write_faults self.new }
+        ensures later_reads { Self.read_faults self.old ≤ Self.read_faults self.new };
+
+    /// Adds one whole frame to the channel.
+    fn send(&mut self, bytes: &[u8]) -> Put
+        ensures bytes { IsTrue Self.told → Wrote result (channel self.old) (channel self.new) bytes.now }
+        ensures others { IsTrue Self.told → (Self.left self.new ≡ Self.left self.old) × (console self.new ≡ console self.old) }
+        ensures cause { result ≡ Put.Failed → Rose (write_faults self.old) (write_faults self.new) }
+        ensures later { write_faults self.old ≤ write_faults self.new }
+        ensures later_reads { Self.read_faults self.old ≤ Self.read_faults self.new };
+
+    /// A read leaves console and channel as they were.
+    ghost read_leaves: { (a b : Self) → Self.Source.passes a b → IsTrue Self.Source.told → (console b ≡ console a) × (channel b ≡ channel a) };
+
+    /// In a read no count of failed writes falls.
+    ghost read_keeps: { (a b : Self) → Self.Source.passes a b → write_faults a ≤ write_faults b };
 }
 
 /// Files by name.
