@@ -1,4 +1,5 @@
 pub mod EndingLaws
+pub mod KindLaws
 pub mod Pieces
 pub mod TextLaws
 pub mod Writes

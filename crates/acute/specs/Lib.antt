@@ -1,5 +1,5 @@
 pub mod Endings
 pub mod Fronts
-pub mod Loading
 pub mod Meaning
+pub mod Refusals
 pub mod Streams

@@ -2,8 +2,8 @@
 #![tactic(auto)]
 
 mod laws;
-mod loading;
 mod reading;
+mod refusal;
 #[cfg(test)]
 mod tests;
 mod top;

@@ -83,6 +83,7 @@ fn numbers_are_printed(rt: HostRuntime) -> Result<(), Fail> {
     let alloc = rt.alloc();
     assert!(rt; prints(alloc, b"IO.print_int (3 + 4)", b"7")?);
     assert!(rt; prints(alloc, b"IO.print_int (3 - 4)", b"-1")?);
+    assert!(rt; prints(alloc, b"IO.print_int (- (* a *) 5 + 2)", b"-3")?);
     assert!(rt; prints(alloc, b"IO.print_int (2 * 3 + 4 * 5)", b"26")?);
     assert!(rt;
         prints(
@@ -229,14 +230,47 @@ fn what_has_no_tokens_or_no_tree_is_refused(rt: HostRuntime) -> Result<(), Fail>
 }
 
 #[test]
+fn what_does_not_run_yet_is_refused(rt: HostRuntime) -> Result<(), Fail> {
+    let alloc = rt.alloc();
+    let line = b"acute: refused: unbuilt at 0\n";
+    assert!(rt; is_refused(alloc, b"fun (x : int) -> x", line)?);
+    assert!(rt; is_refused(alloc, b"mark \"m\" 1", line)?);
+    assert!(rt; is_refused(alloc, b"1 / x", line)?);
+    assert!(rt; is_refused(alloc, b"IO.print_int", line)?);
+    assert!(rt;
+        is_refused(
+            alloc,
+            b"x; IO.print_int (fun (x : int) -> x); 1 = 1",
+            b"acute: refused: unbuilt at 17\n"
+        )?
+    );
+    Ok(())
+}
+
+#[test]
 fn what_has_no_type_is_refused(rt: HostRuntime) -> Result<(), Fail> {
     let alloc = rt.alloc();
     let line = b"acute: refused: type at 0\n";
     assert!(rt; is_refused(alloc, b"3 + IO.print_int 4", line)?);
+    assert!(rt; is_refused(alloc, b"1 + true", line)?);
     assert!(rt; is_refused(alloc, b"IO.print_int true", line)?);
     assert!(rt; is_refused(alloc, b"1; 2", line)?);
-    assert!(rt; is_refused(alloc, b"x", line)?);
     assert!(rt; is_refused(alloc, b"() < ()", line)?);
+    assert!(rt; is_refused(alloc, b"IO.print_int x", b"acute: refused: unbound at 13\n")?);
+    assert!(rt;
+        is_refused(
+            alloc,
+            b"let x : t = 1 in y",
+            b"acute: refused: unbound at 8\n"
+        )?
+    );
+    assert!(rt;
+        prints(
+            alloc,
+            b"let x : int = 1 in let x : bool = true in if x then 1 else 2",
+            b""
+        )?
+    );
     Ok(())
 }
 
@@ -252,7 +286,7 @@ fn openers_are_bounded(rt: HostRuntime) -> Result<(), Fail> {
         text.extend(b")")?;
     }
     let bytes = text.as_slice();
-    assert!(rt; is_refused(alloc, bytes, b"acute: refused: syntax at 200\n")?);
+    assert!(rt; is_refused(alloc, bytes, b"acute: refused: too_deep at 200\n")?);
     assert!(rt; bytes.len() == 402);
     assert!(rt; prints(alloc, &bytes[1..401], b"")?);
     Ok(())

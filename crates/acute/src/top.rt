@@ -6,13 +6,14 @@ ghost use Rattle.ac_terms.specs.Read.{expr_of};
 ghost use Rattle.ac_terms.specs.Reduction.{Ends};
 ghost use Rattle.ac_words.specs.Commands.{command_of, request_of, run, Request};
 ghost use Rattle.acute.specs.Streams.{Reading, reading, writing, memory_line};
-ghost use Rattle.acute.specs.Loading.{refusal_line};
+ghost use Rattle.acute.specs.Refusals.{kind_line, kind_status};
 ghost use Rattle.acute.specs.Meaning.{Answer, answer, Means};
 ghost use Rattle.acute.specs.Endings.{texts, Ended, Said, Gives};
 
-use crate::loading::{LoadFault, Refusal, load};
 use crate::reading::{ReadFault, read_text};
+use crate::refusal::{line, status};
 use ac_command::read_words;
+use ac_load::{Kind, load};
 use ac_outside::{Files, Put, Sink};
 use ac_session::{RunEnd, run as run_program};
 use ac_terms::Term;
@@ -95,9 +96,8 @@ fn run_text<O: Sink, E: Sink>(alloc: Global, text: &[u8], output: &mut O, errors
         result.0 }
 {
     match load(alloc, text) {
-        Ok(term) => run_term(alloc, &term, output, errors),
-        Err(LoadFault::Refused(refusal)) => refuse(alloc, refusal, errors),
-        Err(LoadFault::Memory) => no_memory(errors),
+        Ok(loaded) => run_term(alloc, &loaded.main, output, errors),
+        Err(kind) => refuse(alloc, kind, errors),
     }
 }
 
@@ -118,12 +118,12 @@ fn run_term<O: Sink, E: Sink>(alloc: Global, term: &Term, output: &mut O, errors
 }
 
 // Writes the line of a refusal.
-fn refuse<E: Sink>(alloc: Global, refusal: Refusal, errors: &mut E) -> Status
+fn refuse<E: Sink>(alloc: Global, kind: Kind, errors: &mut E) -> Status
     ensures { let stream = writing E.told (E.written errors.old) (E.written errors.new) (E.faults errors.old) (E.faults errors.new)
-        in Said stream (refusal_line refusal) 1 result.0 ⊎ Said stream memory_line 4 result.0 }
+        in Said stream (kind_line kind) (kind_status kind) result.0 ⊎ Said stream memory_line 4 result.0 }
 {
-    match refusal.line(alloc) {
-        Ok(line) => say(errors, line.as_bytes(), 1),
+    match line(kind, alloc) {
+        Ok(line) => say(errors, line.as_bytes(), status(kind)),
         Err(_) => no_memory(errors),
     }
 }

@@ -1,20 +1,19 @@
-use Rattle.std.proofs.Common.{⊎_elim, refl, subst}
-use Rattle.acute.specs.declared.loading.LoadFault.{LoadFault}
-use Rattle.acute.specs.Loading.{IsFaultOf}
-use Rattle.acute.specs.Meaning.{refused, ends}
-use Rattle.acute.proofs.EndingLaws.{end_said, end_early}
+use Rattle.std.proofs.Common.{⊎_elim, refl}
+use Rattle.acute.specs.Meaning.{ends}
+use Rattle.acute.proofs.EndingLaws.{end_early}
+use Rattle.acute.proofs.KindLaws.{end_refused}
+use Rattle.ac_load.proofs.TextLaws.{runs}
 use Rattle.acute.proofs.top.run_text.Goals as goal
 
-pub returns-in-Ok : goal.returns-in-Ok
-returns-in-Ok g c = λ request files means. c.run_term.ensures request files (λ out e. means _ (ends _ out c.in-Ok.ensures.accepted e))
+pub run_term-requires : goal.run_term-requires
+run_term-requires g c = (_, runs c.in-Ok.ensures.accepted)
 
-pub returns-in-Err-Refused : goal.returns-in-Err-Refused
-returns-in-Err-Refused g c = λ request files means.
-    let r = subst (λ (f : LoadFault). IsFaultOf c.args.text.now f) c.in-Err-Refused.field-0-is c.in-Err-Refused.ensures.refused in
+pub returns-in-Ok : goal.returns-in-Ok
+returns-in-Ok g c = λ request files means. c.run_term.ensures request files (λ out e. means _ (ends _ _ out c.in-Ok.ensures.accepted e))
+
+pub returns-in-Err : goal.returns-in-Err
+returns-in-Err g c = λ request files means.
     ⊎_elim
-    (λ s. end_said request files _ _ 1 _ (means _ (refused _ r)) (record { same = refl }) _ s)
+    (λ s. end_refused request files _ _ _ _ c.in-Err.ensures.refused means (record { same = refl }) _ s)
     (λ s. end_early request files _ _ (record { same = refl }) _ s)
     c.refuse.ensures
-
-pub returns-in-Err-Memory : goal.returns-in-Err-Memory
-returns-in-Err-Memory g c = λ request files means. end_early request files _ _ (record { same = refl }) _ c.no_memory.ensures

@@ -1,0 +1,5 @@
+pub mod FirstLanguage
+pub mod FirstTrees
+pub mod LoadLaws
+pub mod PlainTerms
+pub mod TextLaws

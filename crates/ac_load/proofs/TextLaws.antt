@@ -1,0 +1,51 @@
+-- A text has one answer: a term and no other, or a refusal.
+use Rattle.std.proofs.Common.{◌≡◌, ◌∙◌, ℕ, true, false, List, [], ◌∷◌, Option, Some, None, refl, sym, ap, subst, option_and_then}
+use Rattle.ac_types.specs.Types.{Bytes, Typ}
+use Rattle.ac_types.proofs.FirstLaws.{none≢some}
+use Rattle.ac_terms.specs.Terms.{Expr}
+use Rattle.ac_terms.specs.Language.{IsProgram}
+use Rattle.ac_rules.specs.Views.{Coloured}
+use Rattle.ac_rules.specs.Typing.{type_of}
+use Rattle.ac_syntax.specs.Trees.{Tree, DefTree, ProgramTree}
+use Rattle.ac_syntax.specs.Programs as grammar
+use Rattle.ac_parser.specs.Texts.{HasTree}
+use Rattle.ac_parser.proofs.TextLaws.{one_program_text, tree_and_refusal}
+use Rattle.ac_resolve.specs.Programs.{first_unbound, first_repeated, least_passed, main_of, Elaborates}
+use Rattle.ac_load.specs.Built.{unbuilt, first_unbuilt}
+use Rattle.ac_load.specs.Loading.{IsSource, main_scope, Accepted, IsRefused, no_tree, not_built, unbound, repeated, too_many, ill_typed}
+use Rattle.ac_load.specs.declared.kind.Kind.{Kind}
+use Rattle.ac_load.proofs.FirstLanguage.{in_language, typed, is_first}
+use Rattle.ac_load.proofs.FirstTrees.{first_tree}
+
+one_tree : {text : Bytes} {p q : ProgramTree} → HasTree grammar.IsProgram text p → HasTree grammar.IsProgram text q → p ≡ q
+one_tree {text} {p} {q} x y = one_program_text text p q x y
+
+-- a test that gives nothing of a tree gives nothing of the same tree
+clash : {A : Type 0} {P : Type 0} {a : A} (f : ProgramTree → Option A) {p q : ProgramTree} → p ≡ q → f p ≡ Some a → f q ≡ None → P
+clash f is some none = absurd (none≢some (sym none ∙ ap f (sym is) ∙ some))
+
+pub not_both : {text : Bytes} {kind : Kind} {e : Expr} {T : Typ} → IsRefused text kind → Accepted text e T → ⊥
+not_both {text} (no_tree {e = f} r) a = tree_and_refusal grammar.IsProgram text a.tree f a.source.has r
+not_both (not_built has found) a = clash first_unbuilt (one_tree has a.source.has) found a.source.built
+not_both (unbound s r) a = clash (λ p. first_unbound p.expr) (one_tree s.has a.source.has) r a.elaborates.bound
+not_both (repeated s r) a = clash (λ p. first_repeated p.expr) (one_tree s.has a.source.has) r.1 a.elaborates.distinct
+not_both (too_many s r) a = clash (λ p. least_passed p.expr) (one_tree s.has a.source.has) r.2 a.elaborates.within
+not_both (ill_typed s x none) a =
+    let same = x.is ∙ ap (λ (p : ProgramTree). main_of p.expr) (one_tree s.has a.source.has) ∙ sym a.elaborates.is in
+    none≢some (sym none ∙ ap (type_of Coloured false [] main_scope) same ∙ a.typed)
+
+pub one_term : {text : Bytes} {e f : Expr} {T U : Typ} → Accepted text e T → Accepted text f U → e ≡ f
+one_term a b = a.elaborates.is ∙ ap (λ (p : ProgramTree). main_of p.expr) (one_tree a.source.has b.source.has) ∙ sym b.elaborates.is
+
+from_built : (defs : List DefTree) (e : Option Tree) → first_unbuilt (record { defs = defs; expr = e }) ≡ None → is_first (main_of e) ≡ true
+from_built [] (Some t) h = first_tree t [] h
+from_built [] None h = refl
+from_built (d ∷ ds) e h = absurd (none≢some (sym h))
+
+pub first_term : {text : Bytes} {tree : ProgramTree} {e : Expr} → IsSource text tree → Elaborates tree e → is_first e ≡ true
+first_term {tree = tree} s x = subst (λ (e : Expr). is_first e ≡ true) (sym x.is) (from_built tree.defs tree.expr s.built)
+
+pub runs : {text : Bytes} {e : Expr} {T : Typ} → Accepted text e T → IsProgram e T
+runs {e = e} {T = T} a =
+    let first = first_term a.source a.elaborates in
+    record { in_language = in_language e first; typed = (typed e [] T refl first a.typed).by_first }

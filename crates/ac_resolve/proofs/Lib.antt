@@ -1,0 +1,14 @@
+pub mod Counted
+pub mod Depths
+pub mod Examples
+pub mod Forms
+pub mod Leasts
+pub mod Lists
+pub mod Made
+pub mod Mains
+pub mod Repeats
+pub mod Scoping
+pub mod TermLaws
+pub mod Terms
+pub mod TreeLaws
+pub mod Within

@@ -1,0 +1,9 @@
+pub mod Counts
+pub mod Elaboration
+pub mod Flaws
+pub mod Joining
+pub mod Names
+pub mod Programs
+pub mod Repeated
+pub mod Scopes
+pub mod Unbound

@@ -1,0 +1,163 @@
+// The primitives of the standard modules.
+
+ghost use Rattle.std.specs.Prelude.{◌≡◌, IfOk, option_map};
+ghost use Rattle.ac_types.specs.ReadTypes.{typ_of};
+ghost use Rattle.ac_terms.specs.Read.{expr_of};
+ghost use Rattle.ac_resolve.specs.declared.primitive.Primitive.TheVariants.{Sub};
+ghost use Rattle.ac_resolve.specs.Names.{entry_of, standard, io, str, table_of, primitive, number_of, argument_of};
+ghost use Rattle.ac_resolve.specs.Elaboration.{primitive_of};
+
+use ac_terms::Term;
+use ac_types::{Many, Memory, Ty, Word};
+use std::alloc::Global;
+
+/// A primitive that is called by a name.
+#[derive(Clone, Copy, Debug, PartialEq, Eq)]
+pub enum Primitive {
+    /// `IO.print_int`.
+    PrintInt,
+    /// `IO.print_string`.
+    PrintString,
+    /// `IO.send`.
+    Send,
+    /// `IO.receive`.
+    Receive,
+    /// `Str.length`.
+    Length,
+    /// `Str.sub`.
+    Sub,
+    /// `Str.of_int`.
+    OfInt,
+}
+
+impl Primitive {
+    /// The number of the primitive.
+    pub fn number(self) -> u8
+        ensures { result ≡ number_of self }
+    {
+        match self {
+            Primitive::PrintInt => 10,
+            Primitive::PrintString => 11,
+            Primitive::Send => 12,
+            Primitive::Receive => 13,
+            Primitive::Length => 14,
+            Primitive::Sub => 15,
+            Primitive::OfInt => 16,
+        }
+    }
+
+    /// The type of its argument.
+    #[tactic(auto, using(crate::proofs::Forms::primitive_forms))]
+    pub fn argument(self, alloc: Global) -> Result<Ty, Memory>
+        ensures { IfOk result (λ ty. typ_of ty ≡ argument_of self) }
+    {
+        match self {
+            Primitive::PrintInt => Ok(Ty::Int),
+            Primitive::PrintString => Ok(Ty::Str),
+            Primitive::Send => Ok(Ty::Str),
+            Primitive::Receive => Ok(Ty::Unit),
+            Primitive::Length => Ok(Ty::Str),
+            Primitive::Sub => text_and_range(alloc),
+            Primitive::OfInt => Ok(Ty::Int),
+        }
+    }
+
+    /// The primitive at its argument.
+    #[tactic(auto, using(crate::proofs::Forms::primitive_forms))]
+    pub fn at(self, alloc: Global, argument: Term) -> Result<Term, Memory>
+        ensures { IfOk result (λ t. expr_of t ≡ primitive_of self (expr_of argument)) }
+    {
+        let mut arguments = Many::new(alloc);
+        arguments.push(argument)?;
+        Ok(Term::Prim(self.number(), arguments))
+    }
+}
+
+/// The type of a string with two ints.
+#[tactic(auto, using(crate::proofs::Forms::primitive_forms))]
+fn text_and_range(alloc: Global) -> Result<Ty, Memory>
+    ensures { IfOk result (λ ty. typ_of ty ≡ argument_of Sub) }
+{
+    let mut parts = Many::new(alloc);
+    parts.push(Ty::Str)?;
+    parts.push(Ty::Int)?;
+    parts.push(Ty::Int)?;
+    Ok(Ty::Tuple(parts))
+}
+
+/// A standard module.
+#[derive(Clone, Copy, Debug, PartialEq, Eq)]
+pub enum Standard {
+    /// `IO`.
+    Io,
+    /// `Str`.
+    Str,
+}
+
+impl Standard {
+    /// The standard module of that name.
+    pub fn named(word: &Word) -> Option<Standard>
+        ensures { option_map table_of result ≡ entry_of word.now standard }
+    {
+        let name = word.text().as_slice();
+        if b"IO".as_slice() == name {
+            return Some(Standard::Io);
+        }
+        if b"Str".as_slice() == name {
+            return Some(Standard::Str);
+        }
+        None
+    }
+
+    /// The primitive of that name in it.
+    pub fn primitive(self, word: &Word) -> Option<Primitive>
+        ensures { result ≡ entry_of word.now (table_of self) }
+    {
+        let name = word.text().as_slice();
+        match self {
+            Standard::Io => primitive_of_io(name),
+            Standard::Str => primitive_of_str(name),
+        }
+    }
+}
+
+fn primitive_of_io(name: &[u8]) -> Option<Primitive>
+    ensures { result ≡ entry_of name.now io }
+{
+    if b"print_int".as_slice() == name {
+        return Some(Primitive::PrintInt);
+    }
+    if b"print_string".as_slice() == name {
+        return Some(Primitive::PrintString);
+    }
+    if b"send".as_slice() == name {
+        return Some(Primitive::Send);
+    }
+    if b"receive".as_slice() == name {
+        return Some(Primitive::Receive);
+    }
+    None
+}
+
+fn primitive_of_str(name: &[u8]) -> Option<Primitive>
+    ensures { result ≡ entry_of name.now str }
+{
+    if b"length".as_slice() == name {
+        return Some(Primitive::Length);
+    }
+    if b"sub".as_slice() == name {
+        return Some(Primitive::Sub);
+    }
+    if b"of_int".as_slice() == name {
+        return Some(Primitive::OfInt);
+    }
+    None
+}
+
+/// The primitive that a name after a module's name is.
+pub fn named(standard: &Word, name: &Word) -> Option<Primitive>
+    ensures { result ≡ primitive standard.now name.now }
+{
+    let standard = Standard::named(standard)?;
+    standard.primitive(name)
+}
