@@ -327,3 +327,74 @@ one_text-one_signature ref c d t f g v w p q x y =
     let a = text_header ref c t f v p x in
     let b = text_header ref d t g w q y in
     ap (λ (z : Signature × Bytes). z.0) (some_eq (sym a.1 ∙ b.1))
+
+-- and so do its types: those of the struct, or of the likespec
+abbrev pub types_of : Def → List Typed_name
+types_of (AModule m) = m.types
+types_of (AnImport i) = i.like
+types_of (AMark t) = []
+
+abbrev read_types : Reads (List Typed_name)
+read_types = read_list read_two read_typed
+
+back_types : (xs : List Typed_name) → list_all (fits_typed false) xs ≡ true → nat_le (length xs) 1024 ≡ true → Back read_types (listed two_bytes typed_bytes xs) xs
+back_types xs w few = back_list (back_typed false) two_bytes xs (back_two_bytes (length xs) (count_two (length xs) few)) w
+
+abbrev read_module_types : Reads (List Typed_name)
+read_module_types = two (λ p ts. ts) (pair (pair read_word (read_list read_byte read_atom)) read_sig) read_types
+
+abbrev read_import_types : Reads (List Typed_name)
+read_import_types = two (λ p ts. ts) (pair (pair read_word read_sig) read_constraint) read_types
+
+abbrev read_front : Reads (List Typed_name)
+read_front bs = tagged ((λ cs. None) ∷ read_module_types ∷ read_import_types ∷ []) bs
+
+back_module_types : (m : Module) → fits_def (AModule m) ≡ true → Back read_module_types (word m.name ++ listed byte atom_bytes m.version ++ sig_bytes m.sig ++ listed two_bytes typed_bytes m.types) m.types
+back_module_types m w =
+    let a = both_true _ _ w in
+    let b = both_true _ _ a.0 in
+    let c = both_true _ _ b.0 in
+    let d = both_true _ _ c.0 in
+    back_two (λ p ts. ts)
+    (back_pair (back_pair (back_word m.name) (back_list back_atom byte m.version (back_byte (length m.version)) (module_within m w).0)) (back_sig m.sig (module_within m w).1)) (back_types m.types c.1 d.1)
+
+back_import_types : (m : Import) → fits_def (AnImport m) ≡ true → Back read_import_types (word m.name ++ sig_bytes m.sig ++ constraint_bytes m.constraint ++ listed two_bytes typed_bytes m.like) m.like
+back_import_types m w =
+    let a = both_true _ _ w in
+    let b = both_true _ _ a.0 in
+    let c = both_true _ _ b.0 in
+    let d = both_true _ _ c.0 in
+    let l = both_true _ _ d.0 in
+    back_two (λ p ts. ts)
+    (back_pair (back_pair (back_word m.name) (back_sig m.sig (import_within m w))) (back_constraint m.constraint (both_true _ _ l.0).1)) (back_types m.like d.1 l.1)
+
+module_types : (ref : ℕ → Bytes) (m : Module) → fits_def (AModule m) ≡ true → (r : Bytes) × (read_front (module_bytes ref m) ≡ Some (m.types, r))
+module_types ref m w = let fields = listed two_bytes (field_bytes ref) m.fields in (fields, (back_module_types m w).reads fields)
+
+import_types : (m : Import) → fits_def (AnImport m) ≡ true → (r : Bytes) × (read_front (import_bytes m) ≡ Some (m.like, r))
+import_types m w =
+    let spelled = word m.name ++ sig_bytes m.sig ++ constraint_bytes m.constraint ++ listed two_bytes typed_bytes m.like in
+    ([], ap read_import_types (sym (append-nil spelled)) ∙ (back_import_types m w).reads [])
+
+text_types : (ref : ℕ → Bytes) (d : Def) (t : Bytes) → fits_def d ≡ true → canonical_text ref d ≡ Some t → (r : Bytes) × (read_front t ≡ Some (types_of d, r))
+text_types ref (AModule m) t w e = let h = module_types ref m w in (h.0, ap read_front (sym (some_eq e)) ∙ h.1)
+text_types ref (AnImport m) t w e = by m.constraint e
+  where
+    by : (c : Constraint) → text_of_import c m ≡ Some t → (r : Bytes) × (read_front t ≡ Some (m.like, r))
+    by (Ranges rs star) p = let h = import_types m w in (h.0, ap read_front (sym (some_eq p)) ∙ h.1)
+    by (Exact n) p = absurd (none≢some p)
+text_types ref (AMark u) t w e = absurd (none≢some e)
+
+pub one_text-one_types : (ref : ℕ → Bytes) (c d : Def) (t : Bytes) → fits_def c ≡ true → fits_def d ≡ true → canonical_text ref c ≡ Some t → canonical_text ref d ≡ Some t → types_of c ≡ types_of d
+one_text-one_types ref c d t v w p q =
+    let a = text_types ref c t v p in
+    let b = text_types ref d t w q in
+    ap (λ (z : List Typed_name × Bytes). z.0) (some_eq (sym a.1 ∙ b.1))
+
+-- and its kind
+pub one_text-one_kind : (ref : ℕ → Bytes) (m : Module) (i : Import) (t : Bytes) → canonical_text ref (AModule m) ≡ Some t → canonical_text ref (AnImport i) ≡ Some t → ⊥
+one_text-one_kind ref m i t p q = by i.constraint q
+  where
+    by : (c : Constraint) → text_of_import c i ≡ Some t → ⊥
+    by (Ranges rs star) r = let e = some_eq (p ∙ sym r) in absurd cc
+    by (Exact n) r = none≢some r

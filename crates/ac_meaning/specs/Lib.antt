@@ -1,0 +1,13 @@
+pub mod Worlds
+pub mod Frames
+pub mod Acts
+pub mod Substitution
+pub mod Matching
+pub mod Primitives
+pub mod Brackets
+pub mod References
+pub mod Packing
+pub mod Reduction
+pub mod BareTerms
+pub mod BareReduction
+pub mod Laws
