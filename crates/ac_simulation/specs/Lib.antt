@@ -1,0 +1,5 @@
+pub mod Source
+pub mod Running
+pub mod Stands
+pub mod Placed
+pub mod Alike
