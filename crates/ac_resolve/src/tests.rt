@@ -1,5 +1,7 @@
 // Small trees, with what they elaborate to or why they are refused.
 
+ghost use Rattle.std.specs.Prelude.{◌≡◌, [], IfOk};
+
 use crate::{RawProgram, ScopeFault, elaborate};
 use ac_syntax::{SArm, SExpr, SExprKind, SName, SPat, SPatKind, SType, STypeKind, Surface};
 use ac_terms::{Env, Term};
@@ -122,18 +124,30 @@ fn match_of(
     })
 }
 
-/// What a program of this expression elaborates to, behind no definitions.
-fn elaborated(alloc: Global, tree: Result<SExpr, Memory>) -> Result<RawProgram, ScopeFault> {
+/// A program of this expression alone.
+fn program(alloc: Global, tree: Result<SExpr, Memory>) -> Result<Surface, Memory>
+    ensures { IfOk result (λ s. s.defs ≡ []) }
+{
     let expr = Some(tree?);
-    let s = Surface {
+    Ok(Surface {
         defs: Many::new(alloc),
         expr,
-    };
+    })
+}
+
+/// What a program elaborates to behind no definitions.
+fn behind_none(alloc: Global, s: &Surface) -> Result<RawProgram, ScopeFault>
+    requires { s.now.defs ≡ [] }
+{
     let env = Env {
         entries: Many::new(alloc),
     };
-    let found = elaborate(alloc, &s, &env);
-    drop(env);
+    elaborate(alloc, s, &env)
+}
+
+fn elaborated(alloc: Global, tree: Result<SExpr, Memory>) -> Result<RawProgram, ScopeFault> {
+    let s = program(alloc, tree)?;
+    let found = behind_none(alloc, &s);
     drop(s);
     found
 }
