@@ -8,7 +8,9 @@ pub mod Orders
 pub mod Crossings
 pub mod Reduces
 pub mod Endings
+pub mod Changes
 pub mod Budgets
+pub mod Fronts
 pub mod Coherences
 pub mod Typed
 pub mod Homes
