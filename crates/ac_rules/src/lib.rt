@@ -2,6 +2,8 @@
 //! environments, plain values, needed definitions and accepted packets. They stand in `specs/`.
 #![tactic(auto)]
 
+mod loaded;
 mod reps;
 
+pub use loaded::Loaded;
 pub use reps::rep;
