@@ -1,5 +1,4 @@
-pub mod FirstLanguage
-pub mod FirstTrees
 pub mod LoadLaws
+pub mod NoDefinitions
 pub mod PlainTerms
 pub mod TextLaws

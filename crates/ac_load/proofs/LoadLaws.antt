@@ -1,5 +1,5 @@
 -- What a text means, from the answers of the layers.
-use Rattle.std.proofs.Common.{◌≡◌, ℕ, false, List, [], Option, Some, None, refl, subst}
+use Rattle.std.proofs.Common.{◌≡◌, false, List, [], Option, Some, None, subst}
 use Rattle.ac_types.specs.Types.{Bytes, Typ}
 use Rattle.ac_terms.specs.Terms.{Main, Expr}
 use Rattle.ac_terms.specs.Defs.{Environment}

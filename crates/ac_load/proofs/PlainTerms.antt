@@ -1,27 +1,120 @@
--- The terms of the first language are plain.
-use Rattle.std.proofs.Common.{◌≡◌, true, refl, sym}
-use mathlib.Core.Bool.{true≢false}
-use Rattle.ac_types.proofs.Same.{both_true}
-use Rattle.ac_terms.specs.Terms.{Expr, Int, Boolean, Str, Unit', Var, Let, If, Seq, Prim, Exprs, no_exprs, expr}
-use Rattle.ac_check.specs.PlainTerms.{is_plain, are_plain}
-use Rattle.ac_load.proofs.FirstLanguage.{is_first, are_first, and_true}
+-- A tree whose forms all run has a term without own fields, references, marshal, unmarshal and captured values.
+use Rattle.std.proofs.Common.{◌≡◌, true, List, ◌∷◌, Option, Some, None, ℕ, refl, sym}
+use Rattle.std.specs.Option.{option_or}
+use Rattle.ac_types.specs.Types.{Bytes}
+use Rattle.ac_types.proofs.FirstLaws.{none≢some}
+use Rattle.ac_types.proofs.Same.{both_true, and_true}
+use Rattle.ac_terms.specs.Terms.{Expr, ExnOf, Tuple, Present, Cons, Own, Ref, Lam, Rec, App, Let, If, Seq, Match, Try, Raise, Prim, Exprs, no_exprs, expr, Arms, no_arms, arm}
+use Rattle.ac_syntax.specs.Trees.{Tree, ExExnOf, ExTuple, ExPresent, ExCons, ExOf, ExFun, ExRec, ExApp, ExLet, ExLetRec, ExIf, ExSeq, ExMatch, ExTry, ExRaise, ExAnd, ExOr, ExOp, ExMarshal, ExUnmarshal, Trees, no_trees, tree, ArmTrees, no_arm_trees, arm_tree}
+use Rattle.ac_resolve.specs.Names.{primitive}
+use Rattle.ac_resolve.specs.declared.primitive.Primitive.{Primitive}
+use Rattle.ac_resolve.specs.Elaboration.{variables, bind, primitive_at, value_of, applied, elaborated, elaborated_all, elaborated_arms}
+use Rattle.ac_check.specs.PlainTerms.{is_plain, are_plain, arms_plain}
+use Rattle.ac_meaning.specs.Laws.{packs_nothing, pack_nothing, arms_pack_nothing}
+use Rattle.ac_load.specs.Built.{unbuilt, unbuilt_all, unbuilt_arms}
+
+both_none : (a b : Option ℕ) → option_or a b ≡ None → (a ≡ None) × (b ≡ None)
+both_none None b h = (refl, h)
+both_none (Some at) b h = absurd (none≢some (sym h))
+
+value_plain : (o : Option Primitive) → is_plain (value_of o) ≡ true
+value_plain (Some p) = refl
+value_plain None = refl
+
+applied_plain : (o : Option Primitive) (f a : Expr) → is_plain f ≡ true → is_plain a ≡ true → is_plain (applied o f a) ≡ true
+applied_plain (Some p) f a h k = and_true k refl
+applied_plain None f a h k = and_true h k
 
 mutual
-  pub plain : (e : Expr) → is_first e ≡ true → is_plain e ≡ true
-  plain (Int n) h = refl
-  plain (Boolean b) h = refl
-  plain (Str s) h = refl
-  plain Unit' h = refl
-  plain (Var i) h = refl
-  plain (Let T e b) h = let parts = both_true _ _ (both_true _ _ h).1 in and_true (plain e parts.0) (plain b parts.1)
-  plain (If c a b) h =
-      let parts = both_true _ _ h in
-      let arms = both_true _ _ parts.1 in
-      and_true (plain c parts.0) (and_true (plain a arms.0) (plain b arms.1))
-  plain (Seq es) h = all_plain es h
-  plain (Prim k es) h = all_plain es (both_true _ _ h).1
-  plain e h = absurd (true≢false (sym h))
+  pub tree_plain : (t : Tree) (names : List Bytes) → unbuilt t ≡ None → is_plain (elaborated names t) ≡ true
+  tree_plain (ExExnOf at number a) names h = tree_plain a names h
+  tree_plain (ExTuple at parts) names h = trees_plain parts names h
+  tree_plain (ExPresent at a) names h = tree_plain a names h
+  tree_plain (ExCons at a b) names h =
+      let parts = both_none (unbuilt a) (unbuilt b) h in
+      and_true (tree_plain a names parts.0) (tree_plain b names parts.1)
+  tree_plain (ExOf at m x) names h = value_plain (primitive m.word x.word)
+  tree_plain (ExFun at x T b) names h = tree_plain b (x.word ∷ names) h
+  tree_plain (ExRec at f x T U b) names h = tree_plain b (x.word ∷ f.word ∷ names) h
+  tree_plain (ExApp at f a) names h =
+      let parts = both_none (unbuilt f) (unbuilt a) h in
+      applied_plain (primitive_at f) (elaborated names f) (elaborated names a) (tree_plain f names parts.0) (tree_plain a names parts.1)
+  tree_plain (ExLet at x T a b) names h =
+      let parts = both_none (unbuilt a) (unbuilt b) h in
+      and_true (tree_plain a names parts.0) (tree_plain b (x.word ∷ names) parts.1)
+  tree_plain (ExLetRec at f x T U a b) names h =
+      let parts = both_none (unbuilt a) (unbuilt b) h in
+      and_true (tree_plain a (x.word ∷ f.word ∷ names) parts.0) (tree_plain b (f.word ∷ names) parts.1)
+  tree_plain (ExIf at c a b) names h =
+      let parts = both_none (unbuilt c) (option_or (unbuilt a) (unbuilt b)) h in
+      let ways = both_none (unbuilt a) (unbuilt b) parts.1 in
+      and_true (tree_plain c names parts.0) (and_true (tree_plain a names ways.0) (tree_plain b names ways.1))
+  tree_plain (ExSeq at parts) names h = trees_plain parts names h
+  tree_plain (ExMatch at a arms) names h =
+      let parts = both_none (unbuilt a) (unbuilt_arms arms) h in
+      and_true (tree_plain a names parts.0) (arm_trees_plain arms names parts.1)
+  tree_plain (ExTry at a arms) names h =
+      let parts = both_none (unbuilt a) (unbuilt_arms arms) h in
+      and_true (tree_plain a names parts.0) (arm_trees_plain arms names parts.1)
+  tree_plain (ExRaise at a T) names h = tree_plain a names h
+  tree_plain (ExAnd at a b) names h =
+      let parts = both_none (unbuilt a) (unbuilt b) h in
+      and_true (tree_plain a names parts.0) (and_true (tree_plain b names parts.1) refl)
+  tree_plain (ExOr at a b) names h =
+      let parts = both_none (unbuilt a) (unbuilt b) h in
+      and_true (tree_plain a names parts.0) (tree_plain b names parts.1)
+  tree_plain (ExOp at number parts) names h = trees_plain parts names h
+  tree_plain (ExMarshal at a b T) names h = absurd (none≢some (sym h))
+  tree_plain (ExUnmarshal at a T) names h = absurd (none≢some (sym h))
+  tree_plain leaf names h = refl
 
-  all_plain : (es : Exprs) → are_first es ≡ true → are_plain es ≡ true
-  all_plain no_exprs h = refl
-  all_plain (expr e es) h = let parts = both_true _ _ h in and_true (plain e parts.0) (all_plain es parts.1)
+  trees_plain : (ts : Trees) (names : List Bytes) → unbuilt_all ts ≡ None → are_plain (elaborated_all names ts) ≡ true
+  trees_plain no_trees names h = refl
+  trees_plain (tree t ts) names h =
+      let parts = both_none (unbuilt t) (unbuilt_all ts) h in
+      and_true (tree_plain t names parts.0) (trees_plain ts names parts.1)
+
+  arm_trees_plain : (arms : ArmTrees) (names : List Bytes) → unbuilt_arms arms ≡ None → arms_plain (elaborated_arms names arms) ≡ true
+  arm_trees_plain no_arm_trees names h = refl
+  arm_trees_plain (arm_tree p b arms) names h =
+      let parts = both_none (unbuilt b) (unbuilt_arms arms) h in
+      and_true (tree_plain b (bind (variables p) names) parts.0) (arm_trees_plain arms names parts.1)
+
+-- such a term neither marshals nor unmarshals
+mutual
+  pub plain_packs_nothing : (e : Expr) → is_plain e ≡ true → packs_nothing e ≡ true
+  plain_packs_nothing (ExnOf k e) h = plain_packs_nothing e h
+  plain_packs_nothing (Tuple es) h = plain_pack_nothing es h
+  plain_packs_nothing (Present e) h = plain_packs_nothing e h
+  plain_packs_nothing (Cons a b) h =
+      let parts = both_true _ _ h in and_true (plain_packs_nothing a parts.0) (plain_packs_nothing b parts.1)
+  plain_packs_nothing (Own f) h = refl
+  plain_packs_nothing (Ref j x) h = refl
+  plain_packs_nothing (Lam T e) h = plain_packs_nothing e h
+  plain_packs_nothing (Rec T U e) h = plain_packs_nothing e h
+  plain_packs_nothing (App f a) h =
+      let parts = both_true _ _ h in and_true (plain_packs_nothing f parts.0) (plain_packs_nothing a parts.1)
+  plain_packs_nothing (Let T e b) h =
+      let parts = both_true _ _ h in and_true (plain_packs_nothing e parts.0) (plain_packs_nothing b parts.1)
+  plain_packs_nothing (If c a b) h =
+      let parts = both_true _ _ h in
+      let ways = both_true _ _ parts.1 in
+      and_true (plain_packs_nothing c parts.0) (and_true (plain_packs_nothing a ways.0) (plain_packs_nothing b ways.1))
+  plain_packs_nothing (Seq es) h = plain_pack_nothing es h
+  plain_packs_nothing (Match e arms) h =
+      let parts = both_true _ _ h in and_true (plain_packs_nothing e parts.0) (plain_arms_pack_nothing arms parts.1)
+  plain_packs_nothing (Try e arms) h =
+      let parts = both_true _ _ h in and_true (plain_packs_nothing e parts.0) (plain_arms_pack_nothing arms parts.1)
+  plain_packs_nothing (Raise T e) h = plain_packs_nothing e h
+  plain_packs_nothing (Prim k es) h = plain_pack_nothing es h
+  plain_packs_nothing e h = h
+
+  plain_pack_nothing : (es : Exprs) → are_plain es ≡ true → pack_nothing es ≡ true
+  plain_pack_nothing no_exprs h = refl
+  plain_pack_nothing (expr e es) h =
+      let parts = both_true _ _ h in and_true (plain_packs_nothing e parts.0) (plain_pack_nothing es parts.1)
+
+  plain_arms_pack_nothing : (arms : Arms) → arms_plain arms ≡ true → arms_pack_nothing arms ≡ true
+  plain_arms_pack_nothing no_arms h = refl
+  plain_arms_pack_nothing (arm p e arms) h =
+      let parts = both_true _ _ h in and_true (plain_packs_nothing e parts.0) (plain_arms_pack_nothing arms parts.1)

@@ -1,9 +1,8 @@
 -- A text has one answer: a term and no other, or a refusal.
-use Rattle.std.proofs.Common.{◌≡◌, ◌∙◌, ℕ, true, false, List, [], ◌∷◌, Option, Some, None, refl, sym, ap, subst, option_and_then}
+use Rattle.std.proofs.Common.{◌≡◌, ◌∙◌, true, false, List, [], ◌∷◌, Option, Some, None, refl, sym, ap, subst}
 use Rattle.ac_types.specs.Types.{Bytes, Typ}
 use Rattle.ac_types.proofs.FirstLaws.{none≢some}
 use Rattle.ac_terms.specs.Terms.{Expr}
-use Rattle.ac_terms.specs.Language.{IsProgram}
 use Rattle.ac_rules.specs.Views.{Coloured}
 use Rattle.ac_rules.specs.Typing.{type_of}
 use Rattle.ac_syntax.specs.Trees.{Tree, DefTree, ProgramTree}
@@ -11,11 +10,13 @@ use Rattle.ac_syntax.specs.Programs as grammar
 use Rattle.ac_parser.specs.Texts.{HasTree}
 use Rattle.ac_parser.proofs.TextLaws.{one_program_text, tree_and_refusal}
 use Rattle.ac_resolve.specs.Programs.{first_unbound, first_repeated, least_passed, main_of, Elaborates}
-use Rattle.ac_load.specs.Built.{unbuilt, first_unbuilt}
+use Rattle.ac_check.specs.PlainTerms.{is_plain}
+use Rattle.ac_meaning.specs.Laws.{IsProgram}
+use Rattle.ac_load.specs.Built.{first_unbuilt}
 use Rattle.ac_load.specs.Loading.{IsSource, main_scope, Accepted, IsRefused, no_tree, not_built, unbound, repeated, too_many, ill_typed}
 use Rattle.ac_load.specs.declared.kind.Kind.{Kind}
-use Rattle.ac_load.proofs.FirstLanguage.{in_language, typed, is_first}
-use Rattle.ac_load.proofs.FirstTrees.{first_tree}
+use Rattle.ac_load.proofs.NoDefinitions.{each_none, no_definitions-IsCoherent}
+use Rattle.ac_load.proofs.PlainTerms.{tree_plain, plain_packs_nothing}
 
 one_tree : {text : Bytes} {p q : ProgramTree} → HasTree grammar.IsProgram text p → HasTree grammar.IsProgram text q → p ≡ q
 one_tree {text} {p} {q} x y = one_program_text text p q x y
@@ -37,15 +38,19 @@ not_both (ill_typed s x none) a =
 pub one_term : {text : Bytes} {e f : Expr} {T U : Typ} → Accepted text e T → Accepted text f U → e ≡ f
 one_term a b = a.elaborates.is ∙ ap (λ (p : ProgramTree). main_of p.expr) (one_tree a.source.has b.source.has) ∙ sym b.elaborates.is
 
-from_built : (defs : List DefTree) (e : Option Tree) → first_unbuilt (record { defs = defs; expr = e }) ≡ None → is_first (main_of e) ≡ true
-from_built [] (Some t) h = first_tree t [] h
-from_built [] None h = refl
-from_built (d ∷ ds) e h = absurd (none≢some (sym h))
+program_plain : (defs : List DefTree) (e : Option Tree) → first_unbuilt (record { defs = defs; expr = e }) ≡ None → is_plain (main_of e) ≡ true
+program_plain [] (Some t) h = tree_plain t [] h
+program_plain [] None h = refl
+program_plain (d ∷ ds) e h = absurd (none≢some (sym h))
 
-pub first_term : {text : Bytes} {tree : ProgramTree} {e : Expr} → IsSource text tree → Elaborates tree e → is_first e ≡ true
-first_term {tree = tree} s x = subst (λ (e : Expr). is_first e ≡ true) (sym x.is) (from_built tree.defs tree.expr s.built)
+pub plain_term : {text : Bytes} {tree : ProgramTree} {e : Expr} → IsSource text tree → Elaborates tree e → is_plain e ≡ true
+plain_term {tree = tree} s x = subst (λ (e : Expr). is_plain e ≡ true) (sym x.is) (program_plain tree.defs tree.expr s.built)
 
-pub runs : {text : Bytes} {e : Expr} {T : Typ} → Accepted text e T → IsProgram e T
-runs {e = e} {T = T} a =
-    let first = first_term a.source a.elaborates in
-    record { in_language = in_language e first; typed = (typed e [] T refl first a.typed).by_first }
+pub runs : {text : Bytes} {e : Expr} {T : Typ} → Accepted text e T → IsProgram [] e T
+runs {e = e} a =
+    record {
+      coherent = no_definitions-IsCoherent;
+      typed = a.typed;
+      nothing_packed = plain_packs_nothing e (plain_term a.source a.elaborates);
+      no_field_packs = each_none _;
+    }

@@ -1,60 +1,49 @@
--- What doesn't run yet: definitions, and the forms of expressions outside the language that runs.
-use Rattle.std.specs.Prelude.{ℕ, ◌||◌, Bool, true, false, nat_eq, nat_le, [], ◌∷◌, Option, Some, None, option_and_then, if◌then◌else◌}
-use Rattle.ac_syntax.specs.Trees.{Tree, ExInt, ExBool, ExStr, ExUnit, ExExn, ExExnOf, ExTuple, ExNil, ExAbsent, ExPresent, ExCons, ExVar, ExOf, ExFun, ExRec, ExApp, ExLet, ExLetRec, ExIf, ExSeq, ExMatch, ExTry, ExRaise, ExAnd, ExOr, ExOp, ExMarshal, ExUnmarshal, Trees, no_trees, tree, DefTree, ModuleDef, ImportDef, MarkDef, ProgramTree}
+-- What doesn't run yet: definitions, marshalling, and the channels.
+use Rattle.std.specs.Prelude.{ℕ, [], ◌∷◌, Option, Some, None, option_and_then}
+use Rattle.std.specs.Option.{option_or}
+use Rattle.ac_syntax.specs.Trees.{Tree, ExExnOf, ExTuple, ExPresent, ExCons, ExOf, ExFun, ExRec, ExApp, ExLet, ExLetRec, ExIf, ExSeq, ExMatch, ExTry, ExRaise, ExAnd, ExOr, ExOp, ExMarshal, ExUnmarshal, Trees, no_trees, tree, ArmTrees, no_arm_trees, arm_tree, DefTree, ModuleDef, ImportDef, MarkDef, ProgramTree}
 use Rattle.ac_resolve.specs.declared.primitive.Primitive.{Primitive}
-use Rattle.ac_resolve.specs.declared.primitive.Primitive.TheVariants.{PrintInt, PrintString}
-use Rattle.ac_resolve.specs.Elaboration.{primitive_at}
+use Rattle.ac_resolve.specs.declared.primitive.Primitive.TheVariants.{Send, Receive}
+use Rattle.ac_resolve.specs.Names.{primitive}
 
--- `IO.print_int` and `IO.print_string`
-abbrev pub prints : Option Primitive → Bool
-prints (Some PrintInt) = true
-prints (Some PrintString) = true
-prints o = false
+-- the place of `IO.send` and `IO.receive`; the other primitives run
+abbrev pub unbuilt_primitive : ℕ → Option Primitive → Option ℕ
+unbuilt_primitive at (Some Send) = Some at
+unbuilt_primitive at (Some Receive) = Some at
+unbuilt_primitive at other = None
 
--- the operators that run: `+`, `-`, `*` and `<`
-abbrev pub runs : ℕ → Bool
-runs number = nat_le number 2 || nat_eq number 7
-
--- the first of two places
-abbrev pub or_else : Option ℕ → Option ℕ → Option ℕ
-or_else (Some at) later = Some at
-or_else None later = later
-
--- the place of the first form in a tree that doesn't run yet; a printer runs where it is applied
+-- the place of the first form in a tree that doesn't run yet, where a form comes before its parts
 abbrev mutual
   pub unbuilt : Tree → Option ℕ
-  unbuilt (ExInt at n) = None
-  unbuilt (ExBool at b) = None
-  unbuilt (ExStr at text) = None
-  unbuilt (ExUnit at) = None
-  unbuilt (ExVar at word) = None
-  unbuilt (ExLet at name ty bound body) = or_else (unbuilt bound) (unbuilt body)
-  unbuilt (ExIf at test so otherwise) = or_else (unbuilt test) (or_else (unbuilt so) (unbuilt otherwise))
-  unbuilt (ExSeq at parts) = unbuilt_all parts
-  unbuilt (ExApp at function argument) = if prints (primitive_at function) then unbuilt argument else Some at
-  unbuilt (ExOp at number parts) = if runs number then unbuilt_all parts else Some at
-  unbuilt (ExExn at number) = Some at
-  unbuilt (ExExnOf at number argument) = Some at
-  unbuilt (ExTuple at parts) = Some at
-  unbuilt (ExNil at ty) = Some at
-  unbuilt (ExAbsent at ty) = Some at
-  unbuilt (ExPresent at item) = Some at
-  unbuilt (ExCons at head tail) = Some at
-  unbuilt (ExOf at m x) = Some at
-  unbuilt (ExFun at name ty body) = Some at
-  unbuilt (ExRec at name argument ty result body) = Some at
-  unbuilt (ExLetRec at name argument ty result bound body) = Some at
-  unbuilt (ExMatch at of arms) = Some at
-  unbuilt (ExTry at of arms) = Some at
-  unbuilt (ExRaise at exception ty) = Some at
-  unbuilt (ExAnd at a b) = Some at
-  unbuilt (ExOr at a b) = Some at
   unbuilt (ExMarshal at mark value ty) = Some at
   unbuilt (ExUnmarshal at text ty) = Some at
+  unbuilt (ExOf at m x) = unbuilt_primitive at (primitive m.word x.word)
+  unbuilt (ExExnOf at number argument) = unbuilt argument
+  unbuilt (ExTuple at parts) = unbuilt_all parts
+  unbuilt (ExPresent at item) = unbuilt item
+  unbuilt (ExCons at head tail) = option_or (unbuilt head) (unbuilt tail)
+  unbuilt (ExFun at name ty body) = unbuilt body
+  unbuilt (ExRec at name argument ty result body) = unbuilt body
+  unbuilt (ExApp at function argument) = option_or (unbuilt function) (unbuilt argument)
+  unbuilt (ExLet at name ty bound body) = option_or (unbuilt bound) (unbuilt body)
+  unbuilt (ExLetRec at name argument ty result bound body) = option_or (unbuilt bound) (unbuilt body)
+  unbuilt (ExIf at test so otherwise) = option_or (unbuilt test) (option_or (unbuilt so) (unbuilt otherwise))
+  unbuilt (ExSeq at parts) = unbuilt_all parts
+  unbuilt (ExMatch at of arms) = option_or (unbuilt of) (unbuilt_arms arms)
+  unbuilt (ExTry at of arms) = option_or (unbuilt of) (unbuilt_arms arms)
+  unbuilt (ExRaise at exception ty) = unbuilt exception
+  unbuilt (ExAnd at a b) = option_or (unbuilt a) (unbuilt b)
+  unbuilt (ExOr at a b) = option_or (unbuilt a) (unbuilt b)
+  unbuilt (ExOp at number parts) = unbuilt_all parts
+  unbuilt leaf = None
 
   pub unbuilt_all : Trees → Option ℕ
   unbuilt_all no_trees = None
-  unbuilt_all (tree t ts) = or_else (unbuilt t) (unbuilt_all ts)
+  unbuilt_all (tree t ts) = option_or (unbuilt t) (unbuilt_all ts)
+
+  pub unbuilt_arms : ArmTrees → Option ℕ
+  unbuilt_arms no_arm_trees = None
+  unbuilt_arms (arm_tree pattern body arms) = option_or (unbuilt body) (unbuilt_arms arms)
 
 abbrev pub def_place : DefTree → ℕ
 def_place (ModuleDef at name sig version fields) = at

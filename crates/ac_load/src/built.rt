@@ -1,64 +1,21 @@
 // The first form of a program that doesn't run yet.
 
 ghost use Rattle.std.specs.Prelude.{◌≡◌, map};
-ghost use Rattle.ac_syntax.specs.Trees.{trees};
-ghost use Rattle.ac_syntax.specs.ReadTrees.{surface_of, expr_of};
-ghost use Rattle.ac_resolve.specs.Elaboration.{primitive_at};
-ghost use Rattle.ac_load.specs.Built.{prints, runs, unbuilt, unbuilt_all, first_unbuilt};
+ghost use Rattle.ac_syntax.specs.Trees.{trees, arm_trees};
+ghost use Rattle.ac_syntax.specs.ReadTrees.{surface_of, expr_of, arm_of};
+ghost use Rattle.ac_load.specs.Built.{unbuilt_primitive, unbuilt, unbuilt_all, unbuilt_arms, first_unbuilt};
 
 use ac_resolve::{Primitive, named};
-use ac_syntax::{SExpr, SExprKind, Surface};
+use ac_syntax::{SArm, SExpr, SExprKind, Surface};
 
-/// The primitive that a tree names.
-#[tactic(auto, using(ac_resolve::proofs::TreeLaws::tree_laws))]
-fn primitive_of(tree: &SExpr) -> Option<Primitive>
-    ensures { result ≡ primitive_at (expr_of tree.now) }
+/// The place of a primitive that sends or receives.
+fn in_primitive(at: u32, primitive: Option<Primitive>) -> Option<u32>
+    ensures { result ≡ unbuilt_primitive at primitive }
 {
-    match &tree.kind {
-        SExprKind::Of(home, name) => named(&home.word, &name.word),
-        SExprKind::Int(_)
-        | SExprKind::Bool(_)
-        | SExprKind::Str(_)
-        | SExprKind::Unit
-        | SExprKind::Exn(_, _)
-        | SExprKind::Tuple(_)
-        | SExprKind::Nil(_)
-        | SExprKind::Absent(_)
-        | SExprKind::Present(_)
-        | SExprKind::Cons(_, _)
-        | SExprKind::Var(_)
-        | SExprKind::Fun(_, _, _)
-        | SExprKind::Rec(_)
-        | SExprKind::App(_, _)
-        | SExprKind::Let(_, _, _, _)
-        | SExprKind::LetRec(_, _)
-        | SExprKind::If(_, _, _)
-        | SExprKind::Seq(_)
-        | SExprKind::Match(_, _)
-        | SExprKind::Try(_, _)
-        | SExprKind::Raise(_, _)
-        | SExprKind::And(_, _)
-        | SExprKind::Or(_, _)
-        | SExprKind::Op(_, _)
-        | SExprKind::Marshal(_, _, _)
-        | SExprKind::Unmarshal(_, _) => None,
+    match primitive {
+        Some(Primitive::Send | Primitive::Receive) => Some(at),
+        Some(_) | None => None,
     }
-}
-
-/// Whether it is one that prints.
-fn prints(primitive: Option<Primitive>) -> bool
-    ensures { result ≡ prints primitive }
-{
-    matches!(
-        primitive,
-        Some(Primitive::PrintInt | Primitive::PrintString)
-    )
-}
-
-fn runs(number: u8) -> bool
-    ensures { result ≡ runs number }
-{
-    number <= 2 || number == 7
 }
 
 #[cycle(forms)]
@@ -67,42 +24,36 @@ fn in_tree(tree: &SExpr) -> Option<u32>
     ensures { result ≡ unbuilt (expr_of tree.now) }
 {
     match &tree.kind {
+        SExprKind::Marshal(_, _, _) | SExprKind::Unmarshal(_, _) => Some(tree.at),
+        SExprKind::Of(owner, name) => in_primitive(tree.at, named(&owner.word, &name.word)),
+        SExprKind::Exn(_, Some(part))
+        | SExprKind::Present(part)
+        | SExprKind::Fun(_, _, part)
+        | SExprKind::Raise(part, _) => in_tree(part),
+        SExprKind::Rec(fun) => in_tree(&fun.body),
+        SExprKind::Cons(first, second)
+        | SExprKind::App(first, second)
+        | SExprKind::Let(_, _, first, second)
+        | SExprKind::And(first, second)
+        | SExprKind::Or(first, second) => in_tree(first).or(in_tree(second)),
+        SExprKind::LetRec(fun, body) => in_tree(&fun.body).or(in_tree(body)),
+        SExprKind::If(test, so, otherwise) => {
+            in_tree(test).or(in_tree(so).or(in_tree(otherwise)))
+        }
+        SExprKind::Tuple(parts) | SExprKind::Seq(parts) | SExprKind::Op(_, parts) => {
+            in_trees(parts.as_slice())
+        }
+        SExprKind::Match(of, arms) | SExprKind::Try(of, arms) => {
+            in_tree(of).or(in_arms(arms.as_slice()))
+        }
         SExprKind::Int(_)
         | SExprKind::Bool(_)
         | SExprKind::Str(_)
         | SExprKind::Unit
-        | SExprKind::Var(_) => None,
-        SExprKind::Let(_, _, bound, body) => match in_tree(bound) {
-            Some(at) => Some(at),
-            None => in_tree(body),
-        },
-        SExprKind::If(test, so, otherwise) => match (in_tree(test), in_tree(so)) {
-            (Some(at), _) => Some(at),
-            (None, Some(at)) => Some(at),
-            (None, None) => in_tree(otherwise),
-        },
-        SExprKind::Seq(parts) => in_trees(parts.as_slice()),
-        SExprKind::App(function, argument) if prints(primitive_of(function)) => in_tree(argument),
-        SExprKind::Op(number, parts) if runs(*number) => in_trees(parts.as_slice()),
-        SExprKind::App(_, _)
-        | SExprKind::Op(_, _)
-        | SExprKind::Exn(_, _)
-        | SExprKind::Tuple(_)
+        | SExprKind::Exn(_, None)
         | SExprKind::Nil(_)
         | SExprKind::Absent(_)
-        | SExprKind::Present(_)
-        | SExprKind::Cons(_, _)
-        | SExprKind::Of(_, _)
-        | SExprKind::Fun(_, _, _)
-        | SExprKind::Rec(_)
-        | SExprKind::LetRec(_, _)
-        | SExprKind::Match(_, _)
-        | SExprKind::Try(_, _)
-        | SExprKind::Raise(_, _)
-        | SExprKind::And(_, _)
-        | SExprKind::Or(_, _)
-        | SExprKind::Marshal(_, _, _)
-        | SExprKind::Unmarshal(_, _) => Some(tree.at),
+        | SExprKind::Var(_) => None,
     }
 }
 
@@ -112,6 +63,26 @@ fn in_trees(all: &[SExpr]) -> Option<u32>
 {
     for tree in all {
         if let Some(at) = in_tree(tree) {
+            return Some(at);
+        }
+    }
+    None
+}
+
+#[cycle(forms)]
+#[tactic(auto, using(ac_resolve::proofs::TreeLaws::tree_laws))]
+fn in_arm(arm: &SArm) -> Option<u32>
+    ensures { result ≡ unbuilt (arm_of arm.now).1 }
+{
+    in_tree(&arm.body)
+}
+
+#[cycle(forms)]
+fn in_arms(arms: &[SArm]) -> Option<u32>
+    ensures { result ≡ unbuilt_arms (arm_trees (map arm_of arms.now)) }
+{
+    for arm in arms {
+        if let Some(at) = in_arm(arm) {
             return Some(at);
         }
     }

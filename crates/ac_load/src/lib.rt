@@ -10,4 +10,4 @@ mod tests;
 
 pub use built::unbuilt;
 pub use kind::Kind;
-pub use loading::{Loaded, load};
+pub use loading::load;

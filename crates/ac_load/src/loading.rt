@@ -10,20 +10,10 @@ use crate::kind::Kind;
 use ac_check::{CheckFault, type_of};
 use ac_parser::parse_program;
 use ac_resolve::elaborate;
-use ac_terms::{Env, Home, Term};
-use ac_types::{Many, Ty};
+use ac_rules::Loaded;
+use ac_terms::{Env, Home};
+use ac_types::Many;
 use std::alloc::Global;
-
-/// A program that is ready to run.
-#[derive(Drop)]
-pub struct Loaded {
-    /// Its definitions, with those that it links to.
-    pub env: Env,
-    /// The term of its expression.
-    pub main: Term,
-    /// The type of that term.
-    pub ty: Ty,
-}
 
 /// The program of a text, or the first cause why it is refused.
 pub fn load(alloc: Global, program: &[u8]) -> Result<Loaded, Kind>

@@ -1,12 +1,10 @@
-use Rattle.std.proofs.Common.{◌∙◌, sym, ap, subst, map}
+use Rattle.std.proofs.Common.{◌∙◌, sym, ap, map}
 use Rattle.std.proofs.lemmas.Result.{err_from_is_err_and}
 use Rattle.ac_types.specs.ReadTypes.{typ_of}
 use Rattle.ac_terms.specs.Read.{environment_of, entry_of, expr_of}
-use Rattle.ac_load.specs.Loading.{IsKind, not_built}
-use Rattle.ac_load.specs.declared.kind.Kind.{Kind}
+use Rattle.ac_load.specs.Loading.{not_built}
 use Rattle.ac_load.proofs.LoadLaws.{source, parse_fault, scope_fault, at_main, accepted, untyped}
-use Rattle.ac_load.proofs.PlainTerms.{plain}
-use Rattle.ac_load.proofs.TextLaws.{first_term}
+use Rattle.ac_load.proofs.TextLaws.{plain_term}
 use Rattle.ac_load.proofs.loading.load.Goals as goal
 
 pub returns-in_err-surface-clause-refused : goal.returns-in_err-surface-clause-refused
@@ -23,7 +21,7 @@ returns-in_err-raw-clause-refused c =
     rw (p.1, p.2) (scope_fault _ _ _ (source c.in_ok-surface.ensures.tree (sym c.in_default.ensures)) c.in_err-raw.ensures.refused)
 
 pub type_of-requires-clause-plain : goal.type_of-requires-clause-plain
-type_of-requires-clause-plain c = plain (expr_of c.in_ok-raw.raw.main) (first_term (source c.in_ok-surface.ensures.tree (sym c.in_default.ensures)) c.in_ok-raw.ensures.main)
+type_of-requires-clause-plain c = plain_term (source c.in_ok-surface.ensures.tree (sym c.in_default.ensures)) c.in_ok-raw.ensures.main
 
 pub returns-in-Ok-clause-accepted : goal.returns-in-Ok-clause-accepted
 returns-in-Ok-clause-accepted c =
