@@ -1,0 +1,11 @@
+//! The run of a program: its code on the machine, in a world.
+#![tactic(auto)]
+
+mod driver;
+mod end;
+mod session;
+#[cfg(test)]
+mod tests;
+
+pub use end::RunEnd;
+pub use session::Session;
