@@ -1,0 +1,62 @@
+// Patterns.
+
+use crate::exceptions::exception;
+use crate::page::Page;
+use crate::types::write_type;
+use ac_syntax::{SPat, SPatKind};
+
+fn leaf(page: &mut Page, kind: &SPatKind, at: u32) {
+    match kind {
+        SPatKind::Wild => page.leaf(b"_", at),
+        SPatKind::Int(number) => page.integer(*number, at),
+        SPatKind::Bool(truth) => page.truth(*truth, at),
+        SPatKind::Str(text) => page.string(text, at),
+        SPatKind::Unit => page.leaf(b"()", at),
+        SPatKind::Nil => page.leaf(b"[]", at),
+        SPatKind::Absent => page.leaf(b"None", at),
+        SPatKind::Exn(number, None) => page.leaf(exception(*number), at),
+        SPatKind::Var(name, ty) => {
+            page.open(b"var", at);
+            page.name(name);
+            write_type(page, ty);
+            page.close();
+        }
+        _ => {}
+    }
+}
+
+/// Adds a pattern.
+#[cycle(patterns)]
+pub fn write_pattern(page: &mut Page, pattern: &SPat) {
+    match &pattern.kind {
+        SPatKind::Tuple(parts) => {
+            page.open(b"tuple", pattern.at);
+            write_patterns(page, parts.as_slice());
+            page.close();
+        }
+        SPatKind::Cons(head, tail) => {
+            page.open(b"::", pattern.at);
+            write_pattern(page, head);
+            write_pattern(page, tail);
+            page.close();
+        }
+        SPatKind::Present(item) => {
+            page.open(b"Some", pattern.at);
+            write_pattern(page, item);
+            page.close();
+        }
+        SPatKind::Exn(number, Some(item)) => {
+            page.open(exception(*number), pattern.at);
+            write_pattern(page, item);
+            page.close();
+        }
+        kind => leaf(page, kind, pattern.at),
+    }
+}
+
+#[cycle(patterns)]
+fn write_patterns(page: &mut Page, patterns: &[SPat]) {
+    for pattern in patterns {
+        write_pattern(page, pattern);
+    }
+}
