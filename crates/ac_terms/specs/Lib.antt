@@ -10,6 +10,3 @@ pub mod Bounds
 pub mod Read
 pub mod Find
 pub mod Typing
-pub mod Constants
-pub mod Language
-pub mod Reduction

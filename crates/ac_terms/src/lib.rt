@@ -4,7 +4,6 @@
 mod copy;
 mod def;
 mod env;
-pub mod laws;
 mod pat;
 mod term;
 #[cfg(test)]

@@ -1,5 +1,5 @@
 -- How the parts of a call come together to its end.
-use Rattle.std.proofs.Common.{◌≡◌, inl, inr, ℕ, List, [], Option, refl, sym, ◌∙◌, IsTrue}
+use Rattle.std.proofs.Common.{◌≡◌, ◌⊎◌, inl, inr, ℕ, List, [], Option, refl, sym, ◌∙◌, IsTrue}
 use Rattle.std.proofs.lemmas.List.{append-nil}
 use Rattle.ac_outside.specs.Outside.{Rose}
 use Rattle.ac_words.specs.Commands.{Request}
@@ -27,12 +27,20 @@ cut_in s piece part told = record { middle = s.new; line = write_line; is_line =
 cut_before : (s : Writing) (piece line : List ℕ) → IsFaultLine line → Part s line → IsTrue s.told → Cut s piece
 cut_before s piece line is part told = record { middle = s.old; line = line; is_line = is; before = none_of s.old piece; behind = part told }
 
+-- all of the piece, as a front of it
+part_of : (s : Writing) (piece : List ℕ) → Whole s piece → Part s piece
+part_of s piece whole told = all_of s.old s.new piece (whole told)
+
 module _ (request : Option Request) (files : List ℕ → Reading) (output errors : Writing) where
+  -- a line that the request gives, with all on output that it gives
+  end_said : (a : Answer) → Gives request files a → Whole output a.console → (r : ℕ) → Said errors a.line a.status r → Ended request files output errors r
+  end_said a g whole r (ending.said w) = done a g whole w
+  end_said a g whole r (ending.failed rose p) = write_fault a (gives g) (inr rose) (part_of output a.console whole) (cut_in errors a.line p)
+  end_said a g whole r (ending.no_memory p) = no_memory a (gives g) (part_of output a.console whole) (cut_in errors a.line p)
+
   -- a line that the request gives, with nothing on output
-  pub end_said : (status : ℕ) (line : List ℕ) → Gives request files (answer status [] line) → Still output → (r : ℕ) → Said errors line status r → Ended request files output errors r
-  end_said status line g still r (ending.said whole) = done (answer r [] line) g (still_whole output still) whole
-  end_said status line g still r (ending.failed rose part) = write_fault (answer status [] line) (gives g) (inr rose) (still_part output [] still) (cut_in errors line part)
-  end_said status line g still r (ending.no_memory part) = no_memory (answer status [] line) (gives g) (still_part output [] still) (cut_in errors line part)
+  pub end_alone : (status : ℕ) (line : List ℕ) → Gives request files (answer status [] line) → Still output → (r : ℕ) → Said errors line status r → Ended request files output errors r
+  end_alone status line g still r s = end_said (answer status [] line) g (still_whole output still) r s
 
   pub end_read_fault : ReadFailed request files → Still output → (r : ℕ) → Said errors read_line 5 r → Ended request files output errors r
   end_read_fault f still r (ending.said whole) = read_fault f (still_whole output still) whole
@@ -55,5 +63,7 @@ module _ (request : Option Request) (files : List ℕ → Reading) (output error
   pub end_early : Still output → (r : ℕ) → Said errors memory_line 4 r → Ended request files output errors r
   end_early still r s = end_no_memory (answer 4 [] []) nothing (still_part output [] still) r s
 
-  pub end_finished : (out : List ℕ) → Gives request files (answer 0 out []) → Whole output out → Still errors → Ended request files output errors 0
-  end_finished out g whole still = done (answer 0 out []) g whole (still_whole errors still)
+  -- a line that the request gives, or that of want of memory in its place
+  pub end_told : (a : Answer) → Gives request files a → Whole output a.console → (r : ℕ) → Said errors a.line a.status r ⊎ Said errors memory_line 4 r → Ended request files output errors r
+  end_told a g whole r (inl s) = end_said a g whole r s
+  end_told a g whole r (inr s) = end_no_memory a (gives g) (part_of output a.console whole) r s

@@ -13,7 +13,7 @@ texts words = map string_bytes words
 -- what is given where nothing fails: a case for each request
 abbrev pub Gives : Option Request → (List ℕ → Reading) → Answer → Type 0
 Gives None files a = a ≡ answer 7 [] words_line
-Gives (Some (run name steps)) files a = (text : List ℕ) × IsTextOf (files name) text × Means text a
+Gives (Some (run name steps)) files a = (text : List ℕ) × IsTextOf (files name) text × Means text steps a
 
 -- a read that the request makes has failed
 abbrev pub ReadFailed : Option Request → (List ℕ → Reading) → Type 0
@@ -26,7 +26,7 @@ pub data OnItsWay (request : Option Request) (files : List ℕ → Reading) : An
   fault : ReadFailed request files → OnItsWay request files (answer 5 [] read_line)
   nothing : {status : ℕ} → OnItsWay request files (answer status [] [])
 
--- how a call ends, by its status: a row for each way
+-- how a call ends, by its status: a row for each way. After 0 to 3, 5 and 7 the bytes of both streams are whole
 pub data Ended (request : Option Request) (files : List ℕ → Reading) (output errors : Writing) : ℕ → Type 0 where
   done : (a : Answer) → Gives request files a → Whole output a.console → Whole errors a.line → Ended request files output errors a.status
   read_fault : ReadFailed request files → Whole output [] → Whole errors read_line → Ended request files output errors 5

@@ -7,6 +7,8 @@ mod refusal;
 #[cfg(test)]
 mod tests;
 mod top;
+mod uncaught;
+mod world;
 
 use ac_outside::{RealFiles, RealSink};
 use ac_types::Memory;

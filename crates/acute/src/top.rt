@@ -1,27 +1,30 @@
 // The top call: what the words ask for, from files to output.
-ghost use Rattle.std.specs.Prelude.{◌≡◌, ◌⊎◌, [], List, ℕ, Option, Some, None, IsTrue};
-ghost use Rattle.ac_types.specs.Types.{Typ};
-ghost use Rattle.ac_terms.specs.Language.{IsProgram};
-ghost use Rattle.ac_terms.specs.Read.{expr_of};
-ghost use Rattle.ac_terms.specs.Reduction.{Ends};
+ghost use Rattle.std.specs.Prelude.{◌≡◌, ◌⊎◌, [], List, ℕ, Option, Some, None, IfOk, IsTrue, string_bytes};
+ghost use Rattle.ac_types.specs.ReadTypes.{typ_of};
+ghost use Rattle.ac_terms.specs.Read.{environment_of, expr_of};
+ghost use Rattle.ac_run.specs.Sessions.{exception_of};
+ghost use Rattle.ac_load.specs.Loading.{Accepted};
 ghost use Rattle.ac_words.specs.Commands.{command_of, request_of, run, Request};
 ghost use Rattle.acute.specs.Streams.{Reading, reading, writing, memory_line};
 ghost use Rattle.acute.specs.Refusals.{kind_line, kind_status};
-ghost use Rattle.acute.specs.Meaning.{Answer, answer, Means};
+ghost use Rattle.acute.specs.Lines.{uncaught_line, spent_line};
+ghost use Rattle.acute.specs.Meaning.{Answer, Means};
 ghost use Rattle.acute.specs.Endings.{texts, Ended, Said, Gives};
 
 use crate::reading::{ReadFault, read_text};
-use crate::refusal::{line, status};
+use crate::world::run_on;
+use crate::{refusal, uncaught};
 use ac_command::read_words;
 use ac_load::{Kind, load};
 use ac_outside::{Files, Put, Sink};
-use ac_session::{RunEnd, run as run_program};
-use ac_terms::Term;
+use ac_rules::Loaded;
+use ac_run::{RunEnd, Session};
+use ac_terms::Exn;
 use ac_words::{Command, Run};
-use std::alloc::Global;
+use std::alloc::{AllocError, Global};
 
-/// How the program ends: 0 finished, 1 the program is refused, 4 want of memory, 5 a read failed, 6 a write failed,
-/// 7 the words are refused.
+/// How the program ends: 0 finished, 1 the program is refused, 2 by an exception that nothing handles, 3 in front of
+/// an application that isn't allowed, 4 want of memory, 5 a read failed, 6 a write failed, 7 the words are refused.
 #[derive(Clone, Copy, Debug, PartialEq, Eq)]
 pub struct Status(pub u8);
 
@@ -79,41 +82,59 @@ fn run_file<F: Files, O: Sink, E: Sink>(
         result.0 }
     ensures kept { IsTrue F.told → F.contents files.new ≡ F.contents files.old }
 {
-    let _ = steps;
     match read_text(alloc, files, name) {
-        Ok(text) => run_text(alloc, text.as_slice(), output, errors),
+        Ok(text) => run_text(alloc, text.as_slice(), steps, output, errors),
         Err(ReadFault::Failed) => say(errors, b"acute: read fault\n", 5),
         Err(ReadFault::Memory) => no_memory(errors),
     }
 }
 
 // Runs a text: what comes of it is what the text means, if that is what the request gives.
-fn run_text<O: Sink, E: Sink>(alloc: Global, text: &[u8], output: &mut O, errors: &mut E) -> Status
-    ensures { (request : Option Request) (files : List ℕ → Reading) → ((a : Answer) → Means text.now a → Gives request files a) →
+fn run_text<O: Sink, E: Sink>(
+    alloc: Global,
+    text: &[u8],
+    steps: u64,
+    output: &mut O,
+    errors: &mut E,
+) -> Status
+    ensures { (request : Option Request) (files : List ℕ → Reading) → ((a : Answer) → Means text.now steps a → Gives request files a) →
         Ended request files
         (writing O.told (O.written output.old) (O.written output.new) (O.faults output.old) (O.faults output.new))
         (writing E.told (E.written errors.old) (E.written errors.new) (E.faults errors.old) (E.faults errors.new))
         result.0 }
 {
     match load(alloc, text) {
-        Ok(loaded) => run_term(alloc, &loaded.main, output, errors),
+        Ok(loaded) => run_program(alloc, loaded, steps, output, errors),
         Err(kind) => refuse(alloc, kind, errors),
     }
 }
 
-// Runs the term of a program.
-fn run_term<O: Sink, E: Sink>(alloc: Global, term: &Term, output: &mut O, errors: &mut E) -> Status
-    requires { (T : Typ) × IsProgram (expr_of term.now) T }
-    ensures { (request : Option Request) (files : List ℕ → Reading) → ((out : List ℕ) → Ends (expr_of term.now) out → Gives request files (answer 0 out [])) →
+// Runs the program of a text.
+fn run_program<O: Sink, E: Sink>(
+    alloc: Global,
+    loaded: Loaded,
+    steps: u64,
+    output: &mut O,
+    errors: &mut E,
+) -> Status
+    requires accepted { (text : List ℕ) × Accepted text (expr_of loaded.main) (typ_of loaded.ty) }
+    requires alone { environment_of loaded.env ≡ [] }
+    ensures { (text : List ℕ) → Accepted text (expr_of loaded.main) (typ_of loaded.ty) →
+        (request : Option Request) (files : List ℕ → Reading) → ((a : Answer) → Means text steps a → Gives request files a) →
         Ended request files
         (writing O.told (O.written output.old) (O.written output.new) (O.faults output.old) (O.faults output.new))
         (writing E.told (E.written errors.old) (E.written errors.new) (E.faults errors.old) (E.faults errors.new))
         result.0 }
 {
-    match run_program(alloc, term, output) {
-        RunEnd::Finished => Status(0),
-        RunEnd::WriteFault => say(errors, b"acute: write fault\n", 6),
-        RunEnd::Memory => no_memory(errors),
+    match Session::new(alloc, loaded, steps, false) {
+        Ok(mut session) => match run_on(&mut session, output) {
+            RunEnd::Finished => Status(0),
+            RunEnd::Uncaught(exn) => tell_uncaught(alloc, &exn, errors),
+            RunEnd::Spent { steps } => tell_spent(alloc, steps, errors),
+            RunEnd::WriteFault => say(errors, b"acute: write fault\n", 6),
+            RunEnd::Memory => no_memory(errors),
+        },
+        Err(_) => no_memory(errors),
     }
 }
 
@@ -122,10 +143,38 @@ fn refuse<E: Sink>(alloc: Global, kind: Kind, errors: &mut E) -> Status
     ensures { let stream = writing E.told (E.written errors.old) (E.written errors.new) (E.faults errors.old) (E.faults errors.new)
         in Said stream (kind_line kind) (kind_status kind) result.0 ⊎ Said stream memory_line 4 result.0 }
 {
-    match line(kind, alloc) {
-        Ok(line) => say(errors, line.as_bytes(), status(kind)),
+    match refusal::line(kind, alloc) {
+        Ok(line) => say(errors, line.as_bytes(), refusal::status(kind)),
         Err(_) => no_memory(errors),
     }
+}
+
+// Writes the line of an exception.
+fn tell_uncaught<E: Sink>(alloc: Global, exn: &Exn, errors: &mut E) -> Status
+    ensures { let stream = writing E.told (E.written errors.old) (E.written errors.new) (E.faults errors.old) (E.faults errors.new)
+        in Said stream (uncaught_line (exception_of exn.now)) 2 result.0 ⊎ Said stream memory_line 4 result.0 }
+{
+    match uncaught::line(alloc, exn) {
+        Ok(line) => say(errors, line.as_slice(), 2),
+        Err(_) => no_memory(errors),
+    }
+}
+
+// Writes the line of a budget that is spent.
+fn tell_spent<E: Sink>(alloc: Global, budget: u64, errors: &mut E) -> Status
+    ensures { let stream = writing E.told (E.written errors.old) (E.written errors.new) (E.faults errors.old) (E.faults errors.new)
+        in Said stream (spent_line budget) 3 result.0 ⊎ Said stream memory_line 4 result.0 }
+{
+    match spent_line(alloc, budget) {
+        Ok(line) => say(errors, line.as_bytes(), 3),
+        Err(_) => no_memory(errors),
+    }
+}
+
+fn spent_line(alloc: Global, budget: u64) -> Result<String, AllocError>
+    ensures { IfOk result (λ line. string_bytes line ≡ spent_line budget) }
+{
+    format!(in alloc; "acute: spent {budget}\n")
 }
 
 fn no_memory<E: Sink>(errors: &mut E) -> Status
