@@ -11,13 +11,13 @@ use Rattle.ac_terms.specs.declared.term.Exn.{Exn}
 use Rattle.ac_code.specs.Code.{Code}
 use Rattle.ac_outside.specs.Outside.{Extends}
 use Rattle.ac_values.specs.Values.{MValue}
-use Rattle.ac_stack_machine.specs.States.{Core, Ask, AskPrint, AskSend, AskReceive, AskMarshal, AskUnmarshal, AskDone, AskRaised, AskSpent, MState, Run, Paused, Stuck as StuckThere}
-use Rattle.ac_stack_machine.specs.Machine.{exec, after}
-use Rattle.ac_stack_machine.specs.Resumes as standing
-use Rattle.ac_stack_machine.specs.Resumes.{Wait, Printing, Sending, Receiving, Waits, paused_at, resumed, with_unit, with_raise}
-use Rattle.ac_stack_machine.specs.Seen.{Seen, standing}
-use Rattle.ac_stack_machine.specs.Held.{core}
-use Rattle.ac_stack_machine.specs.Runs.{Pauses, Reaches, Stopped}
+use Rattle.ac_machine.specs.States.{Core, Ask, AskPrint, AskSend, AskReceive, AskMarshal, AskUnmarshal, AskDone, AskRaised, AskSpent, MState, Run, Paused, Stuck as StuckThere}
+use Rattle.ac_machine.specs.Machine.{exec, after}
+use Rattle.ac_machine.specs.Resumes as standing
+use Rattle.ac_machine.specs.Resumes.{Wait, Printing, Sending, Receiving, Waits, paused_at, resumed, with_unit, with_raise}
+use Rattle.ac_machine.specs.Seen.{Seen, standing}
+use Rattle.ac_machine.specs.Held.{core}
+use Rattle.ac_machine.specs.Runs.{Pauses, Reaches, Stopped}
 use Rattle.ac_meaning.specs.Worlds.{Exception, World, end_of_file, no_channel, printed, with_sent, with_left}
 use Rattle.ac_meaning.specs.Frames.{Frame, Whole, Bad, AtEnd, next_frame, frame_of}
 use Rattle.ac_meaning.specs.Acts.{Outcome, Returned, Raised, Spent, Stuck, At, Over, iter, Leads}

@@ -12,8 +12,8 @@ use Rattle.ac_code.specs.ReadCode.{code_of}
 use Rattle.ac_generate.specs.Programs.{program_code, entry_generated, entries_generated}
 use Rattle.ac_values.specs.Values.{MValue}
 use Rattle.ac_rules.specs.Views.{Mode}
-use Rattle.ac_stack_machine.specs.States.{Run, beginning}
-use Rattle.ac_stack_machine.specs.Seen.{Seen}
+use Rattle.ac_machine.specs.States.{Run, beginning}
+use Rattle.ac_machine.specs.Seen.{Seen}
 use Rattle.ac_meaning.specs.Worlds.{fresh}
 use Rattle.ac_meaning.specs.Acts.{Outcome, Returned, Raised, Spent, Stuck}
 use Rattle.ac_meaning.specs.Reduction.{Ends}

@@ -9,10 +9,10 @@ use Rattle.ac_code.specs.ReadCode.{code_of}
 use Rattle.ac_generate.specs.Programs.{program_code}
 use Rattle.ac_outside.specs.Outside.{Extends}
 use Rattle.ac_values.specs.Values.{MValue}
-use Rattle.ac_stack_machine.specs.States.{Core, MState, Run, beginning}
-use Rattle.ac_stack_machine.specs.Resumes as standing
-use Rattle.ac_stack_machine.specs.Resumes.{resumed}
-use Rattle.ac_stack_machine.specs.Seen.{Seen, standing}
+use Rattle.ac_machine.specs.States.{Core, MState, Run, beginning}
+use Rattle.ac_machine.specs.Resumes as standing
+use Rattle.ac_machine.specs.Resumes.{resumed}
+use Rattle.ac_machine.specs.Seen.{Seen, standing}
 use Rattle.ac_meaning.specs.Worlds.{World}
 use Rattle.ac_meaning.specs.Acts.{Outcome, Stuck, At, Over, Leads}
 use Rattle.ac_meaning.specs.Laws.{IsProgram, Console, Channel, written, written_by}

@@ -8,9 +8,9 @@ use Rattle.ac_terms.specs.declared.term.Exn.{Exn}
 use Rattle.ac_outside.specs.Outside.{Extends}
 use Rattle.ac_rules.specs.Views.{Mode}
 use Rattle.ac_rules.specs.declared.loaded.Loaded.{Loaded}
-use Rattle.ac_stack_machine.specs.States.{Core, Ask, AskDone, AskRaised, AskSpent, Paused}
-use Rattle.ac_stack_machine.specs.Resumes as standing
-use Rattle.ac_stack_machine.specs.Seen.{Seen, standing}
+use Rattle.ac_machine.specs.States.{Core, Ask, AskDone, AskRaised, AskSpent, Paused}
+use Rattle.ac_machine.specs.Resumes as standing
+use Rattle.ac_machine.specs.Seen.{Seen, standing}
 use Rattle.ac_meaning.specs.Worlds.{Exception, exception}
 use Rattle.ac_meaning.specs.Acts.{Outcome, Returned, Raised, Spent}
 use Rattle.ac_meaning.specs.Reduction.{Ends}

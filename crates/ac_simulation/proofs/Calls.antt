@@ -8,8 +8,8 @@ use Rattle.ac_code.specs.Code as instr
 use Rattle.ac_code.specs.Code.{Block, Code}
 use Rattle.ac_values.specs.Values.{MValue, MStr, MExnOf, MClosure, MEnd, MMore}
 use Rattle.ac_values.specs.Readers.{closure_in}
-use Rattle.ac_stack_machine.specs.States.{Frame, Run, Paused, AskSpent, given}
-use Rattle.ac_stack_machine.specs.Machine.{called}
+use Rattle.ac_machine.specs.States.{Frame, Run, Paused, AskSpent, given}
+use Rattle.ac_machine.specs.Machine.{called}
 use Rattle.ac_meaning.specs.Worlds.{World, counted}
 use Rattle.ac_meaning.specs.Acts.{At}
 use Rattle.ac_meaning.specs.BareTerms.{Bare, BInt, BApp, BareValue, WRec, bare}

@@ -9,7 +9,7 @@ use Rattle.ac_terms.specs.Defs.{Environment}
 use Rattle.ac_generate.specs.Programs.{program_code}
 use Rattle.ac_rules.proofs.Samples.{one_entry, made}
 use Rattle.ac_values.specs.Values.{MInt, MUnit, MClosure, MEnd}
-use Rattle.ac_stack_machine.specs.States.{Run, beginning}
+use Rattle.ac_machine.specs.States.{Run, beginning}
 use Rattle.ac_meaning.specs.Worlds.{fresh, match_failure}
 use Rattle.ac_meaning.specs.Acts.{Over, At, Returned, Raised, Spent, iter}
 use Rattle.ac_meaning.specs.BareTerms.{BVar, BApp, BOwn, WLam}

@@ -11,9 +11,9 @@ use Rattle.ac_code.specs.Code as instr
 use Rattle.ac_code.specs.Code.{Instr, Block, Code, field_code, fields_of as fields_there, fields_in}
 use Rattle.ac_rules.specs.Typing.{fields_of}
 use Rattle.ac_values.specs.Values.{MValue, MInt, MBool, MStr, MUnit, MExn, MTuple, MNil, MCons, MAbsent, MPresent, MClosure, MEnd}
-use Rattle.ac_stack_machine.specs.States.{Run, keeping}
-use Rattle.ac_stack_machine.specs.Machine.{parts, fetched, pushes_field}
-use Rattle.ac_stack_machine.specs.Fields.{own_block, ref_block, field_block, field_number, module_behind}
+use Rattle.ac_machine.specs.States.{Run, keeping}
+use Rattle.ac_machine.specs.Machine.{parts, fetched, pushes_field}
+use Rattle.ac_machine.specs.Fields.{own_block, ref_block, field_block, field_number, module_behind}
 use Rattle.ac_meaning.specs.Worlds.{World}
 use Rattle.ac_meaning.specs.Acts.{At}
 use Rattle.ac_meaning.specs.References.{own_field, target}

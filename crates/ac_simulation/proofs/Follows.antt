@@ -9,8 +9,8 @@ use Rattle.ac_code.specs.Code.{Code}
 use Rattle.ac_code.specs.Constants.{Const, Answer, Gives, Prints, Sends, Receives, Fails, NoSense, Meaning, One, Two, applied}
 use Rattle.ac_values.specs.Values.{MValue, MBool, MStr, MUnit, MExn, MExnOf, MTuple, MClosure, MMore}
 use Rattle.ac_values.specs.Readers.{entry, without}
-use Rattle.ac_stack_machine.specs.States.{Handler, MState, Run, given}
-use Rattle.ac_stack_machine.specs.Machine.{parts, consts_in, const_value, exn_value, answers, performs, makes_exn, makes_tuple, jumps_if_not, raises}
+use Rattle.ac_machine.specs.States.{Handler, MState, Run, given}
+use Rattle.ac_machine.specs.Machine.{parts, consts_in, const_value, exn_value, answers, performs, makes_exn, makes_tuple, jumps_if_not, raises}
 use Rattle.ac_meaning.specs.Worlds.{Exception, World, end_of_file, no_channel, bad_frame}
 use Rattle.ac_meaning.specs.Frames.{Frame as frame, Whole, Bad as bad, AtEnd, next_frame}
 use Rattle.ac_meaning.specs.Acts.{At}

@@ -6,8 +6,8 @@ use Rattle.ac_types.proofs.FirstLaws.{none≢some}
 use Rattle.ac_terms.specs.Defs.{Environment}
 use Rattle.ac_code.specs.Code.{Instr, Block, Code, field_code}
 use Rattle.ac_values.specs.Values.{MValue, MUnit}
-use Rattle.ac_stack_machine.specs.States.{Frame, Handler, Core, Run, Paused, AskPrint, AskSend, AskReceive, given}
-use Rattle.ac_stack_machine.specs.Machine.{act, exec, exec_in, exn_value, raising}
+use Rattle.ac_machine.specs.States.{Frame, Handler, Core, Run, Paused, AskPrint, AskSend, AskReceive, given}
+use Rattle.ac_machine.specs.Machine.{act, exec, exec_in, exn_value, raising}
 use Rattle.ac_meaning.specs.Worlds.{Exception, World, printed}
 use Rattle.ac_meaning.specs.Frames.{next_frame}
 use Rattle.ac_meaning.specs.Acts.{Raised, Spent, At, Over, Leads}

@@ -6,7 +6,7 @@ use Rattle.ac_terms.specs.Defs.{Environment}
 use Rattle.ac_code.specs.Code as instr
 use Rattle.ac_code.specs.Code.{Code}
 use Rattle.ac_values.specs.Values.{MValue, MInt, MBool, MStr, MUnit, MExn, MExnOf, MTuple, MNil, MCons, MAbsent, MPresent, MClosure, MEnd}
-use Rattle.ac_stack_machine.specs.Machine.{parts}
+use Rattle.ac_machine.specs.Machine.{parts}
 use Rattle.ac_meaning.specs.Worlds.{World}
 use Rattle.ac_meaning.specs.BareTerms.{BareValue, WTuple, WNil, WCons, WPresent, WLam, WRec, BareValues, no_bare_values, bare_value', bare, unpacked, all_unpacked, unpacked_list}
 use Rattle.ac_meaning.proofs.Results.{Fine, give}

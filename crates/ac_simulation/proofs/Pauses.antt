@@ -4,10 +4,10 @@ use Rattle.std.proofs.lemmas.Bool.{cases_lt}
 use Rattle.ac_terms.specs.Defs.{Environment}
 use Rattle.ac_code.specs.Code.{Code}
 use Rattle.ac_values.specs.Values.{MValue}
-use Rattle.ac_stack_machine.specs.States.{Core, MState, Run, Paused, Stuck as StuckThere}
-use Rattle.ac_stack_machine.specs.Machine.{exec, next, after}
-use Rattle.ac_stack_machine.specs.Resumes.{At as Stands}
-use Rattle.ac_stack_machine.specs.Runs.{IsPaused, Pauses, Reaches}
+use Rattle.ac_machine.specs.States.{Core, MState, Run, Paused, Stuck as StuckThere}
+use Rattle.ac_machine.specs.Machine.{exec, next, after}
+use Rattle.ac_machine.specs.Resumes.{At as Stands}
+use Rattle.ac_machine.specs.Runs.{IsPaused, Pauses, Reaches}
 use Rattle.ac_meaning.specs.Worlds.{World}
 use Rattle.ac_meaning.specs.Acts.{Outcome, Stuck, At, Over, iter, Leads}
 use Rattle.ac_meaning.proofs.Runs.{iter_still, leads_on}

@@ -13,9 +13,9 @@ use Rattle.ac_generate.specs.Sizes.{bound}
 use Rattle.ac_values.specs.Values.{MValue, MInt, MBool, MStr, MUnit, MExn, MTuple, MNil, MCons, MAbsent, MPresent, MClosure, MMore}
 use Rattle.ac_values.specs.Readers.{closure_in, without}
 use Rattle.ac_values.specs.Fits.{bound as binding}
-use Rattle.ac_stack_machine.specs.States.{given}
-use Rattle.ac_stack_machine.specs.Machine.{parts, exn_value, called, performs, pushes_field, tested}
-use Rattle.ac_stack_machine.specs.Fields.{own_block, ref_block}
+use Rattle.ac_machine.specs.States.{given}
+use Rattle.ac_machine.specs.Machine.{parts, exn_value, called, performs, pushes_field, tested}
+use Rattle.ac_machine.specs.Fields.{own_block, ref_block}
 use Rattle.ac_meaning.specs.Worlds.{Exception, World, match_failure}
 use Rattle.ac_meaning.specs.Acts.{At}
 use Rattle.ac_meaning.specs.References.{target}

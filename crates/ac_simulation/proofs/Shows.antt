@@ -11,7 +11,7 @@ use Rattle.ac_code.specs.Constants.{Const, CInt, CBool, CStr, CUnit, CPart, same
 use Rattle.ac_values.specs.Values.{MValue, MInt, MBool, MStr, MUnit, MExn, MExnOf, MTuple, MNil, MCons, MAbsent, MPresent, MClosure, MEnd, MMore, MValues, nothing, also}
 use Rattle.ac_values.specs.Readers.{int_in, text_in, without}
 use Rattle.ac_values.specs.Fits.{where_true, bound, all_bound}
-use Rattle.ac_stack_machine.specs.Machine.{taken, parts, part_in, const_in, consts_in, const_value, exn_value}
+use Rattle.ac_machine.specs.Machine.{taken, parts, part_in, const_in, consts_in, const_value, exn_value}
 use Rattle.ac_meaning.specs.Primitives.{all_there}
 use Rattle.ac_meaning.specs.BareTerms.{Bare, BareValue, WInt, WStr, WExn, WLam, WRec, BareValues, no_bare_values, bare_value'}
 use Rattle.ac_meaning.specs.BareReduction.{BareWritten, fit, fit_all, const_of_parts, const_of, consts_of}

@@ -11,7 +11,7 @@ use Rattle.ac_rules.specs.Views.{Mode, Coloured}
 use Rattle.ac_rules.specs.Typing.{all_of}
 use Rattle.ac_rules.specs.Coherent.{IsCoherent}
 use Rattle.ac_values.specs.Values.{MValue, MEnd}
-use Rattle.ac_stack_machine.specs.States.{Run, beginning}
+use Rattle.ac_machine.specs.States.{Run, beginning}
 use Rattle.ac_meaning.specs.Worlds.{World, fresh}
 use Rattle.ac_meaning.specs.Acts.{Outcome, Returned, Raised, Spent, Stuck, At, Over}
 use Rattle.ac_meaning.specs.References.{own_field}

@@ -4,9 +4,9 @@ use Rattle.ac_types.specs.Types.{Bytes}
 use Rattle.ac_terms.specs.Defs.{Environment}
 use Rattle.ac_code.specs.Code.{Code}
 use Rattle.ac_values.specs.Values.{MValue}
-use Rattle.ac_stack_machine.specs.States.{Core, beginning, Ask, AskPrint, AskSend, AskReceive, AskMarshal, AskUnmarshal, AskDone, AskRaised, AskSpent, MState, Run, Paused, Stuck as StuckThere}
-use Rattle.ac_stack_machine.specs.Machine.{next}
-use Rattle.ac_stack_machine.specs.Resumes.{with_unit, with_text, with_raise}
+use Rattle.ac_machine.specs.States.{Core, beginning, Ask, AskPrint, AskSend, AskReceive, AskMarshal, AskUnmarshal, AskDone, AskRaised, AskSpent, MState, Run, Paused, Stuck as StuckThere}
+use Rattle.ac_machine.specs.Machine.{next}
+use Rattle.ac_machine.specs.Resumes.{with_unit, with_text, with_raise}
 use Rattle.ac_meaning.specs.Worlds.{Exception, World, end_of_file, no_channel, bad_frame, printed, with_sent, with_left, fresh}
 use Rattle.ac_meaning.specs.Frames.{Frame, Whole, Bad, AtEnd, next_frame}
 use Rattle.ac_meaning.specs.Acts.{Outcome, Returned, Raised, Spent, Stuck, State, At, Over, Leads}

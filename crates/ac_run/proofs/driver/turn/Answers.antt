@@ -2,7 +2,7 @@ use Rattle.std.proofs.Common.{[], refl, subst}
 use Rattle.ac_terms.specs.Read.{environment_of}
 use Rattle.ac_code.specs.ReadCode.{code_of}
 use Rattle.ac_meaning.specs.Frames.{frame_of}
-use Rattle.ac_stack_machine.specs.Resumes.{with_unit, with_raise}
+use Rattle.ac_machine.specs.Resumes.{with_unit, with_raise}
 use Rattle.ac_run.specs.Course.{streams, Served}
 use Rattle.ac_run.proofs.Courses.{can_pause, lost, done, raised, spent, no_marshal, no_unmarshal, prints, sends_frame, at_end, refused}
 use Rattle.ac_run.proofs.driver.turn.Goals as goal

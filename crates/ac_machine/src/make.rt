@@ -1,0 +1,125 @@
+// Instructions that push constants and make values.
+
+ghost use Rattle.std.specs.Prelude.{◌≡◌, ◌<◌, length, false, true, IfOk, MatchOption, None, Some, [], ◌-◌};
+ghost use Rattle.ac_terms.specs.Primitives.{has_text};
+ghost use Rattle.ac_values.specs.Values.{MNil, MStr, MClosure, MEnd, values, stands};
+ghost use Rattle.ac_machine.specs.States.{Run, pushed};
+ghost use Rattle.ac_machine.specs.Machine.{taken, makes_exn, makes_some, makes_cons, makes_tuple};
+ghost use Rattle.ac_machine.specs.Held.{core, stack_of, Sound};
+ghost use Rattle.ac_machine.specs.Steps.{stack_at, Does};
+
+use crate::engine::{EMPTY, Engine, Step};
+use ac_code::CodeId;
+use ac_types::{Many, Memory, Text};
+use ac_values::read::text_in;
+use ac_values::{Node, Value};
+
+/// Whether the exception of that number has a text.
+pub fn has_text(number: u8) -> bool
+    ensures { result ≡ has_text number }
+{
+    number <= 1 || (6 <= number && number <= 9)
+}
+
+impl Engine {
+    /// Pushes a string.
+    pub fn push_text(&mut self, text: &Text) -> Result<Step, Memory>
+        requires sound { Sound self.old }
+        ensures { IfOk result (λ s. Does self.new s (Run (pushed (MStr text.now.0) (core self.old)))) }
+    {
+        let text = text.copy(self.alloc)?;
+        self.push_node(Node::Str(text))
+    }
+
+    /// Pushes a closure of a block with the environment.
+    pub fn push_closure(&mut self, block: CodeId, recursive: bool) -> Result<Step, Memory>
+        requires sound { Sound self.old }
+        ensures { IfOk result (λ s. Does self.new s (Run (pushed (MClosure block.0 recursive (core self.old).env) (core self.old)))) }
+    {
+        let env = self.at.env;
+        self.push_node(Node::Closure {
+            block,
+            recursive,
+            env,
+        })
+    }
+
+    /// Pushes a closure of a block with the empty environment.
+    pub fn push_constant(&mut self, block: CodeId, recursive: bool) -> Result<Step, Memory>
+        requires sound { Sound self.old }
+        ensures { IfOk result (λ s. Does self.new s (Run (pushed (MClosure block.0 recursive MEnd) (core self.old)))) }
+    {
+        self.push_node(Node::Closure {
+            block,
+            recursive,
+            env: EMPTY,
+        })
+    }
+
+    /// Pushes an exception, with the string on the stack where its number asks for one.
+    pub fn make_exn(&mut self, number: u8) -> Result<Step, Memory>
+        requires sound { Sound self.old }
+        ensures { IfOk result (λ s. Does self.new s (makes_exn number (core self.old))) }
+    {
+        if !has_text(number) {
+            return self.push_node(Node::Exn(number, None));
+        }
+        let Some((text, rest)) = self.newest(self.at.stack) else {
+            return Ok(Step::Wrong);
+        };
+        let Some(_) = text_in(&self.store, text) else {
+            return Ok(Step::Wrong);
+        };
+        self.at.stack = rest;
+        self.push_node(Node::Exn(number, Some(text)))
+    }
+
+    /// Makes a present option of the newest value.
+    pub fn make_some(&mut self) -> Result<Step, Memory>
+        requires sound { Sound self.old }
+        ensures { IfOk result (λ s. Does self.new s (makes_some (core self.old))) }
+    {
+        let Some((inner, rest)) = self.newest(self.at.stack) else {
+            return Ok(Step::Wrong);
+        };
+        self.at.stack = rest;
+        self.push_node(Node::Present(inner))
+    }
+
+    /// Makes a list of the two newest values, a list on top of its new head.
+    pub fn make_cons(&mut self) -> Result<Step, Memory>
+        requires sound { Sound self.old }
+        ensures { IfOk result (λ s. Does self.new s (makes_cons (core self.old))) }
+    {
+        let Some((tail, below)) = self.newest(self.at.stack) else {
+            return Ok(Step::Wrong);
+        };
+        let Some((head, rest)) = self.newest(below) else {
+            return Ok(Step::Wrong);
+        };
+        self.at.stack = rest;
+        self.push_node(Node::Cons(head, tail))
+    }
+
+    /// Makes a tuple of the `n` newest values, the newest last.
+    pub fn make_tuple(&mut self, n: usize) -> Result<Step, Memory>
+        requires sound { Sound self.old }
+        ensures { IfOk result (λ s. Does self.new s (makes_tuple n (core self.old))) }
+    {
+        let mut parts = Vec::new(self.alloc);
+        let mut rest = self.at.stack;
+        for _ in 0..n {
+            match self.newest(rest) {
+                Some((part, older)) => {
+                    parts.push(part)?;
+                    rest = older;
+                }
+                None => return Ok(Step::Wrong),
+            }
+        }
+        parts.reverse();
+        self.at.stack = rest;
+        let step = self.push_node(Node::Tuple(Many::from_vec(parts)))?;
+        Ok(step)
+    }
+}

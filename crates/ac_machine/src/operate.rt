@@ -1,0 +1,92 @@
+// The instruction of a primitive.
+
+ghost use Rattle.std.specs.Prelude.{◌≡◌, IfOk};
+ghost use Rattle.ac_code.specs.Constants.{meaning, One, Two};
+ghost use Rattle.ac_machine.specs.States.{given};
+ghost use Rattle.ac_machine.specs.Machine.{performs, answers};
+ghost use Rattle.ac_machine.specs.Meant.{answer_of, combines, turns};
+ghost use Rattle.ac_machine.specs.Held.{core, Sound};
+ghost use Rattle.ac_machine.specs.Steps.{Does};
+
+use crate::engine::{Engine, Step};
+use crate::pause::Pause;
+use crate::primitive::{
+    Answer, Operator, Primitive, Turner, combined, constant_in, primitive_of, turned,
+};
+use ac_terms::Exn;
+use ac_types::{Memory, Text};
+use ac_values::Node;
+
+impl Engine {
+    /// Takes the arguments of a primitive from the stack and pushes its answer, raises or pauses.
+    pub fn primitive(&mut self, number: u8) -> Result<Step, Memory>
+        requires sound { Sound self.old }
+        ensures { IfOk result (λ s. Does self.new s (given (meaning number) (λ m. performs m (core self.old)))) }
+    {
+        match primitive_of(number) {
+            None => Ok(Step::Wrong),
+            Some(Primitive::One(turner)) => self.turn(turner),
+            Some(Primitive::Two(operator)) => self.combine(operator),
+        }
+    }
+
+    fn combine(&mut self, operator: Operator) -> Result<Step, Memory>
+        requires sound { Sound self.old }
+        ensures { IfOk result (λ s. Does self.new s (performs (Two (combines operator)) (core self.old))) }
+    {
+        let Some((second, below)) = self.newest(self.at.stack) else {
+            return Ok(Step::Wrong);
+        };
+        let Some((first, rest)) = self.newest(below) else {
+            return Ok(Step::Wrong);
+        };
+        let Some(second) = constant_in(&self.store, second) else {
+            return Ok(Step::Wrong);
+        };
+        let Some(first) = constant_in(&self.store, first) else {
+            return Ok(Step::Wrong);
+        };
+        let answer = combined(self.alloc, operator, &first, &second)?;
+        self.at.stack = rest;
+        self.answer(answer)
+    }
+
+    fn turn(&mut self, turner: Turner) -> Result<Step, Memory>
+        requires sound { Sound self.old }
+        ensures { IfOk result (λ s. Does self.new s (performs (One (turns turner)) (core self.old))) }
+    {
+        let Some((v, rest)) = self.newest(self.at.stack) else {
+            return Ok(Step::Wrong);
+        };
+        let Some(constant) = constant_in(&self.store, v) else {
+            return Ok(Step::Wrong);
+        };
+        let answer = turned(self.alloc, turner, &constant)?;
+        self.at.stack = rest;
+        self.answer(answer)
+    }
+
+    // Goes on with the answer of a primitive.
+    fn answer(&mut self, answer: Answer) -> Result<Step, Memory>
+        requires sound { Sound self.old }
+        ensures { IfOk result (λ s. Does self.new s (answers (answer_of answer) (core self.old))) }
+    {
+        match answer {
+            Answer::Int(n) => self.push_node(Node::Int(n)),
+            Answer::Bool(b) => self.push_node(Node::Bool(b)),
+            Answer::Str(text) => self.push_node(Node::Str(text)),
+            Answer::Print(text) => Ok(Step::Pausing(Pause::Print(text))),
+            Answer::Send(text) => Ok(Step::Pausing(Pause::Send(text))),
+            Answer::Receive => Ok(Step::Pausing(Pause::Receive)),
+            Answer::Invalid(text) => self.raise_exn(Exn {
+                number: 1,
+                text: Some(text),
+            }),
+            Answer::ByZero => self.raise_exn(Exn {
+                number: 3,
+                text: None,
+            }),
+            Answer::NoSense => Ok(Step::Wrong),
+        }
+    }
+}
