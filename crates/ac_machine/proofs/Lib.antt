@@ -1,3 +1,4 @@
+pub mod AheadLaws
 pub mod BindLaws
 pub mod CallLaws
 pub mod EachLaws

@@ -14,6 +14,8 @@ mod packing;
 mod pause;
 mod primitive;
 mod step;
+#[cfg(test)]
+mod tests;
 mod variables;
 
 pub use machine::Machine;
