@@ -1,4 +1,4 @@
-// Why a text is refused.
+// Why a text is refused, and which.
 
 use ac_resolve::ScopeFault;
 use ac_syntax::ParseFault;
@@ -26,6 +26,15 @@ pub enum Kind {
     /// The number of the first definition without a type; the program's expression counts as the one after the last.
     IllTyped { def: u32 },
     Memory,
+}
+
+/// The first part that is refused, and why.
+#[derive(Clone, Copy, Debug, PartialEq, Eq)]
+pub struct Refusal {
+    /// 0 for the program, k for the kth text of the shelf.
+    pub part: u32,
+    /// Why it is refused.
+    pub kind: Kind,
 }
 
 impl From<Memory> for Kind {

@@ -1,23 +1,23 @@
 // What holds of every text.
 
-ghost use Rattle.std.specs.Prelude.{◌≡◌, []};
+ghost use Rattle.std.specs.Prelude.{◌≡◌, ℕ, List, []};
 ghost use Rattle.ac_types.specs.Types.{Bytes, Typ};
 ghost use Rattle.ac_terms.specs.Terms.{Expr};
 ghost use Rattle.ac_meaning.specs.Laws.{IsProgram};
 ghost use Rattle.ac_load.specs.Loading.{Accepted, IsRefused};
 ghost use Rattle.ac_load.specs.declared.kind.Kind.{Kind};
 
-/// A text that has a term is not refused.
+/// A program that has a term beside a shelf is not refused, and no text of the shelf is.
 pub fn accepted_or_refused()
-    ensures { (text : Bytes) (kind : Kind) (e : Expr) (T : Typ) → IsRefused text kind → Accepted text e T → ⊥ }
+    ensures { (text : Bytes) (shelf : List Bytes) (part : ℕ) (kind : Kind) (e : Expr) (T : Typ) → IsRefused text shelf part kind → Accepted text shelf e T → ⊥ }
 {}
 
-/// A text has at most one term.
+/// A program has at most one term.
 pub fn one_term()
-    ensures { (text : Bytes) (e f : Expr) (T U : Typ) → Accepted text e T → Accepted text f U → e ≡ f }
+    ensures { (text : Bytes) (shelf : List Bytes) (e f : Expr) (T U : Typ) → Accepted text shelf e T → Accepted text shelf f U → e ≡ f }
 {}
 
 /// The term of a text is a program of its type that neither marshals nor unmarshals.
 pub fn accepted_runs()
-    ensures { (text : Bytes) (e : Expr) (T : Typ) → Accepted text e T → IsProgram [] e T }
+    ensures { (text : Bytes) (shelf : List Bytes) (e : Expr) (T : Typ) → Accepted text shelf e T → IsProgram [] e T }
 {}

@@ -1,13 +1,15 @@
-//! From the text of a program to a term that is ready to run, or why there is none.
+//! From the texts of a program and of a shelf to a term that is ready to run, or why there is none.
 #![tactic(auto)]
 
 mod built;
 mod kind;
 pub mod laws;
 mod loading;
+mod shelf;
 #[cfg(test)]
 mod tests;
 
 pub use built::unbuilt;
-pub use kind::Kind;
+pub use kind::{Kind, Refusal};
 pub use loading::load;
+pub use shelf::{Shelf, ShelfEntry};

@@ -1,19 +1,62 @@
 // Texts with the kind by which each is refused, and texts with the type of their program.
-use crate::kind::Kind;
+
+ghost use Rattle.std.specs.Prelude.{◌≡◌, ◌≤◌, [], length, IfOk};
+
+use crate::kind::{Kind, Refusal};
 use crate::loading::load;
-use ac_types::{Text, Ty, ty_eq};
+use crate::shelf::{Shelf, ShelfEntry};
+use ac_types::{Many, Memory, Text, Ty, both, ty_eq};
 use std::alloc::Global;
 use std::test::Fail;
 
+fn no_shelf(alloc: Global) -> Shelf
+    ensures { result.0 ≡ [] }
+{
+    Shelf(Many::new(alloc))
+}
+
 fn is_refused(alloc: Global, text: &[u8], kind: Kind) -> bool {
-    match load(alloc, text) {
+    match load(alloc, text, &no_shelf(alloc)) {
         Ok(_) => false,
-        Err(found) => found == kind,
+        Err(found) => found == Refusal { part: 0, kind },
     }
 }
 
+// An entry of a shelf.
+fn shelved(alloc: Global, text: &[u8]) -> Result<ShelfEntry, Memory> {
+    let uri = Text::from_slice(alloc, b"lib:m");
+    let text = Text::from_slice(alloc, text);
+    both(uri, text).map(|(uri, text)| ShelfEntry { uri, text })
+}
+
+fn shelf_of(alloc: Global, text: &[u8]) -> Result<Shelf, Memory>
+    ensures { IfOk result (λ shelf. length shelf.0 ≤ 256) }
+{
+    let entry = shelved(alloc, text)?;
+    let mut entries = Many::new(alloc);
+    entries.push(entry)?;
+    Ok(Shelf(entries))
+}
+
+// Why the program `1 +` is refused beside a shelf.
+fn refusal_beside(alloc: Global, shelf: &Shelf) -> Option<Refusal>
+    requires { length shelf.now.0 ≤ 256 }
+{
+    match load(alloc, b"1 +", shelf) {
+        Ok(_) => None,
+        Err(refusal) => Some(refusal),
+    }
+}
+
+// Whether it is refused since a text stands on the shelf, by this kind.
+fn is_refused_beside(alloc: Global, text: &[u8], kind: Kind) -> Result<bool, Memory> {
+    let shelf = shelf_of(alloc, text)?;
+    let found = refusal_beside(alloc, &shelf);
+    Ok(found == Some(Refusal { part: 1, kind }))
+}
+
 fn has_type(alloc: Global, text: &[u8], ty: &Ty) -> bool {
-    match load(alloc, text) {
+    match load(alloc, text, &no_shelf(alloc)) {
         Ok(loaded) => ty_eq(&loaded.ty, ty),
         Err(_) => false,
     }
@@ -86,6 +129,25 @@ fn the_first_form_that_does_not_run(rt: HostRuntime) -> Result<(), Fail> {
     ];
     for (text, at) in rows {
         assert!(rt; is_refused(alloc, text, Kind::Unbuilt { at }));
+    }
+    Ok(())
+}
+
+#[test]
+fn a_text_of_a_shelf_comes_first(rt: HostRuntime) -> Result<(), Fail> {
+    let alloc = rt.alloc();
+    let rows: [(&[u8], Kind); 5] = [
+        (b"", Kind::Syntax { at: 0 }),
+        (b"1", Kind::Syntax { at: 0 }),
+        (b"$", Kind::Lexical { at: 0 }),
+        (b" module M : sig end = struct end", Kind::Unbuilt { at: 1 }),
+        (
+            b"module M : sig end = struct end 1",
+            Kind::Syntax { at: 32 },
+        ),
+    ];
+    for (text, kind) in rows {
+        assert!(rt; is_refused_beside(alloc, text, kind)?);
     }
     Ok(())
 }

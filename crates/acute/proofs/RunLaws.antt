@@ -41,7 +41,7 @@ pub is_fresh : (loaded : Loaded) (steps : ℕ) (s : Session) → s ≡ begun loa
 is_fresh loaded steps s is = ap (λ (x : Session). x.end) is
 
 -- what a run of a session leaves, by what is ensured of it
-pub has_run : {text : List ℕ} {T : Typ} (loaded : Loaded) (steps : ℕ) (s t : Session) (output : Writing) (r : RunEnd) → Accepted text (expr_of loaded.main) T → environment_of loaded.env ≡ [] → s ≡ begun loaded steps false s.machine
+pub has_run : {text : List ℕ} {T : Typ} (loaded : Loaded) (steps : ℕ) (s t : Session) (output : Writing) (r : RunEnd) → Accepted text [] (expr_of loaded.main) T → environment_of loaded.env ≡ [] → s ≡ begun loaded steps false s.machine
     → (s.end ≡ None → (o : Outcome Value) → ProgramEnds Coloured s o → IsEnd s.steps r o t.machine)
     → (s.end ≡ None → IsTrue output.told → (o : Outcome Value) → ProgramEnds Coloured s o → Leaves r output.old output.new (written_by Console o))
     → HasRun steps (expr_of loaded.main) output r
@@ -59,7 +59,7 @@ has_run loaded steps s t output r accepted alone is ends leaves =
       leaves = λ told. leaves none told end.0 there;
     }
 
-module _ (request : Option Request) (files : List ℕ → Reading) (output errors : Writing) {text : List ℕ} {steps : ℕ} {e : Expr} {T : Typ} (accepted : Accepted text e T) (means : (a : Answer) → Means text steps a → Gives request files a) where
+module _ (request : Option Request) (files : List ℕ → Reading) (output errors : Writing) {text : List ℕ} {steps : ℕ} {e : Expr} {T : Typ} (accepted : Accepted text [] e T) (means : (a : Answer) → Means text steps a → Gives request files a) where
   -- whatever the end, it gives something
   meant : (o : Outcome Value) → EndsWithin steps e o → Gives request files (given_by steps o)
   meant (Returned v z) h = means _ (finished e T v z accepted h)

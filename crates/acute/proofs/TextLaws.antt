@@ -32,7 +32,7 @@ given_by steps o = answer (status_of o) (written_by Console o) (line_of steps o)
 -- the text is refused
 record IsRefusal (text : List ℕ) (a : Answer) : Type 0 where
   kind : Kind
-  refused : IsRefused text kind
+  refused : IsRefused text [] 0 kind
   is : a ≡ answer 1 [] (kind_line kind)
 
 -- the text has a program, which ends so
@@ -40,7 +40,7 @@ record IsRun (text : List ℕ) (steps : ℕ) (a : Answer) : Type 0 where
   term : Expr
   type : Typ
   outcome : Outcome Value
-  accepted : Accepted text term type
+  accepted : Accepted text [] term type
   ends : EndsWithin steps term outcome
   is : a ≡ given_by steps outcome
 

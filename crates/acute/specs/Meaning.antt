@@ -26,7 +26,7 @@ EndsWithin steps e o = Ends Coloured [] e [] false steps o
 
 -- a text is refused, or its program ends with a value, with an exception, or in front of an application too many. What it printed by then stands on output
 pub data Means (text : List ℕ) (steps : ℕ) : Answer → Type 0 where
-  refused : (kind : Kind) → IsRefused text kind → Means text steps (answer 1 [] (kind_line kind))
-  finished : (e : Expr) (T : Typ) (v : Value) (z : World) → Accepted text e T → EndsWithin steps e (Returned v z) → Means text steps (answer 0 z.console [])
-  uncaught : (e : Expr) (T : Typ) (x : Exception) (z : World) → Accepted text e T → EndsWithin steps e (Raised x z) → Means text steps (answer 2 z.console (uncaught_line x))
-  spent : (e : Expr) (T : Typ) (z : World) → Accepted text e T → EndsWithin steps e (Spent z) → Means text steps (answer 3 z.console (spent_line steps))
+  refused : (kind : Kind) → IsRefused text [] 0 kind → Means text steps (answer 1 [] (kind_line kind))
+  finished : (e : Expr) (T : Typ) (v : Value) (z : World) → Accepted text [] e T → EndsWithin steps e (Returned v z) → Means text steps (answer 0 z.console [])
+  uncaught : (e : Expr) (T : Typ) (x : Exception) (z : World) → Accepted text [] e T → EndsWithin steps e (Raised x z) → Means text steps (answer 2 z.console (uncaught_line x))
+  spent : (e : Expr) (T : Typ) (z : World) → Accepted text [] e T → EndsWithin steps e (Spent z) → Means text steps (answer 3 z.console (spent_line steps))

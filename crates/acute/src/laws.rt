@@ -22,7 +22,7 @@ pub fn one_meaning()
 /// A text's program ends in either mode as it does without brackets: with one text on output, and with one exception, or
 /// in front of one application. So it ends alike in both modes.
 pub fn modes_alike()
-    ensures { (text : List ℕ) (e : Expr) (T : Typ) (mode : Mode) (steps : ℕ) (o : Outcome Value) → Accepted text e T → Ends mode [] e [] false steps o → BareEnds [] e [] false steps (bare_end o) }
+    ensures { (text : List ℕ) (e : Expr) (T : Typ) (mode : Mode) (steps : ℕ) (o : Outcome Value) → Accepted text [] e T → Ends mode [] e [] false steps o → BareEnds [] e [] false steps (bare_end o) }
 {}
 
 /// Where the file is told and no count rose, the status is that of the text's meaning, or 4.

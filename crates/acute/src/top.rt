@@ -15,11 +15,12 @@ use crate::reading::{ReadFault, read_text};
 use crate::world::run_on;
 use crate::{refusal, uncaught};
 use ac_command::read_words;
-use ac_load::{Kind, load};
+use ac_load::{Kind, Shelf, load};
 use ac_outside::{Files, Put, Sink};
 use ac_rules::Loaded;
 use ac_run::{RunEnd, Session};
 use ac_terms::Exn;
+use ac_types::Many;
 use ac_words::{Command, Run};
 use std::alloc::{AllocError, Global};
 
@@ -103,10 +104,16 @@ fn run_text<O: Sink, E: Sink>(
         (writing E.told (E.written errors.old) (E.written errors.new) (E.faults errors.old) (E.faults errors.new))
         result.0 }
 {
-    match load(alloc, text) {
+    match load(alloc, text, &no_shelf(alloc)) {
         Ok(loaded) => run_program(alloc, loaded, steps, output, errors),
-        Err(kind) => refuse(alloc, kind, errors),
+        Err(refusal) => refuse(alloc, refusal.kind, errors),
     }
+}
+
+fn no_shelf(alloc: Global) -> Shelf
+    ensures { result.0 ≡ [] }
+{
+    Shelf(Many::new(alloc))
 }
 
 // Runs the program of a text.
@@ -117,9 +124,9 @@ fn run_program<O: Sink, E: Sink>(
     output: &mut O,
     errors: &mut E,
 ) -> Status
-    requires accepted { (text : List ℕ) × Accepted text (expr_of loaded.main) (typ_of loaded.ty) }
+    requires accepted { (text : List ℕ) × Accepted text [] (expr_of loaded.main) (typ_of loaded.ty) }
     requires alone { environment_of loaded.env ≡ [] }
-    ensures { (text : List ℕ) → Accepted text (expr_of loaded.main) (typ_of loaded.ty) →
+    ensures { (text : List ℕ) → Accepted text [] (expr_of loaded.main) (typ_of loaded.ty) →
         (request : Option Request) (files : List ℕ → Reading) → ((a : Answer) → Means text steps a → Gives request files a) →
         Ended request files
         (writing O.told (O.written output.old) (O.written output.new) (O.faults output.old) (O.faults output.new))

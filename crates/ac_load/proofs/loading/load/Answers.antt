@@ -1,35 +1,15 @@
-use Rattle.std.proofs.Common.{◌∙◌, sym, ap, map}
-use Rattle.std.proofs.lemmas.Result.{err_from_is_err_and}
-use Rattle.ac_types.specs.ReadTypes.{typ_of}
-use Rattle.ac_terms.specs.Read.{environment_of, entry_of, expr_of}
-use Rattle.ac_load.specs.Loading.{not_built}
-use Rattle.ac_load.proofs.LoadLaws.{source, parse_fault, scope_fault, at_main, accepted, untyped}
-use Rattle.ac_load.proofs.TextLaws.{plain_term}
+use Rattle.ac_load.specs.Loading.{texts, of_program}
+use Rattle.ac_load.proofs.LoadLaws.{says, of_next, text_at, all_shelved}
 use Rattle.ac_load.proofs.loading.load.Goals as goal
 
-pub returns-in_err-surface-clause-refused : goal.returns-in_err-surface-clause-refused
-returns-in_err-surface-clause-refused c =
-    let p = err_from_is_err_and c.from_residual.result c.from_residual.ensures.1 in
-    rw (p.1, p.2) (parse_fault _ _ c.in_err-surface.ensures.fault)
+pub returns-in-Err-clause-refused : goal.returns-in-Err-clause-refused
+returns-in-Err-clause-refused c =
+    of_next _ (texts c.args.shelf.now) _ _ _ c.in-Err.kind c.loop-entry.invariant.part c.loop-entry.invariant.shelved
+    (text_at c.args.shelf.now _ c.loop-entry.entry-index c.entry-item.result _ c.as_slice-entry-items.ensures c.loop-entry-test.true c.entry-item.is c.as_slice.ensures)
+    c.in-Err.ensures.refused
 
-pub returns-in-Some-clause-refused : goal.returns-in-Some-clause-refused
-returns-in-Some-clause-refused c = not_built c.in_ok-surface.ensures.tree (sym c.in-Some.ensures)
-
-pub returns-in_err-raw-clause-refused : goal.returns-in_err-raw-clause-refused
-returns-in_err-raw-clause-refused c =
-    let p = err_from_is_err_and c.from_residual-in_err-raw.result c.from_residual-in_err-raw.ensures.1 in
-    rw (p.1, p.2) (scope_fault _ _ _ (source c.in_ok-surface.ensures.tree (sym c.in_default.ensures)) c.in_err-raw.ensures.refused)
-
-pub type_of-requires-clause-plain : goal.type_of-requires-clause-plain
-type_of-requires-clause-plain c = plain_term (source c.in_ok-surface.ensures.tree (sym c.in_default.ensures)) c.in_ok-raw.ensures.main
-
-pub returns-in-Ok-clause-accepted : goal.returns-in-Ok-clause-accepted
-returns-in-Ok-clause-accepted c =
-    accepted (source c.in_ok-surface.ensures.tree (sym c.in_default.ensures)) c.in_ok-raw.ensures.main
-    (at_main (expr_of c.in_ok-raw.raw.main) (ap environment_of c.in_ok-raw.ensures.environment ∙ ap (map entry_of) c.new.ensures) (ap (map typ_of) c.new-2.ensures) c.in-Ok.ensures)
-
-pub returns-in-Err-IllTyped-clause-refused : goal.returns-in-Err-IllTyped-clause-refused
-returns-in-Err-IllTyped-clause-refused c =
-    let none = rw c.in-Err-IllTyped.field-0-is at c.in-Err-IllTyped.ensures in
-    untyped (source c.in_ok-surface.ensures.tree (sym c.in_default.ensures)) c.in_ok-raw.ensures.main
-    (at_main (expr_of c.in_ok-raw.raw.main) (ap environment_of c.in_ok-raw.ensures.environment ∙ ap (map entry_of) c.new.ensures) (ap (map typ_of) c.new-2.ensures) none)
+pub returns-in-Err-program_of-clause-refused : goal.returns-in-Err-program_of-clause-refused
+returns-in-Err-program_of-clause-refused c =
+    says c.in-Err-program_of.kind
+    (of_program (all_shelved c.args.shelf.now _ _ c.as_slice-entry-items.ensures c.loop-entry-test.false c.loop-entry.invariant.shelved))
+    c.in-Err-program_of.ensures.refused
