@@ -1,0 +1,60 @@
+// Patterns.
+
+use crate::listing::Listing;
+use crate::primitives::exception;
+use crate::types::write_type;
+use ac_terms::Pat;
+use ac_types::{Many, Ty};
+
+fn write_variable(listing: &mut Listing, ty: &Ty) {
+    listing.put(b"(");
+    write_type(listing, ty);
+    listing.put(b")");
+}
+
+#[cycle(patterns)]
+fn write_tuple(listing: &mut Listing, parts: &Many<Pat>) {
+    let mut between: &[u8] = b"(";
+    for part in parts.as_slice() {
+        listing.put(between);
+        write_pattern(listing, part);
+        between = b", ";
+    }
+    listing.put(b")");
+}
+
+// A constructor with its argument.
+#[cycle(patterns)]
+fn write_applied(listing: &mut Listing, name: &[u8], argument: &Pat) {
+    listing.put(b"(");
+    listing.put(name);
+    listing.put(b" ");
+    write_pattern(listing, argument);
+    listing.put(b")");
+}
+
+/// Adds a pattern.
+#[cycle(patterns)]
+pub fn write_pattern(listing: &mut Listing, pattern: &Pat) {
+    match pattern {
+        Pat::Wild => listing.put(b"_"),
+        Pat::Var(ty) => write_variable(listing, ty),
+        Pat::Int(n) => listing.integer(*n),
+        Pat::Bool(truth) => listing.truth(*truth),
+        Pat::Str(text) => listing.literal(text),
+        Pat::Unit => listing.put(b"()"),
+        Pat::Tuple(parts) => write_tuple(listing, parts),
+        Pat::Nil => listing.put(b"[]"),
+        Pat::Cons(head, tail) => {
+            listing.put(b"(");
+            write_pattern(listing, head);
+            listing.put(b" :: ");
+            write_pattern(listing, tail);
+            listing.put(b")");
+        }
+        Pat::Absent => listing.put(b"None"),
+        Pat::Present(item) => write_applied(listing, b"Some", item),
+        Pat::Exn(number, None) => listing.put(exception(*number)),
+        Pat::Exn(number, Some(argument)) => write_applied(listing, exception(*number), argument),
+    }
+}
