@@ -1,0 +1,16 @@
+use Rattle.std.proofs.Common.{◌≡◌, sym, ◌∙◌, not, rules, tests}
+use Rattle.std.specs.Prelude.{position}
+use Rattle.std.proofs.lemmas.Iterator.{YieldsList-from_slice}
+use Rattle.std.proofs.lemmas.Iterator.Search.{position_from_yields_List}
+use Rattle.ac_types.specs.ReadTypes.{sig_type_of}
+use Rattle.ac_types.specs.declared.sig.SigType.{SigType}
+use Rattle.ac_terms.specs.Read.{module_of_code}
+use Rattle.ac_rules.specs.Modules.{covers_type}
+use Rattle.ac_modules.proofs.Places.{first_failing-map}
+use Rattle.ac_modules.proofs.cover.uncovered_type.Goals as goal
+
+pub returns : goal.returns
+returns c =
+    let found : c.position.result ≡ position (λ (x : SigType). not (covers_type (module_of_code c.args.m.now) (sig_type_of x))) c.args.m.now.sig.types =
+    position_from_yields_List (λ (x : SigType). not (covers_type (module_of_code c.args.m.now) (sig_type_of x))) _ _ c.position.result c.position.ensures.ran (YieldsList-from_slice c.args.m.now.sig.types cc) (λ x b q k. search (rules, tests)) in
+    found ∙ sym (first_failing-map sig_type_of (covers_type (module_of_code c.args.m.now)) c.args.m.now.sig.types)
