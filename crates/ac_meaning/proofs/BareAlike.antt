@@ -3,55 +3,59 @@ use Rattle.std.proofs.Common.{◌≡◌, refl, sym, ap, ◌∙◌, subst, ℕ, z
 use Rattle.std.specs.Prelude.{option_map, option_and_then, nat_eq}
 use mathlib.Core.Bool.{true≢false}
 use Rattle.ac_types.specs.First.{given}
-use Rattle.ac_types.specs.Types.{Bytes, Typ, TInt, TBool, TStr, TUnit, TExn, TTuple, TList, TOpt, TFun, Typs}
+use Rattle.ac_types.specs.Types.{Bytes, Typ, TInt, TBool, TStr, TUnit, TExn, TTuple, TList, TOpt, TFun, Typs, mentions}
 use Rattle.ac_terms.specs.Terms.{Home, Pattern, PWild, PVar, PInt, PBool, PStr, PUnit, PTuple, PNil, PCons, PAbsent, PPresent, PExn, PExnOf, Patterns, no_patterns, pattern', Expr, Int, Boolean, Str, Unit', Exn, ExnOf, Tuple, Nil, Empty, Present, Cons, Var, Own, Ref, Lam, Rec, App, Let, If, Seq, Match, Try, Raise, Prim, Marshal, Unmarshal, Packed, Val, Bracket, Exprs, no_exprs, expr, Arms, no_arms, arm, Value, VStr, VExn, VNil, VCons, VAbsent, VPresent, VLam, VRec, VProxy, Values, no_values, value}
 use Rattle.ac_terms.specs.Defs.{Environment}
-use Rattle.ac_rules.specs.Views.{Mode}
-use Rattle.ac_rules.specs.Coherent.{IsCoherent}
-use Rattle.ac_meaning.specs.Worlds.{Exception, World, match_failure, counted}
+use Rattle.ac_rules.specs.Views.{Mode, is_known}
+use Rattle.ac_meaning.proofs.Somes.{all_join}
+use Rattle.ac_meaning.specs.Worlds.{Exception, World, match_failure, counted, grown}
+use Rattle.ac_meaning.specs.Growth.{Grows}
+use Rattle.ac_meaning.specs.Packing.{Packing, Refuses, Packs, Arrival, Unfit, Brings, packing, arrival}
 use Rattle.ac_meaning.specs.Substitution.{Written}
 use Rattle.ac_meaning.specs.Matching.{fit, fit_all}
 use Rattle.ac_meaning.specs.Primitives.{exception_value}
 use Rattle.ac_meaning.specs.References.{target, route}
-use Rattle.ac_meaning.specs.BareTerms.{Bare, WLam, WRec, BareValue, bare, bare_all, bare_arms, bare_value, bare_values}
+use Rattle.ac_meaning.specs.BareTerms.{Bare, WStr, WLam, WRec, BareValue, bare, bare_all, bare_arms, bare_value, bare_values}
 use Rattle.ac_meaning.specs.BareReduction as b
 use Rattle.ac_meaning.specs.BareReduction.{BareWritten}
 use Rattle.ac_meaning.proofs.Results.{Result, Fine, Raising, Spending, Wrongly, TooDeep, M, then', give, raise, follow, Got}
 use Rattle.ac_meaning.proofs.Eval as full
-use Rattle.ac_meaning.proofs.Eval.{crossing, across, own_by, ref_by, answering, fitted, eval, eval_all, eval_rest, eval_arms, calling, depth}
+use Rattle.ac_meaning.proofs.Eval.{crossing, across, own_by, ref_by, answering, fitted, eval, eval_all, eval_rest, eval_arms, calling, depth, packed_as, arrived_as}
 use Rattle.ac_meaning.proofs.BareEval as lean
-use Rattle.ac_meaning.proofs.Typed.{seen, Fits, AllFit, Typed, AllTyped, ArmsTyped, ValuesTyped, WrittenTyped}
+use Rattle.ac_meaning.specs.Typed.{seen, Known, Fits, AllFit, Typed, AllTyped, ArmsTyped, ValuesTyped, WrittenTyped}
 use Rattle.ac_meaning.proofs.Homes.{seen_fun}
-use Rattle.ac_meaning.proofs.FromTypes.{KnownTypes}
 use Rattle.ac_meaning.proofs.Shapes.{IsOf, shape, fit_typed}
-use Rattle.ac_meaning.proofs.Sound.{Links, FieldsTyped}
-use Rattle.ac_meaning.proofs.Safe.{InE, Ok}
-use Rattle.ac_meaning.proofs.Progress.{across_ok, callable, sound, all_sound, depth_sound}
+use Rattle.ac_meaning.proofs.Arrivals.{Arrives}
+use Rattle.ac_meaning.proofs.Safe.{Ok, Of}
+use Rattle.ac_meaning.proofs.Progress.{At, Are, Good, later, term_later, terms_later, arms_later, value_later, written_later, known_later, seen_later, across_ok, callable, sound, all_sound, depth_sound}
 use Rattle.ac_meaning.proofs.BareSame.{bare_env, bare-inst, Same, same_seq, same_after, lift_same, found_same, branch_same, throw_same, text_same, primitive_same, cross_same, own_value_same, ref_value_same}
 
 -- one after the other, where the value of the first is of some kind
-same_typed : {A B C D : Type 0} (mode : Mode) (E : Environment) (P : A → Type 0) (h : A → C) (k : B → D) (r : Result A) (s : Result C) (f : A → M B) (g : C → M D) → Ok mode E P r → Same h r s → ((v : A) (z : World) → InE mode E z → P v → Same k (f v z) (g (h v) z)) → Same k (then' r f raise) (then' s g raise)
-same_typed mode E P h k (Fine v z) s f g o e go = subst (λ s. Same k (f v z) (then' s g raise)) (sym e) (go v z o.0 o.1)
-same_typed mode E P h k (Raising x z) s f g o e go = ap (λ s. then' s g raise) e
-same_typed mode E P h k (Spending z) s f g o e go = ap (λ s. then' s g raise) e
-same_typed mode E P h k Wrongly s f g o e go = tt
-same_typed mode E P h k TooDeep s f g o e go = tt
+same_typed : {A B C D : Type 0} (E : Environment) (P : Environment → A → Type 0) (h : A → C) (k : B → D) (r : Result A) (s : Result C) (f : A → M B) (g : C → M D) → Ok E P r → Same h r s → ((v : A) (y : World) → Grows E y.environment → P y.environment v → Same k (f v y) (g (h v) y)) → Same k (then' r f raise) (then' s g raise)
+same_typed E P h k (Fine v y) s f g o e go = subst (λ s. Same k (f v y) (then' s g raise)) (sym e) (go v y o.0 o.1)
+same_typed E P h k (Raising x y) s f g o e go = ap (λ s. then' s g raise) e
+same_typed E P h k (Spending y) s f g o e go = ap (λ s. then' s g raise) e
+same_typed E P h k Wrongly s f g o e go = tt
+same_typed E P h k TooDeep s f g o e go = tt
 
 -- what the bare side has already
-typed_before : {A B C D : Type 0} (mode : Mode) (E : Environment) (P : A → Type 0) (h : A → C) (k : B → D) (r : Result A) (w : C) (z : World) (f : A → M B) (s : Result D) → Ok mode E P r → Same h r (Fine w z) → ((v : A) → InE mode E z → P v → h v ≡ w → Same k (f v z) s) → Same k (then' r f raise) s
-typed_before mode E P h k (Fine v y) w z f s o e go = let p : h v ≡ w = cc in let q : y ≡ z = cc in subst (λ x. Same k (f v x) s) (sym q) (go v (subst (InE mode E) q o.0) o.1 p)
-typed_before mode E P h k (Raising x y) w z f s o e go = absurd cc
-typed_before mode E P h k (Spending y) w z f s o e go = absurd cc
-typed_before mode E P h k Wrongly w z f s o e go = tt
-typed_before mode E P h k TooDeep w z f s o e go = tt
+typed_before : {A B C D : Type 0} (E : Environment) (P : Environment → A → Type 0) (h : A → C) (k : B → D) (r : Result A) (w : C) (z : World) (f : A → M B) (s : Result D) → Ok E P r → Same h r (Fine w z) → ((v : A) → Grows E z.environment → P z.environment v → h v ≡ w → Same k (f v z) s) → Same k (then' r f raise) s
+typed_before E P h k (Fine v y) w z f s o e go =
+    let p : h v ≡ w = cc in
+    let q : y ≡ z = cc in
+    subst (λ x. Same k (f v x) s) (sym q) (go v (subst (λ (x : World). Grows E x.environment) q o.0) (subst (λ (x : World). P x.environment v) q o.1) p)
+typed_before E P h k (Raising x y) w z f s o e go = absurd cc
+typed_before E P h k (Spending y) w z f s o e go = absurd cc
+typed_before E P h k Wrongly w z f s o e go = tt
+typed_before E P h k TooDeep w z f s o e go = tt
 
--- a handler, where the environment stays
-handled_same : {A B : Type 0} (mode : Mode) (E : Environment) (P : A → Type 0) (h : A → B) (r : Result A) (s : Result B) (f : Exception → M A) (g : Exception → M B) → Ok mode E P r → Same h r s → ((x : Exception) (z : World) → InE mode E z → Same h (f x z) (g x z)) → Same h (then' r give f) (then' s give g)
-handled_same mode E P h (Fine v z) s f g o e out = ap (λ s. then' s give g) e
-handled_same mode E P h (Raising x z) s f g o e out = subst (λ s. Same h (f x z) (then' s give g)) (sym e) (out x z o)
-handled_same mode E P h (Spending z) s f g o e out = ap (λ s. then' s give g) e
-handled_same mode E P h Wrongly s f g o e out = tt
-handled_same mode E P h TooDeep s f g o e out = tt
+-- a handler
+handled_same : {A B : Type 0} (E : Environment) (P : Environment → A → Type 0) (h : A → B) (r : Result A) (s : Result B) (f : Exception → M A) (g : Exception → M B) → Ok E P r → Same h r s → ((x : Exception) (y : World) → Grows E y.environment → Same h (f x y) (g x y)) → Same h (then' r give f) (then' s give g)
+handled_same E P h (Fine v y) s f g o e out = ap (λ s. then' s give g) e
+handled_same E P h (Raising x y) s f g o e out = subst (λ s. Same h (f x y) (then' s give g)) (sym e) (out x y o)
+handled_same E P h (Spending y) s f g o e out = ap (λ s. then' s give g) e
+handled_same E P h Wrongly s f g o e out = tt
+handled_same E P h TooDeep s f g o e out = tt
 
 -- what is bound, bare
 abbrev bound : Home → Option Written → Option BareWritten
@@ -129,23 +133,34 @@ module _ (mode : Mode) (E : Environment) where
 across_same : (mode : Mode) (T : Typ) (x y : Home) (v : Value) (z : World) → Same (bare_value y) (across mode T x y v z) (Fine (bare_value x v) z)
 across_same mode T x y v z = lift_same (bare_value y) (crossing mode z.environment T x y v) (Got (bare_value x v)) z (cross_same mode z.environment T x y v)
 
-module _ (mode : Mode) (E : Environment) (coherent : IsCoherent E) (known : KnownTypes E) (fields : FieldsTyped mode E) (links : Links E) where
-  abbrev sees : Home → Typ → Typ
-  sees c T = seen mode E c T
-
-  abbrev Of : Home → Typ → Value → Type 0
-  Of c T v = IsOf mode E c T v
-
-  abbrev AllOf : Home → Typs → Values → Type 0
-  AllOf c Ts vs = ValuesTyped mode E vs c Ts
-
-  abbrev In_E : World → Type 0
-  In_E z = InE mode E z
+module _ (arrives : Arrives) (mode : Mode) where
+  abbrev sees : World → Home → Typ → Typ
+  sees z c T = seen mode z.environment c T
 
   abbrev Alike : Home → Result Value → Result BareValue → Type 0
   Alike c r s = Same (bare_value c) r s
 
-  module _ (N : ℕ) (next : Expr → Home → Written → M Value) (next' : Bare → Home → BareWritten → M BareValue) (go : (t : Expr) (c : Home) (G : List Typ) (T : Typ) (us : Written) (z : World) → In_E z → WrittenTyped mode E us c G → Typed mode E t c G T → Ok mode E (Of c T) (next t c us z)) (same : (t : Expr) (c : Home) (G : List Typ) (T : Typ) (us : Written) (z : World) → In_E z → WrittenTyped mode E us c G → Typed mode E t c G T → Alike c (next t c us z) (next' (bare c t) c (bare_env c us) z)) where
+  abbrev Here : World → Home → Type 0
+  Here z c = At arrives mode z c
+
+  -- packing, and arrival
+  marshal_same : (m v : Value) (c : Home) (A : Typ) (z : World) → Alike c (full.marshals c A m v z) (lean.marshals c A (bare_value c m) (bare_value c v) z)
+  marshal_same (VStr m) v c A z = by (packing z c A m (bare_value c v))
+    where
+      by : (p : Packing) → Alike c (packed_as VStr p z) (packed_as WStr p z)
+      by (Refuses x) = refl
+      by (Packs s) = refl
+  marshal_same _ v c A z = tt
+
+  unmarshal_same : (s : Value) (c : Home) (A : Typ) (z : World) → Here z c → Known mode z.environment A → Alike c (full.unmarshals mode c A s z) (lean.unmarshals c A (bare_value c s) z)
+  unmarshal_same (VStr s) c A z i k = by (arrival z c A s) refl
+    where
+      by : (a : Arrival) → arrival z c A s ≡ a → Alike c (arrived_as (λ v w. v mode) a z) (arrived_as (λ v w. w) a z)
+      by (Unfit x) q = refl
+      by (Brings F v w) q = ap (λ x. Fine x (grown F z)) (sym (arrives.alike mode z c A s F v w i.0 i.1 k q))
+  unmarshal_same _ c A z i k = tt
+
+  module _ (N : ℕ) (next : Expr → Home → Written → M Value) (next' : Bare → Home → BareWritten → M BareValue) (go : (t : Expr) (c : Home) (G : List Typ) (T : Typ) (us : Written) (z : World) → Here z c → WrittenTyped mode z.environment us c G → Typed mode z.environment t c G T → Good arrives mode z c T (next t c us z)) (same : (t : Expr) (c : Home) (G : List Typ) (T : Typ) (us : Written) (z : World) → Here z c → WrittenTyped mode z.environment us c G → Typed mode z.environment t c G T → Alike c (next t c us z) (next' (bare c t) c (bare_env c us) z)) where
     abbrev apps : Home → Value → Value → M Value
     apps c v w = calling mode v N next c w
 
@@ -156,96 +171,131 @@ module _ (mode : Mode) (E : Environment) (coherent : IsCoherent E) (known : Know
     allowed true c r s z h = h
     allowed false c r s z h = refl
 
-    call_same : (v : Value) (c : Home) (w : Value) (A B : Typ) (z : World) → In_E z → Of c (TFun A B) v → Of c A w → Alike c (calling mode v N next c w z) (lean.calling (bare_value c v) N next' (bare_value c w) z)
+    call_same : (v : Value) (c : Home) (w : Value) (A B : Typ) (z : World) → Here z c → Of mode c (TFun A B) z.environment v → Of mode c A z.environment w → Alike c (calling mode v N next c w z) (lean.calling (bare_value c v) N next' (bare_value c w) z)
     call_same (VLam S e) c w A B z i h k =
         let d = h.1 in
-        let a : A ≡ sees c S = cc in
-        let one : WrittenTyped mode E ((S, w) ∷ []) c (sees c S ∷ []) = ([], refl, subst (λ X. Of c X w) a k, refl) in
-        allowed (nat_lt z.made N) c _ _ z (same e c (sees c S ∷ []) h.0 ((S, w) ∷ []) (counted z) i one h.2)
+        let a : A ≡ sees z c S = cc in
+        let one : WrittenTyped mode z.environment ((S, w) ∷ []) c (sees z c S ∷ []) = ([], refl, subst (λ X. Of mode c X z.environment w) a k, refl, h.3) in
+        allowed (nat_lt z.made N) c _ _ z (same e c (sees z c S ∷ []) h.0 ((S, w) ∷ []) (counted z) i one h.2)
     call_same (VRec S R e) c w A B z i h k =
         let d = h.0 in
-        let a : A ≡ sees c S = cc in
+        let a : A ≡ sees z c S = cc in
         let self = VRec S R e in
-        let two : WrittenTyped mode E ((S, w) ∷ (TFun S R, self) ∷ []) c (sees c S ∷ TFun (sees c S) (sees c R) ∷ []) = (TFun (sees c S) (sees c R) ∷ [], refl, subst (λ X. Of c X w) a k, ([], ap (λ X. X ∷ []) (sym (seen_fun E mode c S R)), (seen_fun E mode c S R, h.1), refl)) in
-        allowed (nat_lt z.made N) c _ _ z (same e c (sees c S ∷ TFun (sees c S) (sees c R) ∷ []) (sees c R) ((S, w) ∷ (TFun S R, self) ∷ []) (counted z) i two h.1)
+        let both : Known mode z.environment (TFun S R) = all_join (is_known z.environment) (mentions S) (mentions R) h.2 h.3 in
+        let two : WrittenTyped mode z.environment ((S, w) ∷ (TFun S R, self) ∷ []) c (sees z c S ∷ TFun (sees z c S) (sees z c R) ∷ []) =
+        (TFun (sees z c S) (sees z c R) ∷ [], refl, subst (λ X. Of mode c X z.environment w) a k, ([], ap (λ X. X ∷ []) (sym (seen_fun z.environment mode c S R)), (seen_fun z.environment mode c S R, h.1, h.2, h.3), refl, both), h.2) in
+        allowed (nat_lt z.made N) c _ _ z (same e c (sees z c S ∷ TFun (sees z c S) (sees z c R) ∷ []) (sees z c R) ((S, w) ∷ (TFun S R, self) ∷ []) (counted z) i two h.1)
     call_same (VProxy x S T f) c w A B z i h k =
         let d = h.0 in
-        let a : A ≡ sees c S = cc in
+        let a : A ≡ sees z c S = cc in
+        let j : Here z x = (i.0, h.4) in
         same_after (bare_value x) (bare_value c) (follow (across mode S c x w) (λ u. calling mode f N next x u) z) (lean.calling (bare_value x f) N next' (bare_value c w) z) (λ y. across mode T x c y)
-        (typed_before mode E (Of x (sees x S)) (bare_value x) (bare_value x) (across mode S c x w z) (bare_value c w) z (λ u. calling mode f N next x u) (lean.calling (bare_value x f) N next' (bare_value c w) z)
-        (across_ok mode E coherent known fields links S h.1 c x w z i (subst (λ X. Of c X w) a k)) (across_same mode S c x w z)
-        (λ u i p e. subst (λ y. Alike x (calling mode f N next x u z) (lean.calling (bare_value x f) N next' y z)) e (call_same f x u (sees x S) (sees x T) z i h.3 p)))
+        (typed_before z.environment (Of mode x (sees z x S)) (bare_value x) (bare_value x) (across mode S c x w z) (bare_value c w) z (λ u. calling mode f N next x u) (lean.calling (bare_value x f) N next' (bare_value c w) z)
+        (across_ok arrives mode S c x w z h.1 i (subst (λ X. Of mode c X z.environment w) a k)) (across_same mode S c x w z)
+        (λ u g p e. subst (λ y. Alike x (calling mode f N next x u z) (lean.calling (bare_value x f) N next' y z)) e (call_same f x u (sees z x S) (sees z x T) z j h.3 p)))
         (λ y z. across_same mode T x c y z)
-    call_same v c w A B z i h k = absurd (true≢false (sym (callable mode E coherent known fields links v c A B h)))
+    call_same v c w A B z i h k = absurd (true≢false (sym (callable arrives mode z.environment v c A B h)))
 
     -- what a typed term comes to has its type
-    is_sound : (t : Expr) (c : Home) (G : List Typ) (T : Typ) (us : Written) (z : World) → In_E z → WrittenTyped mode E us c G → Typed mode E t c G T → Ok mode E (Of c T) (eval mode t apps c us z)
-    is_sound = sound mode E coherent known fields links N next go
+    is_sound : (t : Expr) (c : Home) (G : List Typ) (T : Typ) (us : Written) (z : World) → Here z c → WrittenTyped mode z.environment us c G → Typed mode z.environment t c G T → Good arrives mode z c T (eval mode t apps c us z)
+    is_sound = sound arrives mode N next go
 
-    are_sound : (ts : Exprs) (c : Home) (G : List Typ) (Ts : Typs) (us : Written) (z : World) → In_E z → WrittenTyped mode E us c G → AllTyped mode E ts c G Ts → Ok mode E (AllOf c Ts) (eval_all mode ts apps c us z)
-    are_sound = all_sound mode E coherent known fields links N next go
+    are_sound : (ts : Exprs) (c : Home) (G : List Typ) (Ts : Typs) (us : Written) (z : World) → Here z c → WrittenTyped mode z.environment us c G → AllTyped mode z.environment ts c G Ts → Ok z.environment (Are arrives mode c Ts) (eval_all mode ts apps c us z)
+    are_sound = all_sound arrives mode N next go
 
     -- a part of type U, and then what follows its value
-    and : (t : Expr) (c : Home) (G : List Typ) (U : Typ) (us : Written) (z : World) (k : Home) (f : Value → M Value) (g : BareValue → M BareValue) → In_E z → WrittenTyped mode E us c G → Typed mode E t c G U → Alike c (eval mode t apps c us z) (lean.eval (bare c t) bare_apps c (bare_env c us) z) → ((v : Value) (z : World) → In_E z → Of c U v → Alike k (f v z) (g (bare_value c v) z)) →
-        Alike k (then' (eval mode t apps c us z) f raise) (then' (lean.eval (bare c t) bare_apps c (bare_env c us) z) g raise)
-    and t c G U us z k f g i e h s go = same_typed mode E (Of c U) (bare_value c) (bare_value k) (eval mode t apps c us z) (lean.eval (bare c t) bare_apps c (bare_env c us) z) f g (is_sound t c G U us z i e h) s go
+    and : (t : Expr) (c : Home) (G : List Typ) (U : Typ) (us : Written) (z : World) (k : Home) (f : Value → M Value) (g : BareValue → M BareValue) → Here z c → WrittenTyped mode z.environment us c G → Typed mode z.environment t c G U → Alike c (eval mode t apps c us z) (lean.eval (bare c t) bare_apps c (bare_env c us) z) →
+        ((v : Value) (y : World) → Grows z.environment y.environment → Of mode c U y.environment v → Alike k (f v y) (g (bare_value c v) y)) → Alike k (then' (eval mode t apps c us z) f raise) (then' (lean.eval (bare c t) bare_apps c (bare_env c us) z) g raise)
+    and t c G U us z k f g i e h s go = same_typed z.environment (Of mode c U) (bare_value c) (bare_value k) (eval mode t apps c us z) (lean.eval (bare c t) bare_apps c (bare_env c us) z) f g (is_sound t c G U us z i e h) s go
 
     mutual
-      alike : (t : Expr) (c : Home) (G : List Typ) (T : Typ) (us : Written) (z : World) → In_E z → WrittenTyped mode E us c G → Typed mode E t c G T → Alike c (eval mode t apps c us z) (lean.eval (bare c t) bare_apps c (bare_env c us) z)
+      alike : (t : Expr) (c : Home) (G : List Typ) (T : Typ) (us : Written) (z : World) → Here z c → WrittenTyped mode z.environment us c G → Typed mode z.environment t c G T → Alike c (eval mode t apps c us z) (lean.eval (bare c t) bare_apps c (bare_env c us) z)
       alike (Int n) c G T us z i e h = refl
       alike (Boolean k) c G T us z i e h = refl
       alike (Str s) c G T us z i e h = refl
       alike Unit' c G T us z i e h = refl
       alike (Exn x) c G T us z i e h = refl
-      alike (ExnOf x t) c G T us z i e h = and t c G TStr us z c _ _ i e h.1 (alike t c G TStr us z i e h.1) (λ v z i p. lift_same (bare_value c) (full.with_text x v) (lean.with_text x (bare_value c v)) z (text_same c x v))
+      alike (ExnOf x t) c G T us z i e h = and t c G TStr us z c _ _ i e h.1 (alike t c G TStr us z i e h.1) (λ v y g p. lift_same (bare_value c) (full.with_text x v) (lean.with_text x (bare_value c v)) y (text_same c x v))
       alike (Tuple ts) c G T us z i e h = same_seq (bare_values c) (bare_value c) (eval_all mode ts apps c us z) (lean.eval_all (bare_all c ts) bare_apps c (bare_env c us) z) _ _ (all_alike ts c G h.0 us z i e h.2) (λ ws z. refl)
       alike (Nil A) c G T us z i e h = refl
       alike (Empty A) c G T us z i e h = refl
-      alike (Present t) c G T us z i e h = and t c G h.0 us z c _ _ i e h.2 (alike t c G h.0 us z i e h.2) (λ v z i p. refl)
-      alike (Cons x y) c G T us z i e h =
+      alike (Present t) c G T us z i e h = and t c G h.0 us z c _ _ i e h.2 (alike t c G h.0 us z i e h.2) (λ v y g p. refl)
+      alike (Cons x t) c G T us z i e h =
           and x c G h.0 us z c _ _ i e h.2 (alike x c G h.0 us z i e h.2)
-          (λ v z i p. and y c G (TList h.0) us z c _ _ i e h.3 (alike y c G (TList h.0) us z i e h.3) (λ w z i q. refl))
+          (λ v y g p.
+          let l = later arrives mode z y g c i in
+          let w = written_later arrives mode z y g c i us G e in
+          let q = term_later arrives mode z y g c i t G (TList h.0) h.3 in
+          and t c G (TList h.0) us y c _ _ l w q (alike t c G (TList h.0) us y l w q) (λ u x f r. refl))
       alike (Var j) c G T us z i e h = found_same c us j z
       alike (Own f) c G T us z i e h = lift_same (bare_value c) (own_by mode z.environment (full.opened mode z.environment) c f) (lean.own_by (lean.opened z.environment) c f) z (own_value_same mode z.environment c f)
       alike (Ref j x) c G T us z i e h =
           lift_same (bare_value c) (ref_by mode z.environment (full.opened mode z.environment) c j (route z.environment j x)) (lean.ref_by (lean.opened z.environment) (target z.environment j x)) z (ref_value_same mode z.environment c j x)
       alike (Lam A t) c G T us z i e h = ap (λ x. Fine (WLam c A x) z) (sym (bare-inst t c 1 us))
       alike (Rec A B t) c G T us z i e h = ap (λ x. Fine (WRec c A B x) z) (sym (bare-inst t c 2 us))
-      alike (App f x) c G T us z i e h =
+      alike (App f t) c G T us z i e h =
           and f c G (TFun h.0 T) us z c _ _ i e h.1 (alike f c G (TFun h.0 T) us z i e h.1)
-          (λ v z i p. and x c G h.0 us z c _ _ i e h.2 (alike x c G h.0 us z i e h.2) (λ w z i q. call_same v c w h.0 T z i p q))
-      alike (Let A t x) c G T us z i e h = and t c G (sees c A) us z c _ _ i e h.0 (alike t c G (sees c A) us z i e h.0) (λ v z i p. alike x c (sees c A ∷ G) T ((A, v) ∷ us) z i (G, refl, p, e) h.1)
-      alike (If t x y) c G T us z i e h = and t c G TBool us z c _ _ i e h.0 (alike t c G TBool us z i e h.0) (λ v z i p. branch_same c v _ _ _ _ z (alike x c G T us z i e h.1) (alike y c G T us z i e h.2))
+          (λ v y g p.
+          let l = later arrives mode z y g c i in
+          let w = written_later arrives mode z y g c i us G e in
+          let q = term_later arrives mode z y g c i t G h.0 h.2 in
+          and t c G h.0 us y c _ _ l w q (alike t c G h.0 us y l w q) (λ u x k r. call_same v c u h.0 T x (later arrives mode y x k c l) (value_later arrives mode y x k c l v (TFun h.0 T) p) r))
+      alike (Let A t b) c G T us z i e h =
+          and t c G (sees z c A) us z c _ _ i e h.0 (alike t c G (sees z c A) us z i e h.0)
+          (λ v y g p.
+          let s = seen_later arrives mode z y g c i A h.2 in
+          alike b c (sees z c A ∷ G) T ((A, v) ∷ us) y (later arrives mode z y g c i)
+          (G, ap (λ X. X ∷ G) s, subst (λ X. Of mode c X y.environment v) s p, written_later arrives mode z y g c i us G e, known_later arrives mode z y g c i A h.2) (term_later arrives mode z y g c i b (sees z c A ∷ G) T h.1))
+      alike (If t a b) c G T us z i e h =
+          and t c G TBool us z c _ _ i e h.0 (alike t c G TBool us z i e h.0)
+          (λ v y g p.
+          let l = later arrives mode z y g c i in
+          let w = written_later arrives mode z y g c i us G e in
+          branch_same c v _ _ _ _ y (alike a c G T us y l w (term_later arrives mode z y g c i a G T h.1)) (alike b c G T us y l w (term_later arrives mode z y g c i b G T h.2)))
       alike (Seq no_exprs) c G T us z i e h = tt
-      alike (Seq (expr t ts)) c G T us z i e h = and t c G h.1.0 us z c _ _ i e h.1.3 (alike t c G h.1.0 us z i e h.1.3) (λ v z i p. rest_alike ts c G h.1.1 us v z i e h.1.4)
-      alike (Match t arms) c G T us z i e h = and t c G h.0 us z c _ _ i e h.1 (alike t c G h.0 us z i e h.1) (λ v z i p. arms_alike arms c G h.0 T us v match_failure z i e h.2 p)
+      alike (Seq (expr t ts)) c G T us z i e h =
+          and t c G h.1.0 us z c _ _ i e h.1.3 (alike t c G h.1.0 us z i e h.1.3)
+          (λ v y g p. rest_alike ts c G h.1.1 us v y (later arrives mode z y g c i) (written_later arrives mode z y g c i us G e) (terms_later arrives mode z y g c i ts G h.1.1 h.1.4))
+      alike (Match t arms) c G T us z i e h =
+          and t c G h.0 us z c _ _ i e h.1 (alike t c G h.0 us z i e h.1)
+          (λ v y g p. arms_alike arms c G h.0 T us v match_failure y (later arrives mode z y g c i) (written_later arrives mode z y g c i us G e) (arms_later arrives mode z y g c i arms G h.0 T h.2) p)
       alike (Try t arms) c G T us z i e h =
-          handled_same mode E (Of c T) (bare_value c) (eval mode t apps c us z) (lean.eval (bare c t) bare_apps c (bare_env c us) z) _ _ (is_sound t c G T us z i e h.0) (alike t c G T us z i e h.0)
-          (λ x z i. arms_alike arms c G TExn T us (exception_value x) x z i e h.1 refl)
-      alike (Raise A t) c G T us z i e h = and t c G TExn us z c _ _ i e h (alike t c G TExn us z i e h) (λ v z i p. throw_same c v z)
+          handled_same z.environment (Of mode c T) (bare_value c) (eval mode t apps c us z) (lean.eval (bare c t) bare_apps c (bare_env c us) z) _ _ (is_sound t c G T us z i e h.0) (alike t c G T us z i e h.0)
+          (λ x y g. arms_alike arms c G TExn T us (exception_value x) x y (later arrives mode z y g c i) (written_later arrives mode z y g c i us G e) (arms_later arrives mode z y g c i arms G TExn T h.1) refl)
+      alike (Raise A t) c G T us z i e h = and t c G TExn us z c _ _ i e h (alike t c G TExn us z i e h) (λ v y g p. throw_same c v y)
       alike (Prim k ts) c G T us z i e h = same_seq (bare_values c) (bare_value c) (eval_all mode ts apps c us z) (lean.eval_all (bare_all c ts) bare_apps c (bare_env c us) z) _ _ (all_alike ts c G h.0 us z i e h.1) (λ ws z. primitive_same c k ws z)
-      alike (Marshal A m t) c G T us z i e h = absurd h
-      alike (Unmarshal A t) c G T us z i e h = absurd h
+      alike (Marshal A m t) c G T us z i e h =
+          and m c G TStr us z c _ _ i e h.1 (alike m c G TStr us z i e h.1)
+          (λ v y g p.
+          let l = later arrives mode z y g c i in
+          let w = written_later arrives mode z y g c i us G e in
+          let q = term_later arrives mode z y g c i t G (sees z c A) h.2 in
+          and t c G (sees z c A) us y c _ _ l w q (alike t c G (sees z c A) us y l w q) (λ u x k r. marshal_same v u c A x))
+      alike (Unmarshal A t) c G T us z i e h =
+          and t c G TStr us z c _ _ i e h.1 (alike t c G TStr us z i e h.1) (λ v y g p. unmarshal_same v c A y (later arrives mode z y g c i) (known_later arrives mode z y g c i A h.2))
       alike (Packed A v) c G T us z i e h = absurd h
       alike (Val A v) c G T us z i e h = refl
-      alike (Bracket x A t) c G T us z i e h = same_after (bare_value x) (bare_value c) (eval mode t apps x [] z) (lean.eval (bare x t) bare_apps x [] z) (λ v. across mode A x c v) (alike t x [] (sees x A) [] z i refl h.2) (λ v z. across_same mode A x c v z)
+      alike (Bracket x A t) c G T us z i e h = same_after (bare_value x) (bare_value c) (eval mode t apps x [] z) (lean.eval (bare x t) bare_apps x [] z) (λ v. across mode A x c v) (alike t x [] (sees z x A) [] z (i.0, h.3) refl h.2) (λ v z. across_same mode A x c v z)
 
-      all_alike : (ts : Exprs) (c : Home) (G : List Typ) (Ts : Typs) (us : Written) (z : World) → In_E z → WrittenTyped mode E us c G → AllTyped mode E ts c G Ts → Same (bare_values c) (eval_all mode ts apps c us z) (lean.eval_all (bare_all c ts) bare_apps c (bare_env c us) z)
+      all_alike : (ts : Exprs) (c : Home) (G : List Typ) (Ts : Typs) (us : Written) (z : World) → Here z c → WrittenTyped mode z.environment us c G → AllTyped mode z.environment ts c G Ts → Same (bare_values c) (eval_all mode ts apps c us z) (lean.eval_all (bare_all c ts) bare_apps c (bare_env c us) z)
       all_alike no_exprs c G Ts us z i e h = refl
       all_alike (expr t ts) c G Ts us z i e h =
-          same_typed mode E (Of c h.0) (bare_value c) (bare_values c) (eval mode t apps c us z) (lean.eval (bare c t) bare_apps c (bare_env c us) z) _ _ (is_sound t c G h.0 us z i e h.3) (alike t c G h.0 us z i e h.3)
-          (λ v z i p. same_seq (bare_values c) (bare_values c) (eval_all mode ts apps c us z) (lean.eval_all (bare_all c ts) bare_apps c (bare_env c us) z) _ _ (all_alike ts c G h.1 us z i e h.4) (λ ws z. refl))
+          same_typed z.environment (Of mode c h.0) (bare_value c) (bare_values c) (eval mode t apps c us z) (lean.eval (bare c t) bare_apps c (bare_env c us) z) _ _ (is_sound t c G h.0 us z i e h.3) (alike t c G h.0 us z i e h.3)
+          (λ v y g p.
+          same_seq (bare_values c) (bare_values c) (eval_all mode ts apps c us y) (lean.eval_all (bare_all c ts) bare_apps c (bare_env c us) y) _ _
+          (all_alike ts c G h.1 us y (later arrives mode z y g c i) (written_later arrives mode z y g c i us G e) (terms_later arrives mode z y g c i ts G h.1 h.4)) (λ ws z. refl))
 
-      rest_alike : (ts : Exprs) (c : Home) (G : List Typ) (Us : Typs) (us : Written) (v : Value) (z : World) → In_E z → WrittenTyped mode E us c G → AllTyped mode E ts c G Us → Alike c (eval_rest mode ts apps c us v z) (lean.eval_rest (bare_all c ts) bare_apps c (bare_env c us) (bare_value c v) z)
+      rest_alike : (ts : Exprs) (c : Home) (G : List Typ) (Us : Typs) (us : Written) (v : Value) (z : World) → Here z c → WrittenTyped mode z.environment us c G → AllTyped mode z.environment ts c G Us → Alike c (eval_rest mode ts apps c us v z) (lean.eval_rest (bare_all c ts) bare_apps c (bare_env c us) (bare_value c v) z)
       rest_alike no_exprs c G Us us v z i e h = refl
-      rest_alike (expr t ts) c G Us us v z i e h = and t c G h.0 us z c _ _ i e h.3 (alike t c G h.0 us z i e h.3) (λ w z i p. rest_alike ts c G h.1 us w z i e h.4)
+      rest_alike (expr t ts) c G Us us v z i e h =
+          and t c G h.0 us z c _ _ i e h.3 (alike t c G h.0 us z i e h.3) (λ w y g p. rest_alike ts c G h.1 us w y (later arrives mode z y g c i) (written_later arrives mode z y g c i us G e) (terms_later arrives mode z y g c i ts G h.1 h.4))
 
-      arms_alike : (arms : Arms) (c : Home) (G : List Typ) (A T : Typ) (us : Written) (v : Value) (x : Exception) (z : World) → In_E z → WrittenTyped mode E us c G → ArmsTyped mode E arms c G A T → Of c A v →
+      arms_alike : (arms : Arms) (c : Home) (G : List Typ) (A T : Typ) (us : Written) (v : Value) (x : Exception) (z : World) → Here z c → WrittenTyped mode z.environment us c G → ArmsTyped mode z.environment arms c G A T → Of mode c A z.environment v →
           Alike c (eval_arms mode arms apps c us v (raise x) z) (lean.eval_arms (bare_arms c arms) bare_apps c (bare_env c us) (bare_value c v) (raise x) z)
       arms_alike no_arms c G A T us v x z i e h p = refl
       arms_alike (arm q t rest) c G A T us v x z i e h p =
-          fitted_same c (fit q v us) _ _ _ _ _ z (fit_same mode E q v us c A h.0 p h.1) (λ ws o. alike t c (h.0 ++ G) T ws z i (fit_typed mode E q v us ws c A G h.0 o p h.1 e) h.2) (arms_alike rest c G A T us v x z i e h.3 p)
+          fitted_same c (fit q v us) _ _ _ _ _ z (fit_same mode z.environment q v us c A h.0 p h.1) (λ ws o. alike t c (h.0 ++ G) T ws z i (fit_typed mode z.environment q v us ws c A G h.0 o p h.1 e) h.2) (arms_alike rest c G A T us v x z i e h.3 p)
 
-  pub depth_alike : (N k : ℕ) (t : Expr) (c : Home) (G : List Typ) (T : Typ) (us : Written) (z : World) → In_E z → WrittenTyped mode E us c G → Typed mode E t c G T → Alike c (depth mode N k t c us z) (lean.depth N k (bare c t) c (bare_env c us) z)
+  pub depth_alike : (N k : ℕ) (t : Expr) (c : Home) (G : List Typ) (T : Typ) (us : Written) (z : World) → Here z c → WrittenTyped mode z.environment us c G → Typed mode z.environment t c G T → Alike c (depth mode N k t c us z) (lean.depth N k (bare c t) c (bare_env c us) z)
   depth_alike N zero = alike N full.no_more lean.no_more (λ t c G T us z i e h. tt) (λ t c G T us z i e h. tt)
-  depth_alike N (suc k) = alike N (depth mode N k) (lean.depth N k) (depth_sound mode E coherent known fields links N k) (depth_alike N k)
+  depth_alike N (suc k) = alike N (depth mode N k) (lean.depth N k) (depth_sound arrives mode N k) (depth_alike N k)

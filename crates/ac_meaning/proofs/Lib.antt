@@ -1,10 +1,12 @@
 pub mod Runs
 pub mod FrameLaws
 pub mod Results
+pub mod Somes
 pub mod Follows
 pub mod Inst
 pub mod Eval
 pub mod Orders
+pub mod Arrivals
 pub mod Crossings
 pub mod Reduces
 pub mod Endings
@@ -12,7 +14,6 @@ pub mod Changes
 pub mod Budgets
 pub mod Fronts
 pub mod Coherences
-pub mod Typed
 pub mod Homes
 pub mod Programs
 pub mod RunExamples
@@ -24,7 +25,18 @@ pub mod Shapes
 pub mod Sound
 pub mod Safe
 pub mod Progress
+pub mod Sources
 pub mod KnownNames
+pub mod Growth
+pub mod GrowthTyped
+pub mod GrowthTyping
+pub mod GrowthFields
+pub mod GrowthNeeded
+pub mod GrowthSpoken
+pub mod RebuiltBare
+pub mod Landings
+pub mod Admitted
+mod ThereAndBack
 pub mod LinkTypes
 pub mod NeverStuck
 pub mod BareEval
@@ -33,3 +45,5 @@ pub mod BareAlike
 pub mod BareInst
 pub mod BareReduces
 pub mod BareEndings
+pub mod PackedHolds
+pub mod ReadBack

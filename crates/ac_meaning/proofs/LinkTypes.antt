@@ -15,7 +15,6 @@ use Rattle.ac_terms.specs.Defs.{Environment, Entry, Field, Module, Import, Def, 
 use Rattle.ac_terms.specs.Names.{text_of_def, text_of_entry, name_by}
 use Rattle.ac_terms.specs.Spelling.{module_bytes, import_bytes, text_of_import}
 use Rattle.ac_terms.specs.Parts.{OfType, sig_types, term_parts}
-use Rattle.ac_terms.specs.Typing.{has}
 use Rattle.ac_terms.proofs.DefBack.{types_of, one_text-one_signature, one_text-one_types}
 use Rattle.ac_rules.specs.Views.{Coloured, view, representation, type_of_entry, import_type, opened_at_home, has_name, is_known, are_known}
 use Rattle.ac_rules.specs.Links.{by_version, MayLink, Link_fault, fault_at, conditions, fails, is_exact, is_equal, has_val_spec, missing_spec, is_like, unlike}
@@ -27,10 +26,12 @@ use Rattle.ac_rules.proofs.Rules.{map_some, then_some}
 use Rattle.ac_rules.proofs.EarlierLaws.{position-first, position-later, known_earlier, found_keeps, all_left, all_right, AllPass, pass_left, pass_right, pass_under}
 use Rattle.ac_rules.proofs.ViewLaws.{or_none, or_none_left, exact_keeps, keeps_name, exact_not_least, all_implies, foreign_view}
 use Rattle.ac_rules.proofs.BareLaws.{known_has}
+use Rattle.ac_meaning.proofs.Somes.{has_some, agree_some, module_is, all_join}
 use Rattle.ac_meaning.specs.References.{module_behind, field_number, target, is_by_version, Once, Twice, through, seen_inside, route}
-use Rattle.ac_meaning.proofs.Typed.{own_type}
+use Rattle.ac_meaning.specs.Typed.{own_type}
 use Rattle.ac_meaning.proofs.Homes.{sees_own, sees_other, opened_is, representation_known, view_open}
-use Rattle.ac_meaning.proofs.KnownNames.{HasValue, has_value, def_there, declared_known, val_early, val_closed, known_types}
+use Rattle.ac_rules.proofs.KnownTypes.{HasValue, has_value, def_there, declared_known, val_early, val_closed}
+use Rattle.ac_meaning.proofs.KnownNames.{known_types}
 use Rattle.ac_meaning.proofs.Sound.{IsLinked, Links}
 
 -- own types of a signature rewritten in two ways that two homes see alike
@@ -118,15 +119,6 @@ passes : (b : Bool) (f : Link_fault) → fails b f ≡ None → b ≡ true
 passes true f e = refl
 passes false f e = absurd (none≢some (sym e))
 
-has_some : (o : Option Typ) (U : Typ) → has o U ≡ true → o ≡ Some U
-has_some None U e = absurd (true≢false (sym e))
-has_some (Some T) U e = ap Some (same_eq T U e)
-
-agree_some : (a b : Option Typ) → agree a b ≡ true → (T : Typ) × (a ≡ Some T) × (b ≡ Some T)
-agree_some (Some T) (Some U) e = (T, refl, ap Some (sym (same_eq T U e)))
-agree_some None b e = absurd (true≢false (sym e))
-agree_some (Some T) None e = absurd (true≢false (sym e))
-
 abstract_none : (o : Option (Option Typ)) → is_abstract o ≡ true → o ≡ Some None
 abstract_none (Some None) e = refl
 abstract_none (Some (Some T)) e = absurd (true≢false (sym e))
@@ -171,18 +163,9 @@ covers_value m u x U e =
     let v = val_at (covers_val m) m.sig.vals x U (no_map _ (first_failing (covers_val m) m.sig.vals) (or_none _ _ u)) e in
     ap (λ n. field_named n m.fields) (sym v.2) ∙ has_some (field_named v.0.name m.fields) (inside m v.0.ty) v.1 ∙ ap (λ T. Some (inside m T)) v.3
 
-all_join : {A : Type 0} (p : A → Bool) (xs ys : List A) → list_all p xs ≡ true → list_all p ys ≡ true → list_all p (xs ++ ys) ≡ true
-all_join p [] ys a b = b
-all_join p (x ∷ xs) ys a b = let q = both_true (p x) (list_all p xs) a in and_true {a = p x} {b = list_all p (xs ++ ys)} q.0 (all_join p xs ys q.1 b)
-
 not_true : (b : Bool) → not b ≡ true → b ≡ false
 not_true true e = absurd (true≢false (sym e))
 not_true false e = refl
-
-module_is : (d : Def) (m : Module) → module_of d ≡ Some m → d ≡ AModule m
-module_is (AModule n) m h = ap AModule (some_eq h)
-module_is (AnImport i) m h = absurd (none≢some h)
-module_is (AMark s) m h = absurd (none≢some h)
 
 module _ (E : Environment) (coherent : IsCoherent E) where
   abbrev Early : ℕ → Bytes × Bytes → Bool

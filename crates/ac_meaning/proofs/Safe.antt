@@ -9,14 +9,17 @@ use Rattle.ac_terms.specs.Defs.{Environment}
 use Rattle.ac_terms.specs.Primitives.{Rule, arithmetic, comparison, by_rules, primitives, primitive_type}
 use Rattle.ac_code.specs.Constants.{Const, CInt, CBool, CStr, CUnit, CPart, Answer, Gives, Prints, Sends, Receives, Fails, NoSense, Meaning, meaning, applied, sum, difference, product, quotient, remainder, negation, equal, less, joined, opposite, print_int, print_string, send, receive, size, sub_string, of_int, part, meanings, same_int, division_by_zero, invalid_argument, most_bytes}
 use Rattle.ac_rules.specs.Views.{Mode}
+use Rattle.ac_rules.specs.Coherent.{IsCoherent}
 use Rattle.ac_rules.proofs.Rules.{then_some}
 use Rattle.ac_meaning.specs.Worlds.{Exception, World}
 use Rattle.ac_meaning.specs.Frames.{Frame, Whole, Bad as bad, AtEnd, next_frame}
 use Rattle.ac_meaning.specs.Substitution.{Written, slot_in}
 use Rattle.ac_meaning.specs.Primitives.{const_of, all_there, consts_of, answer_at}
+use Rattle.ac_meaning.specs.Growth.{Grows}
+use Rattle.ac_meaning.proofs.Growth.{grows_not, grows_on}
 use Rattle.ac_meaning.proofs.Results.{Result, Fine, Raising, Spending, Wrongly, TooDeep, M, then', raise, Pure, Got, Bad, Deep, lift}
 use Rattle.ac_meaning.proofs.Eval.{found, branching, throws, sends, receives, answering, constant}
-use Rattle.ac_meaning.proofs.Typed.{ValuesTyped, WrittenTyped}
+use Rattle.ac_meaning.specs.Typed.{ValuesTyped, WrittenTyped}
 use Rattle.ac_meaning.proofs.FromTypes.{all_equal}
 use Rattle.ac_meaning.proofs.Shapes.{IsOf, shape, values_shape, no_values_shape}
 use Rattle.ac_meaning.proofs.Sound.{PureOk}
@@ -295,60 +298,69 @@ module _ (mode : Mode) (E : Environment) where
   constant_ok CUnit c T h = h
   constant_ok (CPart s i n) c T h = (PartTypes, h, (TStr, typ TInt (typ TInt no_types), refl, refl, (TInt, typ TInt no_types, refl, refl, (TInt, no_types, refl, refl, refl))))
 
-  -- the environment stays, and a value has its type
-  abbrev pub InE : World → Type 0
-  InE z = z.environment ≡ E
+-- the definitions grow from E on, and a value has its type in what they are then
+abbrev pub Ok : {A : Type 0} → Environment → (Environment → A → Type 0) → Result A → Type 0
+Ok E P (Fine a z) = Grows E z.environment × P z.environment a
+Ok E P (Raising x z) = Grows E z.environment
+Ok E P (Spending z) = Unit {0}
+Ok E P Wrongly = ⊥
+Ok E P TooDeep = Unit {0}
 
-  abbrev pub Ok : {A : Type 0} → (A → Type 0) → Result A → Type 0
-  Ok P (Fine a z) = InE z × P a
-  Ok P (Raising x z) = InE z
-  Ok P (Spending z) = Unit {0}
-  Ok P Wrongly = ⊥
-  Ok P TooDeep = Unit {0}
+pub ok_more : {A : Type 0} (E F : Environment) (P : Environment → A → Type 0) (r : Result A) → Grows E F → Ok F P r → Ok E P r
+ok_more E F P (Fine a z) g h = (grows_on E F z.environment g h.0, h.1)
+ok_more E F P (Raising x z) g h = grows_on E F z.environment g h
+ok_more E F P (Spending z) g h = tt
+ok_more E F P Wrongly g h = h
+ok_more E F P TooDeep g h = tt
 
-  pub then_ok : {A B : Type 0} (P : A → Type 0) (Q : B → Type 0) (r : Result A) (f : A → M B) (g : Exception → M B) → Ok P r → ((a : A) (z : World) → InE z → P a → Ok Q (f a z)) → ((x : Exception) (z : World) → InE z → Ok Q (g x z)) → Ok Q (then' r f g)
-  then_ok P Q (Fine a z) f g h k l = k a z h.0 h.1
-  then_ok P Q (Raising x z) f g h k l = l x z h
-  then_ok P Q (Spending z) f g h k l = tt
-  then_ok P Q Wrongly f g h k l = h
-  then_ok P Q TooDeep f g h k l = tt
+pub then_ok : {A B : Type 0} (E : Environment) (P : Environment → A → Type 0) (Q : Environment → B → Type 0) (r : Result A) (f : A → M B) (g : Exception → M B) → Ok E P r → ((a : A) (y : World) → Grows E y.environment → P y.environment a → Ok y.environment Q (f a y)) →
+    ((x : Exception) (y : World) → Grows E y.environment → Ok y.environment Q (g x y)) → Ok E Q (then' r f g)
+then_ok E P Q (Fine a y) f g h k l = ok_more E y.environment Q (f a y) h.0 (k a y h.0 h.1)
+then_ok E P Q (Raising x y) f g h k l = ok_more E y.environment Q (g x y) h (l x y h)
+then_ok E P Q (Spending y) f g h k l = tt
+then_ok E P Q Wrongly f g h k l = h
+then_ok E P Q TooDeep f g h k l = tt
 
-  pub seq_ok : {A B : Type 0} (P : A → Type 0) (Q : B → Type 0) (r : Result A) (f : A → M B) → Ok P r → ((a : A) (z : World) → InE z → P a → Ok Q (f a z)) → Ok Q (then' r f raise)
-  seq_ok P Q r f h k = then_ok P Q r f raise h k (λ x z i. i)
+pub seq_ok : {A B : Type 0} (E : Environment) (P : Environment → A → Type 0) (Q : Environment → B → Type 0) (r : Result A) (f : A → M B) → Ok E P r → ((a : A) (y : World) → Grows E y.environment → P y.environment a → Ok y.environment Q (f a y)) → Ok E Q (then' r f raise)
+seq_ok E P Q r f h k = then_ok E P Q r f raise h k (λ x y g. grows_not y.environment g.after)
 
-  pub lift_ok : {A : Type 0} (P : A → Type 0) (p : Pure A) (z : World) → InE z → PureOk P p → Ok P (lift p z)
-  lift_ok P (Got a) z i h = (i, h)
-  lift_ok P Bad z i h = h
-  lift_ok P Deep z i h = tt
+pub lift_ok : {A : Type 0} (P : Environment → A → Type 0) (p : Pure A) (z : World) → IsCoherent z.environment → PureOk (P z.environment) p → Ok z.environment P (lift p z)
+lift_ok P (Got a) z i h = (grows_not z.environment i, h)
+lift_ok P Bad z i h = h
+lift_ok P Deep z i h = tt
 
-  send_ok : (b : Bool) (s : Bytes) (c : Home) (T : Typ) (z : World) → InE z → T ≡ TUnit → Ok (IsOf mode E c T) (sends b VUnit s z)
-  send_ok true s c T z i h = (i, h)
-  send_ok false s c T z i h = i
+module _ (mode : Mode) where
+  abbrev pub Of : Home → Typ → Environment → Value → Type 0
+  Of c T E v = IsOf mode E c T v
 
-  receive_ok : (f : Frame) (c : Home) (T : Typ) (z : World) → InE z → T ≡ TStr → Ok (IsOf mode E c T) (receives constant f z)
-  receive_ok (Whole s rest) c T z i h = (i, h)
-  receive_ok bad c T z i h = i
-  receive_ok AtEnd c T z i h = i
+  send_ok : (b : Bool) (s : Bytes) (c : Home) (T : Typ) (z : World) → IsCoherent z.environment → T ≡ TUnit → Ok z.environment (Of c T) (sends b VUnit s z)
+  send_ok true s c T z i h = (grows_not z.environment i, h)
+  send_ok false s c T z i h = grows_not z.environment i
 
-  pub answer_ok : (a : Answer) (c : Home) (T : Typ) (z : World) → InE z → AnswerOf T a → Ok (IsOf mode E c T) (answering constant a z)
-  answer_ok (Gives k) c T z i h = (i, constant_ok k c T h)
-  answer_ok (Prints s) c T z i h = (i, h)
+  receive_ok : (f : Frame) (c : Home) (T : Typ) (z : World) → IsCoherent z.environment → T ≡ TStr → Ok z.environment (Of c T) (receives constant f z)
+  receive_ok (Whole s rest) c T z i h = (grows_not z.environment i, h)
+  receive_ok bad c T z i h = grows_not z.environment i
+  receive_ok AtEnd c T z i h = grows_not z.environment i
+
+  pub answer_ok : (a : Answer) (c : Home) (T : Typ) (z : World) → IsCoherent z.environment → AnswerOf T a → Ok z.environment (Of c T) (answering constant a z)
+  answer_ok (Gives k) c T z i h = (grows_not z.environment i, constant_ok mode z.environment k c T h)
+  answer_ok (Prints s) c T z i h = (grows_not z.environment i, h)
   answer_ok (Sends s) c T z i h = send_ok z.has_channel s c T z i h
   answer_ok Receives c T z i h = receive_ok (next_frame z.input) c T z i h
-  answer_ok (Fails k s) c T z i h = i
+  answer_ok (Fails k s) c T z i h = grows_not z.environment i
   answer_ok NoSense c T z i h = absurd h
 
-  pub throw_ok : (v : Value) (c : Home) (T : Typ) (z : World) → InE z → IsOf mode E c TExn v → Ok (IsOf mode E c T) (throws v z)
-  throw_ok v c T z i h = let s = shape mode E v c TExn TExn refl h in subst (λ x. Ok (IsOf mode E c T) (throws x z)) (sym s.2) i
+  pub throw_ok : (v : Value) (c : Home) (T : Typ) (z : World) → IsCoherent z.environment → Of c TExn z.environment v → Ok z.environment (Of c T) (throws v z)
+  throw_ok v c T z i h = let s = shape mode z.environment v c TExn TExn refl h in subst (λ x. Ok z.environment (Of c T) (throws x z)) (sym s.2) (grows_not z.environment i)
 
-  pub branch_ok : (v : Value) (c : Home) (T : Typ) (m n : M Value) (z : World) → IsOf mode E c TBool v → Ok (IsOf mode E c T) (m z) → Ok (IsOf mode E c T) (n z) → Ok (IsOf mode E c T) (branching v m n z)
-  branch_ok v c T m n z h k l = let s = shape mode E v c TBool TBool refl h in subst (λ x. Ok (IsOf mode E c T) (branching x m n z)) (sym s.1) (by s.0)
+  pub branch_ok : (v : Value) (c : Home) (T : Typ) (m n : M Value) (z : World) → Of c TBool z.environment v → Ok z.environment (Of c T) (m z) → Ok z.environment (Of c T) (n z) → Ok z.environment (Of c T) (branching v m n z)
+  branch_ok v c T m n z h k l = let s = shape mode z.environment v c TBool TBool refl h in subst (λ x. Ok z.environment (Of c T) (branching x m n z)) (sym s.1) (by s.0)
     where
-      by : (b : Bool) → Ok (IsOf mode E c T) (branching (VBool b) m n z)
+      by : (b : Bool) → Ok z.environment (Of c T) (branching (VBool b) m n z)
       by true = k
       by false = l
 
-  pub found_ok : (c : Home) (us : Written) (G : List Typ) (i : ℕ) (T : Typ) (z : World) → InE z → WrittenTyped mode E us c G → slice_get G i ≡ Some T → Ok (IsOf mode E c T) (found (slot_in us i) z)
+  pub found_ok : (c : Home) (us : Written) (G : List Typ) (i : ℕ) (T : Typ) (z : World) → IsCoherent z.environment → WrittenTyped mode z.environment us c G → slice_get G i ≡ Some T → Ok z.environment (Of c T) (found (slot_in us i) z)
   found_ok c [] G i T z e h k = absurd (none≢some (ap (λ X. slice_get X i) (sym h) ∙ k))
-  found_ok c (u ∷ us) G zero T z e h k = (e, subst (λ X. IsOf mode E c X u.1) (some_eq (ap (λ X. slice_get X 0) (sym h.1) ∙ k)) h.2)
+  found_ok c (u ∷ us) G zero T z e h k = (grows_not z.environment e, subst (λ X. Of c X z.environment u.1) (some_eq (ap (λ X. slice_get X 0) (sym h.1) ∙ k)) h.2)
   found_ok c (u ∷ us) G (suc i) T z e h k = found_ok c us h.0 i T z e h.3 (ap (λ X. slice_get X (suc i)) (sym h.1) ∙ k)

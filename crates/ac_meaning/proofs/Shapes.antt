@@ -10,7 +10,7 @@ use Rattle.ac_rules.specs.Views.{Mode, opens}
 use Rattle.ac_meaning.specs.Substitution.{Written, Slot, Free, Bound, up, slot_in, slot, from_slot, binders, all_binders, inst, inst_all, inst_arms}
 use Rattle.ac_meaning.specs.Matching.{fit, fit_all}
 use Rattle.ac_meaning.specs.Brackets.{is_function_value}
-use Rattle.ac_meaning.proofs.Typed.{seen, Known, Fits, AllFit, Typed, AllTyped, ArmsTyped, ValueTyped, ValuesTyped, WrittenTyped}
+use Rattle.ac_meaning.specs.Typed.{seen, Known, IsHome, Fits, AllFit, Typed, AllTyped, ArmsTyped, ValueTyped, ValuesTyped, WrittenTyped}
 
 module _ (mode : Mode) (E : Environment) where
   abbrev sees : Home → Typ → Typ
@@ -30,7 +30,7 @@ module _ (mode : Mode) (E : Environment) where
   Shape (TList A) c v = ((B : Typ) × (v ≡ VNil B)) ⊎ ((x y : Value) × (v ≡ VCons x y) × IsOf c A x × IsOf c (TList A) y)
   Shape (TOpt A) c v = ((B : Typ) × (v ≡ VAbsent B)) ⊎ ((x : Value) × (v ≡ VPresent x) × IsOf c A x)
   Shape (TFun A B) c v = is_function_value v ≡ true
-  Shape (TAbs n t) c v = (d : Home) × (w : Value) × (v ≡ VSeal d n t w) × Known mode E (TAbs n t) × (opens mode E d n ≡ true) × IsOf d (sees d (TAbs n t)) w
+  Shape (TAbs n t) c v = (d : Home) × (w : Value) × (v ≡ VSeal d n t w) × Known mode E (TAbs n t) × (opens mode E d n ≡ true) × IsOf d (sees d (TAbs n t)) w × IsHome mode E d
   Shape (TMine t) c v = ⊥
 
   -- a value of a type has its shape
@@ -48,7 +48,7 @@ module _ (mode : Mode) (E : Environment) where
   shape (VLam A t) c T U e h = subst (λ X. Shape X c (VLam A t)) (sym h.1 ∙ e) refl
   shape (VRec A B t) c T U e h = subst (λ X. Shape X c (VRec A B t)) (sym h.0 ∙ e) refl
   shape (VProxy b A B f) c T U e h = subst (λ X. Shape X c (VProxy b A B f)) (sym h.0 ∙ e) refl
-  shape (VSeal d n t v) c T U e h = subst (λ X. Shape X c (VSeal d n t v)) (sym h.0 ∙ e) (d, v, refl, h.1, h.2, h.4)
+  shape (VSeal d n t v) c T U e h = subst (λ X. Shape X c (VSeal d n t v)) (sym h.0 ∙ e) (d, v, refl, h.1, h.2, h.4, h.5)
 
   -- the values of some types
   pub values_shape : (vs : Values) (c : Home) (U : Typ) (Us : Typs) → ValuesTyped mode E vs c (typ U Us) → (v : Value) × (ws : Values) × (vs ≡ value v ws) × IsOf c U v × ValuesTyped mode E ws c Us
@@ -93,7 +93,7 @@ module _ (mode : Mode) (E : Environment) where
   -- writing values keeps types
   abbrev SlotTyped : Home → List Typ → Slot Value → Typ → Type 0
   SlotTyped c D (Free i) T = slice_get D i ≡ Some T
-  SlotTyped c D (Bound S v) T = (T ≡ sees c S) × IsOf c T v
+  SlotTyped c D (Bound S v) T = (T ≡ sees c S) × IsOf c T v × Known mode E S
 
   up_typed : (c : Home) (A : Typ) (D : List Typ) (s : Slot Value) (T : Typ) → SlotTyped c D s T → SlotTyped c (A ∷ D) (up s) T
   up_typed c A D (Free i) T h = h
@@ -103,7 +103,7 @@ module _ (mode : Mode) (E : Environment) where
   slot_in_typed c [] G i T h e = absurd (none≢some (ap (λ X. slice_get X i) (sym h) ∙ e))
   slot_in_typed c (u ∷ us) G zero T h e =
       let q : sees c u.0 ≡ T = some_eq (ap (λ X. slice_get X 0) (sym h.1) ∙ e) in
-      (sym q, subst (λ X. IsOf c X u.1) q h.2)
+      (sym q, subst (λ X. IsOf c X u.1) q h.2, h.4)
   slot_in_typed c (u ∷ us) G (suc i) T h e = slot_in_typed c us h.0 i T h.3 (ap (λ X. slice_get X (suc i)) (sym h.1) ∙ e)
 
   slot_typed : (c : Home) (D : List Typ) (d : ℕ) (us : Written) (G : List Typ) (i : ℕ) (T : Typ) → d ≡ length D → WrittenTyped mode E us c G → slice_get (D ++ G) i ≡ Some T → SlotTyped c D (slot d us i) T
@@ -133,18 +133,18 @@ module _ (mode : Mode) (E : Environment) where
     inst_typed (Var i) c D G T us d n e h = from_slot_typed c D (slot d us i) T (slot_typed c D d us G i T n e h)
     inst_typed (Own f) c D G T us d n e h = h
     inst_typed (Ref j x) c D G T us d n e h = h
-    inst_typed (Lam A t) c D G T us d n e h = (h.0, h.1, inst_typed t c (sees c A ∷ D) G h.0 us (suc d) (ap suc n) e h.2)
-    inst_typed (Rec A B t) c D G T us d n e h = (h.0, inst_typed t c (sees c A ∷ TFun (sees c A) (sees c B) ∷ D) G (sees c B) us (suc (suc d)) (ap (λ k. suc (suc k)) n) e h.1)
+    inst_typed (Lam A t) c D G T us d n e h = (h.0, h.1, inst_typed t c (sees c A ∷ D) G h.0 us (suc d) (ap suc n) e h.2, h.3)
+    inst_typed (Rec A B t) c D G T us d n e h = (h.0, inst_typed t c (sees c A ∷ TFun (sees c A) (sees c B) ∷ D) G (sees c B) us (suc (suc d)) (ap (λ k. suc (suc k)) n) e h.1, h.2, h.3)
     inst_typed (App f a) c D G T us d n e h = (h.0, inst_typed f c D G (TFun h.0 T) us d n e h.1, inst_typed a c D G h.0 us d n e h.2)
-    inst_typed (Let A t b) c D G T us d n e h = (inst_typed t c D G (sees c A) us d n e h.0, inst_typed b c (sees c A ∷ D) G T us (suc d) (ap suc n) e h.1)
+    inst_typed (Let A t b) c D G T us d n e h = (inst_typed t c D G (sees c A) us d n e h.0, inst_typed b c (sees c A ∷ D) G T us (suc d) (ap suc n) e h.1, h.2)
     inst_typed (If t a b) c D G T us d n e h = (inst_typed t c D G TBool us d n e h.0, inst_typed a c D G T us d n e h.1, inst_typed b c D G T us d n e h.2)
     inst_typed (Seq ts) c D G T us d n e h = (h.0, all_inst_typed ts c D G h.0 us d n e h.1, h.2)
     inst_typed (Match t arms) c D G T us d n e h = (h.0, inst_typed t c D G h.0 us d n e h.1, arms_inst_typed arms c D G h.0 T us d n e h.2)
     inst_typed (Try t arms) c D G T us d n e h = (inst_typed t c D G T us d n e h.0, arms_inst_typed arms c D G TExn T us d n e h.1)
     inst_typed (Raise A t) c D G T us d n e h = inst_typed t c D G TExn us d n e h
     inst_typed (Prim k ts) c D G T us d n e h = (h.0, all_inst_typed ts c D G h.0 us d n e h.1, h.2)
-    inst_typed (Marshal A m t) c D G T us d n e h = h
-    inst_typed (Unmarshal A t) c D G T us d n e h = h
+    inst_typed (Marshal A m t) c D G T us d n e h = (h.0, inst_typed m c D G TStr us d n e h.1, inst_typed t c D G (sees c A) us d n e h.2, h.3)
+    inst_typed (Unmarshal A t) c D G T us d n e h = (h.0, inst_typed t c D G TStr us d n e h.1, h.2)
     inst_typed (Packed A v) c D G T us d n e h = h
     inst_typed (Val A v) c D G T us d n e h = h
     inst_typed (Bracket b A t) c D G T us d n e h = h
@@ -173,7 +173,7 @@ module _ (mode : Mode) (E : Environment) where
   mutual
     pub fit_typed : (p : Pattern) (v : Value) (ws us : Written) (c : Home) (A : Typ) (G Us : List Typ) → fit p v ws ≡ Some us → IsOf c A v → Fits mode E p c A Us → WrittenTyped mode E ws c G → WrittenTyped mode E us c (Us ++ G)
     fit_typed PWild v ws us c A G Us e k h w = nothing_more ws us c G Us h e w
-    fit_typed (PVar U) v ws us c A G Us e k h w = subst (λ x. WrittenTyped mode E x c (Us ++ G)) (some_eq e) (G, ap (λ X. X ++ G) h.1 ∙ ap (λ X. X ∷ G) h.0, subst (λ X. IsOf c X v) h.0 k, w)
+    fit_typed (PVar U) v ws us c A G Us e k h w = subst (λ x. WrittenTyped mode E x c (Us ++ G)) (some_eq e) (G, ap (λ X. X ++ G) h.1 ∙ ap (λ X. X ∷ G) h.0, subst (λ X. IsOf c X v) h.0 k, w, h.2)
     fit_typed (PInt n) (VInt x) ws us c A G Us e k h w = nothing_more ws us c G Us h.1 (given_fits _ (Some ws) us e) w
     fit_typed (PBool b) (VBool x) ws us c A G Us e k h w = nothing_more ws us c G Us h.1 (given_fits _ (Some ws) us e) w
     fit_typed (PStr s) (VStr x) ws us c A G Us e k h w = nothing_more ws us c G Us h.1 (given_fits _ (Some ws) us e) w

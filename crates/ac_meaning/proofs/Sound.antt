@@ -1,22 +1,25 @@
 -- What is typed never comes to what has no meaning.
-use Rattle.std.proofs.Common.{◌≡◌, refl, sym, ap, ◌∙◌, subst, ℕ, zero, suc, Bool, true, false, cond, [], Option, Some, None, ⊎_elim}
-use Rattle.std.specs.Prelude.{slice_get, is_some, option_map}
+use Rattle.std.proofs.Common.{◌≡◌, refl, sym, ap, ◌∙◌, subst, ℕ, zero, suc, Bool, true, false, cond, List, [], Option, Some, None, ⊎_elim}
+use Rattle.std.specs.Prelude.{slice_get, is_some, option_map, option_and_then}
 use Rattle.std.specs.List.{list_all}
 use mathlib.Core.Bool.{true≢false}
 use Rattle.ac_types.proofs.Same.{and_true, bytes_refl}
 use Rattle.ac_types.proofs.FirstLaws.{none≢some, some_eq}
 use Rattle.ac_types.specs.Types.{Bytes, Typ, TInt, TBool, TStr, TUnit, TExn, TTuple, TList, TOpt, TFun, TAbs, TMine, Typs, no_types, typ, mentions, mentions_of_all, same_bytes}
 use Rattle.ac_terms.specs.Terms.{Home, Main, In, Expr, Int, Boolean, Str, Unit', Exn, ExnOf, Tuple, Nil, Empty, Present, Cons, Own, Ref, Lam, Rec, Prim, Exprs, no_exprs, expr, Value, VInt, VBool, VStr, VUnit, VExn, VTuple, VNil, VCons, VAbsent, VPresent, VProxy, VSeal, Values}
-use Rattle.ac_terms.specs.Defs.{Environment, Field}
+use Rattle.ac_types.specs.Sigs.{Signature, under}
+use Rattle.ac_terms.specs.Defs.{Environment, Field, Module, module_of, signature, def_of, module_at, signature_at}
 use Rattle.ac_rules.specs.Views.{Mode, Coloured, opens, view, representation, is_known, are_known}
-use Rattle.ac_rules.specs.Typing.{fields_of, value_in}
+use Rattle.ac_rules.specs.Typing.{fields_of, value_in, outside}
 use Rattle.ac_rules.specs.Coherent.{IsCoherent}
+use Rattle.ac_rules.proofs.Rules.{then_some}
 use Rattle.ac_rules.proofs.EarlierLaws.{all_left, all_right}
+use Rattle.ac_meaning.proofs.Somes.{module_home}
 use Rattle.ac_meaning.specs.Brackets.{inside}
 use Rattle.ac_meaning.specs.References.{own_field, Route, Nowhere, Once, Twice, route}
 use Rattle.ac_meaning.proofs.Results.{Pure, Got, Bad, Deep, and_then}
 use Rattle.ac_meaning.proofs.Eval.{Opening, too_deep, crossing_seal, crossing_name, with_type, crossing_list, crossing_option, with_text, as_many, crossing_with, crossing_all, crossing_in, crossing, rank, own_by, ref_by, worth, worth_all, worth_field, opening, place, opened}
-use Rattle.ac_meaning.proofs.Typed.{seen, Known, own_type, Typed, AllTyped, ValuesTyped}
+use Rattle.ac_meaning.specs.Typed.{seen, Known, IsHome, own_type, Typed, AllTyped, ValuesTyped}
 use Rattle.ac_meaning.proofs.Homes.{all_seen, seen_tuple, seen_list, seen_opt, seen_fun, seen_int, seen_bool, seen_str, seen_unit, seen_exn, seen_mine, view_shut, represented, representation_known, view_open, view_again}
 use Rattle.ac_meaning.proofs.FromTypes.{KnownTypes}
 use Rattle.ac_meaning.proofs.Shapes.{IsOf, Shape, shape, values_shape, no_values_shape}
@@ -63,6 +66,9 @@ module _ (mode : Mode) (E : Environment) (coherent : IsCoherent E) where
 
   abbrev IsKnown : Typ → Type 0
   IsKnown T = Known mode E T
+
+  abbrev AtHome : Home → Type 0
+  AtHome c = IsHome mode E c
 
   -- what a value of a written type looks like
   looks : (v : Value) (c : Home) (T U : Typ) → sees c T ≡ U → Of c (sees c T) v → Shape mode E U c v
@@ -114,27 +120,27 @@ module _ (mode : Mode) (E : Environment) (coherent : IsCoherent E) where
 
   -- brackets
   abbrev OpensOk : Opening → Type 0
-  OpensOk next = (n t : Bytes) (R : Typ) → representation E n t ≡ Some R → (b c : Home) (v : Value) → Of b (sees b R) v → PureOk (Of c (sees c R)) (next b c n t v)
+  OpensOk next = (n t : Bytes) (R : Typ) → representation E n t ≡ Some R → (b c : Home) (v : Value) → AtHome b → Of b (sees b R) v → PureOk (Of c (sees c R)) (next b c n t v)
 
-  name_ok : (next : Opening) → OpensOk next → (b c : Home) (n t : Bytes) (v : Value) → IsKnown (TAbs n t) → (x y : Bool) → opens mode E b n ≡ x → opens mode E c n ≡ y → Of b (sees b (TAbs n t)) v → PureOk (Of c (sees c (TAbs n t))) (crossing_name next b c n t v x y)
-  name_ok next h b c n t v k true true p q i =
+  name_ok : (next : Opening) → OpensOk next → (b c : Home) (n t : Bytes) (v : Value) → IsKnown (TAbs n t) → (x y : Bool) → opens mode E b n ≡ x → opens mode E c n ≡ y → AtHome b → Of b (sees b (TAbs n t)) v → PureOk (Of c (sees c (TAbs n t))) (crossing_name next b c n t v x y)
+  name_ok next h b c n t v k true true p q a i =
       let r = represented E coherent n t k in
       let B = view_open E coherent mode b n t r.0 r.1 k p in
       let C = view_open E coherent mode c n t r.0 r.1 k q in
-      subst (λ X. PureOk (Of c X) (next b c n t v)) (sym C) (h n t r.0 r.1 b c v (at _ _ b v B i))
-  name_ok next h b c n t v k true false p q i = at (TAbs n t) (sees c (TAbs n t)) c (VSeal b n t v) (sym (view_shut E mode c n t q)) (refl, k, p, q, i)
-  name_ok next h b c n t v k false true p q i =
+      subst (λ X. PureOk (Of c X) (next b c n t v)) (sym C) (h n t r.0 r.1 b c v a (at _ _ b v B i))
+  name_ok next h b c n t v k true false p q a i = at (TAbs n t) (sees c (TAbs n t)) c (VSeal b n t v) (sym (view_shut E mode c n t q)) (refl, k, p, q, i, a)
+  name_ok next h b c n t v k false true p q a i =
       let s = looks v b (TAbs n t) (TAbs n t) (view_shut E mode b n t p) i in
       let r = represented E coherent n t k in
       let C = view_open E coherent mode c n t r.0 r.1 k q in
       let D = view_open E coherent mode s.0 n t r.0 r.1 k s.4 in
       let e : inside n t v ≡ Some (s.0, s.1) = ap (inside n t) s.2 ∙ inside_is s.0 n t s.1 in
       subst (λ o. PureOk (Of c (sees c (TAbs n t))) (crossing_seal o (λ d w. next d c n t w))) (sym e)
-      (subst (λ X. PureOk (Of c X) (next s.0 c n t s.1)) (sym C) (h n t r.0 r.1 s.0 c s.1 (at _ _ s.0 s.1 D s.5)))
-  name_ok next h b c n t v k false false p q i =
+      (subst (λ X. PureOk (Of c X) (next s.0 c n t s.1)) (sym C) (h n t r.0 r.1 s.0 c s.1 s.6 (at _ _ s.0 s.1 D s.5)))
+  name_ok next h b c n t v k false false p q a i =
       let s = looks v b (TAbs n t) (TAbs n t) (view_shut E mode b n t p) i in
       let e : inside n t v ≡ Some (s.0, s.1) = ap (inside n t) s.2 ∙ inside_is s.0 n t s.1 in
-      let sealed : Of c (TAbs n t) (VSeal s.0 n t s.1) = (refl, s.3, s.4, q, s.5) in
+      let sealed : Of c (TAbs n t) (VSeal s.0 n t s.1) = (refl, s.3, s.4, q, s.5, s.6) in
       subst (λ o. PureOk (Of c (sees c (TAbs n t))) (cond (is_some o) (Got v) Bad)) (sym e)
       (at (TAbs n t) (sees c (TAbs n t)) c v (sym (view_shut E mode c n t q)) (subst (Of c (TAbs n t)) (sym s.2) sealed))
 
@@ -147,54 +153,68 @@ module _ (mode : Mode) (E : Environment) (coherent : IsCoherent E) where
     across_with T b c v = crossing_with mode E next T b c v
 
     mutual
-      cross_ok_with : (T : Typ) → IsKnown T → (b c : Home) (v : Value) → Of b (sees b T) v → PureOk (Of c (sees c T)) (crossing_with mode E next T b c v)
-      cross_ok_with TInt k b c v i = let s = looks v b TInt TInt (seen_int E mode b) i in const_ok c TInt (sees c TInt) v (VInt s.0) (across_with TInt b c) s.1 refl (sym (seen_int E mode c))
-      cross_ok_with TBool k b c v i = let s = looks v b TBool TBool (seen_bool E mode b) i in const_ok c TBool (sees c TBool) v (VBool s.0) (across_with TBool b c) s.1 refl (sym (seen_bool E mode c))
-      cross_ok_with TStr k b c v i = let s = looks v b TStr TStr (seen_str E mode b) i in const_ok c TStr (sees c TStr) v (VStr s.0) (across_with TStr b c) s.1 refl (sym (seen_str E mode c))
-      cross_ok_with TUnit k b c v i = let s = looks v b TUnit TUnit (seen_unit E mode b) i in const_ok c TUnit (sees c TUnit) v VUnit (across_with TUnit b c) s refl (sym (seen_unit E mode c))
-      cross_ok_with TExn k b c v i = let s = looks v b TExn TExn (seen_exn E mode b) i in const_ok c TExn (sees c TExn) v (VExn s.0 s.1) (across_with TExn b c) s.2 refl (sym (seen_exn E mode c))
-      cross_ok_with (TTuple Ts) k b c v i =
+      cross_ok_with : (T : Typ) → IsKnown T → (b c : Home) (v : Value) → AtHome b → Of b (sees b T) v → PureOk (Of c (sees c T)) (crossing_with mode E next T b c v)
+      cross_ok_with TInt k b c v o i = let s = looks v b TInt TInt (seen_int E mode b) i in const_ok c TInt (sees c TInt) v (VInt s.0) (across_with TInt b c) s.1 refl (sym (seen_int E mode c))
+      cross_ok_with TBool k b c v o i = let s = looks v b TBool TBool (seen_bool E mode b) i in const_ok c TBool (sees c TBool) v (VBool s.0) (across_with TBool b c) s.1 refl (sym (seen_bool E mode c))
+      cross_ok_with TStr k b c v o i = let s = looks v b TStr TStr (seen_str E mode b) i in const_ok c TStr (sees c TStr) v (VStr s.0) (across_with TStr b c) s.1 refl (sym (seen_str E mode c))
+      cross_ok_with TUnit k b c v o i = let s = looks v b TUnit TUnit (seen_unit E mode b) i in const_ok c TUnit (sees c TUnit) v VUnit (across_with TUnit b c) s refl (sym (seen_unit E mode c))
+      cross_ok_with TExn k b c v o i = let s = looks v b TExn TExn (seen_exn E mode b) i in const_ok c TExn (sees c TExn) v (VExn s.0 s.1) (across_with TExn b c) s.2 refl (sym (seen_exn E mode c))
+      cross_ok_with (TTuple Ts) k b c v o i =
           let s = looks v b (TTuple Ts) (TTuple (all_seen E mode b Ts)) (seen_tuple E mode b Ts) i in
-          let a = all_cross_ok Ts k b c s.0 s.2 in
+          let a = all_cross_ok Ts k b c s.0 o s.2 in
           const_ok c (TTuple (all_seen E mode c Ts)) (sees c (TTuple Ts)) v (VTuple s.0) (across_with (TTuple Ts) b c) s.1
           (subst (λ m. PureOk (Of c (TTuple (all_seen E mode c Ts))) (cond m (and_then (crossing_all mode E next Ts b c s.0) (λ ws. Got (VTuple ws))) Bad)) (sym a.0)
           (then_pure (AllOf c (all_seen E mode c Ts)) (Of c (TTuple (all_seen E mode c Ts))) (crossing_all mode E next Ts b c s.0) (λ ws. Got (VTuple ws)) a.1 (λ ws q. (all_seen E mode c Ts, refl, q))))
           (sym (seen_tuple E mode c Ts))
-      cross_ok_with (TList T) k b c v i =
+      cross_ok_with (TList T) k b c v o i =
           subst (λ X. PureOk (Of c X) (crossing_list (TList T) (crossing_with mode E next T b c) v)) (sym (seen_list E mode c T))
-          (list_ok (TList T) (sees b T) (sees c T) b c (crossing_with mode E next T b c) (cross_ok_with T k b c) v (at _ _ b v (seen_list E mode b T) i))
-      cross_ok_with (TOpt T) k b c v i =
+          (list_ok (TList T) (sees b T) (sees c T) b c (crossing_with mode E next T b c) (λ x j. cross_ok_with T k b c x o j) v (at _ _ b v (seen_list E mode b T) i))
+      cross_ok_with (TOpt T) k b c v o i =
           subst (λ X. PureOk (Of c X) (crossing_option (TOpt T) (crossing_with mode E next T b c) v)) (sym (seen_opt E mode c T))
-          (option_ok (TOpt T) (sees b T) (sees c T) b c (crossing_with mode E next T b c) (cross_ok_with T k b c) v (at _ _ b v (seen_opt E mode b T) i))
-      cross_ok_with (TFun T U) k b c v i =
+          (option_ok (TOpt T) (sees b T) (sees c T) b c (crossing_with mode E next T b c) (λ x j. cross_ok_with T k b c x o j) v (at _ _ b v (seen_opt E mode b T) i))
+      cross_ok_with (TFun T U) k b c v o i =
           let s = looks v b (TFun T U) (TFun (sees b T) (sees b U)) (seen_fun E mode b T U) i in
           let l = all_left (is_known E) (mentions T) (mentions U) k in
           let r = all_right (is_known E) (mentions T) (mentions U) k in
-          subst (λ m. PureOk (Of c (sees c (TFun T U))) (cond m (Got (VProxy b T U v)) Bad)) (sym s) (seen_fun E mode c T U, l, r, at _ _ b v (seen_fun E mode b T U) i)
-      cross_ok_with (TAbs n t) k b c v i = name_ok next h b c n t v k (opens mode E b n) (opens mode E c n) refl refl i
-      cross_ok_with (TMine t) k b c v i = absurd (looks v b (TMine t) (TMine t) (seen_mine E mode b t) i)
+          subst (λ m. PureOk (Of c (sees c (TFun T U))) (cond m (Got (VProxy b T U v)) Bad)) (sym s) (seen_fun E mode c T U, l, r, at _ _ b v (seen_fun E mode b T U) i, o)
+      cross_ok_with (TAbs n t) k b c v o i = name_ok next h b c n t v k (opens mode E b n) (opens mode E c n) refl refl o i
+      cross_ok_with (TMine t) k b c v o i = absurd (looks v b (TMine t) (TMine t) (seen_mine E mode b t) i)
 
-      all_cross_ok : (Ts : Typs) → list_all (is_known E) (mentions_of_all Ts) ≡ true → (b c : Home) (vs : Values) → AllOf b (all_seen E mode b Ts) vs → (as_many Ts vs ≡ true) × PureOk (AllOf c (all_seen E mode c Ts)) (crossing_all mode E next Ts b c vs)
-      all_cross_ok no_types k b c vs i =
+      all_cross_ok : (Ts : Typs) → list_all (is_known E) (mentions_of_all Ts) ≡ true → (b c : Home) (vs : Values) → AtHome b → AllOf b (all_seen E mode b Ts) vs → (as_many Ts vs ≡ true) × PureOk (AllOf c (all_seen E mode c Ts)) (crossing_all mode E next Ts b c vs)
+      all_cross_ok no_types k b c vs o i =
           let e = no_values_shape mode E vs b i in
           (ap (as_many no_types) e, subst (λ x. PureOk (AllOf c no_types) (crossing_all mode E next no_types b c x)) (sym e) refl)
-      all_cross_ok (typ T Ts) k b c vs i =
+      all_cross_ok (typ T Ts) k b c vs o i =
           let s = values_shape mode E vs b (sees b T) (all_seen E mode b Ts) i in
           let l = all_left (is_known E) (mentions T) (mentions_of_all Ts) k in
           let r = all_right (is_known E) (mentions T) (mentions_of_all Ts) k in
-          let a = all_cross_ok Ts r b c s.1 s.4 in (
+          let a = all_cross_ok Ts r b c s.1 o s.4 in (
             ap (as_many (typ T Ts)) s.2 ∙ a.0,
             subst (λ x. PureOk (AllOf c (typ (sees c T) (all_seen E mode c Ts))) (crossing_all mode E next (typ T Ts) b c x)) (sym s.2)
-                (then_pure (Of c (sees c T)) (AllOf c (typ (sees c T) (all_seen E mode c Ts))) (crossing_with mode E next T b c s.0) _ (cross_ok_with T l b c s.0 s.3)
+                (then_pure (Of c (sees c T)) (AllOf c (typ (sees c T) (all_seen E mode c Ts))) (crossing_with mode E next T b c s.0) _ (cross_ok_with T l b c s.0 o s.3)
                 (λ x p. then_pure (AllOf c (all_seen E mode c Ts)) (AllOf c (typ (sees c T) (all_seen E mode c Ts))) (crossing_all mode E next Ts b c s.1) _ a.1 (λ xs q. (sees c T, all_seen E mode c Ts, refl, p, q)))),
           )
 
-  cross_ok_in : (r : ℕ) (T : Typ) → IsKnown T → (b c : Home) (v : Value) → Of b (sees b T) v → PureOk (Of c (sees c T)) (crossing_in mode E r T b c v)
-  cross_ok_in zero = cross_ok_with too_deep (λ n t R e b c v i. tt)
-  cross_ok_in (suc r) = cross_ok_with (λ b c n t v. with_type (representation E n t) (λ R. crossing_in mode E r R b c v)) (λ n t R e b c v i. subst (λ o. PureOk (Of c (sees c R)) (with_type o (λ X. crossing_in mode E r X b c v))) (sym e) (cross_ok_in r R (representation_known E coherent n t R e) b c v i))
+  cross_ok_in : (r : ℕ) (T : Typ) → IsKnown T → (b c : Home) (v : Value) → AtHome b → Of b (sees b T) v → PureOk (Of c (sees c T)) (crossing_in mode E r T b c v)
+  cross_ok_in zero = cross_ok_with too_deep (λ n t R e b c v o i. tt)
+  cross_ok_in (suc r) = cross_ok_with (λ b c n t v. with_type (representation E n t) (λ R. crossing_in mode E r R b c v)) (λ n t R e b c v o i. subst (λ o. PureOk (Of c (sees c R)) (with_type o (λ X. crossing_in mode E r X b c v))) (sym e) (cross_ok_in r R (representation_known E coherent n t R e) b c v o i))
 
-  pub cross_ok : (T : Typ) → IsKnown T → (b c : Home) (v : Value) → Of b (sees b T) v → PureOk (Of c (sees c T)) (crossing mode E T b c v)
+  pub cross_ok : (T : Typ) → IsKnown T → (b c : Home) (v : Value) → AtHome b → Of b (sees b T) v → PureOk (Of c (sees c T)) (crossing mode E T b c v)
   cross_ok T = cross_ok_in (rank E T) T
+
+  pub own_home : (c : Home) (f : ℕ) (A : Typ) → own_type E c f ≡ Some A → AtHome c
+  own_home Main f A e = refl
+  own_home (In j) f A e = by (module_at E j) refl e
+    where
+      by : (o : Option Module) → module_at E j ≡ o → option_map (λ (x : Field). x.ty) (slice_get (elim o as (λ y. List Field) [ None ↦ [] | Some m ↦ m.fields ]) f) ≡ Some A → AtHome (In j)
+      by None p q = absurd (none≢some q)
+      by (Some m) p q = let d = then_some module_of (def_of E j) m p in ap (λ o. is_some (option_and_then signature o)) d.1 ∙ module_home d.0 m d.2
+
+  pub value_home : (j : ℕ) (x : Bytes) (A : Typ) → value_in E j x ≡ Some A → AtHome (In j)
+  value_home j x A e =
+      let a = then_some (λ T. outside E j T) (option_and_then (λ (s : Signature). under x s.vals) (signature_at E j)) A e in
+      let b = then_some (λ (s : Signature). under x s.vals) (signature_at E j) a.0 a.1 in
+      ap is_some b.1
 
   -- fields
   module _ (known : KnownTypes E) (fields : FieldsTyped mode E) (links : Links E) where
@@ -209,15 +229,15 @@ module _ (mode : Mode) (E : Environment) (coherent : IsCoherent E) where
     alike : (c : Home) (F A : Typ) → IsKnown F → IsKnown A → view Coloured E c F ≡ view Coloured E c A → sees c F ≡ sees c A
     alike c F A k l e = sym (view_again E coherent mode c F k) ∙ ap (sees c) e ∙ view_again E coherent mode c A l
 
-    ref_ok : (q : ℕ → ℕ → Pure Value) → FieldsOk q → (c : Home) (j : ℕ) (A : Typ) → IsKnown A → (way : Route) → IsLinked E j A way → PureOk (Of c (sees c A)) (ref_by mode E q c j way)
-    ref_ok q h c j A k Nowhere l = absurd l
-    ref_ok q h c j A k (Once m f T) l =
+    ref_ok : (q : ℕ → ℕ → Pure Value) → FieldsOk q → (c : Home) (j : ℕ) (A : Typ) → AtHome (In j) → IsKnown A → (way : Route) → IsLinked E j A way → PureOk (Of c (sees c A)) (ref_by mode E q c j way)
+    ref_ok q h c j A o k Nowhere l = absurd l
+    ref_ok q h c j A o k (Once m f T) l =
         let F = l.1.0 in
         let field = h m f F l.1.1 in
         let e : sees (In m) F ≡ sees (In m) T = alike (In m) F A (known.own (In m) f F l.1.1) k l.1.2 ∙ ap (sees (In m)) (sym l.0) in
         subst (λ X. PureOk (Of c (sees c X)) (and_then (q m f) (λ v. crossing mode E T (In m) c v))) l.0
-        (then_pure (Of (In m) (sees (In m) F)) (Of c (sees c T)) (q m f) _ field (λ v p. cross_ok T (subst IsKnown (sym l.0) k) (In m) c v (at _ _ (In m) v e p)))
-    ref_ok q h c j A k (Twice m f T S) l =
+        (then_pure (Of (In m) (sees (In m) F)) (Of c (sees c T)) (q m f) _ field (λ v p. cross_ok T (subst IsKnown (sym l.0) k) (In m) c v (own_home (In m) f F l.1.1) (at _ _ (In m) v e p)))
+    ref_ok q h c j A o k (Twice m f T S) l =
         let F = l.2.0 in
         let field = h m f F l.2.1 in
         let KF = known.own (In m) f F l.2.1 in
@@ -225,8 +245,8 @@ module _ (mode : Mode) (E : Environment) (coherent : IsCoherent E) where
         let outer : sees (In j) S ≡ sees (In j) T = ap (sees (In j)) (l.2.2 ∙ sym l.2.3) ∙ view_again E coherent mode (In j) A k ∙ ap (sees (In j)) (sym l.0) in
         subst (λ X. PureOk (Of c (sees c X)) (and_then (and_then (q m f) (λ v. crossing mode E S (In m) (In j) v)) (λ v. crossing mode E T (In j) c v))) l.0
         (then_pure (Of (In j) (sees (In j) S)) (Of c (sees c T)) (and_then (q m f) (λ v. crossing mode E S (In m) (In j) v)) _
-        (then_pure (Of (In m) (sees (In m) F)) (Of (In j) (sees (In j) S)) (q m f) _ field (λ v p. cross_ok S l.1 (In m) (In j) v (at _ _ (In m) v inner p)))
-        (λ v p. cross_ok T (subst IsKnown (sym l.0) k) (In j) c v (at _ _ (In j) v outer p)))
+        (then_pure (Of (In m) (sees (In m) F)) (Of (In j) (sees (In j) S)) (q m f) _ field (λ v p. cross_ok S l.1 (In m) (In j) v (own_home (In m) f F l.2.1) (at _ _ (In m) v inner p)))
+        (λ v p. cross_ok T (subst IsKnown (sym l.0) k) (In j) c v o (at _ _ (In j) v outer p)))
 
     pub text_ok : (k : ℕ) (v : Value) (c : Home) → Of c TStr v → PureOk (Of c TExn) (with_text k v)
     text_ok k v c h = let s = shape mode E v c TStr TStr refl h in subst (λ x. PureOk (Of c TExn) (with_text k x)) (sym s.1) refl
@@ -246,7 +266,7 @@ module _ (mode : Mode) (E : Environment) (coherent : IsCoherent E) where
         worth_ok (Present e) c T k = then_pure (Of c k.0) (Of c T) (worth mode E q c e) (λ v. Got (VPresent v)) (worth_ok e c k.0 k.2) (λ v p. (k.0, k.1, p))
         worth_ok (Cons a b) c T k = then_pure (Of c k.0) (Of c T) (worth mode E q c a) _ (worth_ok a c k.0 k.2) (λ v p. then_pure (Of c (TList k.0)) (Of c T) (worth mode E q c b) _ (worth_ok b c (TList k.0) k.3) (λ w r. (k.0, k.1, p, r)))
         worth_ok (Own f) c T k = subst (λ X. PureOk (Of c X) (own_by mode E q c f)) (sym k.2) (own_ok q h c f k.0 k.1)
-        worth_ok (Ref j x) c T k = subst (λ X. PureOk (Of c X) (ref_by mode E q c j (route E j x))) (sym k.2) (ref_ok q h c j k.0 (known.values j x k.0 k.1) (route E j x) (links.links j x k.0 k.1))
+        worth_ok (Ref j x) c T k = subst (λ X. PureOk (Of c X) (ref_by mode E q c j (route E j x))) (sym k.2) (ref_ok q h c j k.0 (value_home j x k.0 k.1) (known.values j x k.0 k.1) (route E j x) (links.links j x k.0 k.1))
         worth_ok (Lam A e) c T k = k
         worth_ok (Rec A B e) c T k = k
         worth_ok _ c T k = tt
@@ -276,4 +296,4 @@ module _ (mode : Mode) (E : Environment) (coherent : IsCoherent E) where
     field_value_ok c f A e = own_ok (opened mode E) opened_ok c f A e
 
     pub reference_ok : (c : Home) (j : ℕ) (x : Bytes) (A : Typ) → value_in E j x ≡ Some A → PureOk (Of c (sees c A)) (ref_by mode E (opened mode E) c j (route E j x))
-    reference_ok c j x A e = ref_ok (opened mode E) opened_ok c j A (known.values j x A e) (route E j x) (links.links j x A e)
+    reference_ok c j x A e = ref_ok (opened mode E) opened_ok c j A (value_home j x A e) (known.values j x A e) (route E j x) (links.links j x A e)

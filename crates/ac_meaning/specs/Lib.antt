@@ -1,4 +1,5 @@
 pub mod Worlds
+pub mod Growth
 pub mod Frames
 pub mod Acts
 pub mod Substitution
@@ -9,5 +10,8 @@ pub mod References
 pub mod Packing
 pub mod Reduction
 pub mod BareTerms
+pub mod Rebuilding
+pub mod BarePacking
 pub mod BareReduction
+pub mod Typed
 pub mod Laws

@@ -1,12 +1,12 @@
--- Typing as the reduction keeps it, in either mode: without bounds on the size of types, and with what a bracket, a proxy and a seal have inside.
-use Rattle.std.proofs.Common.{◌≡◌, ℕ, true, false, List, [], ◌∷◌, ◌++◌, Option, Some}
+-- Typing as the reduction keeps it, in either mode: without bounds on the size of types, and with what a bracket, a proxy and a seal have inside. Each type that is seen is known, and each home that is named is one, so that it is kept as the definitions grow.
+use Rattle.std.specs.Prelude.{◌≡◌, true, false, List, [], ◌∷◌, ◌++◌, Some, Option, ℕ}
 use Rattle.std.specs.Prelude.{option_map, slice_get}
 use Rattle.ac_types.specs.Types.{Typ, TInt, TBool, TStr, TUnit, TExn, TTuple, TList, TOpt, TFun, TAbs, Typs, no_types, typ}
 use Rattle.ac_terms.specs.Terms.{Home, Pattern, PWild, PVar, PInt, PBool, PStr, PUnit, PTuple, PNil, PCons, PAbsent, PPresent, PExn, PExnOf, Patterns, no_patterns, pattern', Expr, Int, Boolean, Str, Unit', Exn, ExnOf, Tuple, Nil, Empty, Present, Cons, Var, Own, Ref, Lam, Rec, App, Let, If, Seq, Match, Try, Raise, Prim, Marshal, Unmarshal, Packed, Val, Bracket, Exprs, no_exprs, expr, Arms, no_arms, arm, Value, VInt, VBool, VStr, VUnit, VExn, VTuple, VNil, VCons, VAbsent, VPresent, VLam, VRec, VProxy, VSeal, Values, no_values, value}
 use Rattle.ac_terms.specs.Defs.{Environment, Field}
 use Rattle.ac_terms.specs.Primitives.{primitive_type}
 use Rattle.ac_rules.specs.Views.{Mode, opens, view, are_known}
-use Rattle.ac_rules.specs.Typing.{fields_of, value_in}
+use Rattle.ac_rules.specs.Typing.{is_home, fields_of, value_in}
 use Rattle.ac_meaning.specs.Substitution.{Written}
 
 -- the type that field f of a home writes
@@ -26,11 +26,14 @@ module _ (mode : Mode) (E : Environment) where
   abbrev pub Known : Typ → Type 0
   Known T = are_known E T ≡ true
 
+  abbrev pub IsHome : Home → Type 0
+  IsHome c = is_home E c ≡ true
+
   -- a pattern of type A gives its variables these types, the newest first
   abbrev mutual
     pub Fits : Pattern → Home → Typ → List Typ → Type 0
     Fits PWild c A Us = Us ≡ []
-    Fits (PVar U) c A Us = (A ≡ seen c U) × (Us ≡ A ∷ [])
+    Fits (PVar U) c A Us = (A ≡ seen c U) × (Us ≡ A ∷ []) × Known U
     Fits (PInt n) c A Us = (A ≡ TInt) × (Us ≡ [])
     Fits (PBool b) c A Us = (A ≡ TBool) × (Us ≡ [])
     Fits (PStr s) c A Us = (A ≡ TStr) × (Us ≡ [])
@@ -64,21 +67,21 @@ module _ (mode : Mode) (E : Environment) where
     Typed (Var i) c G T = slice_get G i ≡ Some T
     Typed (Own f) c G T = (A : Typ) × (own_type E c f ≡ Some A) × (T ≡ seen c A)
     Typed (Ref j x) c G T = (A : Typ) × (value_in E j x ≡ Some A) × (T ≡ seen c A)
-    Typed (Lam A e) c G T = (B : Typ) × (T ≡ TFun (seen c A) B) × Typed e c (seen c A ∷ G) B
-    Typed (Rec A B e) c G T = (T ≡ TFun (seen c A) (seen c B)) × Typed e c (seen c A ∷ TFun (seen c A) (seen c B) ∷ G) (seen c B)
+    Typed (Lam A e) c G T = (B : Typ) × (T ≡ TFun (seen c A) B) × Typed e c (seen c A ∷ G) B × Known A
+    Typed (Rec A B e) c G T = (T ≡ TFun (seen c A) (seen c B)) × Typed e c (seen c A ∷ TFun (seen c A) (seen c B) ∷ G) (seen c B) × Known A × Known B
     Typed (App f a) c G T = (A : Typ) × Typed f c G (TFun A T) × Typed a c G A
-    Typed (Let A e b) c G T = Typed e c G (seen c A) × Typed b c (seen c A ∷ G) T
+    Typed (Let A e b) c G T = Typed e c G (seen c A) × Typed b c (seen c A ∷ G) T × Known A
     Typed (If e a b) c G T = Typed e c G TBool × Typed a c G T × Typed b c G T
     Typed (Seq es) c G T = (Ts : Typs) × AllTyped es c G Ts × IsLast Ts T
     Typed (Match e arms) c G T = (A : Typ) × Typed e c G A × ArmsTyped arms c G A T
     Typed (Try e arms) c G T = Typed e c G T × ArmsTyped arms c G TExn T
     Typed (Raise A e) c G T = Typed e c G TExn
     Typed (Prim k es) c G T = (Ts : Typs) × AllTyped es c G Ts × (primitive_type k Ts ≡ Some T)
-    Typed (Marshal A m e) c G T = ⊥
-    Typed (Unmarshal A e) c G T = ⊥
+    Typed (Marshal A m e) c G T = (T ≡ TStr) × Typed m c G TStr × Typed e c G (seen c A) × Known A
+    Typed (Unmarshal A e) c G T = (T ≡ seen c A) × Typed e c G TStr × Known A
     Typed (Packed A v) c G T = ⊥
-    Typed (Val A v) c G T = (T ≡ seen c A) × ValueTyped v c T
-    Typed (Bracket b A e) c G T = (T ≡ seen c A) × Known A × Typed e b [] (seen b A)
+    Typed (Val A v) c G T = (T ≡ seen c A) × ValueTyped v c T × Known A
+    Typed (Bracket b A e) c G T = (T ≡ seen c A) × Known A × Typed e b [] (seen b A) × IsHome b
 
     pub AllTyped : Exprs → Home → List Typ → Typs → Type 0
     AllTyped no_exprs c G Ts = Ts ≡ no_types
@@ -100,10 +103,10 @@ module _ (mode : Mode) (E : Environment) where
     ValueTyped (VCons v w) c T = (A : Typ) × (T ≡ TList A) × ValueTyped v c A × ValueTyped w c (TList A)
     ValueTyped (VAbsent A) c T = (B : Typ) × (T ≡ TOpt B)
     ValueTyped (VPresent v) c T = (A : Typ) × (T ≡ TOpt A) × ValueTyped v c A
-    ValueTyped (VLam A e) c T = (B : Typ) × (T ≡ TFun (seen c A) B) × Typed e c (seen c A ∷ []) B
-    ValueTyped (VRec A B e) c T = (T ≡ TFun (seen c A) (seen c B)) × Typed e c (seen c A ∷ TFun (seen c A) (seen c B) ∷ []) (seen c B)
-    ValueTyped (VProxy b A B f) c T = (T ≡ TFun (seen c A) (seen c B)) × Known A × Known B × ValueTyped f b (TFun (seen b A) (seen b B))
-    ValueTyped (VSeal b n t v) c T = (T ≡ TAbs n t) × Known (TAbs n t) × (opens mode E b n ≡ true) × (opens mode E c n ≡ false) × ValueTyped v b (seen b (TAbs n t))
+    ValueTyped (VLam A e) c T = (B : Typ) × (T ≡ TFun (seen c A) B) × Typed e c (seen c A ∷ []) B × Known A
+    ValueTyped (VRec A B e) c T = (T ≡ TFun (seen c A) (seen c B)) × Typed e c (seen c A ∷ TFun (seen c A) (seen c B) ∷ []) (seen c B) × Known A × Known B
+    ValueTyped (VProxy b A B f) c T = (T ≡ TFun (seen c A) (seen c B)) × Known A × Known B × ValueTyped f b (TFun (seen b A) (seen b B)) × IsHome b
+    ValueTyped (VSeal b n t v) c T = (T ≡ TAbs n t) × Known (TAbs n t) × (opens mode E b n ≡ true) × (opens mode E c n ≡ false) × ValueTyped v b (seen b (TAbs n t)) × IsHome b
 
     pub ValuesTyped : Values → Home → Typs → Type 0
     ValuesTyped no_values c Ts = Ts ≡ no_types
@@ -112,4 +115,4 @@ module _ (mode : Mode) (E : Environment) where
   -- values written for variables of these types
   abbrev pub WrittenTyped : Written → Home → List Typ → Type 0
   WrittenTyped [] c G = G ≡ []
-  WrittenTyped (w ∷ ws) c G = (H : List Typ) × (G ≡ seen c w.0 ∷ H) × ValueTyped w.1 c (seen c w.0) × WrittenTyped ws c H
+  WrittenTyped (w ∷ ws) c G = (H : List Typ) × (G ≡ seen c w.0 ∷ H) × ValueTyped w.1 c (seen c w.0) × WrittenTyped ws c H × Known w.0

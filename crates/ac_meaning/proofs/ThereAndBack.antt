@@ -1,0 +1,46 @@
+-- A number is marshalled and unmarshalled again, in both reductions.
+use Rattle.std.proofs.Common.{◌≡◌, refl}
+use Rattle.std.specs.Prelude.{pos, false, [], ◌∷◌, None, codes}
+use Rattle.ac_types.specs.Types.{Typ, TInt, TStr, TFun}
+use Rattle.ac_terms.specs.Terms.{Main, Expr, Int, Str, Var, Lam, App, Marshal, Unmarshal, VInt}
+use Rattle.ac_terms.specs.Defs.{Environment, AMark, Here}
+use Rattle.ac_rules.specs.Views.{Mode, Plain, Coloured}
+use Rattle.ac_meaning.specs.Worlds.{fresh}
+use Rattle.ac_meaning.specs.Acts.{Returned, Raised, At, Over, iter}
+use Rattle.ac_meaning.specs.Reduction.{step}
+use Rattle.ac_meaning.specs.BareTerms.{bare, WInt}
+use Rattle.ac_meaning.specs.BareReduction as b
+use Rattle.ac_meaning.specs.Packing.{packing, landing, unmarshal_failure}
+
+-- the mark M, and nothing else
+abbrev marked : Environment
+marked = record { def = AMark (codes "M"); name = None; seen = Here; link = None } ∷ []
+
+-- `unmarshal (marshal "M" (7 : int)) as int`
+abbrev seven : Expr
+seven = Unmarshal TInt (Marshal TInt (Str (codes "M")) (Int (pos 7)))
+
+there_and_back : (mode : Mode) → iter (step mode 0) 3 (At seven (fresh marked [] false)) ≡ Over (Returned (VInt (pos 7)) (fresh marked [] false))
+unfolding packing landing
+there_and_back mode = refl
+
+bare_there_and_back : iter (b.step 0) 3 (At (bare Main seven) (fresh marked [] false)) ≡ Over (Returned (WInt (pos 7)) (fresh marked [] false))
+unfolding packing landing
+bare_there_and_back = refl
+
+-- at another type it is refused
+refused : (mode : Mode) → iter (step mode 0) 2 (At (Unmarshal TStr (Marshal TInt (Str (codes "M")) (Int (pos 7)))) (fresh marked [] false)) ≡ Over (Raised (unmarshal_failure (codes "type")) (fresh marked [] false))
+unfolding packing landing
+refused mode = refl
+
+-- `(unmarshal (marshal "M" (fun (x : int) -> x) : int -> int) as int -> int) 7`: a function travels and is applied, once
+abbrev ints : Typ
+ints = TFun TInt TInt
+
+abbrev applied : Expr
+applied = App (Unmarshal ints (Marshal ints (Str (codes "M")) (Lam TInt (Var 0)))) (Int (pos 7))
+
+function_travels : (mode : Mode) → iter (step mode 1) 20 (At applied (fresh marked [] false)) ≡ Over (Returned (VInt (pos 7)) (record (fresh marked [] false) { made = 1 }))
+unfolding packing landing
+function_travels Coloured = refl
+function_travels Plain = refl
