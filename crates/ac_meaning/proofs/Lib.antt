@@ -47,3 +47,15 @@ pub mod BareReduces
 pub mod BareEndings
 pub mod PackedHolds
 pub mod ReadBack
+pub mod Within
+pub mod WithinLaws
+pub mod WithinAnswers
+pub mod WithinSteps
+pub mod WithinSources
+pub mod SmallTypes
+pub mod WithinComes
+pub mod WithinPacked
+pub mod HeadsSeen
+pub mod WithinSmall
+pub mod Kept
+pub mod MarshalledRead

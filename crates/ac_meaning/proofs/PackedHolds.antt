@@ -7,14 +7,14 @@ use Rattle.std.proofs.lemmas.Bool.Decides.{nat_tests}
 use mathlib.Core.Bool.{true≢false}
 use native.Mathlib.Omega.{arith}
 use Rattle.ac_types.proofs.Same.{both_true, and_true}
-use Rattle.ac_types.specs.Types.{Typ, TInt, TBool, TStr, TUnit, TExn, TTuple, TList, TOpt, TFun, TAbs, Typs, no_types, typ, same, agree, mentions, mentions_of_all, all_with_each, is_small}
+use Rattle.ac_types.specs.Types.{Bytes, Typ, TInt, TBool, TStr, TUnit, TExn, TTuple, TList, TOpt, TFun, TAbs, Typs, no_types, typ, same, agree, mentions, mentions_of_all, is_small}
 use Rattle.ac_terms.specs.Terms.{Home, Expr, Int, Boolean, Str, Unit', Exn, ExnOf, Tuple, Nil, Empty, Present, Cons, Var, Own, Ref, Lam, Rec, App, Let, If, Seq, Match, Try, Raise, Prim, Marshal, Unmarshal, Packed, Val, Bracket, Exprs, no_exprs, expr, Arms, no_arms, arm, PValue, KInt, KBool, KStr, KUnit, KExn, KTuple, KList, KAbsent, KPresent, KFun, no_pvalues, pvalue, Value, VInt, VBool, VStr, VUnit, VExn, VTuple, VNil, VCons, VAbsent, VPresent, VLam, VRec, VProxy, VSeal, Values, no_values, value}
 use Rattle.ac_terms.specs.Defs.{Environment}
 use Rattle.ac_terms.specs.Bounds.{is_four, fits_type, fits_term, fit_terms, fit_arms, fits_value, fit_values, has_small_types}
 use Rattle.ac_terms.specs.Spelling.{value_count}
 use Rattle.ac_terms.specs.Parts.{value_parts}
 use Rattle.ac_terms.specs.Primitives.{is_exception}
-use Rattle.ac_rules.specs.Views.{Coloured, view, head, opened_at_home, is_known, are_known}
+use Rattle.ac_rules.specs.Views.{Mode, Plain, Coloured, view, head, opens, is_known, are_known}
 use Rattle.ac_rules.specs.Typing.{is_function, is_function_home, all_of, tuple_parts, list_item, option_item, type_of, seen as seen_type, holds, all_hold, each_holds}
 use Rattle.ac_rules.specs.Plain.{stays, where_there, in_front, may_travel, travelling}
 use Rattle.ac_rules.specs.Coherent.{IsCoherent}
@@ -23,10 +23,12 @@ use Rattle.ac_rules.proofs.EarlierLaws.{all_left, all_right}
 use Rattle.ac_rules.proofs.KnownTypes.{head_known}
 use Rattle.ac_rules.proofs.Carried.{IsStill, AreStill, StillArms, HasStill, AllHaveStill}
 use Rattle.ac_rules.proofs.Trust.{IsOf, trusted}
-use Rattle.ac_rules.proofs.HeadViews.{at_head, head_seen, int_at, bool_at, str_at, unit_at, exn_at, tuple_at, list_at, option_at}
+use Rattle.ac_rules.proofs.HeadViews.{head_seen}
 use Rattle.ac_meaning.specs.BareTerms.{bare, bare_all, bare_arms, WTuple, WPresent, bare_value, bare_values}
 use Rattle.ac_meaning.specs.BarePacking.{packed, all_packed, packed_term, packed_terms, packed_arms}
 use Rattle.ac_meaning.proofs.Somes.{agree_some}
+use Rattle.ac_meaning.proofs.Homes.{all_seen}
+use Rattle.ac_meaning.proofs.HeadsSeen.{at_head, int_at, bool_at, str_at, unit_at, exn_at, tuple_at, list_at, option_at}
 use Rattle.ac_meaning.specs.Typed.{Typed, AllTyped, ArmsTyped, ValueTyped, ValuesTyped}
 
 four_less : (n : ℕ) → is_four (suc n) ≡ true → is_four n ≡ true
@@ -41,7 +43,7 @@ abbrev first' : Typs → Typ
 first' (typ T Ts) = T
 first' no_types = TUnit
 
-module _ (E : Environment) (coherent : IsCoherent E) where
+module _ (mode : Mode) (E : Environment) (coherent : IsCoherent E) where
   abbrev Good : PValue → Typ → Type 0
   Good w T = HasStill (IsOf E) w × (holds Coloured false E w T ≡ true)
 
@@ -49,7 +51,7 @@ module _ (E : Environment) (coherent : IsCoherent E) where
   record Sees (c : Home) (X T : Typ) : Type 0 where
     from : Typ
     known : are_known E from ≡ true
-    seen : X ≡ view Coloured E c from
+    seen : X ≡ view mode E c from
     to : head E from ≡ head E T
 
   -- a function says its own types
@@ -75,11 +77,11 @@ module _ (E : Environment) (coherent : IsCoherent E) where
   seen_of (VPresent v) c X T s = s
   seen_of (VSeal b n t v) c X T s = s
 
-  of_type : (c : Home) (T : Typ) → are_known E T ≡ true → Sees c (view Coloured E c T) T
+  of_type : (c : Home) (T : Typ) → are_known E T ≡ true → Sees c (view mode E c T) T
   of_type c T h = record { from = T; known = h; seen = refl; to = refl }
 
   -- a function's type is seen of functions alone
-  seen_fun : (v : Value) (c : Home) (A B T : Typ) → ValueTyped Coloured E v c (TFun A B) → Seen v c (TFun A B) T
+  seen_fun : (v : Value) (c : Home) (A B T : Typ) → ValueTyped mode E v c (TFun A B) → Seen v c (TFun A B) T
   seen_fun (VLam U e) c A B T t = tt
   seen_fun (VRec U W e) c A B T t = tt
   seen_fun (VProxy b U W f) c A B T t = tt
@@ -119,30 +121,35 @@ module _ (E : Environment) (coherent : IsCoherent E) where
   known_parts : (T : Typ) (Us : Typs) → head E T ≡ TTuple Us → are_known E T ≡ true → list_all (is_known E) (mentions_of_all Us) ≡ true
   known_parts T Us e h = subst (λ H. are_known E H ≡ true) e (head_known E coherent T h)
 
+  -- what a seal is of comes to the same; in Plain mode there is none
+  sealed_head : (m : Mode) (c : Home) (X : Typ) (n u : Bytes) → are_known E X ≡ true → view m E c X ≡ TAbs n u → opens m E c n ≡ false → head E (TAbs n u) ≡ head E X
+  sealed_head Coloured c X n u k e q = head_seen E coherent c X n u k e
+  sealed_head Plain c X n u k e q = absurd (true≢false q)
+
   mutual
-    good : (v : Value) (c : Home) (X T : Typ) → are_known E T ≡ true → ValueTyped Coloured E v c X → Seen v c X T → fits_value (packed E (bare_value c v) T) ≡ true → Good (packed E (bare_value c v) T) T
-    good (VInt n) c X T k t s w = let a = at_head E coherent c s.from TInt s.known tt (sym s.seen ∙ t) in (tt, ap (λ H. same H TInt) (sym s.to) ∙ int_at E coherent c (head E s.from) a.0 a.1)
-    good (VBool n) c X T k t s w = let a = at_head E coherent c s.from TBool s.known tt (sym s.seen ∙ t) in (tt, ap (λ H. same H TBool) (sym s.to) ∙ bool_at E coherent c (head E s.from) a.0 a.1)
-    good (VStr n) c X T k t s w = let a = at_head E coherent c s.from TStr s.known tt (sym s.seen ∙ t) in (tt, ap (λ H. same H TStr) (sym s.to) ∙ str_at E coherent c (head E s.from) a.0 a.1)
-    good VUnit c X T k t s w = let a = at_head E coherent c s.from TUnit s.known tt (sym s.seen ∙ t) in (tt, ap (λ H. same H TUnit) (sym s.to) ∙ unit_at E coherent c (head E s.from) a.0 a.1)
+    good : (v : Value) (c : Home) (X T : Typ) → are_known E T ≡ true → ValueTyped mode E v c X → Seen v c X T → fits_value (packed E (bare_value c v) T) ≡ true → Good (packed E (bare_value c v) T) T
+    good (VInt n) c X T k t s w = let a = at_head E coherent mode c s.from TInt s.known tt (sym s.seen ∙ t) in (tt, ap (λ H. same H TInt) (sym s.to) ∙ int_at E coherent mode c (head E s.from) a.0 a.1)
+    good (VBool n) c X T k t s w = let a = at_head E coherent mode c s.from TBool s.known tt (sym s.seen ∙ t) in (tt, ap (λ H. same H TBool) (sym s.to) ∙ bool_at E coherent mode c (head E s.from) a.0 a.1)
+    good (VStr n) c X T k t s w = let a = at_head E coherent mode c s.from TStr s.known tt (sym s.seen ∙ t) in (tt, ap (λ H. same H TStr) (sym s.to) ∙ str_at E coherent mode c (head E s.from) a.0 a.1)
+    good VUnit c X T k t s w = let a = at_head E coherent mode c s.from TUnit s.known tt (sym s.seen ∙ t) in (tt, ap (λ H. same H TUnit) (sym s.to) ∙ unit_at E coherent mode c (head E s.from) a.0 a.1)
     good (VExn j n) c X T k t s w =
-        let a = at_head E coherent c s.from TExn s.known tt (sym s.seen ∙ t) in
-        (tt, and_true {a = same (head E T) TExn} {b = is_exception j n} (ap (λ H. same H TExn) (sym s.to) ∙ exn_at E coherent c (head E s.from) a.0 a.1) (both_true (is_exception j n) _ w).0)
+        let a = at_head E coherent mode c s.from TExn s.known tt (sym s.seen ∙ t) in
+        (tt, and_true {a = same (head E T) TExn} {b = is_exception j n} (ap (λ H. same H TExn) (sym s.to) ∙ exn_at E coherent mode c (head E s.from) a.0 a.1) (both_true (is_exception j n) _ w).0)
     good (VTuple vs) c X T k t s w =
-        let a = at_head E coherent c s.from (TTuple t.0) s.known tt (sym s.seen ∙ t.1) in
-        let r = tuple_at E coherent c (head E s.from) t.0 a.0 a.1 in
+        let a = at_head E coherent mode c s.from (TTuple t.0) s.known tt (sym s.seen ∙ t.1) in
+        let r = tuple_at E coherent mode c (head E s.from) t.0 a.0 a.1 in
         let e : head E T ≡ TTuple r.0 = sym s.to ∙ r.1 in
         let is : packed E (WTuple (bare_values c vs)) T ≡ KTuple (all_packed E (bare_values c vs) r.0) = ap (λ H. where_there (tuple_parts H) (λ Ts. KTuple (all_packed E (bare_values c vs) Ts))) e in
         let f = both_true _ _ (subst (λ x. fits_value x ≡ true) is w) in
         let g = all_good vs c t.0 r.0 (known_parts T r.0 e k) t.2 r.2 f.1 in
         subst (λ x. Good x T) (sym is) (g.0, ap (λ H. option_map_or (λ Ts. all_hold Coloured false E (all_packed E (bare_values c vs) r.0) Ts) (tuple_parts H) false) e ∙ g.1)
     good (VNil A) c X T k t s w =
-        let a = at_head E coherent c s.from (TList t.0) s.known tt (sym s.seen ∙ t.1) in
-        let r = list_at E coherent c (head E s.from) t.0 a.0 a.1 in
+        let a = at_head E coherent mode c s.from (TList t.0) s.known tt (sym s.seen ∙ t.1) in
+        let r = list_at E coherent mode c (head E s.from) t.0 a.0 a.1 in
         (tt, ap (λ H. option_map_or (λ U. each_holds Coloured false E no_pvalues U) (list_item H) false) (sym s.to ∙ r.1))
     good (VCons v u) c X T k t s w =
-        let a = at_head E coherent c s.from (TList t.0) s.known tt (sym s.seen ∙ t.1) in
-        let r = list_at E coherent c (head E s.from) t.0 a.0 a.1 in
+        let a = at_head E coherent mode c s.from (TList t.0) s.known tt (sym s.seen ∙ t.1) in
+        let r = list_at E coherent mode c (head E s.from) t.0 a.0 a.1 in
         let e : head E T ≡ TList r.0 = sym s.to ∙ r.1 in
         let one : where_there (list_item (head E T)) (λ U. packed E (bare_value c v) U) ≡ packed E (bare_value c v) r.0 = ap (λ H. where_there (list_item H) (λ U. packed E (bare_value c v) U)) e in
         let known = known_items T r.0 e k in
@@ -170,12 +177,12 @@ module _ (E : Environment) (coherent : IsCoherent E) where
         joined x (KPresent y) T U e f g w = absurd (true≢false (sym w))
         joined x (KFun h l) T U e f g w = absurd (true≢false (sym w))
     good (VAbsent A) c X T k t s w =
-        let a = at_head E coherent c s.from (TOpt t.0) s.known tt (sym s.seen ∙ t.1) in
-        let r = option_at E coherent c (head E s.from) t.0 a.0 a.1 in
+        let a = at_head E coherent mode c s.from (TOpt t.0) s.known tt (sym s.seen ∙ t.1) in
+        let r = option_at E coherent mode c (head E s.from) t.0 a.0 a.1 in
         (tt, ap (λ H. is_some (option_item H)) (sym s.to ∙ r.1))
     good (VPresent v) c X T k t s w =
-        let a = at_head E coherent c s.from (TOpt t.0) s.known tt (sym s.seen ∙ t.1) in
-        let r = option_at E coherent c (head E s.from) t.0 a.0 a.1 in
+        let a = at_head E coherent mode c s.from (TOpt t.0) s.known tt (sym s.seen ∙ t.1) in
+        let r = option_at E coherent mode c (head E s.from) t.0 a.0 a.1 in
         let e : head E T ≡ TOpt r.0 = sym s.to ∙ r.1 in
         let is : packed E (WPresent (bare_value c v)) T ≡ KPresent (packed E (bare_value c v) r.0) = ap (λ H. where_there (option_item H) (λ U. KPresent (packed E (bare_value c v) U))) e in
         let known = known_option T r.0 e k in
@@ -185,24 +192,24 @@ module _ (E : Environment) (coherent : IsCoherent E) where
     good (VRec A B e) c X T k t s w = good_function c (Rec A B (packed_term E (bare c e))) T (λ f. still e c _ _ t.1 (both_true _ _ f).1) w
     good (VProxy b A B f) c X T k t s w = good f b _ T k t.3 (seen_fun f b _ _ T t.3) w
     good (VSeal b n u v) c X T k t s w =
-        good v b (view Coloured E b (TAbs n u)) T k t.4
-        (seen_of v b (view Coloured E b (TAbs n u)) T (record { from = TAbs n u; known = t.1; seen = refl; to = head_seen E coherent c s.from n u s.known (sym s.seen ∙ t.0) ∙ s.to })) w
+        good v b (view mode E b (TAbs n u)) T k t.4
+        (seen_of v b (view mode E b (TAbs n u)) T (record { from = TAbs n u; known = t.1; seen = refl; to = sealed_head mode c s.from n u s.known (sym s.seen ∙ t.0) t.3 ∙ s.to })) w
 
-    all_good : (vs : Values) (c : Home) (Us Ts : Typs) → list_all (is_known E) (mentions_of_all Ts) ≡ true → ValuesTyped Coloured E vs c Us → all_with_each (opened_at_home E c) Ts ≡ Us → fit_values (all_packed E (bare_values c vs) Ts) ≡ true →
+    all_good : (vs : Values) (c : Home) (Us Ts : Typs) → list_all (is_known E) (mentions_of_all Ts) ≡ true → ValuesTyped mode E vs c Us → all_seen E mode c Ts ≡ Us → fit_values (all_packed E (bare_values c vs) Ts) ≡ true →
         AllHaveStill (IsOf E) (all_packed E (bare_values c vs) Ts) × (all_hold Coloured false E (all_packed E (bare_values c vs) Ts) Ts ≡ true)
     all_good no_values c Us no_types k t e w = (tt, refl)
     all_good no_values c Us (typ T Ts) k t e w = absurd cc
     all_good (value v vs) c Us no_types k t e w = let f = t.2 in absurd cc
     all_good (value v vs) c Us (typ T Ts) k t e w =
         let k' = all_left (is_known E) (mentions T) (mentions_of_all Ts) k in
-        let same_first : view Coloured E c T ≡ t.0 = ap first' (e ∙ t.2) in
+        let same_first : view mode E c T ≡ t.0 = ap first' (e ∙ t.2) in
         let f = both_true _ _ w in
         let g = good v c t.0 T k' t.3 (seen_of v c t.0 T (record { from = T; known = k'; seen = sym same_first; to = refl })) f.0 in
         let h = all_good vs c t.1 Ts (all_right (is_known E) (mentions T) (mentions_of_all Ts) k) t.4 (ap types' (e ∙ t.2)) f.1 in
         ((g.0, h.0), and_true {a = holds Coloured false E (packed E (bare_value c v) T) T} {b = all_hold Coloured false E (all_packed E (bare_values c vs) Ts) Ts} g.1 h.1)
 
     -- each captured value in a term is of the type beside it
-    still : (e : Expr) (c : Home) (G : List Typ) (X : Typ) → Typed Coloured E e c G X → fits_term true (packed_term E (bare c e)) ≡ true → IsStill (IsOf E) (packed_term E (bare c e))
+    still : (e : Expr) (c : Home) (G : List Typ) (X : Typ) → Typed mode E e c G X → fits_term true (packed_term E (bare c e)) ≡ true → IsStill (IsOf E) (packed_term E (bare c e))
     still (Int n) c G X t w = tt
     still (Boolean b) c G X t w = tt
     still (Str s) c G X t w = tt
@@ -233,17 +240,17 @@ module _ (E : Environment) (coherent : IsCoherent E) where
     still (Val A v) c G X t w = good v c X A t.2 t.1 (seen_of v c X A (record { from = A; known = t.2; seen = t.0; to = refl })) (both_true _ _ w).1
     still (Bracket b A e) c G X t w = absurd (true≢false (sym w))
 
-    all_still : (es : Exprs) (c : Home) (G : List Typ) (Ts : Typs) → AllTyped Coloured E es c G Ts → fit_terms true (packed_terms E (bare_all c es)) ≡ true → AreStill (IsOf E) (packed_terms E (bare_all c es))
+    all_still : (es : Exprs) (c : Home) (G : List Typ) (Ts : Typs) → AllTyped mode E es c G Ts → fit_terms true (packed_terms E (bare_all c es)) ≡ true → AreStill (IsOf E) (packed_terms E (bare_all c es))
     all_still no_exprs c G Ts t w = tt
     all_still (expr e es) c G Ts t w = let p = both_true _ _ w in (still e c G t.0 t.3 p.0, all_still es c G t.1 t.4 p.1)
 
-    arms_still : (arms : Arms) (c : Home) (G : List Typ) (A X : Typ) → ArmsTyped Coloured E arms c G A X → fit_arms true (packed_arms E (bare_arms c arms)) ≡ true → StillArms (IsOf E) (packed_arms E (bare_arms c arms))
+    arms_still : (arms : Arms) (c : Home) (G : List Typ) (A X : Typ) → ArmsTyped mode E arms c G A X → fit_arms true (packed_arms E (bare_arms c arms)) ≡ true → StillArms (IsOf E) (packed_arms E (bare_arms c arms))
     arms_still no_arms c G A X t w = tt
     arms_still (arm p e rest) c G A X t w = let q = both_true _ _ w in (still e c _ X t.2 (both_true _ _ q.0).1, arms_still rest c G A X t.3 q.1)
 
   -- what a typed value is packed to can be packed, where it is within the bounds
-  pub packable : (v : Value) (c : Home) (T : Typ) → are_known E T ≡ true → ValueTyped Coloured E v c (view Coloured E c T) → fits_type false T ≡ true → is_small T ≡ true →
+  pub packable : (v : Value) (c : Home) (T : Typ) → are_known E T ≡ true → ValueTyped mode E v c (view mode E c T) → fits_type false T ≡ true → is_small T ≡ true →
       fits_value (packed E (bare_value c v) T) ≡ true → has_small_types (value_parts (packed E (bare_value c v) T)) ≡ true → IsPackable E T (packed E (bare_value c v) T)
   packable v c T k t a b w d =
-      let g = good v c (view Coloured E c T) T k t (seen_of v c (view Coloured E c T) T (of_type c T k)) w in
+      let g = good v c (view mode E c T) T k t (seen_of v c (view mode E c T) T (of_type c T k)) w in
       record { value_holds = g.1; type_known = k; type_fits = a; type_small = b; value_fits = w; small_types = d }

@@ -15,3 +15,6 @@ pub mod BarePacking
 pub mod BareReduction
 pub mod Typed
 pub mod Laws
+pub mod States
+pub mod Redexes
+pub mod ReadBack
