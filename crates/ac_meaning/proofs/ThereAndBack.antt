@@ -1,7 +1,7 @@
 -- A number is marshalled and unmarshalled again, in both reductions.
 use Rattle.std.proofs.Common.{◌≡◌, refl}
 use Rattle.std.specs.Prelude.{pos, false, [], ◌∷◌, None, codes}
-use Rattle.ac_types.specs.Types.{Typ, TInt, TStr, TFun}
+use Rattle.ac_types.specs.Types.{Bytes, Typ, TInt, TStr, TFun}
 use Rattle.ac_terms.specs.Terms.{Main, Expr, Int, Str, Var, Lam, App, Marshal, Unmarshal, VInt}
 use Rattle.ac_terms.specs.Defs.{Environment, AMark, Here}
 use Rattle.ac_rules.specs.Views.{Mode, Plain, Coloured}
@@ -10,7 +10,8 @@ use Rattle.ac_meaning.specs.Acts.{Returned, Raised, At, Over, iter}
 use Rattle.ac_meaning.specs.Reduction.{step}
 use Rattle.ac_meaning.specs.BareTerms.{bare, WInt}
 use Rattle.ac_meaning.specs.BareReduction as b
-use Rattle.ac_meaning.specs.Packing.{packing, landing, unmarshal_failure}
+use Rattle.ac_meaning.specs.ReadBack.{Marshals}
+use Rattle.ac_meaning.specs.Packing.{Packing, Refuses, Packs, packing, landing, unmarshal_failure}
 
 -- the mark M, and nothing else
 abbrev marked : Environment
@@ -19,6 +20,19 @@ marked = record { def = AMark (codes "M"); name = None; seen = Here; link = None
 -- `unmarshal (marshal "M" (7 : int)) as int`
 abbrev seven : Expr
 seven = Unmarshal TInt (Marshal TInt (Str (codes "M")) (Int (pos 7)))
+
+-- the string of the 7
+abbrev sent : Packing → Bytes
+sent (Refuses x) = []
+sent (Packs s) = s
+
+seven_sent : Bytes
+seven_sent = sent (packing (fresh marked [] false) Main TInt (codes "M") (WInt (pos 7)))
+
+-- marshal is next in it, and gives the string
+marshals_seven : (mode : Mode) → Marshals mode (fresh marked [] false) seven TInt seven_sent
+unfolding packing seven_sent
+marshals_seven mode = record { home = Main; mark = Str (codes "M"); packed = Int (pos 7); is_next = refl; gives = refl }
 
 there_and_back : (mode : Mode) → iter (step mode 0) 3 (At seven (fresh marked [] false)) ≡ Over (Returned (VInt (pos 7)) (fresh marked [] false))
 unfolding packing landing

@@ -2,6 +2,7 @@
 //! environments, plain values, needed definitions and accepted packets. They stand in `specs/`.
 #![tactic(auto)]
 
+pub mod laws;
 mod loaded;
 mod reps;
 

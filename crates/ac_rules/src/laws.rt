@@ -1,0 +1,47 @@
+//! What holds of packets: what is accepted keeps everything, what is packed is accepted again, and what an import links to rests on no entry that has arrived.
+
+ghost use Rattle.std.specs.Prelude.{◌≡◌, ℕ, false, ◌++◌, None, Some, IsTrue, is_none, nat_le};
+ghost use Rattle.std.specs.List.{list_all};
+ghost use Rattle.sha2.specs.Sha256.{sha256};
+ghost use Rattle.ac_types.specs.Types.{Bytes, Typ};
+ghost use Rattle.ac_terms.specs.Terms.{PValue};
+ghost use Rattle.ac_terms.specs.Defs.{Environment, Entry, Import, Packet};
+ghost use Rattle.ac_terms.specs.Nesting.{value_nesting};
+ghost use Rattle.ac_terms.specs.Bounds.{fits_packet, Spells};
+ghost use Rattle.ac_rules.specs.Links.{has_arrived, is_exact, linked, InPacket};
+ghost use Rattle.ac_rules.specs.Coherent.{IsCoherent, mark_of};
+ghost use Rattle.ac_rules.specs.Typing.{Holds};
+ghost use Rattle.ac_rules.specs.Needed.{mark_at, packet_for};
+ghost use Rattle.ac_rules.specs.Packets.{cause, Accepts};
+ghost use Rattle.ac_rules.specs.Faults.{AString, marshalled};
+ghost use Rattle.ac_rules.specs.RoundTrip.{IsPackable, IsExcused};
+ghost use Rattle.ac_rules.specs.Widened.{Widens, IsKept};
+
+/// A string spells at most one packet.
+pub fn one_spelling()
+    ensures { (bytes : Bytes) (p q : Packet) → Spells bytes p → Spells bytes q → p ≡ q }
+{}
+
+/// Where a packet is accepted, the definitions stay coherent; what they have more has arrived and is no mark; the value is one of the type over them, and can be packed there.
+pub fn arrival()
+    ensures coherent { (E : Environment) (p : Packet) (T : Typ) (F : Environment) (v : PValue) → IsCoherent E → IsTrue (fits_packet p) → Accepts E p T F v → IsCoherent F }
+    ensures longer { (E : Environment) (p : Packet) (T : Typ) (F : Environment) (v : PValue) → IsCoherent E → IsTrue (fits_packet p) → Accepts E p T F v → (more : Environment) × (F ≡ E ++ more) × IsTrue (list_all (λ (e : Entry). has_arrived e.seen) more) × IsTrue (list_all (λ (e : Entry). is_none (mark_of e)) more) }
+    ensures value { (E : Environment) (p : Packet) (T : Typ) (F : Environment) (v : PValue) → IsCoherent E → IsTrue (fits_packet p) → Accepts E p T F v → Holds F v T }
+    ensures packable { (E : Environment) (p : Packet) (T : Typ) (F : Environment) (v : PValue) → IsCoherent E → IsTrue (fits_packet p) → Accepts E p T F v → IsPackable F T v × IsTrue (nat_le (value_nesting v) 500) }
+{}
+
+/// What is packed is accepted where it was packed, or refused for want of room or of a link alone; and a string that marshal gives of it spells its packet.
+pub fn round_trip()
+    ensures accepted { (E : Environment) (mark : ℕ) (T : Typ) (v : PValue) → IsCoherent E → IsPackable E T v → IsExcused (cause sha256 E (packet_for E mark T v) T) }
+    ensures spelled { (E : Environment) (mark : Bytes) (T : Typ) (v : PValue) (s : Bytes) → IsCoherent E → IsPackable E T v → marshalled E mark T v ≡ AString s → (m : ℕ) × (mark_at E mark ≡ Some m) × Spells s (packet_for E m T v) }
+{}
+
+/// In two environments that differ in arrived entries alone an import by version of a packet links to the same.
+pub fn rebinding()
+    ensures { (E xs ys : Environment) (i : Import) → IsTrue (list_all (λ (e : Entry). has_arrived e.seen) xs) → IsTrue (list_all (λ (e : Entry). has_arrived e.seen) ys) → is_exact i.constraint ≡ false → linked (E ++ xs) i InPacket ≡ linked (E ++ ys) i InPacket }
+{}
+
+/// A packet that is accepted is accepted with further own entries too, or refused for a clash or for want of room alone.
+pub fn rebinding_own()
+    ensures { (E F : Environment) (p : Packet) (T : Typ) → Widens E F → IsCoherent E → IsCoherent F → IsTrue (fits_packet p) → cause sha256 E p T ≡ None → IsKept (cause sha256 F p T) }
+{}
