@@ -1,10 +1,9 @@
 -- In each state of a run what is marshalled is read again.
-use Rattle.std.proofs.Common.{◌≡◌, refl, sym, ap, ◌∙◌, subst, ℕ, zero, suc, ◌+◌, ◌≤◌, Bool, true, false, List, [], ◌∷◌, ◌++◌, length, Option, Some, None}
+use Rattle.std.proofs.Common.{◌≡◌, refl, ap, subst, ℕ, zero, suc, Bool, true, false, [], Option, Some, None}
 use Rattle.std.specs.Prelude.{IsTrue}
 use native.Mathlib.Omega.{arith}
-use Rattle.ac_types.proofs.FirstLaws.{some_eq}
 use Rattle.ac_types.specs.First.{or_else}
-use Rattle.ac_types.specs.Types.{Bytes, Typ, TStr, TExn, TBool, TFun, TList, Typs, is_small}
+use Rattle.ac_types.specs.Types.{Bytes, Typ, TStr, TExn, TBool, TFun, TList, Typs}
 use Rattle.ac_terms.specs.Terms.{Home, Main, Expr, Int, Boolean, Str, Unit', Exn, ExnOf, Tuple, Nil, Empty, Present, Cons, Var, Own, Ref, Lam, Rec, App, Let, If, Seq, Match, Try, Raise, Prim, Marshal, Unmarshal, Packed, Val, Bracket, Exprs, no_exprs, expr, PValue, Value, VStr}
 use Rattle.ac_terms.specs.Defs.{Environment}
 use Rattle.ac_terms.specs.Spelling.{two}
@@ -13,7 +12,7 @@ use Rattle.ac_terms.specs.Heads.{type_heads, value_heads, packed_heads}
 use Rattle.ac_rules.specs.Views.{Mode, Coloured}
 use Rattle.ac_rules.specs.Typing.{all_of, is_function}
 use Rattle.ac_rules.specs.Needed.{mark_at}
-use Rattle.ac_rules.specs.Faults.{Fault, Marshalled, NoString, AString, first_fault, behind, cut_at, marshalled}
+use Rattle.ac_rules.specs.Faults.{Fault, AString, first_fault, behind, cut_at, marshalled}
 use Rattle.ac_rules.specs.Coherent.{IsCoherent}
 use Rattle.ac_rules.proofs.FaultLaws.{none_fails}
 use Rattle.ac_meaning.specs.Worlds.{World, fresh}
@@ -21,7 +20,7 @@ use Rattle.ac_meaning.specs.Acts.{Act, Is, Goes, Turns, Applies, Raises, Wrong, 
 use Rattle.ac_meaning.specs.Growth.{Grows}
 use Rattle.ac_meaning.specs.BareTerms.{bare_value}
 use Rattle.ac_meaning.specs.BarePacking.{packed}
-use Rattle.ac_meaning.specs.Packing.{Packing, Refuses, Packs, packs, packing, answer, landing, marshal_step}
+use Rattle.ac_meaning.specs.Packing.{Packing, Refuses, Packs, packs, packing, landing, marshal_step}
 use Rattle.ac_meaning.specs.Reduction.{look, step}
 use Rattle.ac_meaning.specs.Laws.{IsTypedProgram}
 use Rattle.ac_meaning.specs.Typed.{IsHome, Typed, AllTyped, ValueTyped, seen, Known}
@@ -36,7 +35,6 @@ use Rattle.ac_meaning.proofs.Admitted.{arrives}
 use Rattle.ac_meaning.proofs.Kept.{ActOk, kept, typing_kept}
 use Rattle.ac_meaning.proofs.PackedHolds.{packable}
 use Rattle.ac_meaning.proofs.ReadBack.{a_string, read_back_later}
-use Rattle.ac_meaning.proofs.Sources.{fits_source}
 use Rattle.ac_meaning.proofs.Within.{TypeFits, Within, AllWithin, ValueWithin, ActWithin}
 use Rattle.ac_meaning.proofs.WithinLaws.{loosened}
 use Rattle.ac_meaning.proofs.WithinSteps.{StateWithin, kept_within, within_kept}
