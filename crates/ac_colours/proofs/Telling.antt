@@ -11,7 +11,7 @@ use Rattle.ac_rules.specs.Views.{Plain, Coloured, bare, view, head, opened, is_k
 use Rattle.ac_rules.specs.Typing.{tuple_parts, list_item, option_item}
 use Rattle.ac_rules.specs.Plain.{where_there, in_front, packed, all_packed, all_travel, plain}
 use Rattle.ac_rules.specs.Coherent.{IsCoherent}
-use Rattle.ac_rules.proofs.EarlierLaws.{all_left, all_right}
+use Rattle.ac_terms.proofs.AllLaws.{all_left, all_right}
 use Rattle.ac_meaning.specs.Growth.{Extends}
 use Rattle.ac_meaning.specs.Typed.{seen, ValueTyped, ValuesTyped}
 use Rattle.ac_rules.proofs.KnownTypes.{head_known, opened_known}

@@ -17,7 +17,8 @@ use Rattle.ac_rules.specs.Views.{Mode, Plain, Coloured, view, type_of_entry, rep
 use Rattle.ac_rules.specs.Typing.{Scope, bind, bind_all, all_of, HasType, type_of, seen, holds, all_hold, each_holds, tuple_parts, list_item, option_item, is_function, is_function_home, is_home, types_of, arm_types, variables, variables_of_all, are_all, one_of, a_list, an_option, value_in}
 use Rattle.ac_rules.specs.Coherent.{IsCoherent}
 use Rattle.ac_rules.proofs.Rules.{then_some, rule-Int, rule-Boolean, rule-Str, rule-Unit, rule-Exn, rule-ExnOf, rule-Tuple, rule-expr, rule-Nil, rule-Empty, rule-Present, rule-Cons, rule-Var, rule-Own, rule-Ref, rule-Lam, rule-App, rule-If, rule-Let, rule-Rec, rule-Seq, rule-Match, rule-Try, rule-Raise, rule-Prim, rule-Marshal, rule-Unmarshal, rule-Packed}
-use Rattle.ac_rules.proofs.EarlierLaws.{found_keeps, all_left, all_right}
+use Rattle.ac_rules.proofs.EarlierLaws.{found_keeps}
+use Rattle.ac_terms.proofs.AllLaws.{all_left, all_right}
 use Rattle.ac_rules.proofs.BareLaws.{known_has}
 use Rattle.ac_meaning.proofs.Somes.{has_some, agree_some, also_some, joined_some, function_home}
 use Rattle.ac_meaning.specs.Laws.{is_source, are_source, arms_are_source}

@@ -23,8 +23,10 @@ use Rattle.ac_rules.specs.Modules.{inside, covers_type, field_named, covers_val,
 use Rattle.ac_rules.specs.Coherent.{IsCoherent, link_at}
 use Rattle.ac_version.specs.Versions.{fit}
 use Rattle.ac_rules.proofs.Rules.{map_some, then_some}
-use Rattle.ac_rules.proofs.EarlierLaws.{position-first, position-later, known_earlier, found_keeps, all_left, all_right, AllPass, pass_left, pass_right, pass_under}
-use Rattle.ac_rules.proofs.ViewLaws.{or_none, or_none_left, exact_keeps, keeps_name, exact_not_least, all_implies, foreign_view}
+use Rattle.ac_rules.proofs.EarlierLaws.{position-first, position-later, known_earlier, found_keeps}
+use Rattle.ac_rules.proofs.PartLaws.{AllPass, pass_left, pass_right, pass_under}
+use Rattle.ac_terms.proofs.AllLaws.{all_left, all_right, all_implies}
+use Rattle.ac_rules.proofs.ViewLaws.{or_none, or_none_left, exact_keeps, keeps_name, exact_not_least, foreign_view}
 use Rattle.ac_rules.proofs.BareLaws.{known_has}
 use Rattle.ac_meaning.proofs.Somes.{has_some, agree_some, module_is, all_join}
 use Rattle.ac_meaning.specs.References.{module_behind, field_number, target, is_by_version, Once, Twice, through, seen_inside, route}

@@ -19,7 +19,7 @@ use Rattle.ac_rules.specs.Typing.{is_function, is_function_home, all_of, tuple_p
 use Rattle.ac_rules.specs.Plain.{stays, where_there, in_front, may_travel, travelling}
 use Rattle.ac_rules.specs.Coherent.{IsCoherent}
 use Rattle.ac_rules.specs.RoundTrip.{IsPackable}
-use Rattle.ac_rules.proofs.EarlierLaws.{all_left, all_right}
+use Rattle.ac_terms.proofs.AllLaws.{all_left, all_right}
 use Rattle.ac_rules.proofs.KnownTypes.{head_known}
 use Rattle.ac_rules.proofs.Carried.{IsStill, AreStill, StillArms, HasStill, AllHaveStill}
 use Rattle.ac_rules.proofs.Trust.{IsOf, trusted}

@@ -1,4 +1,4 @@
--- In a coherent environment a representation speaks of earlier names alone.
+-- The least entry of a name, and the first item of a list that passes.
 use Rattle.std.proofs.Common.{◌≡◌, refl, sym, ap, ◌∙◌, subst, ℕ, zero, suc, ◌+◌, ◌<◌, Bool, true, false, not, cond, nat_lt, ◌&&◌, List, [], ◌∷◌, ◌++◌, length, map, Some, None, take}
 use Rattle.std.specs.Prelude.{position, option_map, slice_get, ◌||◌}
 use Rattle.std.specs.Option.{option_map_or}
@@ -85,48 +85,3 @@ least (e ∷ es) n i k h lt = by (least es n) (keeps n e) refl k lt
         let q = map_some suc (find_name es n) i (sym (position-later (keeps n) e es p) ∙ h) in
         let z : suc q.0 ≡ i = q.2 in
         more q.0 m q.1 (omega arith)
-
--- what passes in two lists together passes in each
-pub all_left : {A : Type 0} (p : A → Bool) (xs ys : List A) → list_all p (xs ++ ys) ≡ true → list_all p xs ≡ true
-all_left p [] ys h = refl
-all_left p (x ∷ xs) ys h =
-    let q = both_true (p x) (list_all p (xs ++ ys)) h in
-    and_true {a = p x} {b = list_all p xs} q.0 (all_left p xs ys q.1)
-
-pub all_right : {A : Type 0} (p : A → Bool) (xs ys : List A) → list_all p (xs ++ ys) ≡ true → list_all p ys ≡ true
-all_right p [] ys h = h
-all_right p (x ∷ xs) ys h = all_right p xs ys (both_true (p x) (list_all p (xs ++ ys)) h).1
-
-module _ (p : Bytes × Bytes → Bool) where
-  abbrev pub AllPass : List Part → Type 0
-  AllPass ps = list_all p (part_mentions ps) ≡ true
-
-  pub pass_right : (ps qs : List Part) → AllPass (ps ++ qs) → AllPass qs
-  pass_right [] qs h = h
-  pass_right (OfType T ∷ ps) qs h = pass_right ps qs (all_right p (mentions T) (part_mentions (ps ++ qs)) h)
-  pass_right (OfRef j x ∷ ps) qs h = pass_right ps qs h
-  pass_right (OfHome c ∷ ps) qs h = pass_right ps qs h
-  pass_right (Captured ∷ ps) qs h = pass_right ps qs h
-
-  pub pass_left : (ps qs : List Part) → AllPass (ps ++ qs) → AllPass ps
-  pass_left [] qs h = refl
-  pass_left (OfType T ∷ ps) qs h = join (mentions T) (part_mentions ps) (all_left p (mentions T) (part_mentions (ps ++ qs)) h) (pass_left ps qs (all_right p (mentions T) (part_mentions (ps ++ qs)) h))
-    where
-      join : (xs ys : List (Bytes × Bytes)) → list_all p xs ≡ true → list_all p ys ≡ true → list_all p (xs ++ ys) ≡ true
-      join [] ys a b = b
-      join (x ∷ xs) ys a b = let q = both_true (p x) (list_all p xs) a in and_true {a = p x} {b = list_all p (xs ++ ys)} q.0 (join xs ys q.1 b)
-  pass_left (OfRef j x ∷ ps) qs h = pass_left ps qs h
-  pass_left (OfHome c ∷ ps) qs h = pass_left ps qs h
-  pass_left (Captured ∷ ps) qs h = pass_left ps qs h
-
-  -- the type under a name is one of the list's
-  pub pass_under : (xs : List Typed_name) (t : Bytes) (R : Typ) → AllPass (map (λ (x : Typed_name). OfType x.ty) xs) → under t xs ≡ Some R → list_all p (mentions R) ≡ true
-  pass_under [] t R h e = absurd (none≢some e)
-  pass_under (x ∷ xs) t R h e = by (pass_under xs t R) (same_bytes x.name t) e
-    where
-      types : List Part
-      types = map (λ (y : Typed_name). OfType y.ty) xs
-
-      by : (AllPass types → under t xs ≡ Some R → list_all p (mentions R) ≡ true) → (b : Bool) → elim b [ true ↦ Some x.ty | false ↦ under t xs ] ≡ Some R → list_all p (mentions R) ≡ true
-      by more true q = subst (λ T. list_all p (mentions T) ≡ true) (some_eq q) (all_left p (mentions x.ty) (part_mentions types) h)
-      by more false q = more (all_right p (mentions x.ty) (part_mentions types) h) q

@@ -19,7 +19,9 @@ use Rattle.ac_rules.specs.Views.{Coloured, is_known, representation, type_of_ent
 use Rattle.ac_rules.specs.Links.{MayLink, Link_fault, fault_at, conditions, fails}
 use Rattle.ac_rules.specs.Coherent.{IsCoherent}
 use Rattle.ac_rules.proofs.Rules.{then_some}
-use Rattle.ac_rules.proofs.EarlierLaws.{known_earlier, found_keeps, least, all_left, all_right, pass_left, pass_right, pass_under}
+use Rattle.ac_rules.proofs.EarlierLaws.{known_earlier, found_keeps, least}
+use Rattle.ac_rules.proofs.PartLaws.{pass_left, pass_right, pass_under}
+use Rattle.ac_terms.proofs.AllLaws.{all_left, all_right}
 
 -- where the first of some is none, each is none
 pub or_none : {A : Type 0} (a b : Option A) → or_else a b ≡ None → b ≡ None
@@ -107,13 +109,6 @@ module _ (E : Environment) (coherent : IsCoherent E) where
       ap (option_and_then (λ a. option_and_then (λ (x : Entry). type_of_entry E t x.def x.link) (slice_get E a))) (sym f) ∙ h in
       let r : type_of_entry E t e.def e.link ≡ Some R = ap (option_and_then (λ (x : Entry). type_of_entry E t x.def x.link)) (sym k.1) ∙ at in
       type_known n t i e R f k.1 k.2 e.def e.link refl refl r
-
--- each that passes one test passes another
-pub all_implies : {A : Type 0} (p q : A → Bool) → ((x : A) → p x ≡ true → q x ≡ true) → (xs : List A) → list_all p xs ≡ true → list_all q xs ≡ true
-all_implies p q f [] h = refl
-all_implies p q f (x ∷ xs) h =
-    let r = both_true (p x) (list_all p xs) h in
-    and_true {a = q x} {b = list_all q xs} (f x r.0) (all_implies p q f xs r.1)
 
 not_true : (b : Bool) → not b ≡ true → b ≡ false
 not_true true e = absurd (true≢false (sym e))
