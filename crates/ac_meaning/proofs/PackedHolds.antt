@@ -26,7 +26,7 @@ use Rattle.ac_rules.proofs.Trust.{IsOf, trusted}
 use Rattle.ac_rules.proofs.HeadViews.{at_head, head_seen, int_at, bool_at, str_at, unit_at, exn_at, tuple_at, list_at, option_at}
 use Rattle.ac_meaning.specs.BareTerms.{bare, bare_all, bare_arms, WTuple, WPresent, bare_value, bare_values}
 use Rattle.ac_meaning.specs.BarePacking.{packed, all_packed, packed_term, packed_terms, packed_arms}
-use Rattle.ac_meaning.proofs.Somes.{agree_some}
+use Rattle.ac_rules.proofs.Rules.{agree_some}
 use Rattle.ac_meaning.specs.Typed.{Typed, AllTyped, ArmsTyped, ValueTyped, ValuesTyped}
 
 four_less : (n : ℕ) → is_four (suc n) ≡ true → is_four n ≡ true

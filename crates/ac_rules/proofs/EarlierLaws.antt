@@ -1,12 +1,12 @@
 -- The least entry of a name, and the first item of a list that passes.
-use Rattle.std.proofs.Common.{◌≡◌, refl, sym, ap, ◌∙◌, subst, ℕ, zero, suc, ◌+◌, ◌<◌, Bool, true, false, not, cond, nat_lt, ◌&&◌, List, [], ◌∷◌, ◌++◌, length, map, Some, None, take}
+use Rattle.std.proofs.Common.{◌≡◌, refl, sym, ap, ◌∙◌, subst, ℕ, zero, suc, ◌+◌, ◌<◌, Bool, true, false, not, cond, nat_lt, ◌&&◌, List, [], ◌∷◌, ◌++◌, length, map, Some, None, take, Option}
 use Rattle.std.specs.Prelude.{position, option_map, slice_get, ◌||◌}
 use Rattle.std.specs.Option.{option_map_or}
 use Rattle.std.specs.List.{list_all, position_or_len}
 use Rattle.std.proofs.lemmas.Bool.Decides.{nat_tests}
 use mathlib.Core.Bool.{true≢false}
 use native.Mathlib.Omega.{arith}
-use Rattle.ac_types.proofs.Same.{both_true, and_true}
+use Rattle.ac_types.proofs.Same.{both_true, and_true, bytes_eq}
 use Rattle.ac_types.proofs.FirstLaws.{none≢some, some_eq}
 use Rattle.ac_types.specs.Types.{Bytes, Typ, mentions, same_bytes}
 use Rattle.ac_types.specs.Sigs.{Typed_name, Signature, under, type_under, is_abstract}
@@ -36,6 +36,22 @@ position-later p x xs e =
     by : (k n : ℕ) (b : Bool) → nat_lt k n ≡ b → cond (nat_lt (1 + k) (suc n)) (Some (1 + k)) None ≡ option_map suc (cond (nat_lt k n) (Some k) None)
     by k n true e = ap (λ b. cond b (Some (1 + k)) None) (lt-suc k n true e) ∙ ap Some (omega arith) ∙ ap (λ b. option_map suc (cond b (Some k) None)) (sym e)
     by k n false e = ap (λ b. cond b (Some (1 + k)) None) (lt-suc k n false e) ∙ ap (λ b. option_map suc (cond b (Some k) None)) (sym e)
+
+pub no_first : {A : Type 0} (p : A → Bool) (x : A) (xs : List A) → position p (x ∷ xs) ≡ None → (p x ≡ false) × (position p xs ≡ None)
+no_first p x xs e = by (p x) refl
+  where
+    no_suc : (o : Option ℕ) → option_map suc o ≡ None → o ≡ None
+    no_suc None q = refl
+    no_suc (Some k) q = absurd (none≢some (sym q))
+
+    by : (b : Bool) → p x ≡ b → (p x ≡ false) × (position p xs ≡ None)
+    by true q = absurd (none≢some (sym e ∙ position-first p x xs q))
+    by false q = (q, no_suc (position p xs) (sym (position-later p x xs q) ∙ e))
+
+-- a name that is kept
+pub names_some : (o : Option Bytes) (n : Bytes) → names o n ≡ true → o ≡ Some n
+names_some None n e = absurd (true≢false (sym e))
+names_some (Some a) n e = ap Some (bytes_eq a n e)
 
 -- whether an entry keeps the name
 abbrev keeps : Bytes → Entry → Bool
