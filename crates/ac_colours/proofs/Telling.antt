@@ -11,11 +11,11 @@ use Rattle.ac_rules.specs.Views.{Plain, Coloured, bare, view, head, opened, is_k
 use Rattle.ac_rules.specs.Typing.{tuple_parts, list_item, option_item}
 use Rattle.ac_rules.specs.Plain.{where_there, in_front, packed, all_packed, all_travel, plain}
 use Rattle.ac_rules.specs.Coherent.{IsCoherent}
-use Rattle.ac_rules.proofs.EarlierLaws.{all_left, all_right}
-use Rattle.ac_meaning.specs.Growth.{Extends}
+use Rattle.ac_terms.proofs.AllLaws.{all_left, all_right}
+use Rattle.ac_rules.specs.Growth.{Extends}
 use Rattle.ac_meaning.specs.Typed.{seen, ValueTyped, ValuesTyped}
 use Rattle.ac_rules.proofs.KnownTypes.{head_known, opened_known}
-use Rattle.ac_meaning.proofs.Growth.{head_same, opened_same, bare_same}
+use Rattle.ac_rules.proofs.Growth.{head_same, opened_same, bare_same}
 use Rattle.ac_meaning.proofs.Homes.{all_seen, seen_tuple, seen_list, seen_opt, seen_fun, view_again}
 use Rattle.ac_colours.proofs.SealsLaw.{and_left}
 use Rattle.ac_colours.specs.Births.{seal, Birth, told}

@@ -7,7 +7,7 @@ use Rattle.ac_rules.specs.Views.{Mode, view, are_known}
 use Rattle.ac_rules.specs.Typing.{is_home}
 use Rattle.ac_rules.specs.Coherent.{IsCoherent}
 use Rattle.ac_meaning.specs.Worlds.{World}
-use Rattle.ac_meaning.specs.Growth.{Grows}
+use Rattle.ac_rules.specs.Growth.{Grows}
 use Rattle.ac_meaning.specs.Packing.{Brings, arrival}
 use Rattle.ac_meaning.specs.BareTerms.{BareValue, bare_value}
 use Rattle.ac_meaning.specs.Typed.{ValueTyped}

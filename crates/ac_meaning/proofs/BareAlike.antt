@@ -7,9 +7,9 @@ use Rattle.ac_types.specs.Types.{Bytes, Typ, TInt, TBool, TStr, TUnit, TExn, TTu
 use Rattle.ac_terms.specs.Terms.{Home, Pattern, PWild, PVar, PInt, PBool, PStr, PUnit, PTuple, PNil, PCons, PAbsent, PPresent, PExn, PExnOf, Patterns, no_patterns, pattern', Expr, Int, Boolean, Str, Unit', Exn, ExnOf, Tuple, Nil, Empty, Present, Cons, Var, Own, Ref, Lam, Rec, App, Let, If, Seq, Match, Try, Raise, Prim, Marshal, Unmarshal, Packed, Val, Bracket, Exprs, no_exprs, expr, Arms, no_arms, arm, Value, VStr, VExn, VNil, VCons, VAbsent, VPresent, VLam, VRec, VProxy, Values, no_values, value}
 use Rattle.ac_terms.specs.Defs.{Environment}
 use Rattle.ac_rules.specs.Views.{Mode, is_known}
-use Rattle.ac_meaning.proofs.Somes.{all_join}
+use Rattle.ac_terms.proofs.AllLaws.{all_append}
 use Rattle.ac_meaning.specs.Worlds.{Exception, World, match_failure, counted, grown}
-use Rattle.ac_meaning.specs.Growth.{Grows}
+use Rattle.ac_rules.specs.Growth.{Grows}
 use Rattle.ac_meaning.specs.Packing.{Packing, Refuses, Packs, Arrival, Unfit, Brings, packing, arrival}
 use Rattle.ac_meaning.specs.Substitution.{Written}
 use Rattle.ac_meaning.specs.Matching.{fit, fit_all}
@@ -181,7 +181,7 @@ module _ (arrives : Arrives) (mode : Mode) where
         let d = h.0 in
         let a : A ≡ sees z c S = cc in
         let self = VRec S R e in
-        let both : Known mode z.environment (TFun S R) = all_join (is_known z.environment) (mentions S) (mentions R) h.2 h.3 in
+        let both : Known mode z.environment (TFun S R) = all_append (is_known z.environment) (mentions S) (mentions R) h.2 h.3 in
         let two : WrittenTyped mode z.environment ((S, w) ∷ (TFun S R, self) ∷ []) c (sees z c S ∷ TFun (sees z c S) (sees z c R) ∷ []) =
         (TFun (sees z c S) (sees z c R) ∷ [], refl, subst (λ X. Of mode c X z.environment w) a k, ([], ap (λ X. X ∷ []) (sym (seen_fun z.environment mode c S R)), (seen_fun z.environment mode c S R, h.1, h.2, h.3), refl, both), h.2) in
         allowed (nat_lt z.made N) c _ _ z (same e c (sees z c S ∷ TFun (sees z c S) (sees z c R) ∷ []) (sees z c R) ((S, w) ∷ (TFun S R, self) ∷ []) (counted z) i two h.1)

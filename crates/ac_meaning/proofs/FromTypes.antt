@@ -16,15 +16,14 @@ use Rattle.ac_terms.specs.Typing.{last_of}
 use Rattle.ac_rules.specs.Views.{Mode, Plain, Coloured, view, type_of_entry, representation, opened, unsealed, head, rounds, has_name, opens, is_known, are_known}
 use Rattle.ac_rules.specs.Typing.{Scope, bind, bind_all, all_of, HasType, type_of, seen, holds, all_hold, each_holds, tuple_parts, list_item, option_item, is_function, is_function_home, is_home, types_of, arm_types, variables, variables_of_all, are_all, one_of, a_list, an_option, value_in}
 use Rattle.ac_rules.specs.Coherent.{IsCoherent}
-use Rattle.ac_rules.proofs.Rules.{then_some, rule-Int, rule-Boolean, rule-Str, rule-Unit, rule-Exn, rule-ExnOf, rule-Tuple, rule-expr, rule-Nil, rule-Empty, rule-Present, rule-Cons, rule-Var, rule-Own, rule-Ref, rule-Lam, rule-App, rule-If, rule-Let, rule-Rec, rule-Seq, rule-Match, rule-Try, rule-Raise, rule-Prim, rule-Marshal, rule-Unmarshal, rule-Packed}
-use Rattle.ac_rules.proofs.EarlierLaws.{found_keeps, all_left, all_right}
+use Rattle.ac_rules.proofs.Rules.{then_some, rule-Int, rule-Boolean, rule-Str, rule-Unit, rule-Exn, rule-ExnOf, rule-Tuple, rule-expr, rule-Nil, rule-Empty, rule-Present, rule-Cons, rule-Var, rule-Own, rule-Ref, rule-Lam, rule-App, rule-If, rule-Let, rule-Rec, rule-Seq, rule-Match, rule-Try, rule-Raise, rule-Prim, rule-Marshal, rule-Unmarshal, rule-Packed, has_some, agree_some, also_some, joined_some, function_home}
+use Rattle.ac_rules.proofs.EarlierLaws.{found_keeps}
+use Rattle.ac_terms.proofs.AllLaws.{all_left, all_right}
 use Rattle.ac_rules.proofs.BareLaws.{known_has}
-use Rattle.ac_meaning.proofs.Somes.{has_some, agree_some, also_some, joined_some, function_home}
 use Rattle.ac_meaning.specs.Laws.{is_source, are_source, arms_are_source}
 use Rattle.ac_meaning.specs.Rebuilding.{parts_of, item_of, argument_of, result_of, home_at, home_of, at_abstract, sealed, rebuilt, all_rebuilt, list_rebuilt, rebuilt_term, rebuilt_terms, rebuilt_arms}
 use Rattle.ac_meaning.proofs.Sources.{left, middle}
-use Rattle.ac_rules.proofs.KnownTypes.{opened_known, head_known}
-use Rattle.ac_meaning.proofs.Growth.{rounds_still}
+use Rattle.ac_rules.proofs.KnownTypes.{opened_known, head_known, rounds_still}
 use Rattle.ac_meaning.specs.Typed.{own_type, IsHome, IsLast, Fits, AllFit, Typed, AllTyped, ArmsTyped, ValueTyped, ValuesTyped}
 use Rattle.ac_meaning.proofs.Homes.{all_seen, seen_tuple, seen_list, seen_opt, seen_fun, seen_int, seen_bool, seen_str, seen_unit, seen_exn, view_shut, view_open, opened_is, lower, all_lower, lower_tuple, lower_list, lower_opt, lower_fun, lower_int, lower_bool, lower_str, lower_unit, lower_exn, lower_seen}
 

@@ -9,22 +9,14 @@ use Rattle.ac_rules.specs.Views.{Mode, Coloured}
 use Rattle.ac_rules.specs.Typing.{value_in, outside}
 use Rattle.ac_rules.proofs.Rules.{map_some, then_some}
 use Rattle.ac_meaning.specs.Substitution.{Written}
-use Rattle.ac_meaning.specs.Growth.{Extends}
+use Rattle.ac_rules.specs.Growth.{Extends}
 use Rattle.ac_meaning.specs.Typed.{own_type, seen, Known, IsHome, Fits, AllFit, Typed, AllTyped, ArmsTyped, ValueTyped, ValuesTyped, WrittenTyped}
 use Rattle.ac_meaning.proofs.KnownNames.{known_types}
-use Rattle.ac_meaning.proofs.Growth.{signature_more, name_more, known_more, home_more, opens_same, fields_same, view_same}
+use Rattle.ac_rules.proofs.Growth.{signature_more, name_more, known_more, home_more, opens_same, fields_same, view_same, value_more}
 
 module _ (E F : Environment) (g : Extends E F) where
   pub own_same : (c : Home) (f : ℕ) (A : Typ) → IsHome Coloured E c → own_type E c f ≡ Some A → own_type F c f ≡ Some A
   own_same c f A h e = ap (λ fs. option_map (λ (x : Field). x.ty) (slice_get fs f)) (fields_same E F g c h) ∙ e
-
-  pub value_more : (j : ℕ) (x : Bytes) (A : Typ) → value_in E j x ≡ Some A → value_in F j x ≡ Some A
-  value_more j x A e =
-      let a = then_some (λ T. outside E j T) (option_and_then (λ (s : Signature). under x s.vals) (signature_at E j)) A e in
-      let b = then_some (λ (s : Signature). under x s.vals) (signature_at E j) a.0 a.1 in
-      let n = map_some (λ n. with_mine (TAbs n) a.0) (name_at E j) A a.2 in
-      ap (λ o. option_and_then (λ T. outside F j T) (option_and_then (λ (s : Signature). under x s.vals) o)) (signature_more E F g j b.0 b.1) ∙
-      ap (option_and_then (λ T. outside F j T)) b.2 ∙ ap (option_map (λ n. with_mine (TAbs n) a.0)) (name_more E F g j n.0 n.1) ∙ ap Some n.2
 
 module _ (mode : Mode) (E F : Environment) (g : Extends E F) where
   -- what is seen

@@ -13,9 +13,9 @@ use Rattle.ac_code.specs.Constants.{Const, CInt, CBool, CStr, CUnit, CPart, Answ
 use Rattle.ac_rules.specs.Views.{Mode, Coloured, opens, representation, view, is_known}
 use Rattle.ac_rules.specs.Typing.{all_of, fields_of}
 use Rattle.ac_rules.specs.Coherent.{IsCoherent}
-use Rattle.ac_rules.proofs.EarlierLaws.{all_left, all_right}
+use Rattle.ac_terms.proofs.AllLaws.{all_left, all_right, all_append}
 use Rattle.ac_meaning.specs.Worlds.{Exception, World, match_failure, counted, fresh}
-use Rattle.ac_meaning.specs.Growth.{Grows}
+use Rattle.ac_rules.specs.Growth.{Grows}
 use Rattle.ac_meaning.specs.Frames.{Frame, Whole, Bad, AtEnd, next_frame}
 use Rattle.ac_meaning.specs.Acts.{Act, Is, Goes, Turns, Applies, Raises, Wrong, becomes, or_raises, within, part, Spent, State, At, Over, after}
 use Rattle.ac_meaning.specs.Substitution.{Written, inst}
@@ -28,9 +28,8 @@ use Rattle.ac_meaning.specs.BareTerms.{bare_value}
 use Rattle.ac_meaning.specs.Reduction.{apply, branch, look, look_all, look_main, step}
 use Rattle.ac_meaning.specs.Laws.{IsTypedProgram}
 use Rattle.ac_meaning.specs.Typed.{seen, Known, IsHome, IsLast, own_type, Fits, Typed, AllTyped, ArmsTyped, ValueTyped, ValuesTyped, WrittenTyped}
-use Rattle.ac_meaning.proofs.Somes.{all_join}
 use Rattle.ac_meaning.proofs.Arrivals.{Arrives}
-use Rattle.ac_meaning.proofs.Growth.{grows_not, known_more, home_more, view_same}
+use Rattle.ac_rules.proofs.Growth.{grows_not, known_more, home_more, view_same}
 use Rattle.ac_meaning.proofs.GrowthTyped.{typed_more, all_typed_more, arms_typed_more}
 use Rattle.ac_meaning.proofs.Homes.{all_seen, seen_tuple, seen_list, seen_opt, seen_fun, seen_int, seen_bool, seen_str, seen_unit, seen_exn, seen_mine, view_shut, represented, representation_known, view_open, view_again}
 use Rattle.ac_meaning.proofs.KnownNames.{known_types, fields_typed}
@@ -181,7 +180,7 @@ module _ (arrives : Arrives) (mode : Mode) where
         let a : A ≡ sees c S = cc in
         let b : sees c R ≡ T = cc in
         let self = VRec S R e in
-        let both : IsKnown (TFun S R) = all_join (is_known E) (mentions S) (mentions R) h.2 h.3 in
+        let both : IsKnown (TFun S R) = all_append (is_known E) (mentions S) (mentions R) h.2 h.3 in
         let two : WrittenTyped mode E ((S, w) ∷ (TFun S R, self) ∷ []) c (sees c S ∷ TFun (sees c S) (sees c R) ∷ []) =
         (TFun (sees c S) (sees c R) ∷ [], refl, subst (λ X. ValueTyped mode E w c X) a k, ([], ap (λ X. X ∷ []) (sym (seen_fun E mode c S R)), (seen_fun E mode c S R, h.1, h.2, h.3), refl, both), h.2) in
         subst (λ X. Typed mode E (inst 0 ((S, w) ∷ (TFun S R, self) ∷ []) e) c [] X) b (inst_typed mode E e c [] (sees c S ∷ TFun (sees c S) (sees c R) ∷ []) (sees c R) ((S, w) ∷ (TFun S R, self) ∷ []) 0 refl two h.1)
@@ -189,7 +188,7 @@ module _ (arrives : Arrives) (mode : Mode) where
         let d = h.0 in
         let a : A ≡ sees c S = cc in
         let r : T ≡ sees c U = cc in
-        let both : IsKnown (TFun S U) = all_join (is_known E) (mentions S) (mentions U) h.1 h.2 in
+        let both : IsKnown (TFun S U) = all_append (is_known E) (mentions S) (mentions U) h.1 h.2 in
         let function : Typed mode E (Val (TFun S U) f) b [] (TFun (sees b S) (sees b U)) = (sym (seen_fun E mode b S U), h.3, both) in
         let argument : Typed mode E (enclosed c S w) b [] (sees b S) = (refl, h.1, (refl, subst (λ X. ValueTyped mode E w c X) a k, h.1), i) in
         (r, h.2, (sees b S, function, argument), h.4)

@@ -11,7 +11,7 @@ use Rattle.ac_terms.specs.Bounds.{is_lower, fits_type, fits_term}
 use Rattle.ac_rules.specs.Views.{Mode, Coloured, view, are_known}
 use Rattle.ac_rules.specs.Typing.{of_field}
 use Rattle.ac_rules.specs.Coherent.{IsCoherent}
-use Rattle.ac_rules.proofs.KnownTypes.{values_known, own_known as fields_known}
+use Rattle.ac_rules.proofs.KnownTypes.{values_known, own_known}
 use Rattle.ac_meaning.specs.References.{own_field}
 use Rattle.ac_meaning.specs.Laws.{is_source}
 use Rattle.ac_meaning.proofs.Sources.{fits_source}
@@ -31,13 +31,8 @@ module _ (E : Environment) (coherent : IsCoherent E) where
   own_there m j f x d g =
       ap (λ (o : Option Module). option_map (λ (y : Field). y.ty) (slice_get (elim o as (λ z. List Field) [ None ↦ [] | Some n ↦ n.fields ]) f)) (ap (option_and_then module_of) d) ∙ ap (option_map (λ (y : Field). y.ty)) g
 
-  -- a field's type
-  own_known : (c : Home) (f : ℕ) (A : Typ) → own_type E c f ≡ Some A → are_known E A ≡ true
-  own_known Main f A h = absurd (none≢some h)
-  own_known (In j) f A h = fields_known E coherent j f A h
-
   pub known_types : KnownTypes E
-  known_types = record { own = own_known; values = values_known E coherent }
+  known_types = record { own = own_known E coherent; values = values_known E coherent }
 
   -- the fields are typed in either mode
   pub fields_typed : (mode : Mode) → FieldsTyped mode E
@@ -48,7 +43,7 @@ module _ (E : Environment) (coherent : IsCoherent E) where
       let source : is_source e ≡ true = subst (λ t. is_source t ≡ true) x.is_term (source_at m.fields f x.field (both_true _ _ (coherent.within_bounds j (AModule m) x.is_module)).1 x.is_there) in
       let A = x.field.ty in
       let own : own_type E (In j) f ≡ Some A = own_there m j f x.field x.is_module x.is_there in
-      (A, own, subst (Typed mode E e (In j) []) (lower_seen E coherent mode (In j) A (own_known (In j) f A own)) (typed_from E coherent known_types mode e (of_field j f) (view Coloured E (In j) A) source s.1))
+      (A, own, subst (Typed mode E e (In j) []) (lower_seen E coherent mode (In j) A (own_known E coherent (In j) f A own)) (typed_from E coherent known_types mode e (of_field j f) (view Coloured E (In j) A) source s.1))
 
   -- and they are of the source
   pub fields_source : (j f : ℕ) (e : Expr) → own_field E (In j) f ≡ Some e → is_source e ≡ true

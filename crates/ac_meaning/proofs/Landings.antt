@@ -8,14 +8,14 @@ use Rattle.ac_rules.specs.Views.{Mode, view, are_known}
 use Rattle.ac_rules.specs.Typing.{is_home, Holds}
 use Rattle.ac_rules.specs.Coherent.{IsCoherent}
 use Rattle.ac_meaning.specs.Worlds.{World}
-use Rattle.ac_meaning.specs.Growth.{Grows}
+use Rattle.ac_rules.specs.Growth.{Grows}
 use Rattle.ac_meaning.specs.Packing.{Landing, Sinks, Lands, landing, Arrival, Unfit, Brings, brought}
 use Rattle.ac_meaning.specs.BareTerms.{bare_value}
 use Rattle.ac_meaning.specs.Typed.{ValueTyped}
 use Rattle.ac_meaning.proofs.FromTypes.{rebuilt_ok}
 use Rattle.ac_meaning.proofs.KnownNames.{known_types}
 use Rattle.ac_meaning.proofs.RebuiltBare.{rebuilt_bare}
-use Rattle.ac_meaning.proofs.Growth.{known_more, home_more}
+use Rattle.ac_rules.proofs.Growth.{known_more, home_more}
 use Rattle.ac_meaning.proofs.Arrivals.{Grow, Arrives}
 
 -- what is asked of what is admitted over coherent definitions: it only adds, and the packed value is within the bounds of its spelling and of the type

@@ -1,7 +1,6 @@
 pub mod Runs
 pub mod FrameLaws
 pub mod Results
-pub mod Somes
 pub mod Follows
 pub mod Inst
 pub mod Eval
@@ -27,12 +26,8 @@ pub mod Safe
 pub mod Progress
 pub mod Sources
 pub mod KnownNames
-pub mod Growth
 pub mod GrowthTyped
-pub mod GrowthTyping
 pub mod GrowthFields
-pub mod GrowthNeeded
-pub mod GrowthSpoken
 pub mod RebuiltBare
 pub mod Landings
 pub mod Admitted

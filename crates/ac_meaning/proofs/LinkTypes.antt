@@ -22,17 +22,20 @@ use Rattle.ac_rules.specs.Typing.{fields_of, value_in}
 use Rattle.ac_rules.specs.Modules.{inside, covers_type, field_named, covers_val, uncovered, mine, all_mine}
 use Rattle.ac_rules.specs.Coherent.{IsCoherent, link_at}
 use Rattle.ac_version.specs.Versions.{fit}
-use Rattle.ac_rules.proofs.Rules.{map_some, then_some}
-use Rattle.ac_rules.proofs.EarlierLaws.{position-first, position-later, known_earlier, found_keeps, all_left, all_right, AllPass, pass_left, pass_right, pass_under}
-use Rattle.ac_rules.proofs.ViewLaws.{or_none, or_none_left, exact_keeps, keeps_name, exact_not_least, all_implies, foreign_view}
+use Rattle.ac_rules.proofs.Rules.{map_some, then_some, has_some, agree_some, module_is, none_of, map_none}
+use Rattle.ac_rules.proofs.EarlierLaws.{position-first, position-later, known_earlier, found_keeps, no_first, names_some}
+use Rattle.ac_rules.proofs.PartLaws.{AllPass, pass_left, pass_right, pass_under}
+use Rattle.ac_terms.proofs.AllLaws.{all_left, all_right, all_implies, all_append}
+use Rattle.ac_rules.proofs.ViewLaws.{or_none, or_none_left, exact_keeps, keeps_name, exact_not_least, foreign_view, passes}
 use Rattle.ac_rules.proofs.BareLaws.{known_has}
-use Rattle.ac_meaning.proofs.Somes.{has_some, agree_some, module_is, all_join}
 use Rattle.ac_meaning.specs.References.{module_behind, field_number, target, is_by_version, Once, Twice, through, seen_inside, route}
 use Rattle.ac_meaning.specs.Typed.{own_type}
 use Rattle.ac_meaning.proofs.Homes.{sees_own, sees_other, opened_is, representation_known, view_open}
 use Rattle.ac_rules.proofs.KnownTypes.{HasValue, has_value, def_there, declared_known, val_early, val_closed}
 use Rattle.ac_meaning.proofs.KnownNames.{known_types}
 use Rattle.ac_meaning.proofs.Sound.{IsLinked, Links}
+use Rattle.ac_terms.proofs.TestLaws.{not_true, not_where, not_false}
+use Rattle.ac_rules.proofs.LookupLaws.{found_at}
 
 -- own types of a signature rewritten in two ways that two homes see alike
 module _ (E : Environment) (c d : Home) (s : Signature) (f g : Bytes → Typ) (p : Bytes × Bytes → Bool) (h : (t : Bytes) → is_abstract (type_under t s.types) ≡ true → view Coloured E c (f t) ≡ view Coloured E d (g t))
@@ -68,22 +71,6 @@ mutual
   all_rewritten_twice f g no_types = refl
   all_rewritten_twice f g (typ U Us) = ap₂ typ (rewritten_twice f g U) (all_rewritten_twice f g Us)
 
--- where none fails, each passes
-no_first : {A : Type 0} (p : A → Bool) (x : A) (xs : List A) → position p (x ∷ xs) ≡ None → (p x ≡ false) × (position p xs ≡ None)
-no_first p x xs e = by (p x) refl
-  where
-    no_suc : (o : Option ℕ) → option_map suc o ≡ None → o ≡ None
-    no_suc None q = refl
-    no_suc (Some k) q = absurd (none≢some (sym q))
-
-    by : (b : Bool) → p x ≡ b → (p x ≡ false) × (position p xs ≡ None)
-    by true q = absurd (none≢some (sym e ∙ position-first p x xs q))
-    by false q = (q, no_suc (position p xs) (sym (position-later p x xs q) ∙ e))
-
-not_not : (b : Bool) → not b ≡ false → b ≡ true
-not_not true e = refl
-not_not false e = absurd (true≢false e)
-
 spec_at : (test : Sig_type → Bool) (xs : List Sig_type) (t : Bytes) (o : Option Typ) → first_failing test xs ≡ None → type_under t xs ≡ Some o → (x : Sig_type) × (test x ≡ true) × (x.name ≡ t) × (x.manifest ≡ o)
 spec_at test [] t o none e = absurd (none≢some e)
 spec_at test (x ∷ xs) t o none e = by (spec_at test xs t o q.1) (same_bytes x.name t) refl e
@@ -93,7 +80,7 @@ spec_at test (x ∷ xs) t o none e = by (spec_at test xs t o q.1) (same_bytes x.
 
     by : (type_under t xs ≡ Some o → (y : Sig_type) × (test y ≡ true) × (y.name ≡ t) × (y.manifest ≡ o)) → (b : Bool) → same_bytes x.name t ≡ b → elim b as (λ z. Option (Option Typ)) [ true ↦ Some x.manifest | false ↦ type_under t xs ] ≡ Some o →
         (y : Sig_type) × (test y ≡ true) × (y.name ≡ t) × (y.manifest ≡ o)
-    by more true n r = (x, not_not (test x) q.0, bytes_eq x.name t n, some_eq r)
+    by more true n r = (x, not_false (test x) q.0, bytes_eq x.name t n, some_eq r)
     by more false n r = more r
 
 val_at : (test : Typed_name → Bool) (xs : List Typed_name) (x : Bytes) (U : Typ) → first_failing test xs ≡ None → under x xs ≡ Some U → (v : Typed_name) × (test v ≡ true) × (v.name ≡ x) × (v.ty ≡ U)
@@ -104,20 +91,8 @@ val_at test (v ∷ xs) x U none e = by (val_at test xs x U q.1) (same_bytes v.na
     q = no_first (λ y. not (test y)) v xs none
 
     by : (under x xs ≡ Some U → (w : Typed_name) × (test w ≡ true) × (w.name ≡ x) × (w.ty ≡ U)) → (b : Bool) → same_bytes v.name x ≡ b → elim b as (λ z. Option Typ) [ true ↦ Some v.ty | false ↦ under x xs ] ≡ Some U → (w : Typed_name) × (test w ≡ true) × (w.name ≡ x) × (w.ty ≡ U)
-    by more true n r = (v, not_not (test v) q.0, bytes_eq v.name x n, some_eq r)
+    by more true n r = (v, not_false (test v) q.0, bytes_eq v.name x n, some_eq r)
     by more false n r = more r
-
-no_map : {A B : Type 0} (f : A → B) (o : Option A) → option_map f o ≡ None → o ≡ None
-no_map f None e = refl
-no_map f (Some a) e = absurd (none≢some (sym e))
-
-none_of : {A : Type 0} (o : Option A) → is_none o ≡ true → o ≡ None
-none_of None e = refl
-none_of (Some x) e = absurd (true≢false (sym e))
-
-passes : (b : Bool) (f : Link_fault) → fails b f ≡ None → b ≡ true
-passes true f e = refl
-passes false f e = absurd (none≢some (sym e))
 
 abstract_none : (o : Option (Option Typ)) → is_abstract o ≡ true → o ≡ Some None
 abstract_none (Some None) e = refl
@@ -149,7 +124,7 @@ version_passes k m rs star r =
     let a : first_some (versions ∷ specs ∷ likes ∷ []) ≡ None = or_none names (first_some (versions ∷ specs ∷ likes ∷ [])) r in
     let b : first_some (specs ∷ likes ∷ []) ≡ None = or_none versions (first_some (specs ∷ likes ∷ [])) a in
     let c : first_some (likes ∷ []) ≡ None = or_none specs (first_some (likes ∷ [])) b in
-    (no_map Link_fault.Spec (missing_spec false k.sig m.sig) (or_none_left specs (first_some (likes ∷ [])) b), no_map Link_fault.Like (unlike k m) (or_none_left likes None c))
+    (map_none Link_fault.Spec (missing_spec false k.sig m.sig) (or_none_left specs (first_some (likes ∷ [])) b), map_none Link_fault.Like (unlike k m) (or_none_left likes None c))
 
 -- a module covers its signature: a type is there, a manifest one is equal, and so is a value
 covers_manifest : (m : Module) → uncovered m ≡ None → (t : Bytes) (T : Typ) → type_under t m.sig.types ≡ Some (Some T) → under t m.types ≡ Some (inside m T)
@@ -160,12 +135,8 @@ covers_manifest m u t T e =
 
 covers_value : (m : Module) → uncovered m ≡ None → (x : Bytes) (U : Typ) → under x m.sig.vals ≡ Some U → field_named x m.fields ≡ Some (inside m U)
 covers_value m u x U e =
-    let v = val_at (covers_val m) m.sig.vals x U (no_map _ (first_failing (covers_val m) m.sig.vals) (or_none _ _ u)) e in
+    let v = val_at (covers_val m) m.sig.vals x U (map_none _ (first_failing (covers_val m) m.sig.vals) (or_none _ _ u)) e in
     ap (λ n. field_named n m.fields) (sym v.2) ∙ has_some (field_named v.0.name m.fields) (inside m v.0.ty) v.1 ∙ ap (λ T. Some (inside m T)) v.3
-
-not_true : (b : Bool) → not b ≡ true → b ≡ false
-not_true true e = absurd (true≢false (sym e))
-not_true false e = refl
 
 module _ (E : Environment) (coherent : IsCoherent E) where
   abbrev Early : ℕ → Bytes × Bytes → Bool
@@ -184,10 +155,6 @@ module _ (E : Environment) (coherent : IsCoherent E) where
 
   abbrev refs : ℕ → Bytes
   refs k = unwrap_or (name_at E k) []
-
-  names_some : (o : Option Bytes) (n : Bytes) → names o n ≡ true → o ≡ Some n
-  names_some None n e = absurd (true≢false (sym e))
-  names_some (Some a) n e = ap Some (bytes_eq a n e)
 
   -- entries of one name have the same types
   one_list : (i : ℕ) (e : Entry) (n s : Bytes) → slice_get E i ≡ Some e → e.name ≡ Some n → text_of_def E e.def ≡ Some s → (j : ℕ) (w : HasText j n) → types_of e.def ≡ types_of w.entry.def
@@ -275,18 +242,8 @@ module _ (E : Environment) (coherent : IsCoherent E) where
       by (AnImport m) p = by_import m p m.constraint refl
       by (AMark s) p = absurd (none≢some (sym (keeps_name E coherent i k.0 k.1 ∙ ap (name_by sha256 E) p) ∙ named))
 
-  -- an entry of a name has a least one
-  some_least : (F : Environment) (n : Bytes) (j : ℕ) (e : Entry) → slice_get F j ≡ Some e → e.name ≡ Some n → (i : ℕ) × (find_name F n ≡ Some i)
-  some_least [] n j e g k = absurd (none≢some g)
-  some_least (x ∷ F) n j e g k = by (λ j g. some_least F n j e g k) (names x.name n) refl j g
-    where
-      by : ((j : ℕ) → slice_get F j ≡ Some e → (i : ℕ) × (find_name F n ≡ Some i)) → (b : Bool) → names x.name n ≡ b → (j : ℕ) → slice_get (x ∷ F) j ≡ Some e → (i : ℕ) × (find_name (x ∷ F) n ≡ Some i)
-      by more true p j g = (0, position-first (λ (y : Entry). names y.name n) x F p)
-      by more false p zero g = absurd (true≢false (sym (bytes_refl n) ∙ ap (λ o. names o n) (sym k ∙ ap (λ (y : Entry). y.name) (sym (some_eq g))) ∙ p))
-      by more false p (suc j) g = let r = more j g in (suc r.0, position-later (λ (y : Entry). names y.name n) x F p ∙ ap (option_map suc) r.1)
-
   least_for : (n : Bytes) (j : ℕ) → HasText j n → Least n
-  least_for n j w = let r = some_least E n j w.entry w.is_there w.has_name in least_of n r.0 r.1
+  least_for n j w = let r = found_at E j n (ap (λ o. names o n) (ap (option_and_then (λ (z : Entry). z.name)) w.is_there ∙ w.has_name) ∙ bytes_refl n) in least_of n r.0 r.1
 
   one_sig : (n : Bytes) (l : Least n) (j : ℕ) (w : HasText j n) (s : Signature) → signature w.entry.def ≡ Some s → l.sig ≡ s
   one_sig n l j w s h =
@@ -303,12 +260,8 @@ module _ (E : Environment) (coherent : IsCoherent E) where
   abbrev Foreign : ℕ → Bytes × Bytes → Bool
   Foreign j p = not (has_name E (In j) p.0)
 
-  not_false : (b : Bool) → (b ≡ true → ⊥) → not b ≡ true
-  not_false true f = absurd (f refl)
-  not_false false f = refl
-
   foreign_early : (n : Bytes) (l : Least n) (j : ℕ) → name_at E j ≡ Some n → (U : Typ) → list_all (Early l.at) (mentions U) ≡ true → list_all (Foreign j) (mentions U) ≡ true
-  foreign_early n l j k U h = all_implies (Early l.at) (Foreign j) (λ p q. not_false (has_name E (In j) p.0) (λ own. other p q own)) (mentions U) h
+  foreign_early n l j k U h = all_implies (Early l.at) (Foreign j) (λ p q. not_where (has_name E (In j) p.0) (λ own. other p q own)) (mentions U) h
     where
       other : (p : Bytes × Bytes) → Early l.at p ≡ true → has_name E (In j) p.0 ≡ true → ⊥
       other p q own =
@@ -348,7 +301,7 @@ module _ (E : Environment) (coherent : IsCoherent E) where
     view_known c (TList T) h = view_known c T h
     view_known c (TOpt T) h = view_known c T h
     view_known c (TFun T U) h =
-        all_join (is_known E) (mentions (view Coloured E c T)) (mentions (view Coloured E c U)) (view_known c T (all_left (is_known E) (mentions T) (mentions U) h)) (view_known c U (all_right (is_known E) (mentions T) (mentions U) h))
+        all_append (is_known E) (mentions (view Coloured E c T)) (mentions (view Coloured E c U)) (view_known c T (all_left (is_known E) (mentions T) (mentions U) h)) (view_known c U (all_right (is_known E) (mentions T) (mentions U) h))
     view_known c (TAbs n t) h = by (has_name E c n) refl (representation E n t) refl
       where
         by : (b : Bool) → has_name E c n ≡ b → (o : Option Typ) → representation E n t ≡ o → are_known E (opened_at_home E c n t) ≡ true
@@ -360,7 +313,7 @@ module _ (E : Environment) (coherent : IsCoherent E) where
     all_view_known : (c : Home) (Ts : Typs) → list_all (is_known E) (mentions_of_all Ts) ≡ true → list_all (is_known E) (mentions_of_all (all_with_each (opened_at_home E c) Ts)) ≡ true
     all_view_known c no_types h = refl
     all_view_known c (typ T Ts) h =
-        all_join (is_known E) (mentions (view Coloured E c T)) (mentions_of_all (all_with_each (opened_at_home E c) Ts)) (view_known c T (all_left (is_known E) (mentions T) (mentions_of_all Ts) h)) (all_view_known c Ts (all_right (is_known E) (mentions T) (mentions_of_all Ts) h))
+        all_append (is_known E) (mentions (view Coloured E c T)) (mentions_of_all (all_with_each (opened_at_home E c) Ts)) (view_known c T (all_left (is_known E) (mentions T) (mentions_of_all Ts) h)) (all_view_known c Ts (all_right (is_known E) (mentions T) (mentions_of_all Ts) h))
 
   -- a module's field for a value of its signature
   record FieldOf (j : ℕ) (n x : Bytes) (m : Module) (U : Typ) : Type 0 where
@@ -457,7 +410,7 @@ module _ (E : Environment) (coherent : IsCoherent E) where
   -- an import's value that a module has
   value_there : (exact : Bool) (s w : Signature) (x : Bytes) (U : Typ) → missing_spec exact s w ≡ None → under x w.vals ≡ Some U → (V : Typ) × (under x s.vals ≡ Some V) × (is_equal exact s (Some V) U ≡ true)
   value_there exact s w x U none u =
-      let v = val_at (has_val_spec exact s) w.vals x U (no_map _ (first_failing (has_val_spec exact s) w.vals) (or_none _ _ none)) u in
+      let v = val_at (has_val_spec exact s) w.vals x U (map_none _ (first_failing (has_val_spec exact s) w.vals) (or_none _ _ none)) u in
       by (under x s.vals) refl (ap₂ (λ n T. is_equal exact s (under n s.vals) T) (sym v.2) (sym v.3) ∙ v.1)
     where
       by : (o : Option Typ) → under x s.vals ≡ o → is_equal exact s o U ≡ true → (V : Typ) × (under x s.vals ≡ Some V) × (is_equal exact s (Some V) U ≡ true)
@@ -498,14 +451,14 @@ module _ (E : Environment) (coherent : IsCoherent E) where
     kept_mentions p g (TList U) h = kept_mentions p g U h
     kept_mentions p g (TOpt U) h = kept_mentions p g U h
     kept_mentions p g (TFun T U) h =
-        all_join p (mentions T) (mentions U) (kept_mentions p g T (all_left p (mentions (with_mine g T)) (mentions (with_mine g U)) h)) (kept_mentions p g U (all_right p (mentions (with_mine g T)) (mentions (with_mine g U)) h))
+        all_append p (mentions T) (mentions U) (kept_mentions p g T (all_left p (mentions (with_mine g T)) (mentions (with_mine g U)) h)) (kept_mentions p g U (all_right p (mentions (with_mine g T)) (mentions (with_mine g U)) h))
     kept_mentions p g (TAbs n t) h = h
     kept_mentions p g _ h = refl
 
     all_kept_mentions : (p : Bytes × Bytes → Bool) (g : Bytes → Typ) (Us : Typs) → list_all p (mentions_of_all (all_with_mine g Us)) ≡ true → list_all p (mentions_of_all Us) ≡ true
     all_kept_mentions p g no_types h = refl
     all_kept_mentions p g (typ U Us) h =
-        all_join p (mentions U) (mentions_of_all Us) (kept_mentions p g U (all_left p (mentions (with_mine g U)) (mentions_of_all (all_with_mine g Us)) h))
+        all_append p (mentions U) (mentions_of_all Us) (kept_mentions p g U (all_left p (mentions (with_mine g U)) (mentions_of_all (all_with_mine g Us)) h))
         (all_kept_mentions p g Us (all_right p (mentions (with_mine g U)) (mentions_of_all (all_with_mine g Us)) h))
 
   foreign_name : (j : ℕ) (n t : Bytes) → Foreign j (n, t) ≡ true → view Coloured E (In j) (TAbs n t) ≡ TAbs n t
@@ -562,7 +515,7 @@ module _ (E : Environment) (coherent : IsCoherent E) where
         let l = linked_to j m d in
         let k' : Module = l.module' in
         let r : first_some (conditions E m l.at k' (Exact q)) ≡ None = ap (λ z. first_some (conditions E m l.at k' z)) (sym c) ∙ l.may in
-        let spec = no_map Link_fault.Spec (missing_spec true k'.sig m.sig) (or_none_left _ _ (or_none _ _ r)) in
+        let spec = map_none Link_fault.Spec (missing_spec true k'.sig m.sig) (or_none_left _ _ (or_none _ _ r)) in
         let V = value_there true k'.sig m.sig x U spec u in
         let is_V : V.0 ≡ U = same_eq V.0 U V.2 in
         let named : v.name ≡ Some q = keeps_name E coherent j v g ∙ ap (name_by sha256 E) p ∙ ap (λ z. name_by sha256 E (AnImport (record m { constraint = z }))) c in

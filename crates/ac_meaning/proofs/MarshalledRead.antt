@@ -17,7 +17,7 @@ use Rattle.ac_rules.specs.Coherent.{IsCoherent}
 use Rattle.ac_rules.proofs.FaultLaws.{none_fails}
 use Rattle.ac_meaning.specs.Worlds.{World, fresh}
 use Rattle.ac_meaning.specs.Acts.{Act, Is, Goes, Turns, Applies, Raises, Wrong, parts, State, At, Over, iter}
-use Rattle.ac_meaning.specs.Growth.{Grows}
+use Rattle.ac_rules.specs.Growth.{Grows}
 use Rattle.ac_meaning.specs.BareTerms.{bare_value}
 use Rattle.ac_meaning.specs.BarePacking.{packed}
 use Rattle.ac_meaning.specs.Packing.{Packing, Refuses, Packs, packs, packing, landing, marshal_step}
@@ -30,7 +30,7 @@ use Rattle.ac_meaning.specs.ReadBack.{IsReadBack, Marshals}
 use Rattle.ac_meaning.proofs.Homes.{lower}
 use Rattle.ac_meaning.proofs.KnownNames.{known_types}
 use Rattle.ac_meaning.proofs.FromTypes.{typed_from}
-use Rattle.ac_meaning.proofs.Growth.{grows_not}
+use Rattle.ac_rules.proofs.Growth.{grows_not}
 use Rattle.ac_meaning.proofs.Admitted.{arrives}
 use Rattle.ac_meaning.proofs.Kept.{ActOk, kept, typing_kept}
 use Rattle.ac_meaning.proofs.PackedHolds.{packable}

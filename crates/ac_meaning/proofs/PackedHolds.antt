@@ -19,14 +19,14 @@ use Rattle.ac_rules.specs.Typing.{is_function, is_function_home, all_of, tuple_p
 use Rattle.ac_rules.specs.Plain.{stays, where_there, in_front, may_travel, travelling}
 use Rattle.ac_rules.specs.Coherent.{IsCoherent}
 use Rattle.ac_rules.specs.RoundTrip.{IsPackable}
-use Rattle.ac_rules.proofs.EarlierLaws.{all_left, all_right}
+use Rattle.ac_terms.proofs.AllLaws.{all_left, all_right}
 use Rattle.ac_rules.proofs.KnownTypes.{head_known}
 use Rattle.ac_rules.proofs.Carried.{IsStill, AreStill, StillArms, HasStill, AllHaveStill}
 use Rattle.ac_rules.proofs.Trust.{IsOf, trusted}
 use Rattle.ac_rules.proofs.HeadViews.{head_seen}
 use Rattle.ac_meaning.specs.BareTerms.{bare, bare_all, bare_arms, WTuple, WPresent, bare_value, bare_values}
 use Rattle.ac_meaning.specs.BarePacking.{packed, all_packed, packed_term, packed_terms, packed_arms}
-use Rattle.ac_meaning.proofs.Somes.{agree_some}
+use Rattle.ac_rules.proofs.Rules.{agree_some}
 use Rattle.ac_meaning.proofs.Homes.{all_seen}
 use Rattle.ac_meaning.proofs.HeadsSeen.{at_head, int_at, bool_at, str_at, unit_at, exn_at, tuple_at, list_at, option_at}
 use Rattle.ac_meaning.specs.Typed.{Typed, AllTyped, ArmsTyped, ValueTyped, ValuesTyped}

@@ -6,7 +6,7 @@ use Rattle.ac_terms.specs.Terms.{Home, Expr, Int, Boolean, Str, Unit', Exn, ExnO
 use Rattle.ac_terms.specs.Defs.{Environment}
 use Rattle.ac_rules.specs.Views.{Mode, is_known}
 use Rattle.ac_rules.specs.Coherent.{IsCoherent}
-use Rattle.ac_meaning.proofs.Somes.{all_join}
+use Rattle.ac_terms.proofs.AllLaws.{all_append}
 use Rattle.ac_meaning.specs.Worlds.{Exception, World, match_failure, counted}
 use Rattle.ac_meaning.specs.Substitution.{Written}
 use Rattle.ac_meaning.specs.Matching.{fit}
@@ -14,13 +14,13 @@ use Rattle.ac_meaning.specs.Primitives.{answer_at, primitive, exception_value}
 use Rattle.ac_code.specs.Constants.{meaning}
 use Rattle.ac_meaning.specs.Brackets.{is_function_value}
 use Rattle.ac_meaning.specs.References.{route}
-use Rattle.ac_meaning.specs.Growth.{Grows}
+use Rattle.ac_rules.specs.Growth.{Grows}
 use Rattle.ac_meaning.specs.Packing.{Packing, Refuses, Packs, Arrival, Unfit, Brings, packing, arrival}
 use Rattle.ac_meaning.specs.BareTerms.{bare_value}
 use Rattle.ac_meaning.proofs.Results.{Result, Spending, M, give, raise, follow, lift}
 use Rattle.ac_meaning.proofs.Eval.{with_text, own_by, ref_by, opened, branching, throws, answering, constant, fitted, no_more, packed_as, marshals, arrived_as, unmarshals, across, crossing, eval, eval_all, eval_rest, eval_arms, calling, depth}
 use Rattle.ac_meaning.proofs.Arrivals.{Arrives}
-use Rattle.ac_meaning.proofs.Growth.{grows_not, known_more, home_more, view_same}
+use Rattle.ac_rules.proofs.Growth.{grows_not, known_more, home_more, view_same}
 use Rattle.ac_meaning.proofs.GrowthTyped.{typed_more, all_typed_more, arms_typed_more, value_typed_more, written_more}
 use Rattle.ac_meaning.specs.Typed.{seen, Known, IsHome, IsLast, Typed, AllTyped, ArmsTyped, ValuesTyped, WrittenTyped}
 use Rattle.ac_meaning.proofs.Homes.{seen_fun}
@@ -125,7 +125,7 @@ module _ (arrives : Arrives) (mode : Mode) where
         let a : A ≡ sees z c S = cc in
         let b : sees z c R ≡ B = cc in
         let self = VRec S R e in
-        let both : Known mode z.environment (TFun S R) = all_join (is_known z.environment) (mentions S) (mentions R) h.2 h.3 in
+        let both : Known mode z.environment (TFun S R) = all_append (is_known z.environment) (mentions S) (mentions R) h.2 h.3 in
         let two : WrittenTyped mode z.environment ((S, w) ∷ (TFun S R, self) ∷ []) c (sees z c S ∷ TFun (sees z c S) (sees z c R) ∷ []) =
         (TFun (sees z c S) (sees z c R) ∷ [], refl, subst (λ X. Is c X z.environment w) a k, ([], ap (λ X. X ∷ []) (sym (seen_fun z.environment mode c S R)), (seen_fun z.environment mode c S R, h.1, h.2, h.3), refl, both), h.2) in
         allowed (nat_lt z.made N) c B _ z (subst (λ X. Good z c X (next e c ((S, w) ∷ (TFun S R, self) ∷ []) (counted z))) b (go e c (sees z c S ∷ TFun (sees z c S) (sees z c R) ∷ []) (sees z c R) ((S, w) ∷ (TFun S R, self) ∷ []) (counted z) i two h.1))

@@ -12,10 +12,12 @@ use Rattle.ac_rules.specs.Packets.{Cause, Definition, Clash, Full, Unresolved, W
 use Rattle.ac_rules.specs.Faults.{Marshalled, NoString, AString, marshalled}
 use Rattle.ac_rules.specs.RoundTrip.{IsPackable, IsExcused}
 use Rattle.ac_rules.proofs.RoundTrip.{marshal_round_trip, round_trip}
-use Rattle.ac_meaning.specs.Growth.{Grows}
-use Rattle.ac_meaning.proofs.Growth.{known_more}
-use Rattle.ac_meaning.proofs.GrowthTyping.{holds_more}
-use Rattle.ac_meaning.proofs.GrowthSpoken.{packet_of_type_same}
+use Rattle.ac_rules.specs.Growth.{Grows}
+use Rattle.ac_rules.proofs.Growth.{known_more}
+use Rattle.ac_rules.proofs.GrowthTyping.{holds_more}
+use Rattle.ac_rules.proofs.GrowthNeeded.{packet_same}
+use Rattle.ac_rules.proofs.Spoken.{value_speaks}
+use Rattle.ac_rules.proofs.Composed.{value_still}
 use Rattle.ac_meaning.specs.Packing.{Packs, answer, admitted, received, landing}
 use Rattle.ac_meaning.specs.ReadBack.{IsReadBack}
 use Rattle.ac_meaning.proofs.PackedHolds.{packable}
@@ -48,5 +50,5 @@ read_back_later E F g mark T v s packable given_string =
       value_fits = packable.value_fits;
       small_types = packable.small_types;
     } in
-    let same : packet_for F r.0 T v ≡ p = packet_of_type_same E F g.extends r.0 T v packable.type_known packable.value_holds in
+    let same : packet_for F r.0 T v ≡ p = packet_same E F g.extends r.0 T v packable.type_known (value_speaks Coloured E v T (value_still v packable.value_fits) packable.value_holds) in
     subst (λ o. IsReadBack (received F T o)) (sym (spelled_is_read s p r.2)) (excused_lands F p (cause sha256 F p T) (subst (λ q. IsExcused (cause sha256 F q T)) same (round_trip F g.after r.0 T v later)))

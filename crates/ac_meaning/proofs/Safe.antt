@@ -15,8 +15,8 @@ use Rattle.ac_meaning.specs.Worlds.{Exception, World}
 use Rattle.ac_meaning.specs.Frames.{Frame, Whole, Bad as bad, AtEnd, next_frame}
 use Rattle.ac_meaning.specs.Substitution.{Written, slot_in}
 use Rattle.ac_meaning.specs.Primitives.{const_of, all_there, consts_of, answer_at}
-use Rattle.ac_meaning.specs.Growth.{Grows}
-use Rattle.ac_meaning.proofs.Growth.{grows_not, grows_on}
+use Rattle.ac_rules.specs.Growth.{Grows}
+use Rattle.ac_rules.proofs.Growth.{grows_not, grows_on}
 use Rattle.ac_meaning.proofs.Results.{Result, Fine, Raising, Spending, Wrongly, TooDeep, M, then', raise, Pure, Got, Bad, Deep, lift}
 use Rattle.ac_meaning.proofs.Eval.{found, branching, throws, sends, receives, answering, constant}
 use Rattle.ac_meaning.specs.Typed.{ValuesTyped, WrittenTyped}

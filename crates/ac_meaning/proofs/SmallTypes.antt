@@ -16,10 +16,9 @@ use Rattle.ac_terms.specs.Typing.{has, last_of}
 use Rattle.ac_terms.specs.Parts.{OfType, pattern_types, all_pattern_types, term_parts, all_term_parts, arm_parts}
 use Rattle.ac_rules.specs.Views.{Coloured, view, opened_at_home, are_known}
 use Rattle.ac_rules.specs.Typing.{Scope, bind, bind_all, HasType, type_of, seen, types_of, arm_types, variables, variables_of_all, field_type, ref_type, a_list, an_option, are_all, one_of}
-use Rattle.ac_rules.proofs.ListLaws.{all_append}
-use Rattle.ac_rules.proofs.Rules.{then_some, rule-Int, rule-Boolean, rule-Str, rule-Unit, rule-Exn, rule-ExnOf, rule-Tuple, rule-expr, rule-Nil, rule-Empty, rule-Present, rule-Cons, rule-Lam, rule-App, rule-If, rule-Let, rule-Rec, rule-Seq, rule-Match, rule-Try, rule-Raise, rule-Prim, rule-Marshal, rule-Unmarshal}
+use Rattle.ac_terms.proofs.AllLaws.{all_append}
+use Rattle.ac_rules.proofs.Rules.{then_some, rule-Int, rule-Boolean, rule-Str, rule-Unit, rule-Exn, rule-ExnOf, rule-Tuple, rule-expr, rule-Nil, rule-Empty, rule-Present, rule-Cons, rule-Lam, rule-App, rule-If, rule-Let, rule-Rec, rule-Seq, rule-Match, rule-Try, rule-Raise, rule-Prim, rule-Marshal, rule-Unmarshal, has_some, joined_some, also_some}
 use Rattle.ac_meaning.specs.Laws.{is_source, are_source, arms_are_source}
-use Rattle.ac_meaning.proofs.Somes.{has_some, also_some, joined_some}
 use Rattle.ac_meaning.proofs.WithinSources.{kept_small, small_seen}
 use Rattle.ac_meaning.proofs.WithinSmall.{Small, both, first, each}
 

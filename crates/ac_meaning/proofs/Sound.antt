@@ -12,9 +12,8 @@ use Rattle.ac_terms.specs.Defs.{Environment, Field, Module, module_of, signature
 use Rattle.ac_rules.specs.Views.{Mode, Coloured, opens, view, representation, is_known, are_known}
 use Rattle.ac_rules.specs.Typing.{fields_of, value_in, outside}
 use Rattle.ac_rules.specs.Coherent.{IsCoherent}
-use Rattle.ac_rules.proofs.Rules.{then_some}
-use Rattle.ac_rules.proofs.EarlierLaws.{all_left, all_right}
-use Rattle.ac_meaning.proofs.Somes.{module_home}
+use Rattle.ac_rules.proofs.Rules.{then_some, module_home}
+use Rattle.ac_terms.proofs.AllLaws.{all_left, all_right}
 use Rattle.ac_meaning.specs.Brackets.{inside}
 use Rattle.ac_meaning.specs.References.{own_field, Route, Nowhere, Once, Twice, route}
 use Rattle.ac_meaning.proofs.Results.{Pure, Got, Bad, Deep, and_then}

@@ -13,7 +13,7 @@ use Rattle.ac_terms.specs.Spelling.{term_count, arm_count}
 use Rattle.ac_terms.specs.Primitives.{primitives}
 use Rattle.ac_terms.specs.Parts.{pattern_types, all_pattern_types}
 use Rattle.ac_terms.specs.Bounds.{is_two, is_four, is_width, fit_patterns, takes}
-use Rattle.ac_rules.proofs.EarlierLaws.{all_left, all_right}
+use Rattle.ac_terms.proofs.AllLaws.{all_left, all_right}
 use Rattle.ac_meaning.specs.Worlds.{Exception}
 use Rattle.ac_meaning.specs.Acts.{Act, Is, Goes, Turns, Applies, Raises, Wrong, or_raises, within}
 use Rattle.ac_meaning.specs.Substitution.{Written, Slot, Free, Bound, up, slot_in, slot, from_slot, binders, inst, inst_all, inst_arms}

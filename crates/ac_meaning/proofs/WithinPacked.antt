@@ -18,11 +18,10 @@ use Rattle.ac_rules.specs.Views.{Coloured, head}
 use Rattle.ac_rules.specs.Typing.{all_of, type_of, seen, tuple_parts, list_item, option_item, is_function, is_function_home}
 use Rattle.ac_rules.specs.Plain.{stays, where_there, in_front, may_travel, travelling}
 use Rattle.ac_rules.specs.Coherent.{IsCoherent}
-use Rattle.ac_rules.proofs.Rules.{map_some, then_some}
+use Rattle.ac_rules.proofs.Rules.{map_some, then_some, some_there}
 use Rattle.ac_rules.proofs.ViewLaws.{within}
 use Rattle.ac_meaning.specs.BareTerms.{bare, bare_all, bare_arms, bare_value, bare_values}
 use Rattle.ac_meaning.specs.BarePacking.{packed, all_packed, packed_term, packed_terms, packed_arms}
-use Rattle.ac_meaning.proofs.Somes.{some_there}
 use Rattle.ac_meaning.proofs.Within.{Within, AllWithin, ArmsWithin, ValueWithin, ValuesWithin, width}
 
 -- everything travels and is short

@@ -1,5 +1,4 @@
 pub mod Worlds
-pub mod Growth
 pub mod Frames
 pub mod Acts
 pub mod Substitution

@@ -1,12 +1,12 @@
--- In a coherent environment a representation speaks of earlier names alone.
-use Rattle.std.proofs.Common.{◌≡◌, refl, sym, ap, ◌∙◌, subst, ℕ, zero, suc, ◌+◌, ◌<◌, Bool, true, false, not, cond, nat_lt, ◌&&◌, List, [], ◌∷◌, ◌++◌, length, map, Some, None, take}
+-- The least entry of a name, and the first item of a list that passes.
+use Rattle.std.proofs.Common.{◌≡◌, refl, sym, ap, ◌∙◌, subst, ℕ, zero, suc, ◌+◌, ◌<◌, Bool, true, false, not, cond, nat_lt, ◌&&◌, List, [], ◌∷◌, ◌++◌, length, map, Some, None, take, Option}
 use Rattle.std.specs.Prelude.{position, option_map, slice_get, ◌||◌}
 use Rattle.std.specs.Option.{option_map_or}
 use Rattle.std.specs.List.{list_all, position_or_len}
 use Rattle.std.proofs.lemmas.Bool.Decides.{nat_tests}
 use mathlib.Core.Bool.{true≢false}
 use native.Mathlib.Omega.{arith}
-use Rattle.ac_types.proofs.Same.{both_true, and_true}
+use Rattle.ac_types.proofs.Same.{both_true, and_true, bytes_eq}
 use Rattle.ac_types.proofs.FirstLaws.{none≢some, some_eq}
 use Rattle.ac_types.specs.Types.{Bytes, Typ, mentions, same_bytes}
 use Rattle.ac_types.specs.Sigs.{Typed_name, Signature, under, type_under, is_abstract}
@@ -36,6 +36,22 @@ position-later p x xs e =
     by : (k n : ℕ) (b : Bool) → nat_lt k n ≡ b → cond (nat_lt (1 + k) (suc n)) (Some (1 + k)) None ≡ option_map suc (cond (nat_lt k n) (Some k) None)
     by k n true e = ap (λ b. cond b (Some (1 + k)) None) (lt-suc k n true e) ∙ ap Some (omega arith) ∙ ap (λ b. option_map suc (cond b (Some k) None)) (sym e)
     by k n false e = ap (λ b. cond b (Some (1 + k)) None) (lt-suc k n false e) ∙ ap (λ b. option_map suc (cond b (Some k) None)) (sym e)
+
+pub no_first : {A : Type 0} (p : A → Bool) (x : A) (xs : List A) → position p (x ∷ xs) ≡ None → (p x ≡ false) × (position p xs ≡ None)
+no_first p x xs e = by (p x) refl
+  where
+    no_suc : (o : Option ℕ) → option_map suc o ≡ None → o ≡ None
+    no_suc None q = refl
+    no_suc (Some k) q = absurd (none≢some (sym q))
+
+    by : (b : Bool) → p x ≡ b → (p x ≡ false) × (position p xs ≡ None)
+    by true q = absurd (none≢some (sym e ∙ position-first p x xs q))
+    by false q = (q, no_suc (position p xs) (sym (position-later p x xs q) ∙ e))
+
+-- a name that is kept
+pub names_some : (o : Option Bytes) (n : Bytes) → names o n ≡ true → o ≡ Some n
+names_some None n e = absurd (true≢false (sym e))
+names_some (Some a) n e = ap Some (bytes_eq a n e)
 
 -- whether an entry keeps the name
 abbrev keeps : Bytes → Entry → Bool
@@ -85,48 +101,3 @@ least (e ∷ es) n i k h lt = by (least es n) (keeps n e) refl k lt
         let q = map_some suc (find_name es n) i (sym (position-later (keeps n) e es p) ∙ h) in
         let z : suc q.0 ≡ i = q.2 in
         more q.0 m q.1 (omega arith)
-
--- what passes in two lists together passes in each
-pub all_left : {A : Type 0} (p : A → Bool) (xs ys : List A) → list_all p (xs ++ ys) ≡ true → list_all p xs ≡ true
-all_left p [] ys h = refl
-all_left p (x ∷ xs) ys h =
-    let q = both_true (p x) (list_all p (xs ++ ys)) h in
-    and_true {a = p x} {b = list_all p xs} q.0 (all_left p xs ys q.1)
-
-pub all_right : {A : Type 0} (p : A → Bool) (xs ys : List A) → list_all p (xs ++ ys) ≡ true → list_all p ys ≡ true
-all_right p [] ys h = h
-all_right p (x ∷ xs) ys h = all_right p xs ys (both_true (p x) (list_all p (xs ++ ys)) h).1
-
-module _ (p : Bytes × Bytes → Bool) where
-  abbrev pub AllPass : List Part → Type 0
-  AllPass ps = list_all p (part_mentions ps) ≡ true
-
-  pub pass_right : (ps qs : List Part) → AllPass (ps ++ qs) → AllPass qs
-  pass_right [] qs h = h
-  pass_right (OfType T ∷ ps) qs h = pass_right ps qs (all_right p (mentions T) (part_mentions (ps ++ qs)) h)
-  pass_right (OfRef j x ∷ ps) qs h = pass_right ps qs h
-  pass_right (OfHome c ∷ ps) qs h = pass_right ps qs h
-  pass_right (Captured ∷ ps) qs h = pass_right ps qs h
-
-  pub pass_left : (ps qs : List Part) → AllPass (ps ++ qs) → AllPass ps
-  pass_left [] qs h = refl
-  pass_left (OfType T ∷ ps) qs h = join (mentions T) (part_mentions ps) (all_left p (mentions T) (part_mentions (ps ++ qs)) h) (pass_left ps qs (all_right p (mentions T) (part_mentions (ps ++ qs)) h))
-    where
-      join : (xs ys : List (Bytes × Bytes)) → list_all p xs ≡ true → list_all p ys ≡ true → list_all p (xs ++ ys) ≡ true
-      join [] ys a b = b
-      join (x ∷ xs) ys a b = let q = both_true (p x) (list_all p xs) a in and_true {a = p x} {b = list_all p (xs ++ ys)} q.0 (join xs ys q.1 b)
-  pass_left (OfRef j x ∷ ps) qs h = pass_left ps qs h
-  pass_left (OfHome c ∷ ps) qs h = pass_left ps qs h
-  pass_left (Captured ∷ ps) qs h = pass_left ps qs h
-
-  -- the type under a name is one of the list's
-  pub pass_under : (xs : List Typed_name) (t : Bytes) (R : Typ) → AllPass (map (λ (x : Typed_name). OfType x.ty) xs) → under t xs ≡ Some R → list_all p (mentions R) ≡ true
-  pass_under [] t R h e = absurd (none≢some e)
-  pass_under (x ∷ xs) t R h e = by (pass_under xs t R) (same_bytes x.name t) e
-    where
-      types : List Part
-      types = map (λ (y : Typed_name). OfType y.ty) xs
-
-      by : (AllPass types → under t xs ≡ Some R → list_all p (mentions R) ≡ true) → (b : Bool) → elim b [ true ↦ Some x.ty | false ↦ under t xs ] ≡ Some R → list_all p (mentions R) ≡ true
-      by more true q = subst (λ T. list_all p (mentions T) ≡ true) (some_eq q) (all_left p (mentions x.ty) (part_mentions types) h)
-      by more false q = more (all_right p (mentions x.ty) (part_mentions types) h) q

@@ -1,31 +1,48 @@
 -- Typing as rules: what a term's type says of its parts.
-use Rattle.std.proofs.Common.{ℕ, Bool, ◌≡◌, refl, sym, ap, ◌∙◌, true, false, Option, Some, None}
-use Rattle.std.specs.Prelude.{ℤ, option_map, option_and_then, slice_get}
+use Rattle.std.proofs.Common.{ℕ, Bool, ◌≡◌, refl, sym, ap, ◌∙◌, true, false, List, ◌++◌, Option, Some, None}
+use Rattle.std.specs.Prelude.{ℤ, is_some, is_none, option_map, option_and_then, slice_get}
 use mathlib.Core.Bool.{true≢false}
 use Rattle.ac_types.specs.First.{given}
 use Rattle.ac_types.proofs.FirstLaws.{none≢some, some_eq, given_some}
 use Rattle.ac_types.proofs.Same.{both_true, same_eq}
 use Rattle.ac_types.specs.Types.{Bytes, Typ, TInt, TBool, TStr, TUnit, TExn, TTuple, TFun, TOpt, TList, Typs, typ, agree}
-use Rattle.ac_terms.specs.Terms.{Home, PValue, Value, Expr, Exprs, expr, Arms, Int, Boolean, Str, Unit', Exn, ExnOf, Tuple, Nil, Empty, Var, App, Lam, Let, If, Seq, Match, Try, Raise, Rec, Prim, Unmarshal, Marshal, Packed, Val, Bracket, Present, Cons, Own, Ref}
-use Rattle.ac_terms.specs.Defs.{Environment}
+use Rattle.ac_terms.specs.Terms.{Home, Main, In, PValue, Value, Expr, Exprs, expr, Arms, Int, Boolean, Str, Unit', Exn, ExnOf, Tuple, Nil, Empty, Var, App, Lam, Let, If, Seq, Match, Try, Raise, Rec, Prim, Unmarshal, Marshal, Packed, Val, Bracket, Present, Cons, Own, Ref}
+use Rattle.ac_terms.specs.Defs.{Environment, Module, Def, AModule, AnImport, AMark, module_of, signature, def_of, module_at}
 use Rattle.ac_terms.specs.Primitives.{has_text, is_exception, primitive_type}
 use Rattle.ac_terms.specs.Typing.{has, both_same, also, last_of}
 use Rattle.ac_rules.specs.Views.{Mode, Plain, Coloured, view, are_known}
-use Rattle.ac_rules.specs.Typing.{Scope, bind, all_of, field_type, ref_type, HasType, applied, kept_in, holds, value_type, seen, types_of, arm_types, one_of, a_list, an_option, is_home}
+use Rattle.ac_rules.specs.Typing.{Scope, bind, all_of, field_type, ref_type, HasType, applied, kept_in, holds, value_type, seen, types_of, arm_types, one_of, a_list, an_option, joined, is_home, is_function_home}
 
-has_some : (o : Option Typ) (U : Typ) → has o U ≡ true → o ≡ Some U
+pub has_some : (o : Option Typ) (U : Typ) → has o U ≡ true → o ≡ Some U
 has_some None U e = absurd (true≢false (sym e))
 has_some (Some T) U e = ap Some (same_eq T U e)
 
-agree_some : (a b : Option Typ) → agree a b ≡ true → (T : Typ) × (a ≡ Some T) × (b ≡ Some T)
+pub agree_some : (a b : Option Typ) → agree a b ≡ true → (T : Typ) × (a ≡ Some T) × (b ≡ Some T)
 agree_some (Some T) (Some U) e = (T, refl, ap Some (sym (same_eq T U e)))
 agree_some None b e = absurd (true≢false (sym e))
 agree_some (Some T) None e = absurd (true≢false (sym e))
 
-kept_some : (mode : Mode) (o : Option Typ) (T : Typ) → kept_in mode o ≡ Some T → o ≡ Some T
+pub kept_some : (mode : Mode) (o : Option Typ) (T : Typ) → kept_in mode o ≡ Some T → o ≡ Some T
 kept_some Plain o T e = e
 kept_some Coloured None T e = absurd (none≢some e)
 kept_some Coloured (Some U) T e = (given_some _ _ e).1
+
+-- what is there
+pub some_there : {A : Type 0} (o : Option A) → is_some o ≡ true → (x : A) × (o ≡ Some x)
+some_there None e = absurd (true≢false (sym e))
+some_there (Some x) e = (x, refl)
+
+pub none_of : {A : Type 0} (o : Option A) → is_none o ≡ true → o ≡ None
+none_of None e = refl
+none_of (Some x) e = absurd (true≢false (sym e))
+
+pub map_none : {A B : Type 0} (f : A → B) (o : Option A) → option_map f o ≡ None → o ≡ None
+map_none f None e = refl
+map_none f (Some a) e = absurd (none≢some (sym e))
+
+pub given_none : {A : Type 0} (b : Bool) (a : A) → given b (Some a) ≡ None → b ≡ false
+given_none true a e = absurd (none≢some (sym e))
+given_none false a e = refl
 
 pub map_some : {A B : Type 0} (f : A → B) (o : Option A) (y : B) → option_map f o ≡ Some y → (x : A) × (o ≡ Some x) × (f x ≡ y)
 map_some f None y e = absurd (none≢some e)
@@ -35,20 +52,41 @@ pub then_some : {A B : Type 0} (f : A → Option B) (o : Option A) (y : B) → o
 then_some f None y e = absurd (none≢some e)
 then_some f (Some x) y e = (x, refl, e)
 
-applied_some : (F a : Option Typ) (B : Typ) → applied F a ≡ Some B → (A : Typ) × (F ≡ Some (TFun A B)) × (a ≡ Some A)
+pub applied_some : (F a : Option Typ) (B : Typ) → applied F a ≡ Some B → (A : Typ) × (F ≡ Some (TFun A B)) × (a ≡ Some A)
 applied_some (Some (TFun A C)) a B e = (A, ap (λ X. Some (TFun A X)) (some_eq (given_some _ _ e).1), has_some a A (given_some _ _ e).0)
 applied_some F a B e = absurd (none≢some e)
 
-both_some : (a b : Option Typ) (T : Typ) → both_same a b ≡ Some T → (a ≡ Some T) × (b ≡ Some T)
+pub both_some : (a b : Option Typ) (T : Typ) → both_same a b ≡ Some T → (a ≡ Some T) × (b ≡ Some T)
 both_some None b T e = absurd (none≢some e)
 both_some (Some U) b T e =
     let q : U ≡ T = some_eq (given_some _ _ e).1 in
     (ap Some q, has_some b U (given_some _ _ e).0 ∙ ap Some q)
 
-also_some : (a : Option Typ) (b : Option Typs) (T : Typs) → also a b ≡ Some T → (A : Typ) × (B : Typs) × (a ≡ Some A) × (b ≡ Some B) × (typ A B ≡ T)
+pub also_some : (a : Option Typ) (b : Option Typs) (T : Typs) → also a b ≡ Some T → (A : Typ) × (B : Typs) × (a ≡ Some A) × (b ≡ Some B) × (typ A B ≡ T)
 also_some (Some A) (Some B) T e = (A, B, refl, refl, some_eq e)
 also_some None b T e = absurd (none≢some e)
 also_some (Some A) None T e = absurd (none≢some e)
+
+pub joined_some : (a b : Option (List Typ)) (Us : List Typ) → joined a b ≡ Some Us → (Vs Ws : List Typ) × (a ≡ Some Vs) × (b ≡ Some Ws) × (Us ≡ Ws ++ Vs)
+joined_some (Some Vs) (Some Ws) Us e = (Vs, Ws, refl, refl, sym (some_eq e))
+joined_some None b Us e = absurd (none≢some e)
+joined_some (Some Vs) None Us e = absurd (none≢some e)
+
+-- a home of functions is a home
+pub module_is : (d : Def) (m : Module) → module_of d ≡ Some m → d ≡ AModule m
+module_is (AModule n) m h = ap AModule (some_eq h)
+module_is (AnImport i) m h = absurd (none≢some h)
+module_is (AMark s) m h = absurd (none≢some h)
+
+pub module_home : (d : Def) (m : Module) → module_of d ≡ Some m → is_some (signature d) ≡ true
+module_home d m e = ap (λ x. is_some (signature x)) (module_is d m e)
+
+pub function_home : (E : Environment) (c : Home) → is_function_home E c ≡ true → is_home E c ≡ true
+function_home E Main h = refl
+function_home E (In i) h =
+    let m = some_there (module_at E i) h in
+    let d = then_some module_of (def_of E i) m.0 m.1 in
+    ap (λ o. is_some (option_and_then signature o)) d.1 ∙ module_home d.0 m.0 d.2
 
 module _ (mode : Mode) (E : Environment) (S : Scope) where
   -- a term has at most one type

@@ -19,7 +19,10 @@ use Rattle.ac_rules.specs.Views.{Coloured, is_known, representation, type_of_ent
 use Rattle.ac_rules.specs.Links.{MayLink, Link_fault, fault_at, conditions, fails}
 use Rattle.ac_rules.specs.Coherent.{IsCoherent}
 use Rattle.ac_rules.proofs.Rules.{then_some}
-use Rattle.ac_rules.proofs.EarlierLaws.{known_earlier, found_keeps, least, all_left, all_right, pass_left, pass_right, pass_under}
+use Rattle.ac_rules.proofs.EarlierLaws.{known_earlier, found_keeps, least}
+use Rattle.ac_rules.proofs.PartLaws.{pass_left, pass_right, pass_under}
+use Rattle.ac_terms.proofs.AllLaws.{all_left, all_right, all_implies}
+use Rattle.ac_terms.proofs.TestLaws.{not_true, not_where}
 
 -- where the first of some is none, each is none
 pub or_none : {A : Type 0} (a b : Option A) → or_else a b ≡ None → b ≡ None
@@ -30,7 +33,7 @@ pub or_none_left : {A : Type 0} (a b : Option A) → or_else a b ≡ None → a 
 or_none_left None b e = refl
 or_none_left (Some x) b e = absurd (none≢some (sym e))
 
-passes : (b : Bool) (f : Link_fault) → fails b f ≡ None → b ≡ true
+pub passes : (b : Bool) (f : Link_fault) → fails b f ≡ None → b ≡ true
 passes true f e = refl
 passes false f e = absurd (none≢some (sym e))
 
@@ -108,21 +111,6 @@ module _ (E : Environment) (coherent : IsCoherent E) where
       let r : type_of_entry E t e.def e.link ≡ Some R = ap (option_and_then (λ (x : Entry). type_of_entry E t x.def x.link)) (sym k.1) ∙ at in
       type_known n t i e R f k.1 k.2 e.def e.link refl refl r
 
--- each that passes one test passes another
-pub all_implies : {A : Type 0} (p q : A → Bool) → ((x : A) → p x ≡ true → q x ≡ true) → (xs : List A) → list_all p xs ≡ true → list_all q xs ≡ true
-all_implies p q f [] h = refl
-all_implies p q f (x ∷ xs) h =
-    let r = both_true (p x) (list_all p xs) h in
-    and_true {a = q x} {b = list_all q xs} (f x r.0) (all_implies p q f xs r.1)
-
-not_true : (b : Bool) → not b ≡ true → b ≡ false
-not_true true e = absurd (true≢false (sym e))
-not_true false e = refl
-
-not_false : (b : Bool) → (b ≡ true → ⊥) → not b ≡ true
-not_false true f = absurd (f refl)
-not_false false f = refl
-
 -- replacing twice is replacing once, where what is put in has nothing more to replace
 module _ (f : Bytes → Bytes → Typ) (once : (n t : Bytes) → with_each f (f n t) ≡ f n t) where
   mutual
@@ -186,7 +174,7 @@ module _ (E : Environment) (coherent : IsCoherent E) (c : Home) where
       all_implies (is_known (take f.0 E)) (Foreign E c) (λ p known. foreign f.0 f.1 p known) (mentions R) (rep_earlier E coherent n t f.0 R f.1 h)
     where
       foreign : (i : ℕ) → find_name E n ≡ Some i → (p : Bytes × Bytes) → is_known (take i E) p ≡ true → not (has_name E c p.0) ≡ true
-      foreign i f p known = not_false (has_name E c p.0) (λ also.
+      foreign i f p known = not_where (has_name E c p.0) (λ also.
           let j = known_earlier E i p.0 p.1 known in
           let same : find_name E n ≡ Some j.0 = ap (find_name E) (one_name E c n p.0 own also) ∙ j.1 in
           let z : i ≡ j.0 = some_eq (sym f ∙ same) in
