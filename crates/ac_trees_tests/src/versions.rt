@@ -1,7 +1,7 @@
 // Tokens as a text, `m` for `myname`, and what they are: numbers, `n..m` for a range, a last `*`; `!` where they are nothing.
 
-use crate::{VToken, VersionFault, read_constraint, read_version};
 use ac_types::{Atom, Constraint, Range};
+use ac_version::{VToken, VersionFault, read_constraint, read_version};
 use std::alloc::{AllocError, Global};
 use std::test::Fail;
 

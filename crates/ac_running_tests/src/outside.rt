@@ -1,5 +1,6 @@
 // Calls with ample memory, and each fault once.
-use crate::{
+
+use ac_outside::{
     Files, Got, MemoryFile, MemoryFiles, MemorySink, MemoryWorld, Put, RealFiles, Sink, Source,
     SureSink, SureWorld, World,
 };

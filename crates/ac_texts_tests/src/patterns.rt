@@ -1,6 +1,6 @@
 // Texts with the form of their pattern and how many signs are left behind it; `!` with the signs left where there is none.
 
-use crate::pattern;
+use ac_expressions::pattern;
 use ac_lexer::lex;
 use ac_syntax::{SPatKind, Stop, signs};
 use std::alloc::{AllocError, Global};

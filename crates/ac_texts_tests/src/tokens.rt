@@ -1,6 +1,6 @@
 // Texts with their tokens: a letter for the kind, the bytes and `@` with the place; `!` with the place where a text has none.
 
-use crate::{LexFault, Token, TokenKind, lex};
+use ac_lexer::{LexFault, Token, TokenKind, lex};
 use std::alloc::{AllocError, Global};
 use std::test::Fail;
 

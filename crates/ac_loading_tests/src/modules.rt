@@ -1,6 +1,6 @@
 // Which terms are valuable, which signatures are covered, and which likespecs are missing.
 
-use crate::{covers, like_missing, valuable};
+use ac_modules::{covers, like_missing, valuable};
 use ac_terms::{Arm, Field, Import, Module, PVal, Pat, Term};
 use ac_types::{
     Box, Constraint, Many, Memory, Name, Sig, SigType, Text, Ty, TyField, Version, Word, both,

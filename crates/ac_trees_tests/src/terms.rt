@@ -1,6 +1,6 @@
 // Calls that can answer want of memory, where memory suffices.
 
-use crate::{
+use ac_terms::{
     Arm, Def, Entry, Env, Exn, Field, Home, Import, Module, PDef, PVal, Packet, Pat, Seen, Term,
 };
 use ac_types::{

@@ -1,6 +1,6 @@
 use Rattle.std.proofs.Common.{◌∙◌, ap, [], ◌∷◌, ◌++◌}
-use Rattle.ac_run.proofs.SmallPrograms.{prints_and_sends}
-use Rattle.ac_run.proofs.tests.prints_and_sends.Goals as goal
+use Rattle.ac_running_tests.proofs.SmallPrograms.{prints_and_sends}
+use Rattle.ac_running_tests.proofs.sessions.prints_and_sends.Goals as goal
 
 pub program-requires : goal.program-requires
 program-requires c =

@@ -1,5 +1,7 @@
-use crate::read::{entry, int_in};
-use crate::{Chain, Node, Store};
+// A store and its lists, where memory suffices.
+
+use ac_values::read::{entry, int_in};
+use ac_values::{Chain, Node, Store};
 use std::test::Fail;
 
 #[test]

@@ -1,8 +1,8 @@
 // Types and signatures as texts: each node in parentheses with its place behind `@`, then the number of the token after it;
 // `!` with a place where the text begins with none.
 
-use crate::{ParseFault, SSig, SSpec, SType, STypeKind, deep, parse_sig, parse_type};
 use ac_lexer::{Token, lex};
+use ac_syntax::{ParseFault, SSig, SSpec, SType, STypeKind, deep, parse_sig, parse_type};
 use ac_types::{Many, Word};
 use std::alloc::{AllocError, Global};
 use std::test::Fail;

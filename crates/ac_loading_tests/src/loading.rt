@@ -2,9 +2,7 @@
 
 ghost use Rattle.std.specs.Prelude.{◌≡◌, ◌≤◌, [], length, IfOk};
 
-use crate::kind::{Kind, Refusal};
-use crate::loading::load;
-use crate::shelf::{Shelf, ShelfEntry};
+use ac_load::{Kind, Refusal, Shelf, ShelfEntry, load};
 use ac_types::{Many, Memory, Text, Ty, both, ty_eq};
 use std::alloc::Global;
 use std::test::Fail;

@@ -2,7 +2,7 @@
 
 ghost use Rattle.std.specs.Prelude.{◌≡◌, [], IfOk};
 
-use crate::{RawProgram, ScopeFault, elaborate};
+use ac_resolve::{RawProgram, ScopeFault, elaborate};
 use ac_syntax::{SArm, SExpr, SExprKind, SName, SPat, SPatKind, SType, STypeKind, Surface};
 use ac_terms::{Env, Term};
 use ac_types::{Box, Many, Memory, Text, Word, both};

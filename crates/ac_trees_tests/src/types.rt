@@ -1,8 +1,6 @@
 // Calls that can answer want of memory, where memory suffices.
 
-ghost use Rattle.std.specs.Prelude.{◌≡◌};
-
-use crate::{
+use ac_types::{
     Atom, Box, Constraint, Many, Memory, Range, Resolve, Sig, SigType, Text, Ty, TyField, Version,
     Word, small, ty_eq,
 };

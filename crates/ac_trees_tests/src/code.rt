@@ -1,4 +1,6 @@
-use crate::{Block, CodeId, CodeTable};
+// A table of blocks, where memory suffices.
+
+use ac_code::{Block, CodeId, CodeTable};
 use ac_terms::Home;
 use ac_types::Many;
 use std::test::Fail;

@@ -1,6 +1,6 @@
 // Each rule of typing, accepted and refused.
 
-use crate::{CheckFault, is_plain, type_of};
+use ac_check::{CheckFault, is_plain, type_of};
 use ac_terms::{Arm, Def, Entry, Env, Home, Module, Pat, Seen, Term};
 use ac_types::{
     Box, Many, Memory, Name, Sig, SigType, Text, Ty, TyField, Version, Word, both, ty_eq,

@@ -1,0 +1,21 @@
+// Trees whose values may cross to another thread.
+
+use ac_terms::{Env, Exn, Home, Packet, Pat, Term};
+use ac_types::{Constraint, Resolve, Sig, Ty, Version};
+
+fn crosses<T: Send + Sync>() {}
+
+#[test]
+fn trees_cross(_rt: HostRuntime) {
+    crosses::<Ty>();
+    crosses::<Sig>();
+    crosses::<Version>();
+    crosses::<Constraint>();
+    crosses::<Resolve>();
+    crosses::<Env>();
+    crosses::<Term>();
+    crosses::<Pat>();
+    crosses::<Home>();
+    crosses::<Exn>();
+    crosses::<Packet>();
+}
