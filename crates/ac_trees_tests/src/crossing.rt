@@ -6,16 +6,24 @@ use ac_types::{Constraint, Resolve, Sig, Ty, Version};
 fn crosses<T: Send + Sync>() {}
 
 #[test]
-fn trees_cross(_rt: HostRuntime) {
+fn types_and_signatures_cross(_rt: HostRuntime) {
     crosses::<Ty>();
     crosses::<Sig>();
     crosses::<Version>();
     crosses::<Constraint>();
     crosses::<Resolve>();
+}
+
+#[test]
+fn terms_and_environments_cross(_rt: HostRuntime) {
     crosses::<Env>();
     crosses::<Term>();
     crosses::<Pat>();
     crosses::<Home>();
     crosses::<Exn>();
+}
+
+#[test]
+fn packets_cross(_rt: HostRuntime) {
     crosses::<Packet>();
 }

@@ -13,3 +13,5 @@ mod types;
 mod values;
 #[cfg(test)]
 mod versions;
+#[cfg(test)]
+mod words;

@@ -1,19 +1,13 @@
 // Calls that can answer want of memory, where memory suffices.
 
+use crate::words::word;
 use ac_terms::{
     Arm, Def, Entry, Env, Exn, Field, Home, Import, Module, PDef, PVal, Packet, Pat, Seen, Term,
 };
 use ac_types::{
-    Atom, Box, Constraint, Many, Memory, Name, Resolve, Sig, Text, Ty, TyField, Version, Word,
+    Atom, Box, Constraint, Many, Memory, Name, Resolve, Sig, Text, Ty, TyField, Version,
 };
 use std::alloc::Global;
-
-fn word(alloc: Global, bytes: &[u8]) -> Result<Word, Memory> {
-    match Word::new(Text::from_slice(alloc, bytes)?) {
-        None => Err(Memory),
-        Some(word) => Ok(word),
-    }
-}
 
 /// `module C : sig val y : int end = struct val y : int = 6 end`.
 fn six(alloc: Global) -> Result<Module, Memory> {

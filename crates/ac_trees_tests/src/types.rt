@@ -1,17 +1,11 @@
 // Calls that can answer want of memory, where memory suffices.
 
+use crate::words::word;
 use ac_types::{
     Atom, Box, Constraint, Many, Memory, Range, Resolve, Sig, SigType, Text, Ty, TyField, Version,
-    Word, small, ty_eq,
+    small, ty_eq,
 };
 use std::alloc::Global;
-
-fn word(alloc: Global, bytes: &[u8]) -> Result<Word, Memory> {
-    match Word::new(Text::from_slice(alloc, bytes)?) {
-        None => Err(Memory),
-        Some(word) => Ok(word),
-    }
-}
 
 /// `t -> int list`, with an own type `t`.
 fn sample(alloc: Global) -> Result<Ty, Memory> {
