@@ -17,6 +17,3 @@ mod typing;
 pub use fault::CheckFault;
 pub use plain::is_plain;
 pub use typing::type_of;
-
-#[cfg(test)]
-mod tests;

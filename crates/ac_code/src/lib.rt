@@ -4,8 +4,6 @@
 mod block;
 mod instr;
 mod table;
-#[cfg(test)]
-mod tests;
 
 pub use block::Block;
 pub use instr::{CodeId, Instr};

@@ -8,8 +8,6 @@ mod front;
 mod keywords;
 mod leaves;
 mod patterns;
-#[cfg(test)]
-mod tests;
 
 pub use expressions::expression;
 pub use patterns::pattern;

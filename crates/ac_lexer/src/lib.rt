@@ -5,11 +5,9 @@ mod gaps;
 mod laws;
 mod lexer;
 mod quoted;
-#[cfg(test)]
-mod tests;
 mod tokens;
 mod words;
 
 pub use laws::{one_place, same_tokens, tokens_or_fault};
 pub use lexer::lex;
-pub use tokens::{LexFault, Token, TokenKind, token_crosses};
+pub use tokens::{LexFault, Token, TokenKind};

@@ -39,10 +39,3 @@ impl From<Memory> for LexFault {
         LexFault::Memory
     }
 }
-
-fn crosses<T: Send + Sync>(_value: &T) {}
-
-/// Tokens go between threads.
-pub fn token_crosses(token: &Token) {
-    crosses(token);
-}

@@ -6,8 +6,6 @@ mod kind;
 pub mod laws;
 mod loading;
 mod shelf;
-#[cfg(test)]
-mod tests;
 
 pub use built::unbuilt;
 pub use kind::{Kind, Refusal};

@@ -6,8 +6,6 @@ mod cover;
 mod fields;
 mod likes;
 mod lookups;
-#[cfg(test)]
-mod tests;
 
 pub use cover::covers;
 pub use fields::valuable;

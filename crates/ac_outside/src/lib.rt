@@ -10,8 +10,6 @@ mod files;
 mod real;
 mod sink;
 mod taking;
-#[cfg(test)]
-mod tests;
 mod traits;
 mod world;
 

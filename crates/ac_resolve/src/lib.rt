@@ -15,6 +15,3 @@ mod types;
 pub use fault::ScopeFault;
 pub use primitive::{Primitive, named};
 pub use program::{RawProgram, elaborate};
-
-#[cfg(test)]
-mod tests;

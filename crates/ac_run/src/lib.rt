@@ -4,8 +4,6 @@
 mod driver;
 mod end;
 mod session;
-#[cfg(test)]
-mod tests;
 
 pub use end::RunEnd;
 pub use session::Session;

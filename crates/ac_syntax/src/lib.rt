@@ -10,8 +10,6 @@ mod sign;
 mod sigs;
 mod stop;
 mod surface;
-#[cfg(test)]
-mod tests;
 mod types;
 
 pub use fault::ParseFault;

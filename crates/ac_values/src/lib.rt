@@ -5,8 +5,6 @@ mod chain;
 mod node;
 pub mod read;
 mod store;
-#[cfg(test)]
-mod tests;
 
 pub use chain::Chain;
 pub use node::{Node, Value};

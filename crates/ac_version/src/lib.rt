@@ -3,7 +3,5 @@
 
 pub mod laws;
 mod read;
-#[cfg(test)]
-mod tests;
 
 pub use read::{VToken, VersionFault, read_constraint, read_version};

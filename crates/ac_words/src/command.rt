@@ -89,10 +89,3 @@ pub fn run_from<'a>(file: Option<&'a str>, steps: Option<&str>) -> Option<Comman
     let steps = steps_of(steps)?;
     Some(Command::Run(Run { file, steps }))
 }
-
-fn crosses<T: Send + Sync>(_value: &T) {}
-
-/// A command may cross to another thread.
-pub fn command_crosses(command: &Command<'_>) {
-    crosses(command);
-}

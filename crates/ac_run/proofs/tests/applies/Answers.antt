@@ -1,5 +1,0 @@
-use Rattle.ac_run.proofs.SmallPrograms.{applies}
-use Rattle.ac_run.proofs.tests.applies.Goals as goal
-
-pub program-requires : goal.program-requires
-program-requires c = applies c.in_ok-body.body c.in_ok-function.function c.in_ok-argument.argument c.in_ok-body.ensures c.in_ok-function.ensures c.in_ok-argument.ensures

@@ -1,8 +1,0 @@
-use Rattle.std.proofs.Common.{◌∙◌, ap, [], ◌∷◌, ◌++◌}
-use Rattle.ac_run.proofs.SmallPrograms.{prints_and_sends}
-use Rattle.ac_run.proofs.tests.prints_and_sends.Goals as goal
-
-pub program-requires : goal.program-requires
-program-requires c =
-    prints_and_sends (97 ∷ []) (98 ∷ []) c.in_ok-print.print c.in_ok-send.send c.push-2.new.self c.in_ok-print.ensures c.in_ok-send.ensures
-    (c.in_ok-push-2.ensures.ok ∙ ap (λ l. l ++ c.in_ok-send.send ∷ []) (c.in_ok-push.ensures.ok ∙ ap (λ l. l ++ c.in_ok-print.print ∷ []) c.new-parts.ensures))

@@ -1,0 +1,29 @@
+// Trees whose values may cross to another thread.
+
+use ac_terms::{Env, Exn, Home, Packet, Pat, Term};
+use ac_types::{Constraint, Resolve, Sig, Ty, Version};
+
+fn crosses<T: Send + Sync>() {}
+
+#[test]
+fn types_and_signatures_cross(_rt: HostRuntime) {
+    crosses::<Ty>();
+    crosses::<Sig>();
+    crosses::<Version>();
+    crosses::<Constraint>();
+    crosses::<Resolve>();
+}
+
+#[test]
+fn terms_and_environments_cross(_rt: HostRuntime) {
+    crosses::<Env>();
+    crosses::<Term>();
+    crosses::<Pat>();
+    crosses::<Home>();
+    crosses::<Exn>();
+}
+
+#[test]
+fn packets_cross(_rt: HostRuntime) {
+    crosses::<Packet>();
+}
