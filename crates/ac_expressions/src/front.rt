@@ -49,7 +49,14 @@ pub fn begins_name(signs: &[Sign<'_>]) -> bool
     let Some((first, _)) = next(signs) else {
         return false;
     };
-    matches!(first.kind, SignKind::Lower(_))
+    match first.kind {
+        SignKind::Lower(_) => true,
+        SignKind::Int(_)
+        | SignKind::Str(_)
+        | SignKind::Upper(_)
+        | SignKind::Fixed(_)
+        | SignKind::Other => false,
+    }
 }
 
 fn symbol_begins_atom(symbol: Symbol) -> bool
