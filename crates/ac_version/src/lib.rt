@@ -2,8 +2,12 @@
 #![tactic(auto)]
 
 pub mod laws;
+mod meeting;
+mod print;
 mod read;
 #[cfg(test)]
 mod tests;
 
+pub use meeting::{fit, meets};
+pub use print::{constraint_text, version_text};
 pub use read::{VToken, VersionFault, read_constraint, read_version};
