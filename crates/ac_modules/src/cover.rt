@@ -9,9 +9,9 @@ ghost use Rattle.ac_terms.specs.Read.{module_of_code};
 ghost use Rattle.ac_rules.specs.Modules.{inside, covers_type, covers_val, uncovered};
 ghost use Rattle.ac_modules.specs.Asked.{all_inside};
 
-use crate::lookups::{field_type, type_named};
+use crate::lookups::field_type;
 use ac_terms::Module;
-use ac_types::{SigType, Ty, TyField, ty_eq};
+use ac_types::{SigType, Ty, TyField, same_types, type_named};
 
 /// Whether a struct covers its signature; if not, the first spec that it doesn't cover, types
 /// first and then values, counted through from 0.
@@ -114,11 +114,4 @@ fn are_inside(tys: &[Ty], written: &[Ty], m: &Module) -> bool
         }
     }
     true
-}
-
-/// Whether two types are equal.
-fn same_types(a: &Ty, b: &Ty) -> bool
-    ensures { result ≡ same (typ_of a.now) (typ_of b.now) }
-{
-    ty_eq(a, b)
 }

@@ -7,9 +7,8 @@ ghost use Rattle.ac_terms.specs.Read.{import_of_code};
 ghost use Rattle.ac_rules.specs.Modules.{like_missing};
 ghost use Rattle.ac_modules.specs.Asked.{has_like};
 
-use crate::lookups::type_named;
 use ac_terms::Import;
-use ac_types::{SigType, TyField};
+use ac_types::{SigType, TyField, type_named};
 
 /// The first abstract type of an import's signature without a likespec, `None` exactly where each
 /// has one.

@@ -1,26 +1,13 @@
-// What a list has under a name.
+// What the fields of a struct have under a name.
 
 ghost use Rattle.std.specs.Prelude.{◌≡◌, map, option_map};
 ghost use Rattle.std.specs.Option.{option_copied};
-ghost use Rattle.ac_types.specs.Sigs.{under};
-ghost use Rattle.ac_types.specs.ReadTypes.{typ_of, typed_of};
+ghost use Rattle.ac_types.specs.ReadTypes.{typ_of};
 ghost use Rattle.ac_terms.specs.Read.{field_of};
 ghost use Rattle.ac_rules.specs.Modules.{field_named};
 
 use ac_terms::Field;
-use ac_types::{Ty, TyField, Word};
-
-/// The type of that name in a struct or a likespec.
-pub fn type_named<'a>(types: &'a [TyField], name: &Word) -> Option<&'a Ty>
-    ensures { option_map typ_of (option_copied result) ≡ under name.now (map typed_of types.now) }
-{
-    for x in types {
-        if x.name.text().as_slice() == name.text().as_slice() {
-            return Some(&x.ty);
-        }
-    }
-    None
-}
+use ac_types::{Ty, Word};
 
 /// The type that the field of that name writes.
 pub fn field_type<'a>(fields: &'a [Field], name: &Word) -> Option<&'a Ty>

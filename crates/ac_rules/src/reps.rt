@@ -1,14 +1,13 @@
 // What an abstract type stands for.
 
-ghost use Rattle.std.specs.Prelude.{◌≡◌, ◌<◌, ◌^◌, length, map, option_map};
+ghost use Rattle.std.specs.Prelude.{◌≡◌, ◌<◌, ◌^◌, length, option_map};
 ghost use Rattle.std.specs.Option.{option_copied};
-ghost use Rattle.ac_types.specs.Sigs.{under};
-ghost use Rattle.ac_types.specs.ReadTypes.{typ_of, typed_of};
+ghost use Rattle.ac_types.specs.ReadTypes.{typ_of};
 ghost use Rattle.ac_terms.specs.Read.{environment_of, def_of_code};
 ghost use Rattle.ac_rules.specs.Views.{representation, type_of_entry, module_type};
 
 use ac_terms::{Def, Env};
-use ac_types::{Constraint, Name, Ty, TyField, Word};
+use ac_types::{Constraint, Name, Ty, Word, type_named};
 
 /// The representation of the abstract type `t` of a name, `None` exactly where there is none.
 #[tactic(auto, using(ac_terms::proofs::EnvLaws::env_laws))]
@@ -50,15 +49,4 @@ fn type_in_module<'a>(env: &'a Env, t: &Word, j: u32) -> Option<&'a Ty>
             Def::Mark(_) => None,
         },
     }
-}
-
-fn type_named<'a>(types: &'a [TyField], t: &Word) -> Option<&'a Ty>
-    ensures { option_map typ_of (option_copied result) ≡ under t.now (map typed_of types.now) }
-{
-    for x in types {
-        if x.name.text().as_slice() == t.text().as_slice() {
-            return Some(&x.ty);
-        }
-    }
-    None
 }

@@ -1,3 +1,5 @@
+pub mod FitLaws
+pub mod Printing
 pub mod Unique
 pub mod VersionSteps
 pub mod RangeSteps

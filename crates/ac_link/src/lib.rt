@@ -1,0 +1,11 @@
+//! Links: what an import may link to, and what its resolvespec gives. Nothing here takes memory.
+#![tactic(auto)]
+
+mod fault;
+mod link;
+mod resolving;
+mod signature;
+
+pub use fault::{LinkFault, When};
+pub use link::link_ok;
+pub use resolving::resolve;

@@ -1,0 +1,125 @@
+// What a resolvespec gives.
+
+ghost use Rattle.std.specs.Prelude.{◌≡◌, ◌+◌, ◌<◌, ◌^◌, length};
+ghost use Rattle.ac_types.specs.Sigs.{HereAlready};
+ghost use Rattle.ac_types.specs.ReadTypes.{constraint_of, resolve_of};
+ghost use Rattle.ac_terms.specs.Read.{import_of_code, environment_of, seen_of};
+ghost use Rattle.ac_rules.specs.Links.{InPacket, is_exact, latest, gives, linked};
+ghost use Rattle.ac_link.specs.Faults.{when_of, comes_from, is_candidate};
+
+use crate::fault::When;
+use crate::link::link_ok;
+use ac_terms::{Env, Import, Seen};
+use ac_types::{Constraint, Resolve, Text};
+
+/// The entry that an import's resolvespec gives, that of the first atom which gives one; `None`
+/// exactly where no atom does.
+pub fn resolve(env: &Env, import: &Import, when: When) -> Option<u32>
+    requires entries { length env.now.entries < 2 ^ 32 }
+    requires specs { length import.now.sig.types + length import.now.sig.vals < 2 ^ 32 }
+    ensures { result ≡ linked (environment_of env.now) (import_of_code import.now) (when_of when) }
+{
+    for atom in import.by.as_slice() {
+        if let Some(j) = gives(env, import, when, atom) {
+            return Some(j);
+        }
+    }
+    None
+}
+
+/// The entry that one atom gives.
+fn gives(env: &Env, import: &Import, when: When, atom: &Resolve) -> Option<u32>
+    requires entries { length env.now.entries < 2 ^ 32 }
+    requires specs { length import.now.sig.types + length import.now.sig.vals < 2 ^ 32 }
+    ensures { result ≡ gives (environment_of env.now) (import_of_code import.now) (when_of when) (resolve_of atom.now) }
+{
+    match atom {
+        Resolve::StaticLink => match when {
+            When::Load => latest(env, import, Origin::Own),
+            When::Packet => None,
+        },
+        Resolve::HereAlready => match when {
+            When::Load => latest(env, import, Origin::Own),
+            When::Packet => here_already(env, import),
+        },
+        Resolve::Uri(uri) => latest(env, import, Origin::Shelf(uri)),
+    }
+}
+
+/// What is there already as a packet comes: an own module, or by exact name one that has arrived.
+fn here_already(env: &Env, import: &Import) -> Option<u32>
+    requires entries { length env.now.entries < 2 ^ 32 }
+    requires specs { length import.now.sig.types + length import.now.sig.vals < 2 ^ 32 }
+    ensures { result ≡ gives (environment_of env.now) (import_of_code import.now) InPacket HereAlready }
+{
+    if let Some(own) = latest(env, import, Origin::Own) {
+        return Some(own);
+    }
+    if is_exact(&import.constraint) {
+        latest(env, import, Origin::Arrived)
+    } else {
+        None
+    }
+}
+
+/// The entries among which an atom looks.
+#[derive(Clone, Copy)]
+enum Origin<'a> {
+    Own,
+    Shelf(&'a Text),
+    Arrived,
+}
+
+/// The latest entry of an origin to which the import may link. A signature is compared only where
+/// origin, external name and version fit.
+fn latest(env: &Env, import: &Import, origin: Origin) -> Option<u32>
+    requires entries { length env.now.entries < 2 ^ 32 }
+    requires specs { length import.now.sig.types + length import.now.sig.vals < 2 ^ 32 }
+    ensures { result ≡ latest (comes_from origin) (environment_of env.now) (import_of_code import.now) }
+{
+    let mut j = env.entries.len();
+    while j > 0 {
+        j -= 1;
+        if is_candidate(env, import, origin, j) {
+            return Some(j as u32);
+        }
+    }
+    None
+}
+
+/// Whether entry `j` comes from there, and the import may link to it.
+#[tactic(auto, using(ac_terms::proofs::EnvLaws::env_laws))]
+fn is_candidate(env: &Env, import: &Import, origin: Origin, j: usize) -> bool
+    requires entries { length env.now.entries < 2 ^ 32 }
+    requires below { j < length env.now.entries }
+    requires specs { length import.now.sig.types + length import.now.sig.vals < 2 ^ 32 }
+    ensures { result ≡ is_candidate (comes_from origin) (environment_of env.now) (import_of_code import.now) j }
+{
+    match env.entry(j as u32) {
+        None => false,
+        Some(entry) => comes_from(origin, &entry.seen) && link_ok(env, import, j as u32).is_ok(),
+    }
+}
+
+fn comes_from(origin: Origin, seen: &Seen) -> bool
+    ensures { result ≡ comes_from origin (seen_of seen.now) }
+{
+    match origin {
+        Origin::Own => matches!(seen, Seen::Own),
+        Origin::Arrived => matches!(seen, Seen::Arrived),
+        Origin::Shelf(uri) => match seen {
+            Seen::Shelf(other) => uri.as_slice() == other.as_slice(),
+            Seen::Own => false,
+            Seen::Arrived => false,
+        },
+    }
+}
+
+fn is_exact(constraint: &Constraint) -> bool
+    ensures { result ≡ is_exact (constraint_of constraint.now) }
+{
+    match constraint {
+        Constraint::Ranges { atoms: _, star: _ } => false,
+        Constraint::Exact(_) => true,
+    }
+}
