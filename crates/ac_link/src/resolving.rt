@@ -75,7 +75,7 @@ enum Origin<'a> {
 fn latest(env: &Env, import: &Import, origin: Origin) -> Option<u32>
     requires entries { length env.now.entries < 2 ^ 32 }
     requires specs { length import.now.sig.types + length import.now.sig.vals < 2 ^ 32 }
-    ensures { result ≡ latest (comes_from origin) (environment_of env.now) (import_of_code import.now) }
+    ensures { result ≡ latest (comes_from origin.entry) (environment_of env.now) (import_of_code import.now) }
 {
     let mut j = env.entries.len();
     while j > 0 {
@@ -93,7 +93,7 @@ fn is_candidate(env: &Env, import: &Import, origin: Origin, j: usize) -> bool
     requires entries { length env.now.entries < 2 ^ 32 }
     requires below { j < length env.now.entries }
     requires specs { length import.now.sig.types + length import.now.sig.vals < 2 ^ 32 }
-    ensures { result ≡ is_candidate (comes_from origin) (environment_of env.now) (import_of_code import.now) j }
+    ensures { result ≡ is_candidate (comes_from origin.entry) (environment_of env.now) (import_of_code import.now) j }
 {
     match env.entry(j as u32) {
         None => false,
@@ -102,7 +102,7 @@ fn is_candidate(env: &Env, import: &Import, origin: Origin, j: usize) -> bool
 }
 
 fn comes_from(origin: Origin, seen: &Seen) -> bool
-    ensures { result ≡ comes_from origin (seen_of seen.now) }
+    ensures { result ≡ comes_from origin.entry (seen_of seen.now) }
 {
     match origin {
         Origin::Own => matches!(seen, Seen::Own),

@@ -6,7 +6,7 @@ use Rattle.ac_types.specs.ReadTypes.{sig_type_of}
 use Rattle.ac_types.specs.declared.sig.SigType.{SigType}
 use Rattle.ac_terms.specs.Read.{module_of_code}
 use Rattle.ac_rules.specs.Modules.{covers_type}
-use Rattle.ac_modules.proofs.Places.{first_failing-map}
+use Rattle.ac_terms.proofs.Places.{first_failing-map}
 use Rattle.ac_modules.proofs.cover.uncovered_type.Goals as goal
 
 pub returns : goal.returns
