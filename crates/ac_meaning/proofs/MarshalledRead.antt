@@ -16,7 +16,7 @@ use Rattle.ac_rules.specs.Faults.{Fault, AString, first_fault, behind, cut_at, m
 use Rattle.ac_rules.specs.Coherent.{IsCoherent}
 use Rattle.ac_rules.proofs.FaultLaws.{none_fails}
 use Rattle.ac_meaning.specs.Worlds.{World, fresh}
-use Rattle.ac_meaning.specs.Acts.{Act, Is, Goes, Turns, Applies, Raises, Wrong, parts, State, At, Over, iter}
+use Rattle.ac_meaning.specs.Acts.{Act, Is, Goes, Turns, Applies, Raises, Wrong, parts, State, At, Over, iter, Leads}
 use Rattle.ac_rules.specs.Growth.{Grows}
 use Rattle.ac_meaning.specs.BareTerms.{bare_value}
 use Rattle.ac_meaning.specs.BarePacking.{packed}
@@ -185,13 +185,13 @@ marshal_read mode T z e h U s m F g =
     value_read mode z c U x.mark s x.value i t.3 typed w.0 within x.packs_so F g
 
 -- so what a program marshals in any state that it comes to is read again, there and after all that comes later
-pub marshalled_is_read : (E : Environment) (e : Expr) (T : Typ) → IsTypedProgram E e T → IsTrue (fits_term false e) → (mode : Mode) (input : Bytes) (sends : Bool) (N k : ℕ) (t : Expr) (z : World) → iter (step mode N) k (At e (fresh E input sends)) ≡ At t z →
+pub marshalled_is_read : (E : Environment) (e : Expr) (T : Typ) → IsTypedProgram E e T → IsTrue (fits_term false e) → (mode : Mode) (input : Bytes) (sends : Bool) (N : ℕ) (t : Expr) (z : World) → Leads (step mode N) (At e (fresh E input sends)) (At t z) →
     (U : Typ) (s : Bytes) → Marshals mode z t U s → (F : Environment) → Grows z.environment F → IsReadBack (landing F U s)
-marshalled_is_read E e T p fits mode input sends N k t z at U s m F g =
-    marshal_read mode (lower E mode T) z t (subst (IsBounded mode (lower E mode T)) at (run_bounded mode (lower E mode T) N k (At e (fresh E input sends)) (starts_bounded E e T p fits mode input sends))) U s m F g
+marshalled_is_read E e T p fits mode input sends N t z leads U s m F g =
+    marshal_read mode (lower E mode T) z t (subst (IsBounded mode (lower E mode T)) leads.1 (run_bounded mode (lower E mode T) N leads.0 (At e (fresh E input sends)) (starts_bounded E e T p fits mode input sends))) U s m F g
 
-pub marshalled_is_read_here : (E : Environment) (e : Expr) (T : Typ) → IsTypedProgram E e T → IsTrue (fits_term false e) → (mode : Mode) (input : Bytes) (sends : Bool) (N k : ℕ) (t : Expr) (z : World) → iter (step mode N) k (At e (fresh E input sends)) ≡ At t z →
+pub marshalled_is_read_here : (E : Environment) (e : Expr) (T : Typ) → IsTypedProgram E e T → IsTrue (fits_term false e) → (mode : Mode) (input : Bytes) (sends : Bool) (N : ℕ) (t : Expr) (z : World) → Leads (step mode N) (At e (fresh E input sends)) (At t z) →
     (U : Typ) (s : Bytes) → Marshals mode z t U s → IsReadBack (landing z.environment U s)
-marshalled_is_read_here E e T p fits mode input sends N k t z at U s m =
-    let h = subst (IsBounded mode (lower E mode T)) at (run_bounded mode (lower E mode T) N k (At e (fresh E input sends)) (starts_bounded E e T p fits mode input sends)) in
+marshalled_is_read_here E e T p fits mode input sends N t z leads U s m =
+    let h = subst (IsBounded mode (lower E mode T)) leads.1 (run_bounded mode (lower E mode T) N leads.0 (At e (fresh E input sends)) (starts_bounded E e T p fits mode input sends)) in
     marshal_read mode (lower E mode T) z t h U s m z.environment (grows_not z.environment h.0.0)
