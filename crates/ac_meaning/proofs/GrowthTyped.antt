@@ -12,7 +12,7 @@ use Rattle.ac_meaning.specs.Substitution.{Written}
 use Rattle.ac_rules.specs.Growth.{Extends}
 use Rattle.ac_meaning.specs.Typed.{own_type, seen, Known, IsHome, Fits, AllFit, Typed, AllTyped, ArmsTyped, ValueTyped, ValuesTyped, WrittenTyped}
 use Rattle.ac_meaning.proofs.KnownNames.{known_types}
-use Rattle.ac_rules.proofs.Growth.{signature_more, name_more, known_more, home_more, opens_same, fields_same, view_same, value_more}
+use Rattle.ac_rules.proofs.Growth.{known_more, home_more, opens_same, fields_same, view_same, value_more}
 
 module _ (E F : Environment) (g : Extends E F) where
   pub own_same : (c : Home) (f : ℕ) (A : Typ) → IsHome Coloured E c → own_type E c f ≡ Some A → own_type F c f ≡ Some A
