@@ -1,4 +1,5 @@
 pub mod Worlds
+pub mod Read
 pub mod Frames
 pub mod Acts
 pub mod Substitution

@@ -2,7 +2,7 @@
 ghost use Rattle.std.specs.Prelude.{◌≡◌, ◌⊎◌, [], List, ℕ, Option, Some, None, IfOk, IsTrue, string_bytes};
 ghost use Rattle.ac_types.specs.ReadTypes.{typ_of};
 ghost use Rattle.ac_terms.specs.Read.{environment_of, expr_of};
-ghost use Rattle.ac_run.specs.Sessions.{exception_of};
+ghost use Rattle.ac_meaning.specs.Read.{exn_of};
 ghost use Rattle.ac_load.specs.Loading.{Accepted};
 ghost use Rattle.ac_words.specs.Commands.{command_of, request_of, run, Request};
 ghost use Rattle.acute.specs.Streams.{Reading, reading, writing, memory_line};
@@ -159,7 +159,7 @@ fn refuse<E: Sink>(alloc: Global, kind: Kind, errors: &mut E) -> Status
 // Writes the line of an exception.
 fn tell_uncaught<E: Sink>(alloc: Global, exn: &Exn, errors: &mut E) -> Status
     ensures { let stream = writing E.told (E.written errors.old) (E.written errors.new) (E.faults errors.old) (E.faults errors.new)
-        in Said stream (uncaught_line (exception_of exn.now)) 2 result.0 ⊎ Said stream memory_line 4 result.0 }
+        in Said stream (uncaught_line (exn_of exn.now)) 2 result.0 ⊎ Said stream memory_line 4 result.0 }
 {
     match uncaught::line(alloc, exn) {
         Ok(line) => say(errors, line.as_slice(), 2),

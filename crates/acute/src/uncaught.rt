@@ -1,7 +1,7 @@
 // The line of an exception that nothing handles.
 ghost use Rattle.std.specs.Prelude.{◌≡◌, ◌<◌, ◌++◌, IfOk, OnOk};
 ghost use Rattle.std.specs.List.{flat_map};
-ghost use Rattle.ac_run.specs.Sessions.{exception_of};
+ghost use Rattle.ac_meaning.specs.Read.{exn_of};
 ghost use Rattle.acute.specs.Lines.{exception_name, hex_digit, escaped, literal, uncaught_line};
 
 use ac_terms::Exn;
@@ -10,7 +10,7 @@ use std::alloc::Global;
 
 /// The line that names an exception, with its text where it has one.
 pub fn line(alloc: Global, exn: &Exn) -> Result<Text, Memory>
-    ensures { IfOk result (λ line. line.0 ≡ uncaught_line (exception_of exn.now)) }
+    ensures { IfOk result (λ line. line.0 ≡ uncaught_line (exn_of exn.now)) }
 {
     let mut line = Text::from_slice(alloc, b"uncaught: ")?;
     line.extend(name_of(exn.number))?;
