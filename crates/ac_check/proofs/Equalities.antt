@@ -27,3 +27,12 @@ slice_argument = TTuple (typ TStr (typ TInt (typ TInt no_types)))
 -- a list whose first element is of the type of the others
 pub cons_same : (T U : Typ) → same U T ≡ true → Some U ≡ given (same U T) (Some T)
 cons_same T U e = ap Some (same_eq U T e) ∙ sym (ap (λ (b : Bool). given b (Some T)) e)
+
+-- which of two types stands first makes no difference
+pub same_either_way : (T U : Typ) → same T U ≡ same U T
+same_either_way T U = by (same T U) (same U T) refl refl
+  where
+    by : (b d : Bool) → same T U ≡ b → same U T ≡ d → same T U ≡ same U T
+    by true d p q = ap (same T) (sym (same_eq T U p)) ∙ same_refl T ∙ sym (ap (same U) (same_eq T U p) ∙ same_refl U)
+    by false true p q = ap (same T) (same_eq U T q) ∙ same_refl T ∙ sym (ap (same U) (sym (same_eq U T q)) ∙ same_refl U)
+    by false false p q = p ∙ sym q

@@ -8,3 +8,4 @@ pub mod PatternLaws
 pub mod TermLaws
 pub mod ArmLaws
 pub mod FormLaws
+pub mod TypedForms

@@ -29,7 +29,7 @@ arms_read [] = refl
 arms_read (a ∷ cs) = ap₂ (λ x xs. x ∷ xs) (arm_read a) (arms_read cs)
 
 -- one layer, read
-abbrev layer : Term-F PVal Term Arm → Expr
+abbrev pub layer : Term-F PVal Term Arm → Expr
 layer x = expr_layer (read_parts x)
 
 pub expr_of-Match : (e : Term) (cs : List Arm) → expr_of (term.Match e cs) ≡ Match (expr_of e) (arms (map arm_of cs))

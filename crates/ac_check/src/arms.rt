@@ -14,19 +14,45 @@ use ac_types::{Many, Ty};
 pub fn both_same(a: Option<Ty>, b: Option<Ty>) -> Option<Ty>
     ensures { option_map typ_of result ≡ both_same (option_map typ_of a) (option_map typ_of b) }
 {
-    let a = a?;
-    let b = b?;
-    if same_types(&b, &a) { Some(a) } else { None }
+    let Some(a) = a else {
+        drop(b);
+        return None;
+    };
+    let Some(b) = b else {
+        drop(a);
+        return None;
+    };
+    let same = same_types(&b, &a);
+    drop(b);
+    if same {
+        Some(a)
+    } else {
+        drop(a);
+        None
+    }
 }
 
-/// The type of a choice, where its test and its sides have these types.
-pub fn if_type(test: Option<Ty>, so: Option<Ty>, otherwise: Option<Ty>) -> Option<Ty>
-    ensures { option_map typ_of result ≡ given (has (option_map typ_of test) TBool) (both_same (option_map typ_of so) (option_map typ_of otherwise)) }
+/// Whether a test, where it has this type, is a bool.
+pub fn is_test(test: Option<Ty>) -> bool
+    ensures { result ≡ has (option_map typ_of test) TBool }
 {
-    let test = test?;
-    if is_base(&test, Base::Bool) {
-        both_same(so, otherwise)
+    let Some(test) = test else {
+        return false;
+    };
+    let is_bool = is_base(&test, Base::Bool);
+    drop(test);
+    is_bool
+}
+
+/// The type of a choice, where its test is a bool and its sides have these types.
+pub fn if_type(is_test: bool, so: Option<Ty>, otherwise: Option<Ty>) -> Option<Ty>
+    ensures { option_map typ_of result ≡ given is_test (both_same (option_map typ_of so) (option_map typ_of otherwise)) }
+{
+    let side = both_same(so, otherwise);
+    if is_test {
+        side
     } else {
+        drop(side);
         None
     }
 }
@@ -39,9 +65,12 @@ pub fn go_on(before: Option<Ty>, found: Ty) -> Option<Ty>
     match before {
         None => Some(found),
         Some(first) => {
-            if same_types(&found, &first) {
+            let same = same_types(&found, &first);
+            drop(found);
+            if same {
                 Some(first)
             } else {
+                drop(first);
                 None
             }
         }

@@ -52,11 +52,20 @@ pub fn list_type(alloc: Global, item: Option<Ty>) -> Result<Option<Ty>, Memory>
 pub fn cons_type(head: Option<Ty>, tail: Option<Ty>) -> Option<Ty>
     ensures { option_map typ_of result ≡ both_same (option_map TList (option_map typ_of head)) (option_map typ_of tail) }
 {
-    let head = head?;
-    let tail = tail?;
-    if is_list_of(&tail, &head) {
+    let Some(head) = head else {
+        drop(tail);
+        return None;
+    };
+    let Some(tail) = tail else {
+        drop(head);
+        return None;
+    };
+    let fits = is_list_of(&tail, &head);
+    drop(head);
+    if fits {
         Some(tail)
     } else {
+        drop(tail);
         None
     }
 }
@@ -82,6 +91,7 @@ pub fn nil_type<'a>(alloc: Global, ty: &'a Ty, place: &'a Place<'a>) -> Result<O
     if list_item(&seen).is_some() {
         Ok(Some(seen))
     } else {
+        drop(seen);
         Ok(None)
     }
 }
@@ -97,6 +107,7 @@ pub fn empty_type<'a>(alloc: Global, ty: &'a Ty, place: &'a Place<'a>) -> Result
     if option_item(&seen).is_some() {
         Ok(Some(seen))
     } else {
+        drop(seen);
         Ok(None)
     }
 }

@@ -47,7 +47,9 @@ pub fn text_exception_type(number: u8, text: Option<Ty>) -> Option<Ty>
     ensures { option_map typ_of result ≡ given (has_text number && has (option_map typ_of text) TStr) (Some TExn) }
 {
     let text = text?;
-    if has_text(number) && is_base(&text, Base::Str) {
+    let is_text = is_base(&text, Base::Str);
+    drop(text);
+    if has_text(number) && is_text {
         Some(Ty::Exn)
     } else {
         None
@@ -67,7 +69,9 @@ pub fn raise_type<'a>(
     let Some(inner) = inner else {
         return Ok(None);
     };
-    if is_base(&inner, Base::Exn) {
+    let is_raised = is_base(&inner, Base::Exn);
+    drop(inner);
+    if is_raised {
         seen_type(alloc, ty, place)
     } else {
         Ok(None)

@@ -10,7 +10,7 @@ ghost use Rattle.ac_rules.specs.Typing.{kept_in, applied};
 ghost use Rattle.ac_check.specs.Checking.{ends_of, read_ends};
 
 use crate::types::{kept, same_types};
-use ac_types::{Box, Memory, Ty};
+use ac_types::{Box, Memory, Ty, both};
 use std::alloc::Global;
 
 /// The type of a function whose argument and result have these types.
@@ -19,10 +19,10 @@ pub fn function_type(alloc: Global, from: Ty, to: Option<Ty>) -> Result<Option<T
     ensures { IfOk result (λ o. option_map typ_of o ≡ kept_in Coloured (option_map (TFun (typ_of from)) (option_map typ_of to))) }
 {
     let Some(to) = to else {
+        drop(from);
         return Ok(None);
     };
-    let from = Box::new(alloc, from)?;
-    let to = Box::new(alloc, to)?;
+    let (from, to) = both(Box::new(alloc, from), Box::new(alloc, to))?;
     Ok(kept(Ty::Fun(from, to)))
 }
 
@@ -31,26 +31,31 @@ pub fn function_type(alloc: Global, from: Ty, to: Option<Ty>) -> Result<Option<T
 pub fn applied(function: Option<Ty>, argument: Option<Ty>) -> Option<Ty>
     ensures { option_map typ_of result ≡ applied (option_map typ_of function) (option_map typ_of argument) }
 {
-    let function = function?;
-    let argument = argument?;
+    let Some(function) = function else {
+        drop(argument);
+        return None;
+    };
+    let Some(argument) = argument else {
+        drop(function);
+        return None;
+    };
     match function {
         Ty::Fun(from, to) => {
-            if same_types(&argument, &from) {
+            let same = same_types(&argument, &from);
+            drop(argument);
+            drop(from);
+            if same {
                 Some(to.into_inner())
             } else {
+                drop(to);
                 None
             }
         }
-        Ty::Int => None,
-        Ty::Bool => None,
-        Ty::Str => None,
-        Ty::Unit => None,
-        Ty::Exn => None,
-        Ty::Tuple(_) => None,
-        Ty::List(_) => None,
-        Ty::Opt(_) => None,
-        Ty::Abs(_, _) => None,
-        Ty::Mine(_) => None,
+        other => {
+            drop(other);
+            drop(argument);
+            None
+        }
     }
 }
 
@@ -58,10 +63,16 @@ pub fn applied(function: Option<Ty>, argument: Option<Ty>) -> Option<Ty>
 pub fn recursive_type(own: Ty, to: &Ty, found: Option<Ty>) -> Option<Ty>
     ensures { option_map typ_of result ≡ given (has (option_map typ_of found) (typ_of to.now)) (Some (typ_of own)) }
 {
-    let found = found?;
-    if same_types(&found, to) {
+    let Some(found) = found else {
+        drop(own);
+        return None;
+    };
+    let same = same_types(&found, to);
+    drop(found);
+    if same {
         Some(own)
     } else {
+        drop(own);
         None
     }
 }

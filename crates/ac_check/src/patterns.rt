@@ -85,7 +85,9 @@ pub fn variables<'a>(
                 return Ok(None);
             }
             let text = Ty::Str;
-            variables(alloc, inner, &text, place, before)
+            let found = variables(alloc, inner, &text, place, before);
+            drop(text);
+            found
         }
     }
 }

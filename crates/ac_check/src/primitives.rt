@@ -29,7 +29,12 @@ fn are(args: &[Ty], bases: &[Base]) -> bool
 fn of_one(args: &[Ty], base: Base, to: Ty) -> Option<Ty>
     ensures { option_map typ_of result ≡ by_rules (takes_one (base_typ base) (typ_of to) ∷ []) (typs_of args.now) }
 {
-    if are(args, &[base]) { Some(to) } else { None }
+    if are(args, &[base]) {
+        Some(to)
+    } else {
+        drop(to);
+        None
+    }
 }
 
 /// What a primitive of two arguments of one type gives.
@@ -40,6 +45,7 @@ fn of_two(args: &[Ty], base: Base, to: Ty) -> Option<Ty>
     if are(args, &[base, base]) {
         Some(to)
     } else {
+        drop(to);
         None
     }
 }

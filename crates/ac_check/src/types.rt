@@ -12,7 +12,7 @@ use ac_types::{Many, Memory, Ty, small, ty_eq};
 use std::alloc::Global;
 
 /// A type without parts and without a name.
-#[derive(Clone, Copy, Debug, PartialEq, Eq)]
+#[derive(Clone, Copy)]
 pub enum Base {
     Int,
     Bool,
@@ -21,25 +21,30 @@ pub enum Base {
     Exn,
 }
 
-/// Whether a type is this one.
+/// The type itself.
 #[tactic(auto, using(ac_types::proofs::SizeLaws::type_laws))]
+fn base_type(base: Base) -> Ty
+    ensures { typ_of result ≡ base_typ base }
+{
+    match base {
+        Base::Int => Ty::Int,
+        Base::Bool => Ty::Bool,
+        Base::Str => Ty::Str,
+        Base::Unit => Ty::Unit,
+        Base::Exn => Ty::Exn,
+    }
+}
+
+/// Whether a type is this one.
+#[tactic(auto, using(crate::proofs::Equalities::same_either_way))]
 pub fn is_base(ty: &Ty, base: Base) -> bool
     ensures given { result ≡ same (base_typ base) (typ_of ty.now) }
     ensures found { result ≡ same (typ_of ty.now) (base_typ base) }
 {
-    match ty {
-        Ty::Int => base == Base::Int,
-        Ty::Bool => base == Base::Bool,
-        Ty::Str => base == Base::Str,
-        Ty::Unit => base == Base::Unit,
-        Ty::Exn => base == Base::Exn,
-        Ty::Tuple(_) => false,
-        Ty::List(_) => false,
-        Ty::Opt(_) => false,
-        Ty::Fun(_, _) => false,
-        Ty::Abs(_, _) => false,
-        Ty::Mine(_) => false,
-    }
+    let wanted = base_type(base);
+    let same = same_types(ty, &wanted);
+    drop(wanted);
+    same
 }
 
 /// Whether two types are equal.
@@ -113,7 +118,12 @@ pub fn tuple_parts(ty: &Ty) -> Option<&Many<Ty>>
 pub fn kept(ty: Ty) -> Option<Ty>
     ensures { option_map typ_of result ≡ kept_in Coloured (Some (typ_of ty)) }
 {
-    if small(&ty) { Some(ty) } else { None }
+    if small(&ty) {
+        Some(ty)
+    } else {
+        drop(ty);
+        None
+    }
 }
 
 /// A copy of a type, where it is small.

@@ -12,7 +12,7 @@ ghost use Rattle.ac_rules.specs.Typing.{type_of, types_of, arm_types, one_of, ke
 ghost use Rattle.ac_check.specs.PlainTerms.{IsPlainTerm, are_plain, arms_plain};
 ghost use Rattle.ac_check.specs.Checking.{Answers, entries_of, scope_of, types_in, typs_of, arm_of, arm_type};
 
-use crate::arms::{both_same, go_on, if_type, sequence_type};
+use crate::arms::{both_same, go_on, if_type, is_test, sequence_type};
 use crate::data::{cons_type, empty_type, nil_type, present_type, tuple_type};
 use crate::exceptions::{exception_type, raise_type, text_exception_type};
 use crate::fault::CheckFault;
@@ -74,59 +74,81 @@ fn typed<'a>(
         Term::Unit => Ok(Some(Ty::Unit)),
         Term::ExnVal(number, None) => Ok(exception_type(*number)),
         Term::ExnVal(number, Some(text)) => {
-            typed(alloc, text, place, vars).map(|text| text_exception_type(*number, text))
+            let text = typed(alloc, text, place, vars)?;
+            Ok(text_exception_type(*number, text))
         }
-        Term::Tuple(parts) => types_of(alloc, parts.as_slice(), place, vars).map(tuple_type),
+        Term::Tuple(parts) => {
+            let parts = types_of(alloc, parts.as_slice(), place, vars)?;
+            Ok(tuple_type(parts))
+        }
         Term::Nil(ty) => nil_type(alloc, ty, place),
         Term::Empty(ty) => empty_type(alloc, ty, place),
-        Term::Present(inner) => present_type(alloc, typed(alloc, inner, place, vars)?),
+        Term::Present(inner) => {
+            let inner = typed(alloc, inner, place, vars)?;
+            present_type(alloc, inner)
+        }
         Term::Cons(head, tail) => {
-            let parts = both(
+            let (head, tail) = both(
                 typed(alloc, head, place, vars),
                 typed(alloc, tail, place, vars),
-            );
-            parts.map(|(head, tail)| cons_type(head, tail))
+            )?;
+            Ok(cons_type(head, tail))
         }
         Term::Var(i) => variable_type(alloc, vars, *i),
         Term::Lam(ty, body) => function(alloc, body, ty, place, vars),
         Term::Rec(from, to, body) => recursive(alloc, body, from, to, place, vars),
         Term::App(f, a) => {
-            let parts = both(typed(alloc, f, place, vars), typed(alloc, a, place, vars));
-            parts.map(|(f, a)| applied(f, a))
+            let (f, a) = both(typed(alloc, f, place, vars), typed(alloc, a, place, vars))?;
+            Ok(applied(f, a))
         }
         Term::Let(ty, bound, body) => {
             let Some(found) = typed(alloc, bound, place, vars)? else {
                 return Ok(None);
             };
             if !is_seen_as(ty, &found, &*place) {
+                drop(found);
                 return Ok(None);
             }
-            typed(alloc, &*body, &*place, &Variables::One(&*vars, &found))
+            let end = typed(alloc, &*body, &*place, &Variables::One(&*vars, &found));
+            drop(found);
+            end
         }
         Term::If(test, so, otherwise) => {
-            let test = typed(alloc, test, place, vars)?;
-            let so = typed(alloc, so, place, vars)?;
-            let otherwise = typed(alloc, otherwise, place, vars)?;
+            let found = typed(alloc, test, place, vars)?;
+            let test = is_test(found);
+            let (so, otherwise) = both(
+                typed(alloc, so, place, vars),
+                typed(alloc, otherwise, place, vars),
+            )?;
             Ok(if_type(test, so, otherwise))
         }
-        Term::Seq(parts) => types_of(alloc, parts.as_slice(), place, vars).map(sequence_type),
+        Term::Seq(parts) => {
+            let parts = types_of(alloc, parts.as_slice(), place, vars)?;
+            Ok(sequence_type(parts))
+        }
         Term::Match(of, cases) => {
             let Some(ty) = typed(alloc, of, place, vars)? else {
                 return Ok(None);
             };
-            arms_type(alloc, cases.as_slice(), &ty, &*place, &*vars)
+            let end = arms_type(alloc, cases.as_slice(), &ty, &*place, &*vars);
+            drop(ty);
+            end
         }
         Term::Try(of, cases) => {
             let exn = Ty::Exn;
-            let of = typed(alloc, of, place, vars)?;
-            let found = arms_type(alloc, cases.as_slice(), &exn, &*place, &*vars)?;
+            let of = typed(alloc, of, place, vars);
+            let found = arms_type(alloc, cases.as_slice(), &exn, &*place, &*vars);
+            drop(exn);
+            let (of, found) = both(of, found)?;
             Ok(both_same(of, found))
         }
         Term::Raise(ty, inner) => {
-            raise_type(alloc, ty, typed(alloc, inner, place, vars)?, place)
+            let inner = typed(alloc, inner, place, vars)?;
+            raise_type(alloc, ty, inner, place)
         }
         Term::Prim(number, args) => {
-            types_of(alloc, args.as_slice(), place, vars).map(|args| result_type(*number, args))
+            let args = types_of(alloc, args.as_slice(), place, vars)?;
+            Ok(result_type(*number, args))
         }
         Term::Own(_) => Ok(None),
         Term::Ref(_, _) => Ok(None),
@@ -174,16 +196,22 @@ fn recursive<'a>(
         return Ok(None);
     };
     let Some(to) = seen_type(alloc, to, place)? else {
+        drop(from);
         return Ok(None);
     };
     let first = from.copy(alloc)?;
     let second = to.copy(alloc)?;
     let Some(own) = function_type(alloc, first, Some(second))? else {
+        drop(from);
+        drop(to);
         return Ok(None);
     };
     let outer = Variables::One(&*vars, &own);
     let found = typed(alloc, &*body, &*place, &Variables::One(&outer, &from))?;
-    Ok(recursive_type(own, &to, found))
+    drop(from);
+    let end = recursive_type(own, &to, found);
+    drop(to);
+    Ok(end)
 }
 
 /// The types of some terms, where each has one.
@@ -224,6 +252,7 @@ fn arms_type<'a>(
     let mut first = None;
     for arm in cases {
         let Some(found) = arm_type(alloc, arm, ty, place, vars)? else {
+            drop(first);
             return Ok(None);
         };
         let Some(one) = go_on(first, found) else {

@@ -7,7 +7,7 @@ use Rattle.ac_terms.specs.Typing.{both_same}
 use Rattle.ac_check.proofs.Equalities.{cons_same}
 use Rattle.ac_check.proofs.data.cons_type.Goals as goal
 
-pub returns-then-is_list_of : goal.returns-then-is_list_of
-returns-then-is_list_of c =
-    cons_same (TList (typ_of c.in_ok-head.head)) (typ_of c.in_ok-tail.tail) (sym c.is_list_of.ensures ∙ c.if-is_list_of.true)
-    ∙ ap₂ (λ (a b : Option Ty). both_same (option_map TList (option_map typ_of a)) (option_map typ_of b)) (sym c.in_ok-head.was) (sym c.in_ok-tail.was)
+pub returns-then-fits : goal.returns-then-fits
+returns-then-fits c =
+    cons_same (TList (typ_of c.in-Some.head)) (typ_of c.in-Some-tail.tail) (sym c.is_list_of-fits.ensures ∙ c.if-fits.true)
+    ∙ ap₂ (λ (a b : Option Ty). both_same (option_map TList (option_map typ_of a)) (option_map typ_of b)) (sym c.in-Some.is) (sym c.in-Some-tail.is)

@@ -48,8 +48,8 @@ variables-returns-else-not-has_text t c =
     let s : typ_of ty.Str ≡ TStr = grind (arith, type_laws) in
     let e : same TExn (typ_of c.args.ty.now) ≡ true = search rules in
     let h : has_text c.in-Exn-default-Some.number ≡ true = search rules in
-    subst (λ (o : Option (List Typ)). IfOk c.variables-in-Exn-default-Some.result (λ r. option_map newest_first r ≡ o))
+    subst (λ (o : Option (List Typ)). IfOk c.variables-found.result (λ r. option_map newest_first r ≡ o))
     (text_some (entries_of c.args.place.now) (home_of c.args.place.now.home) c.in-Exn-default-Some.number (pattern_of c.deref-in-Exn-default-Some.result.now) (typ_of c.args.ty.now) (typ_of ty.Str)
     (newest_first c.args.before) s e h
     ∙ ap (λ (p : Pattern). joined (Some (newest_first c.args.before)) (vars (entries_of c.args.place.now) (home_of c.args.place.now.home) p (typ_of c.args.ty.now))) (sym is))
-    c.variables-in-Exn-default-Some.ensures
+    c.variables-found.ensures

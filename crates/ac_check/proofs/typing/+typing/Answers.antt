@@ -1,17 +1,22 @@
-use Rattle.std.proofs.Common.{◌≡◌, sym, ap, ap₂, ◌∙◌, arith, rules, length, map, List, ◌∷◌, ◌++◌, true, false, Some, None}
+use Rattle.std.proofs.Common.{◌≡◌, refl, sym, ap, ap₂, ◌∙◌, arith, rules, length, map, List, ◌∷◌, ◌++◌, true, false, Option, Some, None}
 use Rattle.std.specs.Prelude.{option_map, option_and_then}
 use Rattle.std.proofs.lemmas.Grind.{common_steps}
-use Rattle.ac_types.specs.Types.{Typ, TFun}
+use Rattle.ac_types.specs.First.{given}
+use Rattle.ac_types.specs.Types.{Typ, Typs, TFun, TTuple, TOpt, TList, TBool, TExn}
 use Rattle.ac_types.specs.ReadTypes.{typ_of}
 use Rattle.ac_types.specs.declared.ty.Ty.{Ty}
+use Rattle.ac_types.specs.declared.ty.Ty.TheVariants as ty
+use Rattle.ac_types.proofs.SizeLaws.{type_laws}
 use Rattle.ac_types.proofs.Same.{both_true}
-use Rattle.ac_terms.specs.Terms.{Expr, Cons, Lam, Rec, App, Let, If, Match, Try, arms}
-use Rattle.ac_terms.specs.Read.{expr_of, pattern_of}
+use Rattle.ac_terms.specs.Primitives.{primitive_type}
+use Rattle.ac_terms.specs.Terms.{Expr, arms}
+use Rattle.ac_terms.specs.Typing.{has, both_same, last_of}
+use Rattle.ac_terms.specs.Read.{expr_of, pattern_of, home_of}
 use Rattle.ac_terms.specs.declared.term.Term.{Term}
 use Rattle.ac_terms.specs.declared.term.Arm.{Arm}
 use Rattle.ac_terms.specs.declared.term.PVal.TheViews.{the_lemmas}
 use Rattle.ac_rules.specs.Views.{Coloured}
-use Rattle.ac_rules.specs.Typing.{type_of, one_of}
+use Rattle.ac_rules.specs.Typing.{type_of, arm_types, one_of, seen, applied}
 use Rattle.ac_check.specs.Checking.{entries_of, scope_of, types_in, newest_first, arm_of, arm_type}
 use Rattle.ac_check.specs.PlainTerms.{is_plain, arms_plain}
 use Rattle.ac_check.proofs.KeptLaws.{K}
@@ -19,7 +24,8 @@ use Rattle.ac_check.proofs.Collected.{ahead, collected, item_none, item_some, it
 use Rattle.ac_check.proofs.TermLaws.{form_laws, types_collected, arms_collected, plain_item, plain_arm}
 use Rattle.ac_check.proofs.ArmLaws.{arm_none, arm_some, arms_all}
 use Rattle.ac_check.proofs.ScopeLaws.{types_in-One, types_in-More}
-use Rattle.ac_check.proofs.FormLaws.{carry, choice_is, function_some, recursive_no_result, recursive_big, recursive_some, binding_other, binding_some, body_some}
+use Rattle.ac_check.proofs.FormLaws.{carry, function_some, recursive_no_result, recursive_big, recursive_some, binding_other, binding_some, body_some}
+use Rattle.ac_check.proofs.TypedForms.{tuple_form, nil_form, empty_form, var_form, present_form, cons_form, app_form, lam_form, rec_form, let_form, if_form, seq_form, match_form, try_form, raise_form, prim_form, plain_as, from_ok, same_type, same_answer, match_some, match_none}
 use Rattle.ac_check.proofs.typing.+typing.Goals as goal
 
 -- the list of terms
@@ -87,38 +93,6 @@ arms_type-loop-arm-preserved t c =
     arm_some (λ (a : Arm). arm_type E S (typ_of c.args.ty.now) (pattern_of a.pat) (expr_of a.body)) c.args.cases.now _ _ c.loop-arm-test.true c.arm-item.is _ (option_map typ_of c.loop-arm.first) c.loop-arm.invariant
     (typ_of c.in-Some.found) (Some (typ_of c.in-Some-go_on.one)) (sym c.in_ok-found.ensures ∙ ap (option_map typ_of) c.in-Some.is) c.in-Some-go_on.ensures
 
-pub typed-returns-in-Lam : goal.typed-returns-in-Lam
-typed-returns-in-Lam t c =
-    let is : expr_of c.args.t.now ≡ Lam (typ_of c.in-Lam.ty) (expr_of c.deref-in-Lam.result.now) = grind (arith, form_laws) in
-    carry c.function.result _ _ (ap (λ (e : Expr). type_of Coloured false (entries_of c.args.place.now) (scope_of c.args.place.now (types_in c.args.vars.now)) e) (sym is)) c.function.ensures
-
-pub typed-returns-in-Rec : goal.typed-returns-in-Rec
-typed-returns-in-Rec t c =
-    let is : expr_of c.args.t.now ≡ Rec (typ_of c.in-Rec.from) (typ_of c.in-Rec.to) (expr_of c.deref-in-Rec.result.now) = grind (arith, form_laws) in
-    carry c.recursive.result _ _ (ap (λ (e : Expr). type_of Coloured false (entries_of c.args.place.now) (scope_of c.args.place.now (types_in c.args.vars.now)) e) (sym is)) c.recursive.ensures
-
-pub typed-returns-then-not-is_seen_as : goal.typed-returns-then-not-is_seen_as
-typed-returns-then-not-is_seen_as t c =
-    let is : expr_of c.args.t.now ≡ Let (typ_of c.in-Let.ty) (expr_of c.deref-in-Let.result.now) (expr_of c.in-Let.body) = grind (arith, form_laws) in
-    binding_other (entries_of c.args.place.now) c.args.place.now (types_in c.args.vars.now) (typ_of c.in-Let.ty) (typ_of c.in-Some.found) (expr_of c.deref-in-Let.result.now) (expr_of c.in-Let.body)
-    (ap (option_map typ_of) (sym c.in-Some.is) ∙ c.in_ok-found-in-Let.ensures) c.if-not-is_seen_as.ensures
-    ∙ ap (λ (e : Expr). type_of Coloured false (entries_of c.args.place.now) (scope_of c.args.place.now (types_in c.args.vars.now)) e) (sym is)
-
-pub typed-returns-else-not-is_seen_as : goal.typed-returns-else-not-is_seen_as
-typed-returns-else-not-is_seen_as t c =
-    let is : expr_of c.args.t.now ≡ Let (typ_of c.in-Let.ty) (expr_of c.deref-in-Let.result.now) (expr_of c.deref-in-Let-2.result.now) = grind (arith, form_laws) in
-    carry c.typed-in-Let-2.result _ _
-    (binding_some (entries_of c.args.place.now) c.args.place.now (types_in c.args.vars.now) (typ_of c.in-Let.ty) (typ_of c.in-Some.found) (expr_of c.deref-in-Let.result.now) (expr_of c.deref-in-Let-2.result.now) _
-    (ap (option_map typ_of) (sym c.in-Some.is) ∙ c.in_ok-found-in-Let.ensures) c.if-not-is_seen_as.ensures (types_in-One c.args.vars _)
-    ∙ ap (λ (e : Expr). type_of Coloured false (entries_of c.args.place.now) (scope_of c.args.place.now (types_in c.args.vars.now)) e) (sym is))
-    c.typed-in-Let-2.ensures
-
-pub typed-returns-in_ok-otherwise-in-If : goal.typed-returns-in_ok-otherwise-in-If
-typed-returns-in_ok-otherwise-in-If t c =
-    let is : expr_of c.args.t.now ≡ If (expr_of c.deref-in-If.result.now) (expr_of c.deref-in-If-2.result.now) (expr_of c.deref-in-If-3.result.now) = grind (arith, form_laws) in
-    c.if_type.ensures ∙ choice_is c.in_ok-test-in-If.ensures c.in_ok-so-in-If.ensures c.in_ok-otherwise-in-If.ensures
-    ∙ ap (λ (e : Expr). type_of Coloured false (entries_of c.args.place.now) (scope_of c.args.place.now (types_in c.args.vars.now)) e) (sym is)
-
 pub arm_type-returns : goal.arm_type-returns
 arm_type-returns t c =
     carry c.typed.result _ _
@@ -147,7 +121,7 @@ recursive-returns-in_default-3 t c =
 
 pub recursive-returns : goal.recursive-returns
 recursive-returns t c =
-    c.recursive_type.ensures
+    c.recursive_type-end.ensures
     ∙ recursive_some (entries_of c.args.place.now) c.args.place.now (types_in c.args.vars.now) (typ_of c.args.from.now) (typ_of c.args.to.now) (typ_of c.in-Some.from) (typ_of c.in-Some-2.to) (typ_of c.in-Some-3.own) (expr_of c.args.body.now)
     (option_map typ_of c.in_ok-found.found) _
     (ap (option_map typ_of) (sym c.in-Some.is) ∙ c.in_ok-from.ensures) (ap (option_map typ_of) (sym c.in-Some-2.is) ∙ c.in_ok-to.ensures)
@@ -166,46 +140,158 @@ arms_type-arm_type-requires t c =
     let p : is_plain (expr_of c.arm-item.result.body) ≡ true = plain_arm c.args.cases.now c.loop-arm.arm-index c.arm-item.result c.loop-arm-test.true c.arm-item.is c.requires.plain in
     search (rules, the_lemmas, common_steps)
 
+-- the type of each form, from those of its parts
+
+pub typed-returns-in_ok-parts-in-Tuple : goal.typed-returns-in_ok-parts-in-Tuple
+typed-returns-in_ok-parts-in-Tuple t c =
+    let E = entries_of c.args.place.now in
+    let S = scope_of c.args.place.now (types_in c.args.vars.now) in
+    same_type E S _ _ _ (tuple_form _ _ _ c.in-Tuple.is c.as_slice.ensures)
+    (c.tuple_type.ensures ∙ ap (λ (o : Option Typs). K (option_map TTuple o)) c.in_ok-parts-in-Tuple.ensures)
+
+pub typed-returns-in-Nil : goal.typed-returns-in-Nil
+typed-returns-in-Nil t c =
+    let E = entries_of c.args.place.now in
+    let S = scope_of c.args.place.now (types_in c.args.vars.now) in
+    same_answer E S c.nil_type.result _ _ _ (nil_form _ _ c.in-Nil.is) refl c.nil_type.ensures
+
+pub typed-returns-in-Empty : goal.typed-returns-in-Empty
+typed-returns-in-Empty t c =
+    let E = entries_of c.args.place.now in
+    let S = scope_of c.args.place.now (types_in c.args.vars.now) in
+    same_answer E S c.empty_type.result _ _ _ (empty_form _ _ c.in-Empty.is) refl c.empty_type.ensures
+
+pub typed-returns-in-Var : goal.typed-returns-in-Var
+typed-returns-in-Var t c =
+    let E = entries_of c.args.place.now in
+    let S = scope_of c.args.place.now (types_in c.args.vars.now) in
+    same_answer E S c.variable_type.result _ _ _ (var_form _ _ c.in-Var.is) refl c.variable_type.ensures
+
+pub typed-returns-in_ok-inner-in-Present : goal.typed-returns-in_ok-inner-in-Present
+typed-returns-in_ok-inner-in-Present t c =
+    let E = entries_of c.args.place.now in
+    let S = scope_of c.args.place.now (types_in c.args.vars.now) in
+    same_answer E S c.present_type.result _ _ _ (present_form _ _ _ c.in-Present.is c.deref-in-Present.ensures)
+    (ap (λ (o : Option Typ). K (option_map TOpt o)) c.in_ok-inner-in-Present.ensures) c.present_type.ensures
+
+pub typed-returns-in-Lam : goal.typed-returns-in-Lam
+typed-returns-in-Lam t c =
+    let E = entries_of c.args.place.now in
+    let S = scope_of c.args.place.now (types_in c.args.vars.now) in
+    same_answer E S c.function.result _ _ _ (lam_form _ _ _ _ c.in-Lam.is c.deref-in-Lam.ensures) refl c.function.ensures
+
+pub typed-returns-in-Rec : goal.typed-returns-in-Rec
+typed-returns-in-Rec t c =
+    let E = entries_of c.args.place.now in
+    let S = scope_of c.args.place.now (types_in c.args.vars.now) in
+    same_answer E S c.recursive.result _ _ _ (rec_form _ _ _ _ _ c.in-Rec.is c.deref-in-Rec.ensures) refl c.recursive.ensures
+
+pub typed-returns-in_ok-parts-in-Seq : goal.typed-returns-in_ok-parts-in-Seq
+typed-returns-in_ok-parts-in-Seq t c =
+    let E = entries_of c.args.place.now in
+    let S = scope_of c.args.place.now (types_in c.args.vars.now) in
+    same_type E S _ _ _ (seq_form _ _ _ c.in-Seq.is c.as_slice-in-Seq.ensures)
+    (c.sequence_type.ensures ∙ ap (option_and_then last_of) c.in_ok-parts-in-Seq.ensures)
+
+pub typed-returns-in_ok-args-in-Prim : goal.typed-returns-in_ok-args-in-Prim
+typed-returns-in_ok-args-in-Prim t c =
+    let E = entries_of c.args.place.now in
+    let S = scope_of c.args.place.now (types_in c.args.vars.now) in
+    same_type E S _ _ _ (prim_form _ _ _ _ c.in-Prim.is c.as_slice-in-Prim.ensures)
+    (c.result_type.ensures ∙ ap (option_and_then (primitive_type c.in-Prim.number)) c.in_ok-args-in-Prim.ensures)
+
+pub typed-returns-in_ok-inner-in-Raise : goal.typed-returns-in_ok-inner-in-Raise
+typed-returns-in_ok-inner-in-Raise t c =
+    let E = entries_of c.args.place.now in
+    let S = scope_of c.args.place.now (types_in c.args.vars.now) in
+    same_answer E S c.raise_type.result _ _ _ (raise_form _ _ _ _ c.in-Raise.is c.deref-in-Raise.ensures)
+    (ap (λ (o : Option Typ). given (has o TExn) (K (seen Coloured false E (home_of c.args.place.now.home) (typ_of c.in-Raise.ty)))) c.in_ok-inner-in-Raise.ensures)
+    c.raise_type.ensures
+
+pub typed-returns-then-not-is_seen_as : goal.typed-returns-then-not-is_seen_as
+typed-returns-then-not-is_seen_as t c =
+    let E = entries_of c.args.place.now in
+    let S = scope_of c.args.place.now (types_in c.args.vars.now) in
+    same_type E S _ _ _ (let_form _ _ _ _ _ c.in-Let.body c.in-Let.is c.deref-in-Let.ensures refl)
+    (binding_other E c.args.place.now (types_in c.args.vars.now) (typ_of c.in-Let.ty) (typ_of c.in-Some.found) (expr_of c.deref-in-Let.result.now) (expr_of c.in-Let.body)
+    (ap (option_map typ_of) (sym c.in-Some.is) ∙ c.in_ok-found-in-Let.ensures) c.if-not-is_seen_as.ensures)
+
+pub typed-returns-else-not-is_seen_as : goal.typed-returns-else-not-is_seen_as
+typed-returns-else-not-is_seen_as t c =
+    let E = entries_of c.args.place.now in
+    let S = scope_of c.args.place.now (types_in c.args.vars.now) in
+    same_answer E S c.typed-end.result _ _ _ (let_form _ _ _ _ _ _ c.in-Let.is c.deref-in-Let.ensures c.deref-in-Let-2.ensures)
+    (binding_some E c.args.place.now (types_in c.args.vars.now) (typ_of c.in-Let.ty) (typ_of c.in-Some.found) (expr_of c.deref-in-Let.result.now) (expr_of c.deref-in-Let-2.result.now) _
+    (ap (option_map typ_of) (sym c.in-Some.is) ∙ c.in_ok-found-in-Let.ensures) c.if-not-is_seen_as.ensures (types_in-One c.args.vars _))
+    c.typed-end.ensures
+
+pub typed-returns-in_ok-head-in-Cons : goal.typed-returns-in_ok-head-in-Cons
+typed-returns-in_ok-head-in-Cons t c =
+    let E = entries_of c.args.place.now in
+    let S = scope_of c.args.place.now (types_in c.args.vars.now) in
+    same_type E S _ _ _ (cons_form _ _ _ _ _ c.in-Cons.is c.deref-in-Cons.ensures c.deref-in-Cons-2.ensures)
+    (c.cons_type.ensures ∙ ap₂ (λ (x y : Option Typ). both_same (option_map TList x) y) (from_ok c.typed-in-Cons.result _ _ c.in_ok-head-in-Cons.ensures.0 c.typed-in-Cons.ensures)
+    (from_ok c.typed-in-Cons-2.result _ _ c.in_ok-head-in-Cons.ensures.1 c.typed-in-Cons-2.ensures))
+
+pub typed-returns-in_ok-f-in-App : goal.typed-returns-in_ok-f-in-App
+typed-returns-in_ok-f-in-App t c =
+    let E = entries_of c.args.place.now in
+    let S = scope_of c.args.place.now (types_in c.args.vars.now) in
+    same_type E S _ _ _ (app_form _ _ _ _ _ c.in-App.is c.deref-in-App.ensures c.deref-in-App-2.ensures)
+    (c.applied.ensures ∙ ap₂ applied (from_ok c.typed-in-App.result _ _ c.in_ok-f-in-App.ensures.0 c.typed-in-App.ensures)
+    (from_ok c.typed-in-App-2.result _ _ c.in_ok-f-in-App.ensures.1 c.typed-in-App-2.ensures))
+
+pub typed-returns-in_ok-so-in-If : goal.typed-returns-in_ok-so-in-If
+typed-returns-in_ok-so-in-If t c =
+    let E = entries_of c.args.place.now in
+    let S = scope_of c.args.place.now (types_in c.args.vars.now) in
+    same_type E S _ _ _ (if_form _ _ _ _ _ _ _ c.in-If.is c.deref-in-If.ensures c.deref-in-If-2.ensures c.deref-in-If-3.ensures)
+    (c.if_type.ensures ∙ ap₂ given (c.is_test-test.ensures ∙ ap (λ (o : Option Typ). has o TBool) c.in_ok-found-in-If.ensures)
+    (ap₂ both_same (from_ok c.typed-in-If-2.result _ _ c.in_ok-so-in-If.ensures.0 c.typed-in-If-2.ensures) (from_ok c.typed-in-If-3.result _ _ c.in_ok-so-in-If.ensures.1 c.typed-in-If-3.ensures)))
+
+pub typed-returns-in_ok-of-in-Try : goal.typed-returns-in_ok-of-in-Try
+typed-returns-in_ok-of-in-Try t c =
+    let E = entries_of c.args.place.now in
+    let S = scope_of c.args.place.now (types_in c.args.vars.now) in
+    let s : typ_of ty.Exn ≡ TExn = grind (arith, type_laws) in
+    same_type E S _ _ _ (try_form _ _ _ _ _ c.in-Try.is c.deref-in-Try.ensures c.as_slice-in-Try.ensures)
+    (c.both_same.ensures ∙ ap₂ both_same (from_ok c.typed-of.result _ _ c.in_ok-of-in-Try.ensures.0 c.typed-of.ensures)
+    (from_ok c.arms_type-found.result _ _ c.in_ok-of-in-Try.ensures.1 c.arms_type-found.ensures
+    ∙ ap (λ (U : Typ). option_and_then one_of (arm_types Coloured false E S U (arms (map arm_of c.as_slice-in-Try.result.now)))) s))
+
+-- the parts of a plain term are plain
+
+pub typed-typed-end-requires : goal.typed-typed-end-requires
+typed-typed-end-requires t c =
+    let p : is_plain (expr_of c.deref-in-Let-2.result.now) ≡ true = (both_true _ _ (plain_as _ _ (let_form _ _ _ _ _ _ c.in-Let.is c.deref-in-Let.ensures c.deref-in-Let-2.ensures) c.requires.plain)).1 in
+    grind (arith, form_laws)
+
+pub typed-arms_type-end-requires : goal.typed-arms_type-end-requires
+typed-arms_type-end-requires t c =
+    let p : arms_plain (arms (map arm_of c.as_slice-in-Match.result.now)) ≡ true = (both_true _ _ (plain_as _ _ (match_form _ _ _ _ _ c.in-Match.is c.deref-in-Match.ensures c.as_slice-in-Match.ensures) c.requires.plain)).1 in
+    search (rules, the_lemmas)
+
 pub typed-typed-requires-in-Cons-2 : goal.typed-typed-requires-in-Cons-2
 typed-typed-requires-in-Cons-2 t c =
-    let is : expr_of c.args.t.now ≡ Cons (expr_of c.deref-in-Cons.result.now) (expr_of c.deref-in-Cons-2.result.now) = grind (arith, form_laws) in
-    let p : is_plain (expr_of c.deref-in-Cons-2.result.now) ≡ true = (both_true _ _ (ap is_plain (sym is) ∙ c.requires.plain)).1 in
+    let p : is_plain (expr_of c.deref-in-Cons-2.result.now) ≡ true = (both_true _ _ (plain_as _ _ (cons_form _ _ _ _ _ c.in-Cons.is c.deref-in-Cons.ensures c.deref-in-Cons-2.ensures) c.requires.plain)).1 in
     search (rules, the_lemmas)
 
 pub typed-typed-requires-in-App-2 : goal.typed-typed-requires-in-App-2
 typed-typed-requires-in-App-2 t c =
-    let is : expr_of c.args.t.now ≡ App (expr_of c.deref-in-App.result.now) (expr_of c.deref-in-App-2.result.now) = grind (arith, form_laws) in
-    let p : is_plain (expr_of c.deref-in-App-2.result.now) ≡ true = (both_true _ _ (ap is_plain (sym is) ∙ c.requires.plain)).1 in
+    let p : is_plain (expr_of c.deref-in-App-2.result.now) ≡ true = (both_true _ _ (plain_as _ _ (app_form _ _ _ _ _ c.in-App.is c.deref-in-App.ensures c.deref-in-App-2.ensures) c.requires.plain)).1 in
     search (rules, the_lemmas)
-
-pub typed-typed-requires-in-Let-2 : goal.typed-typed-requires-in-Let-2
-typed-typed-requires-in-Let-2 t c =
-    let is : expr_of c.args.t.now ≡ Let (typ_of c.in-Let.ty) (expr_of c.deref-in-Let.result.now) (expr_of c.deref-in-Let-2.result.now) = grind (arith, form_laws) in
-    let p : is_plain (expr_of c.deref-in-Let-2.result.now) ≡ true = (both_true _ _ (ap is_plain (sym is) ∙ c.requires.plain)).1 in
-    grind (arith, form_laws)
 
 pub typed-typed-requires-in-If-2 : goal.typed-typed-requires-in-If-2
 typed-typed-requires-in-If-2 t c =
-    let is : expr_of c.args.t.now ≡ If (expr_of c.deref-in-If.result.now) (expr_of c.deref-in-If-2.result.now) (expr_of c.in-If.otherwise) = grind (arith, form_laws) in
-    let p : is_plain (expr_of c.deref-in-If-2.result.now) ≡ true = (both_true _ _ (both_true _ _ (ap is_plain (sym is) ∙ c.requires.plain)).1).0 in
+    let p : is_plain (expr_of c.deref-in-If-2.result.now) ≡ true = (both_true _ _ (both_true _ _ (plain_as _ _ (if_form _ _ _ _ _ _ c.in-If.otherwise c.in-If.is c.deref-in-If.ensures c.deref-in-If-2.ensures refl) c.requires.plain)).1).0 in
     search (rules, the_lemmas)
 
 pub typed-typed-requires-in-If-3 : goal.typed-typed-requires-in-If-3
 typed-typed-requires-in-If-3 t c =
-    let is : expr_of c.args.t.now ≡ If (expr_of c.deref-in-If.result.now) (expr_of c.deref-in-If-2.result.now) (expr_of c.deref-in-If-3.result.now) = grind (arith, form_laws) in
-    let p : is_plain (expr_of c.deref-in-If-3.result.now) ≡ true = (both_true _ _ (both_true _ _ (ap is_plain (sym is) ∙ c.requires.plain)).1).1 in
+    let p : is_plain (expr_of c.deref-in-If-3.result.now) ≡ true = (both_true _ _ (both_true _ _ (plain_as _ _ (if_form _ _ _ _ _ _ _ c.in-If.is c.deref-in-If.ensures c.deref-in-If-2.ensures c.deref-in-If-3.ensures) c.requires.plain)).1).1 in
     search (rules, the_lemmas)
 
-pub typed-arms_type-requires : goal.typed-arms_type-requires
-typed-arms_type-requires t c =
-    let is : expr_of c.args.t.now ≡ Match (expr_of c.deref-in-Match.result.now) (arms (map arm_of c.in-Match.cases)) = grind (arith, form_laws) in
-    let p : arms_plain (arms (map arm_of c.as_slice-in-Match.result.now)) ≡ true =
-    ap (λ (cs : List Arm). arms_plain (arms (map arm_of cs))) c.as_slice-in-Match.ensures ∙ (both_true _ _ (ap is_plain (sym is) ∙ c.requires.plain)).1 in
-    search (rules, the_lemmas)
-
-pub typed-arms_type-requires-in-Try : goal.typed-arms_type-requires-in-Try
-typed-arms_type-requires-in-Try t c =
-    let is : expr_of c.args.t.now ≡ Try (expr_of c.deref-in-Try.result.now) (arms (map arm_of c.in-Try.cases)) = grind (arith, form_laws) in
-    let p : arms_plain (arms (map arm_of c.as_slice-in-Try.result.now)) ≡ true =
-    ap (λ (cs : List Arm). arms_plain (arms (map arm_of cs))) c.as_slice-in-Try.ensures ∙ (both_true _ _ (ap is_plain (sym is) ∙ c.requires.plain)).1 in
+pub typed-arms_type-found-requires : goal.typed-arms_type-found-requires
+typed-arms_type-found-requires t c =
+    let p : arms_plain (arms (map arm_of c.as_slice-in-Try.result.now)) ≡ true = (both_true _ _ (plain_as _ _ (try_form _ _ _ _ _ c.in-Try.is c.deref-in-Try.ensures c.as_slice-in-Try.ensures) c.requires.plain)).1 in
     search (rules, the_lemmas)
