@@ -1,17 +1,19 @@
 // The code of terms, arms and packed values.
 
-ghost use Rattle.std.specs.Prelude.{◌≡◌, map, OnOk, IfOk};
+ghost use Rattle.std.specs.Prelude.{◌≡◌, ◌∷◌, map, OnOk, IfOk};
+ghost use Rattle.ac_types.specs.Types.{TFun};
+ghost use Rattle.ac_types.specs.ReadTypes.{typ_of};
 ghost use Rattle.ac_terms.specs.Terms.{exprs, arms, pvalues, KFun};
 ghost use Rattle.ac_terms.specs.Read.{home_of, expr_of, value_of};
 ghost use Rattle.ac_generate.specs.Arms.{arm_of};
 ghost use Rattle.ac_generate.specs.Scopes.{types_of};
-ghost use Rattle.ac_generate.specs.Drafts.{draft_of, place, wrote, wrote_all, wrote_seq, wrote_arm, wrote_arms, end_of, ends, wrote_value, wrote_values};
+ghost use Rattle.ac_generate.specs.Drafts.{draft_of, place, count, begun, ended, wrote, wrote_all, wrote_seq, wrote_arm, wrote_arms, end_of, ends, wrote_value, wrote_values};
 
 use crate::scope::{Scope, function_type, variables};
 use crate::writer::Writer;
-use ac_code::Instr;
+use ac_code::{CodeId, Instr};
 use ac_terms::{Arm, Home, PVal, Term};
-use ac_types::Memory;
+use ac_types::{Memory, Ty};
 
 impl Writer {
     /// Writes the code of a term, and the blocks of its lambdas.
@@ -23,10 +25,7 @@ impl Writer {
         match term {
             Term::Int(n) => self.put(Instr::PushInt(*n)),
             Term::Bool(b) => self.put(Instr::PushBool(*b)),
-            Term::Str(text) => {
-                let text = text.copy(self.alloc)?;
-                self.put(Instr::PushStr(text))
-            }
+            Term::Str(text) => self.text(text),
             Term::Unit => self.put(Instr::PushUnit),
             Term::ExnVal(number, text) => {
                 match text {
@@ -52,22 +51,13 @@ impl Writer {
             }
             Term::Var(i) => self.put(Instr::Var(*i)),
             Term::Own(field) => self.put(Instr::Own(*field)),
-            Term::Ref(entry, field) => {
-                let field = field.copy(self.alloc)?;
-                self.put(Instr::Ref(*entry, field))
-            }
+            Term::Ref(entry, field) => self.reference(*entry, field),
             Term::Lam(ty, body) => {
-                let before = self.begin();
-                self.term(home, &Scope::Variable(&*scope, &*ty), body)?;
-                let id = self.end(before, home, scope, term)?;
+                let id = self.lambda(home, scope, &Scope::Variable(&*scope, &*ty), body, term)?;
                 self.put(Instr::Closure(id))
             }
             Term::Rec(from, to, body) => {
-                let function = function_type(self.alloc, from, to)?;
-                let outer = Scope::Variable(&*scope, &function);
-                let before = self.begin();
-                self.term(home, &Scope::Variable(&outer, &*from), body)?;
-                let id = self.end(before, home, scope, term)?;
+                let id = self.recursive(home, scope, body, from, to, term)?;
                 self.put(Instr::RecClosure(id))
             }
             Term::App(function, argument) => {
@@ -127,16 +117,55 @@ impl Writer {
             Term::Marshal(ty, mark, inner) => {
                 self.term(home, scope, mark)?;
                 self.term(home, scope, inner)?;
-                let ty = ty.copy(self.alloc)?;
-                self.put(Instr::Marshal(ty))
+                self.marshal(ty)
             }
             Term::Unmarshal(ty, inner) => {
                 self.term(home, scope, inner)?;
-                let ty = ty.copy(self.alloc)?;
-                self.put(Instr::Unmarshal(ty))
+                self.unmarshal(ty)
             }
             Term::Val(_, value) => self.value(value),
         }
+    }
+
+    // Writes the block of a lambda whose body sees the inner variables, and gives its number.
+    #[cycle(term)]
+    #[tactic(auto)]
+    fn lambda(
+        &mut self,
+        home: Home,
+        outer: &Scope,
+        inner: &Scope,
+        body: &Term,
+        lambda: &Term,
+    ) -> Result<CodeId, Memory>
+        ensures number { IfOk result (λ id. id.0 ≡ count (wrote (home_of home) (types_of inner.now) (expr_of body.now) (begun (draft_of self.old)))) }
+        ensures ok { OnOk result (draft_of self.new ≡ ended (home_of home) (expr_of lambda.now) (types_of outer.now) (draft_of self.old).instrs (wrote (home_of home) (types_of inner.now) (expr_of body.now) (begun (draft_of self.old)))) }
+    {
+        let before = self.begin();
+        self.term(home, inner, body)?;
+        self.end(before, home, outer, lambda)
+    }
+
+    // The same of a recursive lambda, whose body sees its argument and itself.
+    #[cycle(term)]
+    #[tactic(auto, using(crate::proofs::FormLaws::scope_forms))]
+    fn recursive(
+        &mut self,
+        home: Home,
+        scope: &Scope,
+        body: &Term,
+        from: &Ty,
+        to: &Ty,
+        lambda: &Term,
+    ) -> Result<CodeId, Memory>
+        ensures number { IfOk result (λ id. id.0 ≡ count (wrote (home_of home) (typ_of from.now ∷ TFun (typ_of from.now) (typ_of to.now) ∷ types_of scope.now) (expr_of body.now) (begun (draft_of self.old)))) }
+        ensures ok { OnOk result (draft_of self.new ≡ ended (home_of home) (expr_of lambda.now) (types_of scope.now) (draft_of self.old).instrs (wrote (home_of home) (typ_of from.now ∷ TFun (typ_of from.now) (typ_of to.now) ∷ types_of scope.now) (expr_of body.now) (begun (draft_of self.old)))) }
+    {
+        let function = function_type(self.alloc, from, to)?;
+        let outer = Scope::Variable(&*scope, &function);
+        let made = self.lambda(home, scope, &Scope::Variable(&outer, &*from), body, lambda);
+        drop(function);
+        made
     }
 
     // Writes the code of each term.
@@ -191,7 +220,6 @@ impl Writer {
         ensures place { IfOk result (λ at. at ≡ end_of (arm_of case.now).0 (arm_of case.now).1 (place (draft_of self.old))) }
     {
         let bound = variables(self.alloc, &case.pat)?;
-        let pat = case.pat.copy(self.alloc)?;
         let test = self.hold()?;
         self.term(
             home,
@@ -200,8 +228,7 @@ impl Writer {
         )?;
         self.unbind(bound.len())?;
         let end = self.hold()?;
-        let next = self.place();
-        self.set(test, Instr::Test(pat, next));
+        self.test(test, &case.pat)?;
         Ok(end)
     }
 
@@ -214,10 +241,7 @@ impl Writer {
         match value {
             PVal::Int(n) => self.put(Instr::PushInt(*n)),
             PVal::Bool(b) => self.put(Instr::PushBool(*b)),
-            PVal::Str(text) => {
-                let text = text.copy(self.alloc)?;
-                self.put(Instr::PushStr(text))
-            }
+            PVal::Str(text) => self.text(text),
             PVal::Unit => self.put(Instr::PushUnit),
             PVal::Exn(exn) => self.exception(exn),
             PVal::Tuple(parts) => {
@@ -259,17 +283,12 @@ impl Writer {
         let around = Scope::Empty;
         match function {
             Term::Lam(ty, body) => {
-                let before = self.begin();
-                self.term(home, &Scope::Variable(&around, &*ty), body)?;
-                let id = self.end(before, home, &around, function)?;
+                let inner = Scope::Variable(&around, &*ty);
+                let id = self.lambda(home, &around, &inner, body, function)?;
                 self.put(Instr::Constant(id))
             }
             Term::Rec(from, to, body) => {
-                let own = function_type(self.alloc, from, to)?;
-                let outer = Scope::Variable(&around, &own);
-                let before = self.begin();
-                self.term(home, &Scope::Variable(&outer, &*from), body)?;
-                let id = self.end(before, home, &around, function)?;
+                let id = self.recursive(home, &around, body, from, to, function)?;
                 self.put(Instr::RecConstant(id))
             }
             _ => Ok(()),

@@ -1,18 +1,20 @@
 // A block that is being written, and the blocks that are finished.
 
-ghost use Rattle.std.specs.Prelude.{◌≡◌, ◌+◌, ◌++◌, ◌∷◌, [], length, map, replicate, OnOk, IfOk, option_map};
+ghost use Rattle.std.specs.Prelude.{◌≡◌, ◌+◌, ◌++◌, ◌∷◌, [], length, map, set, replicate, OnOk, IfOk, option_map};
 ghost use Rattle.ac_terms.specs.Terms.{KExn};
-ghost use Rattle.ac_terms.specs.Read.{home_of, expr_of, bytes_of};
-ghost use Rattle.ac_code.specs.Code.{Jump, MakeCons};
+ghost use Rattle.ac_types.specs.ReadTypes.{typ_of};
+ghost use Rattle.ac_terms.specs.Read.{home_of, expr_of, pattern_of, bytes_of};
+ghost use Rattle.ac_code.specs.Code.{PushStr, Ref, Marshal, Unmarshal, Test, Jump, MakeCons, Return};
 ghost use Rattle.ac_code.specs.ReadCode.{instr_of, block_of};
 ghost use Rattle.ac_generate.specs.Sizes.{unbind};
+ghost use Rattle.ac_generate.specs.Generate.{lambda_block};
 ghost use Rattle.ac_generate.specs.Scopes.{types_of};
 ghost use Rattle.ac_generate.specs.Drafts.{draft_of, place, count, put, put_all, set_at, jumps_at, begun, ended, wrote_value};
 
 use crate::scope::{Scope, context};
 use ac_code::{Block, CodeId, Instr};
-use ac_terms::{Exn, Home, Term};
-use ac_types::{Many, Memory};
+use ac_terms::{Exn, Home, Pat, Term};
+use ac_types::{Many, Memory, Text, Ty, Word};
 use std::alloc::Global;
 use std::mem;
 
@@ -76,9 +78,7 @@ impl Writer {
     pub fn set(&mut self, at: usize, instr: Instr)
         ensures { draft_of self.new ≡ set_at at (instr_of instr) (draft_of self.old) }
     {
-        if at < self.instrs.len() {
-            self.instrs[at] = instr;
-        }
+        put_at(&mut self.instrs, at, instr);
     }
 
     /// Lets open jumps go to the next instruction.
@@ -102,14 +102,56 @@ impl Writer {
         self.put(Instr::Unbind(variables))
     }
 
+    /// Writes a string.
+    pub fn text(&mut self, text: &Text) -> Result<(), Memory>
+        ensures { OnOk result (draft_of self.new ≡ put (PushStr (bytes_of text.now)) (draft_of self.old)) }
+    {
+        let text = text.copy(self.alloc)?;
+        self.put(Instr::PushStr(text))
+    }
+
+    /// Writes a reference to a field of an entry.
+    pub fn reference(&mut self, entry: u32, field: &Word) -> Result<(), Memory>
+        ensures { OnOk result (draft_of self.new ≡ put (Ref entry field.now) (draft_of self.old)) }
+    {
+        let field = field.copy(self.alloc)?;
+        self.put(Instr::Ref(entry, field))
+    }
+
+    /// Writes a marshal at a type.
+    pub fn marshal(&mut self, ty: &Ty) -> Result<(), Memory>
+        ensures { OnOk result (draft_of self.new ≡ put (Marshal (typ_of ty.now)) (draft_of self.old)) }
+    {
+        let ty = ty.copy(self.alloc)?;
+        self.put(Instr::Marshal(ty))
+    }
+
+    /// Writes an unmarshal as a type.
+    pub fn unmarshal(&mut self, ty: &Ty) -> Result<(), Memory>
+        ensures { OnOk result (draft_of self.new ≡ put (Unmarshal (typ_of ty.now)) (draft_of self.old)) }
+    {
+        let ty = ty.copy(self.alloc)?;
+        self.put(Instr::Unmarshal(ty))
+    }
+
+    /// Puts the test of a pattern at a place that is written. Where the pattern doesn't fit, the
+    /// next instruction follows.
+    pub fn test(&mut self, at: usize, pat: &Pat) -> Result<(), Memory>
+        ensures { OnOk result (draft_of self.new ≡ set_at at (Test (pattern_of pat.now) (place (draft_of self.old))) (draft_of self.old)) }
+    {
+        let next = self.place();
+        let pat = pat.copy(self.alloc)?;
+        self.set(at, Instr::Test(pat, next));
+        Ok(())
+    }
+
     /// Writes the text of an exception, where it has one, and what makes the exception.
     #[tactic(auto, using(crate::proofs::DraftLaws::value_laws))]
     pub fn exception(&mut self, exn: &Exn) -> Result<(), Memory>
         ensures { OnOk result (draft_of self.new ≡ wrote_value (KExn exn.now.number (option_map bytes_of exn.now.text)) (draft_of self.old)) }
     {
         if let Some(text) = &exn.text {
-            let text = text.copy(self.alloc)?;
-            self.put(Instr::PushStr(text))?;
+            self.text(text)?;
         }
         self.put(Instr::MakeExn(exn.number))
     }
@@ -146,19 +188,63 @@ impl Writer {
         ensures number { IfOk result (λ id. id.0 ≡ count (draft_of self.old)) }
         ensures ok { OnOk result (draft_of self.new ≡ ended (home_of home) (expr_of lambda.now) (types_of scope.now) (map instr_of before.items) (draft_of self.old)) }
     {
-        let Some(number) = self.first.checked_add(self.finished.len()) else {
-            return Err(Memory);
-        };
-        let context = context(self.alloc, scope)?;
-        let lambda = lambda.copy(self.alloc)?;
-        self.instrs.push(Instr::Return)?;
-        let instrs = mem::replace(&mut self.instrs, before);
-        self.finished.push(Block {
-            home,
-            lambda: Some(lambda),
-            context,
-            instrs: Many::from_vec(instrs),
-        })?;
-        Ok(CodeId(number))
+        let number = self.number()?;
+        let written = mem::replace(&mut self.instrs, before);
+        let block = lambda_block(self.alloc, home, scope, lambda, written)?;
+        self.finished.push(block)?;
+        Ok(number)
     }
+
+    /// The number of the next finished block.
+    #[tactic(auto, unfolding(crate::specs::Drafts::draft_of))]
+    fn number(&self) -> Result<CodeId, Memory>
+        ensures { IfOk result (λ id. id.0 ≡ count (draft_of self.now)) }
+    {
+        match self.first.checked_add(self.finished.len()) {
+            None => Err(Memory),
+            Some(number) => Ok(CodeId(number)),
+        }
+    }
+}
+
+/// Puts an item at a place of a list, where the list has that place.
+#[tactic(auto, using(crate::proofs::WriterLaws::writer_laws))]
+fn put_at<T: Drop>(items: &mut Vec<T>, at: usize, item: T)
+    ensures { items.new.items ≡ set items.old.items at item }
+{
+    if at < items.len() {
+        items[at] = item;
+    }
+}
+
+/// The block of a lambda, of the code of its body.
+#[tactic(auto, using(crate::proofs::WriterLaws::writer_laws))]
+fn lambda_block(
+    alloc: Global,
+    home: Home,
+    scope: &Scope,
+    lambda: &Term,
+    body: Vec<Instr>,
+) -> Result<Block, Memory>
+    ensures { IfOk result (λ b. block_of b ≡ lambda_block (home_of home) (expr_of lambda.now) (types_of scope.now) (map instr_of body.items)) }
+{
+    let instrs = returning(body)?;
+    let context = context(alloc, scope)?;
+    let lambda = lambda.copy(alloc)?;
+    Ok(Block {
+        home,
+        lambda: Some(lambda),
+        context,
+        instrs,
+    })
+}
+
+/// These instructions, and a return behind them.
+#[tactic(auto, using(crate::proofs::WriterLaws::writer_laws))]
+fn returning(body: Vec<Instr>) -> Result<Many<Instr>, Memory>
+    ensures { IfOk result (λ is. map instr_of is ≡ map instr_of body.items ++ Return ∷ []) }
+{
+    let mut instrs = body;
+    instrs.push(Instr::Return)?;
+    Ok(Many::from_vec(instrs))
 }

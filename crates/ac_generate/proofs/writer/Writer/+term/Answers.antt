@@ -1,12 +1,12 @@
-use Rattle.std.proofs.Common.{rules, ◌∙◌, ◌++◌, ◌∷◌, map, reverse, sym, ap, ap₂}
-use Rattle.ac_types.specs.Types.{Typ}
+use Rattle.std.proofs.Common.{rules, ◌≡◌, ◌∙◌, List, ◌++◌, ◌∷◌, map, reverse, refl, sym, ap, subst}
+use Rattle.std.specs.Prelude.{OnOk, IfOk}
+use Rattle.ac_types.specs.Types.{Typ, TFun}
 use Rattle.ac_types.specs.ReadTypes.{typ_of}
 use Rattle.ac_terms.specs.Read.{home_of, pattern_of, expr_of}
 use Rattle.ac_terms.specs.Terms.{arms}
-use Rattle.ac_code.specs.Code as instr
 use Rattle.ac_generate.specs.Arms.{arm_of}
 use Rattle.ac_generate.specs.Scopes.{types_of}
-use Rattle.ac_generate.specs.Drafts.{draft_of, place, set_at, wrote_arm, end_of}
+use Rattle.ac_generate.specs.Drafts.{draft_of, place, count, begun, ended, wrote, wrote_arm, end_of}
 use Rattle.ac_generate.proofs.FormLaws.{types_of-Empty, types_of-Variable, types_of-Variables, arm_fields, lam_is, rec_is, if_is, match_is, try_is}
 use Rattle.ac_generate.proofs.TermLaws.{count_types, plain_written}
 use Rattle.ac_generate.proofs.Written.{on_ok, rec_written, packed_lam_written, packed_rec_written, if_written, match_written, try_written, arm_written, arm_ended}
@@ -22,8 +22,7 @@ arm-returns-clause-ok t c =
     (types_of-Variables c.args.scope c.as_slice.result ∙ ap (λ Ts. reverse Ts ++ G) (ap (map typ_of) c.as_slice.ensures.value ∙ c.in_ok-bound.ensures))
     (count_types _ c.in_ok-bound.bound.items _ (search rules) c.in_ok-bound.ensures)
     c.in_ok-test.ensures.ok c.in_ok-term.ensures c.in_ok-unbind.ensures
-    _ (draft_of c.set.new.self) _ _ c.in_ok-test.ensures.place c.in_ok-end.ensures.ok c.place-next.ensures
-    (c.set.ensures ∙ ap (λ p. set_at c.in_ok-test.test (instr.Test (pattern_of p) c.place-next.result) (draft_of c.hold-2.new.self)) c.in_ok-pat.ensures)
+    (draft_of c.hold-2.new.self) (draft_of c.test.new.self) _ (place (draft_of c.hold-2.new.self)) c.in_ok-test.ensures.place c.in_ok-end.ensures.ok refl c.in_ok-test-2.ensures
     ∙ ap (λ x. wrote_arm home G x.0 x.1 d) (sym (arm_fields c.args.case.now))
 
 pub arm-returns-clause-place : goal.arm-returns-clause-place
@@ -41,25 +40,38 @@ function-returns-in_default t c = plain_written (home_of c.args.home) c.args.fun
 
 pub function-returns-in_ok-id-in-Lam : goal.function-returns-in_ok-id-in-Lam
 function-returns-in_ok-id-in-Lam t c =
-    on_ok c.put.result (packed_lam_written (home_of c.args.home) (typ_of c.in-Lam.ty) (expr_of c.deref.result.now) (expr_of c.args.function.now) _ _ (draft_of c.args.self.now) (draft_of c.begin-before.new.self) (draft_of c.term.new.self) (draft_of c.end.new.self) (draft_of c.put.new.self) _ c.in_ok-id-in-Lam.id.0
+    on_ok c.put.result (packed_lam_written (home_of c.args.home) (typ_of c.in-Lam.ty) (expr_of c.deref.result.now) (expr_of c.args.function.now) _ _ (draft_of c.args.self.now) _ _ (draft_of c.lambda.new.self) (draft_of c.put.new.self) _ c.in_ok-id-in-Lam.id.0
     (lam_is _ _ _ _ c.in-Lam.is c.deref.ensures)
     (types_of-Variable _ _ ∙ ap (λ K. typ_of c.in-Lam.ty ∷ K) types_of-Empty)
-    types_of-Empty c.begin-before.ensures.before c.begin-before.ensures.after c.in_ok-term-in-Lam.ensures c.in_ok-id-in-Lam.ensures.number c.in_ok-id-in-Lam.ensures.ok) c.put.ensures
+    types_of-Empty refl refl refl c.in_ok-id-in-Lam.ensures.number c.in_ok-id-in-Lam.ensures.ok) c.put.ensures
 
 pub function-returns-in_ok-id-in-Rec : goal.function-returns-in_ok-id-in-Rec
 function-returns-in_ok-id-in-Rec t c =
-    on_ok c.put-in-Rec.result (packed_rec_written (home_of c.args.home) (typ_of c.in-Rec.from) (typ_of c.in-Rec.to) (expr_of c.deref-in-Rec.result.now) (expr_of c.args.function.now) _ _ (draft_of c.args.self.now) (draft_of c.begin-before-in-Rec.new.self) (draft_of c.term-in-Rec.new.self) (draft_of c.end-in-Rec.new.self) (draft_of c.put-in-Rec.new.self) _ c.in_ok-id-in-Rec.id.0
+    let T = typ_of c.in-Rec.from in
+    let U = typ_of c.in-Rec.to in
+    on_ok c.put-in-Rec.result (packed_rec_written (home_of c.args.home) T U (expr_of c.deref-in-Rec.result.now) (expr_of c.args.function.now) _ _ (draft_of c.args.self.now) _ _ (draft_of c.recursive.new.self) (draft_of c.put-in-Rec.new.self) _ c.in_ok-id-in-Rec.id.0
     (rec_is _ _ _ _ _ c.in-Rec.is c.deref-in-Rec.ensures)
-    (types_of-Variable _ _ ∙ ap (λ K. typ_of c.in-Rec.from ∷ K) (types_of-Variable _ _ ∙ ap₂ (λ (x : Typ) K. x ∷ K) c.in_ok-own-in-Rec.ensures types_of-Empty))
-    types_of-Empty c.begin-before-in-Rec.ensures.before c.begin-before-in-Rec.ensures.after c.in_ok-term-in-Rec.ensures c.in_ok-id-in-Rec.ensures.number c.in_ok-id-in-Rec.ensures.ok) c.put-in-Rec.ensures
+    (ap (λ K. T ∷ TFun T U ∷ K) types_of-Empty)
+    types_of-Empty refl refl refl c.in_ok-id-in-Rec.ensures.number c.in_ok-id-in-Rec.ensures.ok) c.put-in-Rec.ensures
+
+pub recursive-returns-clause-number : goal.recursive-returns-clause-number
+recursive-returns-clause-number t c =
+    subst (λ (K : List Typ). IfOk c.lambda-made.result (λ id. id.0 ≡ count (wrote (home_of c.args.home) K (expr_of c.args.body.now) (begun (draft_of c.args.self.now)))))
+    (types_of-Variable _ _ ∙ ap (λ K. typ_of c.args.from.now ∷ K) (types_of-Variable _ _ ∙ ap (λ (x : Typ). x ∷ types_of c.args.scope.now) c.in_ok-function.ensures))
+    c.lambda-made.ensures.number
+
+pub recursive-returns-clause-ok : goal.recursive-returns-clause-ok
+recursive-returns-clause-ok t c =
+    let d = draft_of c.args.self.now in
+    subst (λ (K : List Typ). OnOk c.lambda-made.result (draft_of c.lambda-made.new.self ≡ ended (home_of c.args.home) (expr_of c.args.lambda.now) (types_of c.args.scope.now) d.instrs (wrote (home_of c.args.home) K (expr_of c.args.body.now) (begun d))))
+    (types_of-Variable _ _ ∙ ap (λ K. typ_of c.args.from.now ∷ K) (types_of-Variable _ _ ∙ ap (λ (x : Typ). x ∷ types_of c.args.scope.now) c.in_ok-function.ensures))
+    c.lambda-made.ensures.ok
 
 pub term-returns-in_ok-id-in-Rec : goal.term-returns-in_ok-id-in-Rec
 term-returns-in_ok-id-in-Rec t c =
-    let G = types_of c.args.scope.now in
-    on_ok c.put-in-Rec.result (rec_written (home_of c.args.home) G (typ_of c.in-Rec.from) (typ_of c.in-Rec.to) (expr_of c.deref-in-Rec.result.now) (expr_of c.args.term.now) _ (draft_of c.args.self.now) (draft_of c.begin-before-in-Rec.new.self) (draft_of c.term-in-Rec.new.self) (draft_of c.end-in-Rec.new.self) (draft_of c.put-in-Rec.new.self) _ c.in_ok-id-in-Rec.id.0
+    on_ok c.put-in-Rec.result (rec_written (home_of c.args.home) (types_of c.args.scope.now) (typ_of c.in-Rec.from) (typ_of c.in-Rec.to) (expr_of c.deref-in-Rec.result.now) (expr_of c.args.term.now) _ (draft_of c.args.self.now) _ _ (draft_of c.recursive.new.self) (draft_of c.put-in-Rec.new.self) _ c.in_ok-id-in-Rec.id.0
     (rec_is _ _ _ _ _ c.in-Rec.is c.deref-in-Rec.ensures)
-    (types_of-Variable _ _ ∙ ap (λ K. typ_of c.in-Rec.from ∷ K) (types_of-Variable _ _ ∙ ap (λ (x : Typ). x ∷ G) c.in_ok-function-in-Rec.ensures))
-    c.begin-before-in-Rec.ensures.before c.begin-before-in-Rec.ensures.after c.in_ok-term-in-Rec.ensures c.in_ok-id-in-Rec.ensures.number c.in_ok-id-in-Rec.ensures.ok) c.put-in-Rec.ensures
+    refl refl refl refl c.in_ok-id-in-Rec.ensures.number c.in_ok-id-in-Rec.ensures.ok) c.put-in-Rec.ensures
 
 pub term-returns-in_ok-term-in-If-3 : goal.term-returns-in_ok-term-in-If-3
 term-returns-in_ok-term-in-If-3 t c =
