@@ -42,3 +42,5 @@ pub mod BareReduces
 pub mod BareEndings
 pub mod PackedHolds
 pub mod ReadBack
+mod PackingExamples
+mod RebuiltExamples
