@@ -54,3 +54,5 @@ pub mod HeadsSeen
 pub mod WithinSmall
 pub mod Kept
 pub mod MarshalledRead
+mod PackingExamples
+mod RebuiltExamples
