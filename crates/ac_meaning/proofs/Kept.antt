@@ -10,6 +10,7 @@ use Rattle.ac_types.specs.Types.{Bytes, Typ, TInt, TBool, TStr, TUnit, TExn, TTu
 use Rattle.ac_terms.specs.Terms.{Home, Main, In, Pattern, Expr, Int, Boolean, Str, Unit', Exn, ExnOf, Tuple, Nil, Empty, Present, Cons, Var, Own, Ref, Lam, Rec, App, Let, If, Seq, Match, Try, Raise, Prim, Marshal, Unmarshal, Packed, Val, Bracket, Exprs, no_exprs, expr, Arms, no_arms, arm, Value, VInt, VBool, VStr, VUnit, VExn, VTuple, VNil, VCons, VAbsent, VPresent, VLam, VRec, VProxy, VSeal, Values, value}
 use Rattle.ac_terms.specs.Defs.{Environment, Field}
 use Rattle.ac_code.specs.Constants.{Const, CInt, CBool, CStr, CUnit, CPart, Answer, Gives, Prints, Sends, Receives, Fails, NoSense, meaning}
+use Rattle.ac_rules.specs.Plain.{packed}
 use Rattle.ac_rules.specs.Views.{Mode, Coloured, opens, representation, view, is_known}
 use Rattle.ac_rules.specs.Typing.{all_of, fields_of}
 use Rattle.ac_rules.specs.Coherent.{IsCoherent}
@@ -24,7 +25,6 @@ use Rattle.ac_meaning.specs.Primitives.{spelled, primitive, answer_at, answered,
 use Rattle.ac_meaning.specs.Brackets.{enclosed, all_enclosed, is_function_value, inside, unsealed, at_name, bracket_step}
 use Rattle.ac_meaning.specs.References.{own_field, referred, Route, Nowhere, Once, Twice, route, routed}
 use Rattle.ac_meaning.specs.Packing.{Packing, Refuses, Packs, packs, packing, Arrival, Unfit, Brings, arrival, brings, marshal_step, unmarshal_step}
-use Rattle.ac_meaning.specs.BareTerms.{bare_value}
 use Rattle.ac_meaning.specs.Reduction.{apply, branch, look, look_all, look_main, step}
 use Rattle.ac_meaning.specs.Laws.{IsTypedProgram}
 use Rattle.ac_meaning.specs.Typed.{seen, Known, IsHome, IsLast, own_type, Fits, Typed, AllTyped, ArmsTyped, ValueTyped, ValuesTyped, WrittenTyped}
@@ -231,7 +231,7 @@ module _ (arrives : Arrives) (mode : Mode) where
 
     -- packing, and arrival
     marshal_ok : (c : Home) (m v : Value) (A T : Typ) → T ≡ TStr → ValueTyped mode E m c TStr → Good c T (marshal_step z c A m v)
-    marshal_ok c m v A T e h = let s = shape mode E m c TStr TStr refl h in subst (λ x. Good c T (marshal_step z c A x v)) (sym s.1) (by (packing z c A s.0 (bare_value c v)))
+    marshal_ok c m v A T e h = let s = shape mode E m c TStr TStr refl h in subst (λ x. Good c T (marshal_step z c A x v)) (sym s.1) (by (packing z A s.0 (packed z.environment c v A)))
       where
         by : (p : Packing) → Good c T (packs p)
         by (Refuses x) = tt

@@ -10,6 +10,7 @@ use Rattle.ac_terms.specs.Defs.{Environment}
 use Rattle.ac_terms.specs.Spelling.{two}
 use Rattle.ac_terms.specs.Bounds.{fits_term}
 use Rattle.ac_terms.specs.Heads.{type_heads, value_heads, packed_heads}
+use Rattle.ac_rules.specs.Plain.{packed}
 use Rattle.ac_rules.specs.Views.{Mode, Coloured}
 use Rattle.ac_rules.specs.Typing.{all_of, is_function}
 use Rattle.ac_rules.specs.Needed.{mark_at}
@@ -20,7 +21,7 @@ use Rattle.ac_meaning.specs.Worlds.{World, fresh}
 use Rattle.ac_meaning.specs.Acts.{Act, Is, Goes, Turns, Applies, Raises, Wrong, parts, State, At, Over, iter}
 use Rattle.ac_meaning.specs.Growth.{Grows}
 use Rattle.ac_meaning.specs.BareTerms.{bare_value}
-use Rattle.ac_meaning.specs.BarePacking.{packed}
+use Rattle.ac_meaning.specs.BarePacking.{bare_packed}
 use Rattle.ac_meaning.specs.Packing.{Packing, Refuses, Packs, packs, packing, answer, landing, marshal_step}
 use Rattle.ac_meaning.specs.Reduction.{look, step}
 use Rattle.ac_meaning.specs.Laws.{IsTypedProgram}
@@ -34,6 +35,7 @@ use Rattle.ac_meaning.proofs.FromTypes.{typed_from}
 use Rattle.ac_meaning.proofs.Growth.{grows_not}
 use Rattle.ac_meaning.proofs.Admitted.{arrives}
 use Rattle.ac_meaning.proofs.Kept.{ActOk, kept, typing_kept}
+use Rattle.ac_meaning.proofs.PackedAlike.{packed_alike}
 use Rattle.ac_meaning.proofs.PackedHolds.{packable}
 use Rattle.ac_meaning.proofs.ReadBack.{a_string, read_back_later}
 use Rattle.ac_meaning.proofs.Sources.{fits_source}
@@ -126,14 +128,14 @@ record Packs' (z : World) (c : Home) (T : Typ) (s : Bytes) (a b : Act Expr Value
   value : Value
   marked : a ≡ Is (VStr mark)
   valued : b ≡ Is value
-  packs_so : packing z c T mark (bare_value c value) ≡ Packs s
+  packs_so : packing z T mark (packed z.environment c value T) ≡ Packs s
 
 packed_string : (p : Packing) (s : Bytes) → packs p ≡ Goes (Str s) → p ≡ Packs s
 packed_string (Refuses x) s e = absurd cc
 packed_string (Packs r) s e = let q : r ≡ s = cc in ap Packs q
 
 marshal_parts : (z : World) (c : Home) (T : Typ) (m w : Expr) (s : Bytes) (a b : Act Expr Value) → parts (Marshal T) m w (marshal_step z c T) a b ≡ Goes (Str s) → Packs' z c T s a b
-marshal_parts z c T m w s (Is (VStr mark)) (Is v) e = record { mark = mark; value = v; marked = refl; valued = refl; packs_so = packed_string (packing z c T mark (bare_value c v)) s e }
+marshal_parts z c T m w s (Is (VStr mark)) (Is v) e = record { mark = mark; value = v; marked = refl; valued = refl; packs_so = packed_string (packing z T mark (packed z.environment c v T)) s e }
 marshal_parts z c T m w s (Is _) (Is v) e = absurd cc
 marshal_parts z c T m w s (Is u) (Goes t) e = absurd cc
 marshal_parts z c T m w s (Is u) (Turns y t) e = absurd cc
@@ -163,12 +165,13 @@ string_fine E mark T v s e = by_mark (mark_at E mark) e
 
 -- a typed value within the bounds
 value_read : (mode : Mode) (z : World) (c : Home) (T : Typ) (mark s : Bytes) (v : Value) → IsCoherent z.environment → Known mode z.environment T → ValueTyped mode z.environment v c (seen mode z.environment c T) → TypeFits T → ValueWithin v →
-    packing z c T mark (bare_value c v) ≡ Packs s → (F : Environment) → Grows z.environment F → IsReadBack (landing F T s)
+    packing z T mark (packed z.environment c v T) ≡ Packs s → (F : Environment) → Grows z.environment F → IsReadBack (landing F T s)
 unfolding packing
 value_read mode z c T mark s v i k t w h e F g =
     let E : Environment = z.environment in
-    let p : PValue = packed E (bare_value c v) T in
-    let made : marshalled E mark T p ≡ AString s = a_string (marshalled E mark T p) s e in
+    let p : PValue = bare_packed E (bare_value c v) T in
+    let same : p ≡ packed E c v T = packed_alike mode E v c (seen mode E c T) T t in
+    let made : marshalled E mark T p ≡ AString s = a_string (marshalled E mark T p) s (ap (λ x. packing z T mark x) same ∙ e) in
     let fits = packed_fits E i v c T 1 h (string_fine E mark T p s made) in
     read_back_later E F g mark T p s (packable mode E i v c T k t w.0 w.1 fits (packed_small E v c T h)) made
 

@@ -25,7 +25,7 @@ use Rattle.ac_rules.proofs.Carried.{IsStill, AreStill, StillArms, HasStill, AllH
 use Rattle.ac_rules.proofs.Trust.{IsOf, trusted}
 use Rattle.ac_rules.proofs.HeadViews.{head_seen}
 use Rattle.ac_meaning.specs.BareTerms.{bare, bare_all, bare_arms, WTuple, WPresent, bare_value, bare_values}
-use Rattle.ac_meaning.specs.BarePacking.{packed, all_packed, packed_term, packed_terms, packed_arms}
+use Rattle.ac_meaning.specs.BarePacking.{bare_packed as packed, bare_all_packed as all_packed, bare_packed_term as packed_term, bare_packed_terms as packed_terms, bare_packed_arms as packed_arms}
 use Rattle.ac_meaning.proofs.Somes.{agree_some}
 use Rattle.ac_meaning.proofs.Homes.{all_seen}
 use Rattle.ac_meaning.proofs.HeadsSeen.{at_head, int_at, bool_at, str_at, unit_at, exn_at, tuple_at, list_at, option_at}

@@ -4,6 +4,7 @@ use mathlib.Core.Bool.{true≢false}
 use Rattle.ac_types.specs.Types.{Bytes, Typ, TBool, TStr, TExn, TList, TFun, Typs, typ, mentions}
 use Rattle.ac_terms.specs.Terms.{Home, Expr, Int, Boolean, Str, Unit', Exn, ExnOf, Tuple, Nil, Empty, Present, Cons, Var, Own, Ref, Lam, Rec, App, Let, If, Seq, Match, Try, Raise, Prim, Marshal, Unmarshal, Packed, Val, Bracket, Exprs, no_exprs, expr, Arms, no_arms, arm, Value, VStr, VTuple, VCons, VPresent, VLam, VRec, VProxy, Values, value}
 use Rattle.ac_terms.specs.Defs.{Environment}
+use Rattle.ac_rules.specs.Plain.{packed}
 use Rattle.ac_rules.specs.Views.{Mode, is_known}
 use Rattle.ac_rules.specs.Coherent.{IsCoherent}
 use Rattle.ac_meaning.proofs.Somes.{all_join}
@@ -16,7 +17,6 @@ use Rattle.ac_meaning.specs.Brackets.{is_function_value}
 use Rattle.ac_meaning.specs.References.{route}
 use Rattle.ac_meaning.specs.Growth.{Grows}
 use Rattle.ac_meaning.specs.Packing.{Packing, Refuses, Packs, Arrival, Unfit, Brings, packing, arrival}
-use Rattle.ac_meaning.specs.BareTerms.{bare_value}
 use Rattle.ac_meaning.proofs.Results.{Result, Spending, M, give, raise, follow, lift}
 use Rattle.ac_meaning.proofs.Eval.{with_text, own_by, ref_by, opened, branching, throws, answering, constant, fitted, no_more, packed_as, marshals, arrived_as, unmarshals, across, crossing, eval, eval_all, eval_rest, eval_arms, calling, depth}
 use Rattle.ac_meaning.proofs.Arrivals.{Arrives}
@@ -91,7 +91,7 @@ module _ (arrives : Arrives) (mode : Mode) where
   pub marshal_ok : (m v : Value) (c : Home) (A T : Typ) (z : World) → IsCoherent z.environment → Is c TStr z.environment m → T ≡ TStr → Good z c T (marshals c A m v z)
   marshal_ok m v c A T z i h e =
       let s = shape mode z.environment m c TStr TStr refl h in
-      subst (λ x. Good z c T (marshals c A x v z)) (sym s.1) (by (packing z c A s.0 (bare_value c v)))
+      subst (λ x. Good z c T (marshals c A x v z)) (sym s.1) (by (packing z A s.0 (packed z.environment c v A)))
     where
       by : (p : Packing) → Good z c T (packed_as VStr p z)
       by (Refuses x) = grows_not z.environment i

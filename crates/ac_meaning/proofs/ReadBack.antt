@@ -21,7 +21,6 @@ use Rattle.ac_meaning.proofs.GrowthTyping.{holds_more}
 use Rattle.ac_meaning.proofs.GrowthSpoken.{packet_of_type_same}
 use Rattle.ac_meaning.specs.Worlds.{World}
 use Rattle.ac_meaning.specs.BareTerms.{bare_value}
-use Rattle.ac_meaning.specs.BarePacking.{packed}
 use Rattle.ac_meaning.specs.Packing.{Packs, packing, answer, Landing, Lands, Sinks, admitted, received, landing, unmarshal_failure, resolve_failure}
 use Rattle.ac_meaning.specs.Typed.{ValueTyped}
 use Rattle.ac_meaning.specs.ReadBack.{IsReadBack}

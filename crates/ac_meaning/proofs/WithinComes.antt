@@ -24,9 +24,8 @@ use Rattle.ac_rules.specs.Faults.{Fault, NoMark, Depth, Function, Size, Marshall
 use Rattle.ac_rules.proofs.ListLaws.{all_at}
 use Rattle.ac_rules.proofs.FaultLaws.{gives_packet}
 use Rattle.ac_meaning.specs.Worlds.{Exception, World}
-use Rattle.ac_meaning.specs.BareTerms.{BareValue, unpacked}
+use Rattle.ac_meaning.specs.BareTerms.{unpacked}
 use Rattle.ac_meaning.specs.Rebuilding.{rebuilt}
-use Rattle.ac_meaning.specs.BarePacking.{packed}
 use Rattle.ac_meaning.specs.Packing.{Packing, Refuses, Packs, packing, answer, of_fault, of_cause, import_name, Arrival, Unfit, Brings, arrival, brought, Landing, Sinks, Lands, landing, received, admitted}
 use Rattle.ac_meaning.specs.References.{own_field}
 use Rattle.ac_meaning.proofs.Coherences.{is_field, is_sound}
@@ -139,19 +138,19 @@ PackingWithin (Packs s) = is_string s ≡ true
 at_most : (n : ℕ) → n ≤ 1048576 → nat_le n 1048576 ≡ true
 at_most n h = grind (arith, nat_tests)
 
-packing_within : (z : World) (c : Home) (T : Typ) (mark : Bytes) (v : BareValue) → PackingWithin (packing z c T mark v)
+packing_within : (z : World) (T : Typ) (mark : Bytes) (v : PValue) → PackingWithin (packing z T mark v)
 unfolding packing
-packing_within z c T mark v = by (marshalled z.environment mark T (packed z.environment v T)) refl
+packing_within z T mark v = by (marshalled z.environment mark T v) refl
   where
-    by : (m : Marshalled) → marshalled z.environment mark T (packed z.environment v T) ≡ m → PackingWithin (answer m)
+    by : (m : Marshalled) → marshalled z.environment mark T v ≡ m → PackingWithin (answer m)
     by (NoString f) e = fault_within f
-    by (AString s) e = at_most (length s) (gives_packet z.environment mark T (packed z.environment v T) s e).short
+    by (AString s) e = at_most (length s) (gives_packet z.environment mark T v s e).short
 
 pub comes_within : ComesWithin
 comes_within = record {
   fields = field_within;
   brought = λ mode z c T s F v w i q. subst (ArrivalWithin mode) q (arrival_within mode z c T s i);
   unfit = λ z c T s x i q. subst (ArrivalWithin Coloured) q (arrival_within Coloured z c T s i);
-  refused = λ z c T mark v x q. subst PackingWithin q (packing_within z c T mark v);
-  packed = λ z c T mark v s q. subst PackingWithin q (packing_within z c T mark v);
+  refused = λ z T mark v x q. subst PackingWithin q (packing_within z T mark v);
+  packed = λ z T mark v s q. subst PackingWithin q (packing_within z T mark v);
 }
