@@ -1,10 +1,10 @@
 -- What a known type comes to, by what a home sees of it, in either mode.
 use Rattle.std.proofs.Common.{◌≡◌, refl, sym, ap, ◌∙◌, ℕ, zero, suc, true, length}
 use native.Mathlib.Omega.{arith}
-use Rattle.ac_types.specs.Types.{Bytes, Typ, TInt, TBool, TStr, TUnit, TExn, TTuple, TList, TOpt, TFun, TAbs, TMine, Typs, no_types, same}
+use Rattle.ac_types.specs.Types.{Typ, TInt, TBool, TStr, TUnit, TExn, TTuple, TList, TOpt, TFun, TAbs, TMine, Typs, no_types, same}
 use Rattle.ac_terms.specs.Terms.{Home}
 use Rattle.ac_terms.specs.Defs.{Environment}
-use Rattle.ac_rules.specs.Views.{Mode, Plain, Coloured, view, head, opened, unsealed, rounds, are_known}
+use Rattle.ac_rules.specs.Views.{Mode, Plain, Coloured, view, head, unsealed, rounds, are_known}
 use Rattle.ac_rules.specs.Coherent.{IsCoherent}
 use Rattle.ac_rules.proofs.KnownTypes.{IsConcrete, head_concrete, rounds_known}
 use Rattle.ac_rules.proofs.HeadViews as coloured

@@ -1,10 +1,9 @@
 -- In each state of a run what is marshalled is read again.
-use Rattle.std.proofs.Common.{◌≡◌, refl, sym, ap, ◌∙◌, subst, ℕ, zero, suc, ◌+◌, ◌≤◌, Bool, true, false, List, [], ◌∷◌, ◌++◌, length, Option, Some, None}
+use Rattle.std.proofs.Common.{◌≡◌, refl, ap, subst, ℕ, zero, suc, Bool, true, false, [], Option, Some, None}
 use Rattle.std.specs.Prelude.{IsTrue}
 use native.Mathlib.Omega.{arith}
-use Rattle.ac_types.proofs.FirstLaws.{some_eq}
 use Rattle.ac_types.specs.First.{or_else}
-use Rattle.ac_types.specs.Types.{Bytes, Typ, TStr, TExn, TBool, TFun, TList, Typs, is_small}
+use Rattle.ac_types.specs.Types.{Bytes, Typ, TStr, TExn, TBool, TFun, TList, Typs}
 use Rattle.ac_terms.specs.Terms.{Home, Main, Expr, Int, Boolean, Str, Unit', Exn, ExnOf, Tuple, Nil, Empty, Present, Cons, Var, Own, Ref, Lam, Rec, App, Let, If, Seq, Match, Try, Raise, Prim, Marshal, Unmarshal, Packed, Val, Bracket, Exprs, no_exprs, expr, PValue, Value, VStr}
 use Rattle.ac_terms.specs.Defs.{Environment}
 use Rattle.ac_terms.specs.Spelling.{two}
@@ -14,15 +13,15 @@ use Rattle.ac_rules.specs.Plain.{packed}
 use Rattle.ac_rules.specs.Views.{Mode, Coloured}
 use Rattle.ac_rules.specs.Typing.{all_of, is_function}
 use Rattle.ac_rules.specs.Needed.{mark_at}
-use Rattle.ac_rules.specs.Faults.{Fault, Marshalled, NoString, AString, first_fault, behind, cut_at, marshalled}
+use Rattle.ac_rules.specs.Faults.{Fault, AString, first_fault, behind, cut_at, marshalled}
 use Rattle.ac_rules.specs.Coherent.{IsCoherent}
 use Rattle.ac_rules.proofs.FaultLaws.{none_fails}
 use Rattle.ac_meaning.specs.Worlds.{World, fresh}
-use Rattle.ac_meaning.specs.Acts.{Act, Is, Goes, Turns, Applies, Raises, Wrong, parts, State, At, Over, iter}
+use Rattle.ac_meaning.specs.Acts.{Act, Is, Goes, Turns, Applies, Raises, Wrong, parts, State, At, Over, iter, Leads}
 use Rattle.ac_meaning.specs.Growth.{Grows}
 use Rattle.ac_meaning.specs.BareTerms.{bare_value}
 use Rattle.ac_meaning.specs.BarePacking.{bare_packed}
-use Rattle.ac_meaning.specs.Packing.{Packing, Refuses, Packs, packs, packing, answer, landing, marshal_step}
+use Rattle.ac_meaning.specs.Packing.{Packing, Refuses, Packs, packs, packing, landing, marshal_step}
 use Rattle.ac_meaning.specs.Reduction.{look, step}
 use Rattle.ac_meaning.specs.Laws.{IsTypedProgram}
 use Rattle.ac_meaning.specs.Typed.{IsHome, Typed, AllTyped, ValueTyped, seen, Known}
@@ -38,7 +37,6 @@ use Rattle.ac_meaning.proofs.Kept.{ActOk, kept, typing_kept}
 use Rattle.ac_meaning.proofs.PackedAlike.{packed_alike}
 use Rattle.ac_meaning.proofs.PackedHolds.{packable}
 use Rattle.ac_meaning.proofs.ReadBack.{a_string, read_back_later}
-use Rattle.ac_meaning.proofs.Sources.{fits_source}
 use Rattle.ac_meaning.proofs.Within.{TypeFits, Within, AllWithin, ValueWithin, ActWithin}
 use Rattle.ac_meaning.proofs.WithinLaws.{loosened}
 use Rattle.ac_meaning.proofs.WithinSteps.{StateWithin, kept_within, within_kept}
@@ -190,13 +188,13 @@ marshal_read mode T z e h U s m F g =
     value_read mode z c U x.mark s x.value i t.3 typed w.0 within x.packs_so F g
 
 -- so what a program marshals in any state that it comes to is read again, there and after all that comes later
-pub marshalled_is_read : (E : Environment) (e : Expr) (T : Typ) → IsTypedProgram E e T → IsTrue (fits_term false e) → (mode : Mode) (input : Bytes) (sends : Bool) (N k : ℕ) (t : Expr) (z : World) → iter (step mode N) k (At e (fresh E input sends)) ≡ At t z →
+pub marshalled_is_read : (E : Environment) (e : Expr) (T : Typ) → IsTypedProgram E e T → IsTrue (fits_term false e) → (mode : Mode) (input : Bytes) (sends : Bool) (N : ℕ) (t : Expr) (z : World) → Leads (step mode N) (At e (fresh E input sends)) (At t z) →
     (U : Typ) (s : Bytes) → Marshals mode z t U s → (F : Environment) → Grows z.environment F → IsReadBack (landing F U s)
-marshalled_is_read E e T p fits mode input sends N k t z at U s m F g =
-    marshal_read mode (lower E mode T) z t (subst (IsBounded mode (lower E mode T)) at (run_bounded mode (lower E mode T) N k (At e (fresh E input sends)) (starts_bounded E e T p fits mode input sends))) U s m F g
+marshalled_is_read E e T p fits mode input sends N t z leads U s m F g =
+    marshal_read mode (lower E mode T) z t (subst (IsBounded mode (lower E mode T)) leads.1 (run_bounded mode (lower E mode T) N leads.0 (At e (fresh E input sends)) (starts_bounded E e T p fits mode input sends))) U s m F g
 
-pub marshalled_is_read_here : (E : Environment) (e : Expr) (T : Typ) → IsTypedProgram E e T → IsTrue (fits_term false e) → (mode : Mode) (input : Bytes) (sends : Bool) (N k : ℕ) (t : Expr) (z : World) → iter (step mode N) k (At e (fresh E input sends)) ≡ At t z →
+pub marshalled_is_read_here : (E : Environment) (e : Expr) (T : Typ) → IsTypedProgram E e T → IsTrue (fits_term false e) → (mode : Mode) (input : Bytes) (sends : Bool) (N : ℕ) (t : Expr) (z : World) → Leads (step mode N) (At e (fresh E input sends)) (At t z) →
     (U : Typ) (s : Bytes) → Marshals mode z t U s → IsReadBack (landing z.environment U s)
-marshalled_is_read_here E e T p fits mode input sends N k t z at U s m =
-    let h = subst (IsBounded mode (lower E mode T)) at (run_bounded mode (lower E mode T) N k (At e (fresh E input sends)) (starts_bounded E e T p fits mode input sends)) in
+marshalled_is_read_here E e T p fits mode input sends N t z leads U s m =
+    let h = subst (IsBounded mode (lower E mode T)) leads.1 (run_bounded mode (lower E mode T) N leads.0 (At e (fresh E input sends)) (starts_bounded E e T p fits mode input sends)) in
     marshal_read mode (lower E mode T) z t h U s m z.environment (grows_not z.environment h.0.0)

@@ -1,17 +1,14 @@
 -- A string that marshal gives of what can be packed is, as the same type, landed by unmarshal, or refused as full or for want of a link.
-use Rattle.std.proofs.Common.{◌≡◌, refl, sym, subst, ◌⊎◌, inl, inr, Option, Some, None}
-use Rattle.std.specs.Prelude.{false, codes, IsTrue}
+use Rattle.std.proofs.Common.{◌≡◌, refl, sym, subst, inl, inr, Option, Some, None}
+use Rattle.std.specs.Prelude.{false}
 use Rattle.sha2.specs.Sha256.{sha256}
-use Rattle.ac_types.specs.Types.{Bytes, Typ, is_small}
-use Rattle.ac_terms.specs.Terms.{Home, PValue, Value}
+use Rattle.ac_types.specs.Types.{Bytes, Typ}
+use Rattle.ac_terms.specs.Terms.{PValue}
 use Rattle.ac_terms.specs.Defs.{Environment, Packet}
-use Rattle.ac_terms.specs.Bounds.{fits_type, fits_value, has_small_types}
-use Rattle.ac_terms.specs.Parts.{value_parts}
 use Rattle.ac_terms.proofs.SpelledLaws.{spelled_is_read}
-use Rattle.ac_rules.specs.Views.{Mode, Coloured, view, are_known}
+use Rattle.ac_rules.specs.Views.{Coloured}
 use Rattle.ac_rules.specs.Needed.{packet_for}
 use Rattle.ac_rules.specs.Packets.{Cause, Definition, Clash, Full, Unresolved, WrongType, NoValue, cause}
-use Rattle.ac_rules.specs.Coherent.{IsCoherent}
 use Rattle.ac_rules.specs.Faults.{Marshalled, NoString, AString, marshalled}
 use Rattle.ac_rules.specs.RoundTrip.{IsPackable, IsExcused}
 use Rattle.ac_rules.proofs.RoundTrip.{marshal_round_trip, round_trip}
@@ -19,10 +16,7 @@ use Rattle.ac_meaning.specs.Growth.{Grows}
 use Rattle.ac_meaning.proofs.Growth.{known_more}
 use Rattle.ac_meaning.proofs.GrowthTyping.{holds_more}
 use Rattle.ac_meaning.proofs.GrowthSpoken.{packet_of_type_same}
-use Rattle.ac_meaning.specs.Worlds.{World}
-use Rattle.ac_meaning.specs.BareTerms.{bare_value}
-use Rattle.ac_meaning.specs.Packing.{Packs, packing, answer, Landing, Lands, Sinks, admitted, received, landing, unmarshal_failure, resolve_failure}
-use Rattle.ac_meaning.specs.Typed.{ValueTyped}
+use Rattle.ac_meaning.specs.Packing.{Packs, answer, admitted, received, landing}
 use Rattle.ac_meaning.specs.ReadBack.{IsReadBack}
 use Rattle.ac_meaning.proofs.PackedHolds.{packable}
 

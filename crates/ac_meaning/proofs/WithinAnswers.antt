@@ -1,6 +1,6 @@
 -- What primitives answer of constants within the bounds is within them.
-use Rattle.std.proofs.Common.{◌≡◌, refl, sym, ap, ◌∙◌, subst, ℕ, zero, suc, ◌+◌, ◌<◌, ◌≤◌, ◌^◌, Bool, true, false, ◌&&◌, nat_lt, List, [], ◌∷◌, ◌++◌, length, take, drop, Option, Some, None, length-append, length-drop}
-use Rattle.std.specs.Prelude.{FitsSigned, ℤ, pos, negsuc, not, cond, nat_le, int_lt, int_rem, int_div, unsigned_abs, slice_get, codes, ◌+ℤ◌, ◌-ℤ◌, ◌*ℤ◌, neg_ℤ}
+use Rattle.std.proofs.Common.{◌≡◌, refl, ap, ◌∙◌, subst, ℕ, zero, suc, ◌+◌, ◌<◌, ◌≤◌, ◌^◌, Bool, true, false, ◌&&◌, nat_lt, List, [], ◌∷◌, ◌++◌, length, take, drop, Option, Some, None, length-append}
+use Rattle.std.specs.Prelude.{FitsSigned, ℤ, pos, negsuc, cond, nat_le, int_rem, int_div, unsigned_abs, slice_get, codes, ◌+ℤ◌, ◌-ℤ◌, ◌*ℤ◌, neg_ℤ}
 use Rattle.std.specs.Int.{int_wrap, w32, w64, from_be_bytes}
 use Rattle.std.specs.Fmt.{signed_decimal}
 use Rattle.std.specs.Option.{option_map_or}
@@ -11,8 +11,8 @@ use mathlib.Core.Bool.{true≢false}
 use native.Mathlib.Omega.{arith}
 use Rattle.ac_types.proofs.FirstLaws.{none≢some, some_eq}
 use Rattle.ac_types.proofs.Same.{both_true}
-use Rattle.ac_types.specs.Types.{Bytes, same_bytes}
-use Rattle.ac_terms.specs.Terms.{Expr, Value, VInt, VBool, VStr, VUnit, VExn, VTuple, Values, no_values, value}
+use Rattle.ac_types.specs.Types.{Bytes}
+use Rattle.ac_terms.specs.Terms.{Value, VInt, VBool, VStr, VUnit, VTuple, Values, no_values, value}
 use Rattle.ac_terms.specs.Primitives.{is_exception}
 use Rattle.ac_terms.specs.Bounds.{is_string, is_integer}
 use Rattle.ac_code.specs.Constants.{Const, CInt, CBool, CStr, CUnit, CPart, Answer, Gives, Prints, Sends, Receives, Fails, NoSense, Meaning, One, Two, meanings, meaning, applied, sum, difference, product, quotient, remainder, negation, equal, less, joined, opposite, print_int, print_string, send, receive, size, sub_string, of_int, part, same_int, most_bytes, invalid_argument, division_by_zero}

@@ -1,6 +1,6 @@
 -- Fields, what strings bring, and the exceptions of marshal and unmarshal are within the bounds.
-use Rattle.std.proofs.Common.{◌≡◌, refl, sym, ap, ◌∙◌, subst, ℕ, zero, suc, ◌≤◌, Bool, true, false, ◌&&◌, List, [], ◌∷◌, ◌++◌, length, map, flat_map, Option, Some, None}
-use Rattle.std.specs.Prelude.{nat_le, slice_get, slice_index, option_map, unwrap_or, codes, IsTrue}
+use Rattle.std.proofs.Common.{◌≡◌, refl, subst, ℕ, zero, suc, ◌≤◌, true, false, ◌&&◌, List, [], ◌∷◌, ◌++◌, length, map, flat_map, Option, Some, None}
+use Rattle.std.specs.Prelude.{nat_le, slice_get, slice_index, option_map, unwrap_or, IsTrue}
 use Rattle.std.specs.List.{list_all}
 use Rattle.std.proofs.lemmas.Bool.Decides.{nat_tests}
 use native.Mathlib.Omega.{arith}
@@ -10,7 +10,7 @@ use Rattle.ac_types.proofs.Same.{both_true}
 use Rattle.ac_types.specs.Types.{Bytes, Typ}
 use Rattle.ac_types.specs.Sigs.{Typed_name}
 use Rattle.ac_types.specs.Words.{is_word, is_between}
-use Rattle.ac_terms.specs.Terms.{Home, In, Expr, PValue}
+use Rattle.ac_terms.specs.Terms.{Home, In, Expr}
 use Rattle.ac_terms.specs.Defs.{Environment, Field, Module, Def, AModule, AnImport, AMark, Packet}
 use Rattle.ac_terms.specs.Parts.{Part, OfType, term_parts, sig_types, def_parts}
 use Rattle.ac_terms.specs.Bounds.{is_string, is_upper, is_lower, fits_type, fits_term, fits_def, fits_packet, has_small_types}
@@ -23,9 +23,7 @@ use Rattle.ac_rules.specs.Packets.{Cause, Definition, Clash, Full, Unresolved, W
 use Rattle.ac_rules.specs.Faults.{Fault, NoMark, Depth, Function, Size, Marshalled, NoString, AString, marshalled}
 use Rattle.ac_rules.proofs.ListLaws.{all_at}
 use Rattle.ac_rules.proofs.FaultLaws.{gives_packet}
-use Rattle.ac_meaning.specs.Worlds.{Exception, World}
-use Rattle.ac_meaning.specs.BareTerms.{unpacked}
-use Rattle.ac_meaning.specs.Rebuilding.{rebuilt}
+use Rattle.ac_meaning.specs.Worlds.{World}
 use Rattle.ac_meaning.specs.Packing.{Packing, Refuses, Packs, packing, answer, of_fault, of_cause, import_name, Arrival, Unfit, Brings, arrival, brought, Landing, Sinks, Lands, landing, received, admitted}
 use Rattle.ac_meaning.specs.References.{own_field}
 use Rattle.ac_meaning.proofs.Coherences.{is_field, is_sound}

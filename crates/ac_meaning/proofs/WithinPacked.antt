@@ -1,19 +1,18 @@
 -- The packed value of a value within the bounds is within the bounds of its spelling, where all of it travels and is short.
-use Rattle.std.proofs.Common.{◌≡◌, refl, sym, ap, ap₂, ◌∙◌, subst, ℕ, zero, suc, ◌+◌, ◌≤◌, ◌<◌, ◌^◌, Bool, true, false, ◌&&◌, nat_lt, List, [], ◌∷◌, ◌++◌, length, map, Option, Some, None, length-append}
-use Rattle.std.specs.Prelude.{nat_le, is_some, option_and_then, slice_get}
+use Rattle.std.proofs.Common.{◌≡◌, refl, sym, ap, ◌∙◌, ℕ, suc, ◌+◌, ◌≤◌, Bool, true, false, ◌&&◌, List, [], ◌∷◌, ◌++◌, length, Option, Some, None, length-append}
+use Rattle.std.specs.Prelude.{nat_le, slice_get}
 use Rattle.std.specs.List.{list_all}
 use Rattle.std.proofs.lemmas.Bool.Decides.{nat_tests}
 use mathlib.Core.Bool.{true≢false}
 use native.Mathlib.Omega.{arith}
 use Rattle.ac_types.proofs.Same.{both_true, and_true}
-use Rattle.ac_types.specs.Types.{Bytes, Typ, TUnit, Typs, no_types, typ, agree, is_small}
-use Rattle.ac_terms.specs.Terms.{Home, Main, In, Pattern, Expr, Int, Boolean, Str, Unit', Exn, ExnOf, Tuple, Nil, Empty, Present, Cons, Var, Own, Ref, Lam, Rec, App, Let, If, Seq, Match, Try, Raise, Prim, Marshal, Unmarshal, Packed, Val, Bracket, Exprs, no_exprs, expr, Arms, no_arms, arm, PValue, KInt, KBool, KStr, KUnit, KExn, KTuple, KList, KAbsent, KPresent, KFun, PValues, no_pvalues, pvalue, Value, VInt, VBool, VStr, VUnit, VExn, VTuple, VNil, VCons, VAbsent, VPresent, VLam, VRec, VProxy, VSeal, Values, no_values, value}
+use Rattle.ac_types.specs.Types.{Bytes, Typ, Typs, no_types, typ, agree}
+use Rattle.ac_terms.specs.Terms.{Home, Main, In, Expr, Int, Boolean, Str, Unit', Exn, ExnOf, Tuple, Nil, Empty, Present, Cons, Var, Own, Ref, Lam, Rec, App, Let, If, Seq, Match, Try, Raise, Prim, Marshal, Unmarshal, Packed, Val, Bracket, Exprs, no_exprs, expr, Arms, no_arms, arm, PValue, KInt, KBool, KStr, KUnit, KExn, KTuple, KList, KAbsent, KPresent, KFun, PValues, no_pvalues, pvalue, Value, VInt, VBool, VStr, VUnit, VExn, VTuple, VNil, VCons, VAbsent, VPresent, VLam, VRec, VProxy, VSeal, Values, no_values, value}
 use Rattle.ac_terms.specs.Defs.{Environment, Entry, def_of, module_of, module_at}
 use Rattle.ac_terms.specs.Primitives.{primitives}
-use Rattle.ac_terms.specs.Spelling.{two, four, term_count, arm_count, value_count, value_bytes}
+use Rattle.ac_terms.specs.Spelling.{two, term_count, arm_count, value_count}
 use Rattle.ac_terms.specs.Heads.{Head, before, type_heads, pattern_heads, term_heads, all_term_heads, arm_heads, value_heads, all_value_heads}
-use Rattle.ac_terms.specs.Bounds.{is_two, is_four, is_width, is_lambda, fits_home, takes, fits_type, fits_term, fit_terms, fit_arms, fits_value, fit_values, has_small_types}
-use Rattle.ac_terms.specs.Parts.{Part, OfType, OfRef, OfHome, Captured, pattern_types, term_parts, all_term_parts, arm_parts, value_parts, all_value_parts}
+use Rattle.ac_terms.specs.Bounds.{is_two, is_four, is_width, is_lambda, fits_home, takes, fits_type, fits_term, fit_terms, fit_arms, fits_value, fit_values}
 use Rattle.ac_terms.proofs.HeadLaws.{spelling, joined, preceded}
 use Rattle.ac_rules.specs.Views.{Coloured, head}
 use Rattle.ac_rules.specs.Typing.{all_of, type_of, seen, tuple_parts, list_item, option_item, is_function, is_function_home}
@@ -24,7 +23,7 @@ use Rattle.ac_rules.proofs.ViewLaws.{within}
 use Rattle.ac_meaning.specs.BareTerms.{bare, bare_all, bare_arms, bare_value, bare_values}
 use Rattle.ac_meaning.specs.BarePacking.{bare_packed as packed, bare_all_packed as all_packed, bare_packed_term as packed_term, bare_packed_terms as packed_terms, bare_packed_arms as packed_arms}
 use Rattle.ac_meaning.proofs.Somes.{some_there}
-use Rattle.ac_meaning.proofs.Within.{TypeFits, PatternFits, Within, AllWithin, ArmsWithin, ValueWithin, ValuesWithin, width}
+use Rattle.ac_meaning.proofs.Within.{Within, AllWithin, ArmsWithin, ValueWithin, ValuesWithin, width}
 
 -- everything travels and is short
 pub record Fine (hs : List Head) : Type 0 where

@@ -1,5 +1,5 @@
 -- The packed value of a value within the bounds has small types.
-use Rattle.std.proofs.Common.{◌≡◌, refl, ap, Bool, true, false, ◌&&◌, List, [], ◌∷◌, ◌++◌, map, Option, Some, None}
+use Rattle.std.proofs.Common.{◌≡◌, refl, Bool, true, false, List, [], ◌∷◌, ◌++◌, map, Option, Some, None}
 use Rattle.std.specs.List.{list_all}
 use Rattle.ac_types.proofs.Same.{both_true, and_true}
 use Rattle.ac_types.specs.Types.{Typ, Typs, no_types, typ, is_small}

@@ -1,5 +1,5 @@
 -- What is typed and within the bounds of its spelling, with small types, is within the bounds as the reduction keeps them: terms of the source, and what is rebuilt of packed values.
-use Rattle.std.proofs.Common.{◌≡◌, refl, sym, ap, ap₂, ◌∙◌, subst, ℕ, zero, suc, ◌+◌, ◌≤◌, max, Bool, true, false, ◌&&◌, List, [], ◌∷◌, ◌++◌, map, Option, Some, None}
+use Rattle.std.proofs.Common.{◌≡◌, refl, sym, ap, ap₂, ◌∙◌, subst, ℕ, zero, suc, ◌≤◌, Bool, true, false, ◌&&◌, List, [], ◌∷◌, ◌++◌, map, Option, Some, None}
 use Rattle.std.specs.Prelude.{nat_le}
 use Rattle.std.specs.List.{list_all}
 use Rattle.std.specs.Option.{option_map_or}
@@ -10,21 +10,21 @@ use Rattle.ac_types.specs.First.{given}
 use Rattle.ac_types.proofs.FirstLaws.{none≢some, some_eq, given_some}
 use Rattle.ac_types.proofs.Same.{both_true, and_true}
 use Rattle.ac_types.specs.Types.{Bytes, Typ, TInt, TBool, TStr, TUnit, TExn, TTuple, TList, TOpt, TFun, TAbs, TMine, Typs, no_types, typ, with_each, all_with_each, parts, parts_of_all, height, height_of_all, is_small}
-use Rattle.ac_terms.specs.Terms.{Home, Expr, Int, Boolean, Str, Unit', Exn, ExnOf, Tuple, Nil, Empty, Present, Cons, Var, Own, Ref, Lam, Rec, App, Let, If, Seq, Match, Try, Raise, Prim, Marshal, Unmarshal, Packed, Val, Bracket, Exprs, no_exprs, expr, Arms, no_arms, arm, PValue, KInt, KBool, KStr, KUnit, KExn, KTuple, KList, KAbsent, KPresent, KFun, PValues, no_pvalues, pvalue, Value, VInt, VBool, VStr, VUnit, VExn, VTuple, VNil, VCons, VAbsent, VPresent, VLam, VRec, VProxy, VSeal, Values, no_values, value}
+use Rattle.ac_terms.specs.Terms.{Home, Expr, Int, Boolean, Str, Unit', Exn, ExnOf, Tuple, Nil, Empty, Present, Cons, Var, Own, Ref, Lam, Rec, App, Let, If, Seq, Match, Try, Raise, Prim, Marshal, Unmarshal, Packed, Val, Bracket, Exprs, no_exprs, expr, Arms, no_arms, arm, PValue, KInt, KBool, KStr, KUnit, KExn, KTuple, KList, KAbsent, KPresent, KFun, PValues, no_pvalues, pvalue, Value, VInt, VBool, VStr, VUnit, VExn, VTuple, VAbsent, VPresent, VLam, VRec, VProxy}
 use Rattle.ac_terms.specs.Defs.{Environment}
 use Rattle.ac_terms.specs.Primitives.{primitives}
 use Rattle.ac_terms.specs.Typing.{has}
 use Rattle.ac_terms.specs.Spelling.{term_count, arm_count, value_count}
-use Rattle.ac_terms.specs.Parts.{Part, OfType, OfRef, OfHome, Captured, part_types, pattern_types, term_parts, all_term_parts, arm_parts, value_parts, all_value_parts}
-use Rattle.ac_terms.specs.Bounds.{is_four, is_width, takes, fits_type, fits_pattern, fits_term, fit_terms, fit_arms, fits_value, fit_values, has_small_types}
+use Rattle.ac_terms.specs.Parts.{Part, OfType, OfRef, OfHome, Captured, pattern_types, term_parts, all_term_parts, arm_parts, value_parts, all_value_parts}
+use Rattle.ac_terms.specs.Bounds.{is_four, is_width, takes, fits_term, fit_terms, fit_arms, fits_value, fit_values, has_small_types}
 use Rattle.ac_rules.specs.Views.{Mode, Coloured, view, opened_at_home, opens, head}
 use Rattle.ac_rules.specs.Typing.{Scope, bind, bind_all, all_of, HasType, type_of, seen, types_of, arm_types, variables, holds, all_hold, each_holds, kept_in, tuple_parts, list_item, option_item, is_function, is_function_home}
 use Rattle.ac_rules.proofs.Rules.{then_some, rule-ExnOf, rule-Tuple, rule-expr, rule-Present, rule-Cons, rule-Lam, rule-App, rule-If, rule-Let, rule-Rec, rule-Seq, rule-Match, rule-Try, rule-Raise, rule-Prim, rule-Marshal, rule-Unmarshal, rule-Packed}
 use Rattle.ac_meaning.specs.Laws.{is_source, are_source, arms_are_source}
 use Rattle.ac_meaning.specs.Rebuilding.{parts_of, item_of, argument_of, result_of, at_abstract, sealed, rebuilt, all_rebuilt, list_rebuilt, rebuilt_term, rebuilt_terms, rebuilt_arms}
-use Rattle.ac_meaning.proofs.Somes.{has_some, agree_some, also_some}
+use Rattle.ac_meaning.proofs.Somes.{agree_some, also_some}
 use Rattle.ac_meaning.proofs.Sources.{left, middle}
-use Rattle.ac_meaning.proofs.Within.{TypeFits, PatternFits, Within, AllWithin, ArmsWithin, ValueWithin, ValuesWithin, width}
+use Rattle.ac_meaning.proofs.Within.{Within, AllWithin, ArmsWithin, ValueWithin, ValuesWithin, width}
 
 -- parts of small types
 pub small_parts : (ps qs : List Part) → has_small_types (ps ++ qs) ≡ true → (has_small_types ps ≡ true) × (has_small_types qs ≡ true)

@@ -1,8 +1,7 @@
 -- Each step keeps what stands in a state within the bounds of its spelling, in either mode.
-use Rattle.std.proofs.Common.{◌≡◌, refl, sym, ap, ap₂, ◌∙◌, subst, ℕ, suc, Bool, true, false, ◌&&◌, nat_lt, cond, [], ◌∷◌, Option, Some, None}
-use Rattle.std.specs.Prelude.{option_map, is_some, slice_get, option_and_then, unwrap_or, nat_le}
-use Rattle.std.specs.Option.{option_map_or}
-use Rattle.ac_types.proofs.FirstLaws.{none≢some, some_eq}
+use Rattle.std.proofs.Common.{◌≡◌, refl, ap, ap₂, ◌∙◌, ℕ, suc, Bool, true, false, ◌&&◌, nat_lt, cond, [], ◌∷◌, Option, Some, None}
+use Rattle.std.specs.Prelude.{option_map, is_some}
+use Rattle.ac_types.proofs.FirstLaws.{none≢some}
 use Rattle.ac_types.specs.Types.{Bytes, same_bytes, Typ, TInt, TBool, TStr, TUnit, TExn, TTuple, TList, TOpt, TFun, TAbs, Typs, no_types, typ}
 use Rattle.ac_terms.specs.Terms.{Home, Main, In, Expr, Int, Boolean, Str, Unit', Exn, ExnOf, Tuple, Nil, Empty, Present, Cons, Var, Own, Ref, Lam, Rec, App, Let, If, Seq, Match, Try, Raise, Prim, Marshal, Unmarshal, Packed, Val, Bracket, Exprs, no_exprs, expr, PValue, Value, VInt, VBool, VStr, VUnit, VExn, VTuple, VNil, VCons, VAbsent, VPresent, VLam, VRec, VProxy, VSeal, Values, no_values, value}
 use Rattle.ac_terms.specs.Spelling.{term_count}
@@ -13,7 +12,7 @@ use Rattle.ac_rules.specs.Plain.{packed}
 use Rattle.ac_rules.specs.Views.{Mode, opens, representation}
 use Rattle.ac_rules.specs.Coherent.{IsCoherent}
 use Rattle.ac_meaning.specs.Worlds.{Exception, World, match_failure, counted}
-use Rattle.ac_meaning.specs.Acts.{Act, Is, Goes, Turns, Applies, Raises, Wrong, becomes, or_raises, within, part, State, At, Over, Returned, Raised, Spent, Stuck, after}
+use Rattle.ac_meaning.specs.Acts.{Act, Is, Goes, Turns, Applies, Raises, Wrong, becomes, or_raises, part, State, At, Over, Returned, Raised, Spent, Stuck, after}
 use Rattle.ac_meaning.specs.Substitution.{inst}
 use Rattle.ac_meaning.specs.Matching.{chosen}
 use Rattle.ac_meaning.specs.Primitives.{spelled, primitive, answered, exception_of, exception_value, thrown}
@@ -22,8 +21,8 @@ use Rattle.ac_meaning.specs.References.{own_field, Route, Nowhere, Once, Twice, 
 use Rattle.ac_meaning.specs.Packing.{Packing, Refuses, Packs, packs, packing, Arrival, Unfit, Brings, arrival, brings, marshal_step, unmarshal_step}
 use Rattle.ac_meaning.specs.BareTerms.{BareValue}
 use Rattle.ac_meaning.specs.Reduction.{apply, branch, look, look_all, look_main, step}
-use Rattle.ac_meaning.proofs.Within.{TypeFits, Within, AllWithin, ArmsWithin, ValueWithin, ValuesWithin, width, RaisedWithin, ActWithin}
-use Rattle.ac_meaning.proofs.WithinLaws.{Good, AllGood, loosened, inst_within, chosen_within, part_within}
+use Rattle.ac_meaning.proofs.Within.{TypeFits, Within, AllWithin, ValueWithin, ValuesWithin, width, RaisedWithin, ActWithin}
+use Rattle.ac_meaning.proofs.WithinLaws.{Good, loosened, inst_within, chosen_within, part_within}
 use Rattle.ac_meaning.proofs.WithinAnswers.{primitive_answered}
 
 -- a state
