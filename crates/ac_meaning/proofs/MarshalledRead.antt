@@ -1,5 +1,5 @@
 -- In each state of a run what is marshalled is read again.
-use Rattle.std.proofs.Common.{◌≡◌, refl, ap, subst, ℕ, zero, suc, Bool, true, false, [], Option, Some, None}
+use Rattle.std.proofs.Common.{◌≡◌, refl, ap, subst, ℕ, zero, suc, Bool, true, false, [], Option, Some, None, ◌∙◌}
 use Rattle.std.specs.Prelude.{IsTrue}
 use native.Mathlib.Omega.{arith}
 use Rattle.ac_types.specs.First.{or_else}

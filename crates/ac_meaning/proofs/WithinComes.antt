@@ -10,7 +10,7 @@ use Rattle.ac_types.proofs.Same.{both_true}
 use Rattle.ac_types.specs.Types.{Bytes, Typ}
 use Rattle.ac_types.specs.Sigs.{Typed_name}
 use Rattle.ac_types.specs.Words.{is_word, is_between}
-use Rattle.ac_terms.specs.Terms.{Home, In, Expr}
+use Rattle.ac_terms.specs.Terms.{Home, In, Expr, PValue}
 use Rattle.ac_terms.specs.Defs.{Environment, Field, Module, Def, AModule, AnImport, AMark, Packet}
 use Rattle.ac_terms.specs.Parts.{Part, OfType, term_parts, sig_types, def_parts}
 use Rattle.ac_terms.specs.Bounds.{is_string, is_upper, is_lower, fits_type, fits_term, fits_def, fits_packet, has_small_types}
