@@ -16,6 +16,7 @@ use Rattle.ac_meaning.specs.References.{own_field, referred}
 use Rattle.ac_meaning.specs.Packing.{marshal_step, unmarshal_step}
 use Rattle.ac_meaning.specs.Reduction.{apply, branch, look, look_all, look_main}
 use Rattle.ac_meaning.specs.Redexes.{Redex, redex, redex_all, stands, crosses}
+use Rattle.ac_meaning.specs.Typed.{Typed, ValueTyped}
 use Rattle.ac_meaning.specs.States.{IsTyped}
 use Rattle.ac_meaning.proofs.Admitted.{arrives}
 use Rattle.ac_meaning.proofs.Kept.{ActOk, kept}
@@ -174,7 +175,7 @@ value_is E P Q (Raises x) h k = absurd h
 value_is E P Q Wrong h k = absurd k
 
 pub no_redex : (mode : Mode) (T : Typ) (e : Expr) (z : World) → IsTyped mode T (At e z) → redex Main e ≡ None → (v : Value) × (look_main mode z e ≡ Is v)
-no_redex mode T e z h q = value_is z.environment _ _ (look mode z Main e) (subst (NextIn mode z (look mode z Main e)) q (next mode z e Main)) (kept arrives mode z h.0 e Main T refl h.1)
+no_redex mode T e z h q = value_is z.environment (λ G d. Typed mode G d Main [] T) (λ G d. ValueTyped mode G d Main T) (look mode z Main e) (subst (NextIn mode z (look mode z Main e)) q (next mode z e Main)) (kept arrives mode z h.0 e Main T refl h.1)
 
 pub of_value : (mode : Mode) (z : World) (e : Expr) (v : Value) → look_main mode z e ≡ Is v → redex Main e ≡ None
 of_value mode z e v q = subst (λ a. AtRest a (redex Main e)) q (rest mode z e Main)

@@ -264,7 +264,7 @@ module _ (arrives : Arrives) (mode : Mode) where
       alike (Try t arms) c G T us z i e h =
           handled_same z.environment (Of mode c T) (bare_value c) (eval mode t apps c us z) (lean.eval (bare c t) bare_apps c (bare_env c us) z) _ _ (is_sound t c G T us z i e h.0) (alike t c G T us z i e h.0)
           (λ x y g. arms_alike arms c G TExn T us (exception_value x) x y (later arrives mode z y g c i) (written_later arrives mode z y g c i us G e) (arms_later arrives mode z y g c i arms G TExn T h.1) refl)
-      alike (Raise A t) c G T us z i e h = and t c G TExn us z c _ _ i e h (alike t c G TExn us z i e h) (λ v y g p. throw_same c v y)
+      alike (Raise A t) c G T us z i e h = and t c G TExn us z c _ _ i e h.1 (alike t c G TExn us z i e h.1) (λ v y g p. throw_same c v y)
       alike (Prim k ts) c G T us z i e h = same_seq (bare_values c) (bare_value c) (eval_all mode ts apps c us z) (lean.eval_all (bare_all c ts) bare_apps c (bare_env c us) z) _ _ (all_alike ts c G h.0 us z i e h.1) (λ ws z. primitive_same c k ws z)
       alike (Marshal A m t) c G T us z i e h =
           and m c G TStr us z c _ _ i e h.1 (alike m c G TStr us z i e h.1)

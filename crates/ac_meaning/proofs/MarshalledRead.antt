@@ -103,7 +103,7 @@ module _ (mode : Mode) (E : Environment) where
     redex_fine (Seq no_exprs) c T i h w = (T, i, h, w)
     redex_fine (Seq (expr e no_exprs)) c T i h w = (T, i, h, w)
     redex_fine (Seq (expr e (expr d es))) c T i h w = or_fine (redex c e) (stands c (Seq (expr e (expr d es)))) (redex_fine e c h.1.0 i h.1.3 w.1.0) (T, i, h, w)
-    redex_fine (Raise A e) c T i h w = or_fine (redex c e) (stands c (Raise A e)) (redex_fine e c TExn i h w.1) (T, i, h, w)
+    redex_fine (Raise A e) c T i h w = or_fine (redex c e) (stands c (Raise A e)) (redex_fine e c TExn i h.1 w.1) (T, i, h, w)
     redex_fine (Try e arms) c T i h w = or_fine (redex c e) (stands c (Try e arms)) (redex_fine e c T i h.0 w.0) (T, i, h, w)
     redex_fine (Prim k es) c T i h w = or_fine (redex_all c es) (stands c (Prim k es)) (all_redex_fine es c h.0 i h.1 w.1) (T, i, h, w)
     redex_fine (Marshal A m e) c T i h w =

@@ -68,7 +68,7 @@ module _ (mode : Mode) (E : Environment) where
     term_alike (Seq es) c G X w = ap Seq (terms_alike es c G w.0 w.1)
     term_alike (Match e arms) c G X w = ap₂ Match (term_alike e c G _ w.1) (arms_alike arms c G w.0 X w.2)
     term_alike (Try e arms) c G X w = ap₂ Try (term_alike e c G _ w.0) (arms_alike arms c G _ X w.1)
-    term_alike (Raise T e) c G X w = ap (Raise T) (term_alike e c G _ w)
+    term_alike (Raise T e) c G X w = ap (Raise T) (term_alike e c G _ w.1)
     term_alike (Prim k es) c G X w = ap (Prim k) (terms_alike es c G w.0 w.1)
     term_alike (Marshal T m e) c G X w = ap₂ (Marshal T) (term_alike m c G _ w.1) (term_alike e c G _ w.2)
     term_alike (Unmarshal T e) c G X w = ap (Unmarshal T) (term_alike e c G _ w.1)

@@ -232,7 +232,7 @@ module _ (mode : Mode) (E : Environment) (coherent : IsCoherent E) where
     still (Seq es) c G X t w = all_still es c G t.0 t.1 (both_true _ _ w).1
     still (Match e arms) c G X t w = let p = both_true _ _ (both_true _ _ (both_true _ _ w).0).0 in (still e c G _ t.1 p.0, arms_still arms c G t.0 X t.2 p.1)
     still (Try e arms) c G X t w = let p = both_true _ _ (both_true _ _ (both_true _ _ w).0).0 in (still e c G _ t.0 p.0, arms_still arms c G _ X t.1 p.1)
-    still (Raise A e) c G X t w = still e c G _ t (both_true _ _ w).1
+    still (Raise A e) c G X t w = still e c G _ t.1 (both_true _ _ w).1
     still (Prim k es) c G X t w = all_still es c G t.0 t.1 (both_true _ _ w).1
     still (Marshal A a b) c G X t w = let p = both_true _ _ w in (still a c G _ t.1 (both_true _ _ p.0).1, still b c G _ t.2 p.1)
     still (Unmarshal A e) c G X t w = still e c G _ t.1 (both_true _ _ w).1

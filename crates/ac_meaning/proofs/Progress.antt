@@ -207,7 +207,7 @@ module _ (arrives : Arrives) (mode : Mode) where
       sound (Try t arms) c G T us z i e h =
           then_ok z.environment (Is c T) (Is c T) (eval mode t apps c us z) give (λ x. eval_arms mode arms apps c us (exception_value x) (raise x)) (sound t c G T us z i e h.0) (λ v y g p. (grows_not y.environment g.after, p))
           (λ x y g. arms_sound arms c G TExn T us (exception_value x) x y (later z y g c i) (written_later z y g c i us G e) (arms_later z y g c i arms G TExn T h.1) refl)
-      sound (Raise A t) c G T us z i e h = seq_ok z.environment (Is c TExn) (Is c T) (eval mode t apps c us z) throws (sound t c G TExn us z i e h) (λ v y g p. throw_ok mode v c T y g.after p)
+      sound (Raise A t) c G T us z i e h = seq_ok z.environment (Is c TExn) (Is c T) (eval mode t apps c us z) throws (sound t c G TExn us z i e h.1) (λ v y g p. throw_ok mode v c T y g.after p)
       sound (Prim k ts) c G T us z i e h =
           seq_ok z.environment (Are c h.0) (Is c T) (eval_all mode ts apps c us z) (λ ws. answering constant (primitive k ws)) (all_sound ts c G h.0 us z i e h.1)
           (λ ws y g p.
@@ -243,7 +243,7 @@ module _ (arrives : Arrives) (mode : Mode) where
       rest_sound no_exprs c G U Us T us v z i e h l p = let q : U ≡ T = subst (λ X. IsLast (typ U X) T) h l in (grows_not z.environment i.0, subst (λ X. Is c X z.environment v) q p)
       rest_sound (expr t ts) c G U Us T us v z i e h l p =
           seq_ok z.environment (Is c h.0) (Is c T) (eval mode t apps c us z) (λ w. eval_rest mode ts apps c us w) (sound t c G h.0 us z i e h.3)
-          (λ w y g q. rest_sound ts c G h.0 h.1 T us w y (later z y g c i) (written_later z y g c i us G e) (terms_later z y g c i ts G h.1 h.4) (subst (λ X. IsLast (typ U X) T) h.2 l) q)
+          (λ w y g q. rest_sound ts c G h.0 h.1 T us w y (later z y g c i) (written_later z y g c i us G e) (terms_later z y g c i ts G h.1 h.4) (subst (λ X. IsLast (typ U X) T) h.2 l).1 q)
 
       arms_sound : (arms : Arms) (c : Home) (G : List Typ) (A T : Typ) (us : Written) (v : Value) (x : Exception) (z : World) → At z c → WrittenTyped mode z.environment us c G → ArmsTyped mode z.environment arms c G A T → Is c A z.environment v → Good z c T (eval_arms mode arms apps c us v (raise x) z)
       arms_sound no_arms c G A T us v x z i e h p = grows_not z.environment i.0
