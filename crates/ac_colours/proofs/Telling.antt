@@ -22,7 +22,7 @@ use Rattle.ac_colours.specs.Births.{seal, Birth, told}
 
 -- a value without a function
 abbrev mutual
-  IsData : Value → Type 0
+  pub IsData : Value → Type 0
   IsData (VTuple vs) = AreData vs
   IsData (VCons v w) = IsData v × IsData w
   IsData (VPresent v) = IsData v
@@ -32,7 +32,7 @@ abbrev mutual
   IsData (VSeal b n t v) = IsData v
   IsData v = Unit {0}
 
-  AreData : Values → Type 0
+  pub AreData : Values → Type 0
   AreData no_values = Unit {0}
   AreData (value v vs) = IsData v × AreData vs
 
@@ -79,7 +79,7 @@ module _ (E F : Environment) (g : Extends E F) where
 
 -- a value of a first-order type has no function
 module _ (E : Environment) (coherent : IsCoherent E) where
-  abbrev Flat : Typ → Type 0
+  abbrev pub Flat : Typ → Type 0
   Flat T = has_function (view Plain E Home.Main T) ≡ false
 
   or_left : (a b : Bool) → (a || b) ≡ false → a ≡ false
@@ -106,11 +106,11 @@ module _ (E : Environment) (coherent : IsCoherent E) where
   flat_fun T U h = true≢false (sym (ap has_function (seen_fun E Plain Home.Main T U)) ∙ h)
 
   -- what a home sees of it is first-order too
-  flat_seen : (c : Home) (T : Typ) → are_known E T ≡ true → Flat T → Flat (view Coloured E c T)
+  pub flat_seen : (c : Home) (T : Typ) → are_known E T ≡ true → Flat T → Flat (view Coloured E c T)
   flat_seen c T k h = ap has_function (view_again E coherent Plain c T k) ∙ h
 
   mutual
-    data_of : (v : Value) (c : Home) (T : Typ) → Flat T → ValueTyped Coloured E v c T → IsData v
+    pub data_of : (v : Value) (c : Home) (T : Typ) → Flat T → ValueTyped Coloured E v c T → IsData v
     data_of (VTuple vs) c T f h = all_data_of vs c h.0 (flat_tuple h.0 (subst Flat h.1 f)) h.2
     data_of (VCons v w) c T f h = let p = subst Flat h.1 f in (data_of v c h.0 (flat_list h.0 p) h.2, data_of w c (TList h.0) p h.3)
     data_of (VPresent v) c T f h = data_of v c h.0 (flat_opt h.0 (subst Flat h.1 f)) h.2

@@ -6,8 +6,10 @@ use Rattle.ac_types.specs.First.{given}
 use Rattle.ac_types.specs.Types.{Bytes, Typ, TInt, TBool, TStr, TUnit, TExn, TTuple, TList, TOpt, TFun, Typs, mentions}
 use Rattle.ac_terms.specs.Terms.{Home, Pattern, PWild, PVar, PInt, PBool, PStr, PUnit, PTuple, PNil, PCons, PAbsent, PPresent, PExn, PExnOf, Patterns, no_patterns, pattern', Expr, Int, Boolean, Str, Unit', Exn, ExnOf, Tuple, Nil, Empty, Present, Cons, Var, Own, Ref, Lam, Rec, App, Let, If, Seq, Match, Try, Raise, Prim, Marshal, Unmarshal, Packed, Val, Bracket, Exprs, no_exprs, expr, Arms, no_arms, arm, Value, VStr, VExn, VNil, VCons, VAbsent, VPresent, VLam, VRec, VProxy, Values, no_values, value}
 use Rattle.ac_terms.specs.Defs.{Environment}
+use Rattle.ac_rules.specs.Plain.{packed}
 use Rattle.ac_rules.specs.Views.{Mode, is_known}
 use Rattle.ac_terms.proofs.AllLaws.{all_append}
+use Rattle.ac_meaning.proofs.PackedAlike.{packed_alike}
 use Rattle.ac_meaning.specs.Worlds.{Exception, World, match_failure, counted, grown}
 use Rattle.ac_rules.specs.Growth.{Grows}
 use Rattle.ac_meaning.specs.Packing.{Packing, Refuses, Packs, Arrival, Unfit, Brings, packing, arrival}
@@ -144,13 +146,13 @@ module _ (arrives : Arrives) (mode : Mode) where
   Here z c = At arrives mode z c
 
   -- packing, and arrival
-  marshal_same : (m v : Value) (c : Home) (A : Typ) (z : World) → Alike c (full.marshals c A m v z) (lean.marshals c A (bare_value c m) (bare_value c v) z)
-  marshal_same (VStr m) v c A z = by (packing z c A m (bare_value c v))
+  marshal_same : (m v : Value) (c : Home) (A T : Typ) (z : World) → Of mode c T z.environment v → Alike c (full.marshals c A m v z) (lean.marshals A (bare_value c m) (bare_value c v) z)
+  marshal_same (VStr m) v c A T z h = subst (λ p. Alike c (full.marshals c A (VStr m) v z) (packed_as WStr (packing z A m p) z)) (sym (packed_alike mode z.environment v c T A h)) (by (packing z A m (packed z.environment c v A)))
     where
       by : (p : Packing) → Alike c (packed_as VStr p z) (packed_as WStr p z)
       by (Refuses x) = refl
       by (Packs s) = refl
-  marshal_same _ v c A z = tt
+  marshal_same _ v c A T z h = tt
 
   unmarshal_same : (s : Value) (c : Home) (A : Typ) (z : World) → Here z c → Known mode z.environment A → Alike c (full.unmarshals mode c A s z) (lean.unmarshals c A (bare_value c s) z)
   unmarshal_same (VStr s) c A z i k = by (arrival z c A s) refl
@@ -262,7 +264,7 @@ module _ (arrives : Arrives) (mode : Mode) where
       alike (Try t arms) c G T us z i e h =
           handled_same z.environment (Of mode c T) (bare_value c) (eval mode t apps c us z) (lean.eval (bare c t) bare_apps c (bare_env c us) z) _ _ (is_sound t c G T us z i e h.0) (alike t c G T us z i e h.0)
           (λ x y g. arms_alike arms c G TExn T us (exception_value x) x y (later arrives mode z y g c i) (written_later arrives mode z y g c i us G e) (arms_later arrives mode z y g c i arms G TExn T h.1) refl)
-      alike (Raise A t) c G T us z i e h = and t c G TExn us z c _ _ i e h (alike t c G TExn us z i e h) (λ v y g p. throw_same c v y)
+      alike (Raise A t) c G T us z i e h = and t c G TExn us z c _ _ i e h.1 (alike t c G TExn us z i e h.1) (λ v y g p. throw_same c v y)
       alike (Prim k ts) c G T us z i e h = same_seq (bare_values c) (bare_value c) (eval_all mode ts apps c us z) (lean.eval_all (bare_all c ts) bare_apps c (bare_env c us) z) _ _ (all_alike ts c G h.0 us z i e h.1) (λ ws z. primitive_same c k ws z)
       alike (Marshal A m t) c G T us z i e h =
           and m c G TStr us z c _ _ i e h.1 (alike m c G TStr us z i e h.1)
@@ -270,7 +272,7 @@ module _ (arrives : Arrives) (mode : Mode) where
           let l = later arrives mode z y g c i in
           let w = written_later arrives mode z y g c i us G e in
           let q = term_later arrives mode z y g c i t G (sees z c A) h.2 in
-          and t c G (sees z c A) us y c _ _ l w q (alike t c G (sees z c A) us y l w q) (λ u x k r. marshal_same v u c A x))
+          and t c G (sees z c A) us y c _ _ l w q (alike t c G (sees z c A) us y l w q) (λ u x k r. marshal_same v u c A (sees z c A) x r))
       alike (Unmarshal A t) c G T us z i e h =
           and t c G TStr us z c _ _ i e h.1 (alike t c G TStr us z i e h.1) (λ v y g p. unmarshal_same v c A y (later arrives mode z y g c i) (known_later arrives mode z y g c i A h.2))
       alike (Packed A v) c G T us z i e h = absurd h

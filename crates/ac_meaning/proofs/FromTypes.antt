@@ -24,15 +24,15 @@ use Rattle.ac_meaning.specs.Laws.{is_source, are_source, arms_are_source}
 use Rattle.ac_meaning.specs.Rebuilding.{parts_of, item_of, argument_of, result_of, home_at, home_of, at_abstract, sealed, rebuilt, all_rebuilt, list_rebuilt, rebuilt_term, rebuilt_terms, rebuilt_arms}
 use Rattle.ac_meaning.proofs.Sources.{left, middle}
 use Rattle.ac_rules.proofs.KnownTypes.{opened_known, head_known, rounds_still}
-use Rattle.ac_meaning.specs.Typed.{own_type, IsHome, IsLast, Fits, AllFit, Typed, AllTyped, ArmsTyped, ValueTyped, ValuesTyped}
+use Rattle.ac_meaning.specs.Typed.{own_type, IsHome, IsLast, HasArm, Fits, AllFit, Typed, AllTyped, ArmsTyped, ValueTyped, ValuesTyped}
 use Rattle.ac_meaning.proofs.Homes.{all_seen, seen_tuple, seen_list, seen_opt, seen_fun, seen_int, seen_bool, seen_str, seen_unit, seen_exn, view_shut, view_open, opened_is, lower, all_lower, lower_tuple, lower_list, lower_opt, lower_fun, lower_int, lower_bool, lower_str, lower_unit, lower_exn, lower_seen}
 
-a_list_is : (X T : Typ) → a_list X ≡ Some T → (B : Typ) × (T ≡ TList B)
-a_list_is (TList B) T e = (B, sym (some_eq e))
+a_list_is : (X T : Typ) → a_list X ≡ Some T → (B : Typ) × (T ≡ TList B) × (X ≡ T)
+a_list_is (TList B) T e = (B, sym (some_eq e), some_eq e)
 a_list_is _ T e = absurd (none≢some e)
 
-an_option_is : (X T : Typ) → an_option X ≡ Some T → (B : Typ) × (T ≡ TOpt B)
-an_option_is (TOpt B) T e = (B, sym (some_eq e))
+an_option_is : (X T : Typ) → an_option X ≡ Some T → (B : Typ) × (T ≡ TOpt B) × (X ≡ T)
+an_option_is (TOpt B) T e = (B, sym (some_eq e), some_eq e)
 an_option_is _ T e = absurd (none≢some e)
 
 -- each of some types is T
@@ -156,7 +156,7 @@ module _ (E : Environment) (coherent : IsCoherent E) (known : KnownTypes E) (mod
   last_low : (Ts : Typs) (T : Typ) → last_of Ts ≡ Some T → IsLast (all_low Ts) (low T)
   last_low no_types T h = absurd (none≢some h)
   last_low (typ U no_types) T h = ap low (some_eq h)
-  last_low (typ U (typ V Vs)) T h = last_low (typ V Vs) T (given_some (same U TUnit) _ h).1
+  last_low (typ U (typ V Vs)) T h = let p = given_some (same U TUnit) _ h in (ap low (same_eq U TUnit p.0) ∙ lower_unit E mode, last_low (typ V Vs) T p.1)
 
   -- patterns
   fit_const : (A X : Typ) (Us : List Typ) → low X ≡ X → given (same X A) (Some []) ≡ Some Us → (low A ≡ X) × (lows Us ≡ [])
@@ -200,6 +200,15 @@ module _ (E : Environment) (coherent : IsCoherent E) (known : KnownTypes E) (mod
   in_context : (e : Expr) (c : Home) (G H : List Typ) (T : Typ) → G ≡ H → Typed mode E e c G T → Typed mode E e c H T
   in_context e c G H T q h = subst (λ X. Typed mode E e c X T) q h
 
+  -- what has a type has an arm
+  some_arm : (S : Scope) (A T : Typ) (arms : Arms) (Ts : Typs) → arm_types Coloured false E S A arms ≡ Some Ts → one_of Ts ≡ Some T → HasArm arms
+  some_arm S A T no_arms Ts h k = none≢some (ap one_of (some_eq h) ∙ k)
+  some_arm S A T (arm p e rest) Ts h k = tt
+
+  rebuilt_arm : (c : Home) (arms : Arms) → HasArm arms → HasArm (rebuilt_arms mode E c arms)
+  rebuilt_arm c no_arms h = h
+  rebuilt_arm c (arm p e rest) h = tt
+
   mutual
     pub typed_from : (e : Expr) (S : Scope) (T : Typ) → is_source e ≡ true → HasType Coloured E S e T → Typed mode E e S.home (lows S.vars) (low T)
     typed_from (Int n) S T s h = ap low (sym (rule-Int Coloured E S n T h)) ∙ lower_int E mode
@@ -213,8 +222,14 @@ module _ (E : Environment) (coherent : IsCoherent E) (known : KnownTypes E) (mod
     typed_from (Tuple es) S T s h =
         let p = rule-Tuple Coloured E S es T h in
         (all_low p.0, ap low (sym p.2) ∙ lower_tuple E mode p.0, all_typed_from es S p.0 s p.1)
-    typed_from (Nil A) S T s h = let p = a_list_is (view Coloured E S.home A) T (rule-Nil Coloured E S A T h).1 in (low p.0, ap low p.1 ∙ lower_list E mode p.0)
-    typed_from (Empty A) S T s h = let p = an_option_is (view Coloured E S.home A) T (rule-Empty Coloured E S A T h).1 in (low p.0, ap low p.1 ∙ lower_opt E mode p.0)
+    typed_from (Nil A) S T s h =
+        let q = rule-Nil Coloured E S A T h in
+        let p = a_list_is (view Coloured E S.home A) T q.1 in
+        (low p.0, ap low p.1 ∙ lower_list E mode p.0, ap low (sym p.2) ∙ low_seen S.home A q.0, q.0)
+    typed_from (Empty A) S T s h =
+        let q = rule-Empty Coloured E S A T h in
+        let p = an_option_is (view Coloured E S.home A) T q.1 in
+        (low p.0, ap low p.1 ∙ lower_opt E mode p.0, ap low (sym p.2) ∙ low_seen S.home A q.0, q.0)
     typed_from (Present e) S T s h = let p = rule-Present Coloured E S e T h in (low p.0, ap low (sym p.2) ∙ lower_opt E mode p.0, typed_from e S p.0 s p.1)
     typed_from (Cons a b) S T s h =
         let p = rule-Cons Coloured E S a b T h in
@@ -268,12 +283,12 @@ module _ (E : Environment) (coherent : IsCoherent E) (known : KnownTypes E) (mod
     typed_from (Match e arms) S T s h =
         let p = rule-Match Coloured E S e arms T h in
         let w = both_true (is_source e) (arms_are_source arms) s in
-        (low p.0, typed_from e S p.0 w.0 p.1, arms_typed_from arms S p.0 T p.2.0 w.1 p.2.1 (one_is p.2.0 T p.2.2))
+        (low p.0, typed_from e S p.0 w.0 p.1, arms_typed_from arms S p.0 T p.2.0 w.1 p.2.1 (one_is p.2.0 T p.2.2), some_arm S p.0 T arms p.2.0 p.2.1 p.2.2)
     typed_from (Try e arms) S T s h =
         let p = rule-Try Coloured E S e arms T h in
         let w = both_true (is_source e) (arms_are_source arms) s in
-        (typed_from e S T w.0 p.0, subst (λ X. ArmsTyped mode E arms S.home (lows S.vars) X (low T)) (lower_exn E mode) (arms_typed_from arms S TExn T p.1.0 w.1 p.1.1 (one_is p.1.0 T p.1.2)))
-    typed_from (Raise A e) S T s h = at_type e S.home (lows S.vars) _ _ (lower_exn E mode) (typed_from e S TExn s (rule-Raise Coloured E S A e T h).0)
+        (typed_from e S T w.0 p.0, subst (λ X. ArmsTyped mode E arms S.home (lows S.vars) X (low T)) (lower_exn E mode) (arms_typed_from arms S TExn T p.1.0 w.1 p.1.1 (one_is p.1.0 T p.1.2)), some_arm S TExn T arms p.1.0 p.1.1 p.1.2)
+    typed_from (Raise A e) S T s h = let p = rule-Raise Coloured E S A e T h in (ap low (sym p.2) ∙ low_seen S.home A p.1, at_type e S.home (lows S.vars) _ _ (lower_exn E mode) (typed_from e S TExn s p.0), p.1)
     typed_from (Prim k es) S T s h = let p = rule-Prim Coloured E S k es T h in (all_low p.0, all_typed_from es S p.0 s p.1, prim_low E mode k p.0 T p.2)
     typed_from (Marshal A m e) S T s h =
         let p = rule-Marshal Coloured E S A m e T h in
@@ -395,8 +410,14 @@ module _ (E : Environment) (coherent : IsCoherent E) (known : KnownTypes E) (mod
     rebuilt_typed (Tuple es) S T s h o =
         let p = rule-Tuple Coloured E S es T h in
         (all_low p.0, ap low (sym p.2) ∙ lower_tuple E mode p.0, rebuilt_terms_typed es S p.0 (both_true _ _ s).1 p.1 o)
-    rebuilt_typed (Nil A) S T s h o = let p = a_list_is (view Coloured E S.home A) T (rule-Nil Coloured E S A T h).1 in (low p.0, ap low p.1 ∙ lower_list E mode p.0)
-    rebuilt_typed (Empty A) S T s h o = let p = an_option_is (view Coloured E S.home A) T (rule-Empty Coloured E S A T h).1 in (low p.0, ap low p.1 ∙ lower_opt E mode p.0)
+    rebuilt_typed (Nil A) S T s h o =
+        let q = rule-Nil Coloured E S A T h in
+        let p = a_list_is (view Coloured E S.home A) T q.1 in
+        (low p.0, ap low p.1 ∙ lower_list E mode p.0, ap low (sym p.2) ∙ low_seen S.home A q.0, q.0)
+    rebuilt_typed (Empty A) S T s h o =
+        let q = rule-Empty Coloured E S A T h in
+        let p = an_option_is (view Coloured E S.home A) T q.1 in
+        (low p.0, ap low p.1 ∙ lower_opt E mode p.0, ap low (sym p.2) ∙ low_seen S.home A q.0, q.0)
     rebuilt_typed (Present e) S T s h o = let p = rule-Present Coloured E S e T h in (low p.0, ap low (sym p.2) ∙ lower_opt E mode p.0, rebuilt_typed e S p.0 s p.1 o)
     rebuilt_typed (Cons a b) S T s h o =
         let p = rule-Cons Coloured E S a b T h in
@@ -455,13 +476,15 @@ module _ (E : Environment) (coherent : IsCoherent E) (known : KnownTypes E) (mod
         let p = rule-Match Coloured E S e arms T h in
         let w0 = left _ _ _ (both_true _ _ s).0 in
         let w1 = middle _ _ _ (both_true _ _ s).0 in
-        (low p.0, rebuilt_typed e S p.0 w0 p.1 o, rebuilt_arms_typed arms S p.0 T p.2.0 w1 p.2.1 (one_is p.2.0 T p.2.2) o)
+        (low p.0, rebuilt_typed e S p.0 w0 p.1 o, rebuilt_arms_typed arms S p.0 T p.2.0 w1 p.2.1 (one_is p.2.0 T p.2.2) o, rebuilt_arm S.home arms (some_arm S p.0 T arms p.2.0 p.2.1 p.2.2))
     rebuilt_typed (Try e arms) S T s h o =
         let p = rule-Try Coloured E S e arms T h in
         let w0 = left _ _ _ (both_true _ _ s).0 in
         let w1 = middle _ _ _ (both_true _ _ s).0 in
-        (rebuilt_typed e S T w0 p.0 o, subst (λ X. ArmsTyped mode E (rebuilt_arms mode E S.home arms) S.home (lows S.vars) X (low T)) (lower_exn E mode) (rebuilt_arms_typed arms S TExn T p.1.0 w1 p.1.1 (one_is p.1.0 T p.1.2) o))
-    rebuilt_typed (Raise A e) S T s h o = at_type (r S.home e) S.home (lows S.vars) _ _ (lower_exn E mode) (rebuilt_typed e S TExn (both_true _ _ s).1 (rule-Raise Coloured E S A e T h).0 o)
+        (rebuilt_typed e S T w0 p.0 o, subst (λ X. ArmsTyped mode E (rebuilt_arms mode E S.home arms) S.home (lows S.vars) X (low T)) (lower_exn E mode) (rebuilt_arms_typed arms S TExn T p.1.0 w1 p.1.1 (one_is p.1.0 T p.1.2) o), rebuilt_arm S.home arms (some_arm S TExn T arms p.1.0 p.1.1 p.1.2))
+    rebuilt_typed (Raise A e) S T s h o =
+        let p = rule-Raise Coloured E S A e T h in
+        (ap low (sym p.2) ∙ low_seen S.home A p.1, at_type (r S.home e) S.home (lows S.vars) _ _ (lower_exn E mode) (rebuilt_typed e S TExn (both_true _ _ s).1 p.0 o), p.1)
     rebuilt_typed (Prim k es) S T s h o = let p = rule-Prim Coloured E S k es T h in (all_low p.0, rebuilt_terms_typed es S p.0 (both_true _ _ s).1 p.1 o, prim_low E mode k p.0 T p.2)
     rebuilt_typed (Marshal A m e) S T s h o =
         let p = rule-Marshal Coloured E S A m e T h in
@@ -526,11 +549,11 @@ module _ (E : Environment) (coherent : IsCoherent E) (known : KnownTypes E) (mod
             ValueTyped mode E (list_rebuilt mode E d X vs) d (view mode E d X)
         by d f (TList U) l i = subst (λ X. ValueTyped mode E (list_rebuilt mode E d (TList U) vs) d X) (sym (seen_list E mode d U)) (f U l i)
         by d f _ l i = absurd (true≢false (sym i))
-    rebuilt_ok KAbsent c T k o w h = sealed_ok (length E) c T (λ d U. VAbsent U) k o (λ d p. by d (head E T) h)
+    rebuilt_ok KAbsent c T k o w h = sealed_ok (length E) c T (λ d U. VAbsent U) k o (λ d p. by d (head E T) (head_known E coherent T k) h)
       where
-        by : (d : Home) (X : Typ) → is_some (option_item X) ≡ true → ValueTyped mode E (VAbsent X) d (view mode E d X)
-        by d (TOpt U) i = (view mode E d U, seen_opt E mode d U)
-        by d _ i = absurd (true≢false (sym i))
+        by : (d : Home) (X : Typ) → are_known E X ≡ true → is_some (option_item X) ≡ true → ValueTyped mode E (VAbsent X) d (view mode E d X)
+        by d (TOpt U) l i = (view mode E d U, seen_opt E mode d U, refl, l)
+        by d _ l i = absurd (true≢false (sym i))
     rebuilt_ok (KPresent v) c T k o w h =
         sealed_ok (length E) c T (λ d U. VPresent (rebuilt mode E d (item_of U) v)) k o (λ d p. by d (λ U l i. rebuilt_ok v d U l p w i) (head E T) (head_known E coherent T k) h)
       where
@@ -577,7 +600,7 @@ module _ (E : Environment) (coherent : IsCoherent E) (known : KnownTypes E) (mod
     all_rebuilt_ok _ c _ k o w h = absurd (true≢false (sym h))
 
     list_rebuilt_ok : (vs : PValues) (c : Home) (U : Typ) → are_known E U ≡ true → IsHome mode E c → fit_values vs ≡ true → each_holds Coloured false E vs U ≡ true → ValueTyped mode E (list_rebuilt mode E c (TList U) vs) c (TList (view mode E c U))
-    list_rebuilt_ok no_pvalues c U k o w h = (view mode E c U, refl)
+    list_rebuilt_ok no_pvalues c U k o w h = (view mode E c U, refl, sym (seen_list E mode c U), k)
     list_rebuilt_ok (pvalue v vs) c U k o w h =
         let p = both_true (holds Coloured false E v U) (each_holds Coloured false E vs U) h in
         let f = both_true (fits_value v) (fit_values vs) w in

@@ -56,8 +56,8 @@ module _ (mode : Mode) (E F : Environment) (g : Extends E F) where
     typed_more (Exn k) c G T o h = h
     typed_more (ExnOf k e) c G T o h = (h.0, typed_more e c G TStr o h.1)
     typed_more (Tuple es) c G T o h = (h.0, h.1, all_typed_more es c G h.0 o h.2)
-    typed_more (Nil A) c G T o h = h
-    typed_more (Empty A) c G T o h = h
+    typed_more (Nil A) c G T o h = (h.0, h.1, still c A T o h.3 h.2, known_more E F g A h.3)
+    typed_more (Empty A) c G T o h = (h.0, h.1, still c A T o h.3 h.2, known_more E F g A h.3)
     typed_more (Present e) c G T o h = (h.0, h.1, typed_more e c G h.0 o h.2)
     typed_more (Cons a b) c G T o h = (h.0, h.1, typed_more a c G h.0 o h.2, typed_more b c G (TList h.0) o h.3)
     typed_more (Var i) c G T o h = h
@@ -81,9 +81,9 @@ module _ (mode : Mode) (E F : Environment) (g : Extends E F) where
         (subst (λ X. Typed mode F e c G X) s (typed_more e c G (seen mode E c A) o h.0), subst (λ X. Typed mode F b c (X ∷ G) T) s (typed_more b c (seen mode E c A ∷ G) T o h.1), known_more E F g A h.2)
     typed_more (If e a b) c G T o h = (typed_more e c G TBool o h.0, typed_more a c G T o h.1, typed_more b c G T o h.2)
     typed_more (Seq es) c G T o h = (h.0, all_typed_more es c G h.0 o h.1, h.2)
-    typed_more (Match e arms) c G T o h = (h.0, typed_more e c G h.0 o h.1, arms_typed_more arms c G h.0 T o h.2)
-    typed_more (Try e arms) c G T o h = (typed_more e c G T o h.0, arms_typed_more arms c G TExn T o h.1)
-    typed_more (Raise A e) c G T o h = typed_more e c G TExn o h
+    typed_more (Match e arms) c G T o h = (h.0, typed_more e c G h.0 o h.1, arms_typed_more arms c G h.0 T o h.2, h.3)
+    typed_more (Try e arms) c G T o h = (typed_more e c G T o h.0, arms_typed_more arms c G TExn T o h.1, h.2)
+    typed_more (Raise A e) c G T o h = (still c A T o h.2 h.0, typed_more e c G TExn o h.1, known_more E F g A h.2)
     typed_more (Prim k es) c G T o h = (h.0, all_typed_more es c G h.0 o h.1, h.2)
     typed_more (Marshal A m e) c G T o h =
         (h.0, typed_more m c G TStr o h.1, subst (λ X. Typed mode F e c G X) (same c A o h.3) (typed_more e c G (seen mode E c A) o h.2), known_more E F g A h.3)
@@ -108,9 +108,9 @@ module _ (mode : Mode) (E F : Environment) (g : Extends E F) where
     value_typed_more VUnit c T o h = h
     value_typed_more (VExn k s) c T o h = h
     value_typed_more (VTuple vs) c T o h = (h.0, h.1, values_typed_more vs c h.0 o h.2)
-    value_typed_more (VNil A) c T o h = h
+    value_typed_more (VNil A) c T o h = (h.0, h.1, still c A T o h.3 h.2, known_more E F g A h.3)
     value_typed_more (VCons v w) c T o h = (h.0, h.1, value_typed_more v c h.0 o h.2, value_typed_more w c (TList h.0) o h.3)
-    value_typed_more (VAbsent A) c T o h = h
+    value_typed_more (VAbsent A) c T o h = (h.0, h.1, still c A T o h.3 h.2, known_more E F g A h.3)
     value_typed_more (VPresent v) c T o h = (h.0, h.1, value_typed_more v c h.0 o h.2)
     value_typed_more (VLam A e) c T o h =
         let s = same c A o h.3 in

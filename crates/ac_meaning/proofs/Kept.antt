@@ -10,6 +10,7 @@ use Rattle.ac_types.specs.Types.{Bytes, Typ, TInt, TBool, TStr, TUnit, TExn, TTu
 use Rattle.ac_terms.specs.Terms.{Home, Main, In, Pattern, Expr, Int, Boolean, Str, Unit', Exn, ExnOf, Tuple, Nil, Empty, Present, Cons, Var, Own, Ref, Lam, Rec, App, Let, If, Seq, Match, Try, Raise, Prim, Marshal, Unmarshal, Packed, Val, Bracket, Exprs, no_exprs, expr, Arms, no_arms, arm, Value, VInt, VBool, VStr, VUnit, VExn, VTuple, VNil, VCons, VAbsent, VPresent, VLam, VRec, VProxy, VSeal, Values, value}
 use Rattle.ac_terms.specs.Defs.{Environment, Field}
 use Rattle.ac_code.specs.Constants.{Const, CInt, CBool, CStr, CUnit, CPart, Answer, Gives, Prints, Sends, Receives, Fails, NoSense, meaning}
+use Rattle.ac_rules.specs.Plain.{packed}
 use Rattle.ac_rules.specs.Views.{Mode, Coloured, opens, representation, view, is_known}
 use Rattle.ac_rules.specs.Typing.{all_of, fields_of}
 use Rattle.ac_rules.specs.Coherent.{IsCoherent}
@@ -24,7 +25,6 @@ use Rattle.ac_meaning.specs.Primitives.{spelled, primitive, answer_at, answered,
 use Rattle.ac_meaning.specs.Brackets.{enclosed, all_enclosed, is_function_value, inside, unsealed, at_name, bracket_step}
 use Rattle.ac_meaning.specs.References.{own_field, referred, Route, Nowhere, Once, Twice, route, routed}
 use Rattle.ac_meaning.specs.Packing.{Packing, Refuses, Packs, packs, packing, Arrival, Unfit, Brings, arrival, brings, marshal_step, unmarshal_step}
-use Rattle.ac_meaning.specs.BareTerms.{bare_value}
 use Rattle.ac_meaning.specs.Reduction.{apply, branch, look, look_all, look_main, step}
 use Rattle.ac_meaning.specs.Laws.{IsTypedProgram}
 use Rattle.ac_meaning.specs.Typed.{seen, Known, IsHome, IsLast, own_type, Fits, Typed, AllTyped, ArmsTyped, ValueTyped, ValuesTyped, WrittenTyped}
@@ -230,7 +230,7 @@ module _ (arrives : Arrives) (mode : Mode) where
 
     -- packing, and arrival
     marshal_ok : (c : Home) (m v : Value) (A T : Typ) → T ≡ TStr → ValueTyped mode E m c TStr → Good c T (marshal_step z c A m v)
-    marshal_ok c m v A T e h = let s = shape mode E m c TStr TStr refl h in subst (λ x. Good c T (marshal_step z c A x v)) (sym s.1) (by (packing z c A s.0 (bare_value c v)))
+    marshal_ok c m v A T e h = let s = shape mode E m c TStr TStr refl h in subst (λ x. Good c T (marshal_step z c A x v)) (sym s.1) (by (packing z A s.0 (packed z.environment c v A)))
       where
         by : (p : Packing) → Good c T (packs p)
         by (Refuses x) = tt
@@ -298,14 +298,14 @@ module _ (arrives : Arrives) (mode : Mode) where
     bracket_ok (TList T) b c v i k h = by (shape mode E v b (sees b (TList T)) (TList (sees b T)) (seen_list E mode b T) h)
       where
         by : ((B : Typ) × (v ≡ VNil B)) ⊎ ((x y : Value) × (v ≡ VCons x y) × ValueTyped mode E x b (sees b T) × ValueTyped mode E y b (TList (sees b T))) → Good c (sees c (TList T)) (bracket_step mode E b c (TList T) v)
-        by (inl s) = subst (λ x. Good c (sees c (TList T)) (bracket_step mode E b c (TList T) x)) (sym s.1) (sees c T, seen_list E mode c T)
+        by (inl s) = subst (λ x. Good c (sees c (TList T)) (bracket_step mode E b c (TList T) x)) (sym s.1) (sees c T, seen_list E mode c T, refl, k)
         by (inr s) =
             let rest : Typed mode E (enclosed b (TList T) s.1) c [] (TList (sees c T)) = subst (λ X. Typed mode E (enclosed b (TList T) s.1) c [] X) (seen_list E mode c T) (enclosed_ok b c (TList T) s.1 i k (subst (λ X. ValueTyped mode E s.1 b X) (sym (seen_list E mode b T)) s.4)) in
             subst (λ x. Good c (sees c (TList T)) (bracket_step mode E b c (TList T) x)) (sym s.2) (sees c T, seen_list E mode c T, enclosed_ok b c T s.0 i k s.3, rest)
     bracket_ok (TOpt T) b c v i k h = by (shape mode E v b (sees b (TOpt T)) (TOpt (sees b T)) (seen_opt E mode b T) h)
       where
         by : ((B : Typ) × (v ≡ VAbsent B)) ⊎ ((x : Value) × (v ≡ VPresent x) × ValueTyped mode E x b (sees b T)) → Good c (sees c (TOpt T)) (bracket_step mode E b c (TOpt T) v)
-        by (inl s) = subst (λ x. Good c (sees c (TOpt T)) (bracket_step mode E b c (TOpt T) x)) (sym s.1) (sees c T, seen_opt E mode c T)
+        by (inl s) = subst (λ x. Good c (sees c (TOpt T)) (bracket_step mode E b c (TOpt T) x)) (sym s.1) (sees c T, seen_opt E mode c T, refl, k)
         by (inr s) = subst (λ x. Good c (sees c (TOpt T)) (bracket_step mode E b c (TOpt T) x)) (sym s.1) (sees c T, seen_opt E mode c T, enclosed_ok b c T s.0 i k s.2)
     bracket_ok (TFun T U) b c v i k h =
         let s = shape mode E v b (sees b (TFun T U)) (TFun (sees b T) (sees b U)) (seen_fun E mode b T U) h in
@@ -320,7 +320,7 @@ module _ (arrives : Arrives) (mode : Mode) where
     last_of_two : (U V : Typ) (Vs : Typs) (Us Ts : Typs) (T : Typ) → Ts ≡ typ U Us → Us ≡ typ V Vs → IsLast Ts T → IsLast Us T
     last_of_two U V Vs Us Ts T p q h =
         let l : IsLast (typ U (typ V Vs)) T = subst (λ X. IsLast X T) (p ∙ ap (typ U) q) h in
-        subst (λ X. IsLast X T) (sym q) l
+        subst (λ X. IsLast X T) (sym q) l.1
 
     -- what is next in a typed term
     mutual
@@ -351,7 +351,7 @@ module _ (arrives : Arrives) (mode : Mode) where
       kept (If e a b) c T i h =
           one_part c TBool T (λ x. If x a b) (λ v. branch v a b) (look mode z c e) (kept e c TBool i h.0) (λ F s g p. (p, more F c i g a [] T h.1, more F c i g b [] T h.2)) (λ v p. branch_ok c v a b T p h.1 h.2)
       kept (Match e arms) c T i h =
-          one_part c h.0 T (λ x. Match x arms) (λ v. or_raises match_failure (chosen arms v)) (look mode z c e) (kept e c h.0 i h.1) (λ F s g p. (h.0, p, arms_more F c i g arms h.0 T h.2)) (λ v p. chosen_ok c arms v h.0 T match_failure h.2 p)
+          one_part c h.0 T (λ x. Match x arms) (λ v. or_raises match_failure (chosen arms v)) (look mode z c e) (kept e c h.0 i h.1) (λ F s g p. (h.0, p, arms_more F c i g arms h.0 T h.2, h.3)) (λ v p. chosen_ok c arms v h.0 T match_failure h.2 p)
       kept (Seq no_exprs) c T i h = absurd (subst (λ X. IsLast X T) h.1 h.2)
       kept (Seq (expr e no_exprs)) c T i h =
           let a = h.1 in
@@ -361,10 +361,10 @@ module _ (arrives : Arrives) (mode : Mode) where
           let a = h.1 in
           one_part c a.0 T (λ x. Seq (expr x (expr d es))) (λ v. Goes (Seq (expr d es))) (look mode z c e) (kept e c a.0 i a.3) (λ F s g p. (h.0, (a.0, a.1, a.2, p, all_more F c i g (expr d es) a.1 a.4), h.2))
           (λ v p. (a.1, a.4, last_of_two a.0 a.4.0 a.4.1 a.1 h.0 T a.2 a.4.2 h.2))
-      kept (Raise A e) c T i h = one_part c TExn T (Raise A) thrown (look mode z c e) (kept e c TExn i h) (λ F s g p. p) (λ v p. throw_ok c v T p)
+      kept (Raise A e) c T i h = one_part c TExn T (Raise A) thrown (look mode z c e) (kept e c TExn i h.1) (λ F s g p. (h.0 ∙ sees_more F c i g A h.2, p, know_more F g A h.2)) (λ v p. throw_ok c v T p)
       kept (Try e arms) c T i h =
           within_ok E (TermOf c T) (TermOf c T) (ValueOf c T) (ValueOf c T) (λ x. Try x arms) (λ v. Goes e) (λ x. or_raises x (chosen arms (exception_value x))) (look mode z c e) coherent (kept e c T i h.0)
-          (λ F s g p. (p, arms_more F c i g arms TExn T h.1)) (λ v p. h.0) (λ x. chosen_ok c arms (exception_value x) TExn T x h.1 refl)
+          (λ F s g p. (p, arms_more F c i g arms TExn T h.1, h.2)) (λ v p. h.0) (λ x. chosen_ok c arms (exception_value x) TExn T x h.1 refl)
       kept (Prim k es) c T i h =
           within_ok E (TermsOf c h.0) (TermOf c T) (ValuesOf c h.0) (ValueOf c T) (Prim k) (λ vs. answered spelled z (primitive k vs)) Raises (look_all mode z c es) coherent (all_kept es c h.0 i h.1) (λ F s g p. (h.0, p, h.2))
           (λ vs p.

@@ -33,7 +33,7 @@ module _ (sound : Sound) where
   OfType mode c T (Unfit x) = Unit {0}
   OfType mode c T (Brings F v w) = ValueTyped mode F (v mode) c (view mode F c T)
 
-  abbrev BareSame : Mode → Home → Arrival → Type 0
+  abbrev pub BareSame : Mode → Home → Arrival → Type 0
   BareSame mode c (Unfit x) = Unit {0}
   BareSame mode c (Brings F v w) = bare_value c (v mode) ≡ w
 
@@ -47,7 +47,7 @@ module _ (sound : Sound) where
       let g = sound.grows z.environment T s F v i q in
       rebuilt_ok F g.after (known_types F g.after) mode v c T (known_more z.environment F g.extends T k) (home_more z.environment F g.extends c h) (sound.fits z.environment T s F v i q) (sound.holds z.environment T s F v i k q)
 
-  bare_same : (mode : Mode) (c : Home) (T : Typ) (l : Landing) → BareSame mode c (brought c T l)
+  pub bare_same : (mode : Mode) (c : Home) (T : Typ) (l : Landing) → BareSame mode c (brought c T l)
   bare_same mode c T (Sinks x) = tt
   bare_same mode c T (Lands F v) = rebuilt_bare mode F v c T
 

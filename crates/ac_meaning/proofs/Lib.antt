@@ -40,7 +40,8 @@ pub mod BareAlike
 pub mod BareInst
 pub mod BareReduces
 pub mod BareEndings
-pub mod PackedHolds
+pub mod PackedAlike
+mod PackedHolds
 pub mod ReadBack
 pub mod Within
 pub mod WithinLaws

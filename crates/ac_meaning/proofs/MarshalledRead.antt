@@ -1,5 +1,5 @@
 -- In each state of a run what is marshalled is read again.
-use Rattle.std.proofs.Common.{◌≡◌, refl, ap, subst, ℕ, zero, suc, Bool, true, false, [], Option, Some, None}
+use Rattle.std.proofs.Common.{◌≡◌, refl, ap, subst, ℕ, zero, suc, Bool, true, false, [], Option, Some, None, ◌∙◌}
 use Rattle.std.specs.Prelude.{IsTrue}
 use native.Mathlib.Omega.{arith}
 use Rattle.ac_types.specs.First.{or_else}
@@ -9,6 +9,7 @@ use Rattle.ac_terms.specs.Defs.{Environment}
 use Rattle.ac_terms.specs.Spelling.{two}
 use Rattle.ac_terms.specs.Bounds.{fits_term}
 use Rattle.ac_terms.specs.Heads.{type_heads, value_heads, packed_heads}
+use Rattle.ac_rules.specs.Plain.{packed}
 use Rattle.ac_rules.specs.Views.{Mode, Coloured}
 use Rattle.ac_rules.specs.Typing.{all_of, is_function}
 use Rattle.ac_rules.specs.Needed.{mark_at}
@@ -19,7 +20,7 @@ use Rattle.ac_meaning.specs.Worlds.{World, fresh}
 use Rattle.ac_meaning.specs.Acts.{Act, Is, Goes, Turns, Applies, Raises, Wrong, parts, State, At, Over, iter, Leads}
 use Rattle.ac_rules.specs.Growth.{Grows}
 use Rattle.ac_meaning.specs.BareTerms.{bare_value}
-use Rattle.ac_meaning.specs.BarePacking.{packed}
+use Rattle.ac_meaning.specs.BarePacking.{bare_packed}
 use Rattle.ac_meaning.specs.Packing.{Packing, Refuses, Packs, packs, packing, landing, marshal_step}
 use Rattle.ac_meaning.specs.Reduction.{look, step}
 use Rattle.ac_meaning.specs.Laws.{IsTypedProgram}
@@ -33,6 +34,7 @@ use Rattle.ac_meaning.proofs.FromTypes.{typed_from}
 use Rattle.ac_rules.proofs.Growth.{grows_not}
 use Rattle.ac_meaning.proofs.Admitted.{arrives}
 use Rattle.ac_meaning.proofs.Kept.{ActOk, kept, typing_kept}
+use Rattle.ac_meaning.proofs.PackedAlike.{packed_alike}
 use Rattle.ac_meaning.proofs.PackedHolds.{packable}
 use Rattle.ac_meaning.proofs.ReadBack.{a_string, read_back_later}
 use Rattle.ac_meaning.proofs.Within.{TypeFits, Within, AllWithin, ValueWithin, ActWithin}
@@ -101,7 +103,7 @@ module _ (mode : Mode) (E : Environment) where
     redex_fine (Seq no_exprs) c T i h w = (T, i, h, w)
     redex_fine (Seq (expr e no_exprs)) c T i h w = (T, i, h, w)
     redex_fine (Seq (expr e (expr d es))) c T i h w = or_fine (redex c e) (stands c (Seq (expr e (expr d es)))) (redex_fine e c h.1.0 i h.1.3 w.1.0) (T, i, h, w)
-    redex_fine (Raise A e) c T i h w = or_fine (redex c e) (stands c (Raise A e)) (redex_fine e c TExn i h w.1) (T, i, h, w)
+    redex_fine (Raise A e) c T i h w = or_fine (redex c e) (stands c (Raise A e)) (redex_fine e c TExn i h.1 w.1) (T, i, h, w)
     redex_fine (Try e arms) c T i h w = or_fine (redex c e) (stands c (Try e arms)) (redex_fine e c T i h.0 w.0) (T, i, h, w)
     redex_fine (Prim k es) c T i h w = or_fine (redex_all c es) (stands c (Prim k es)) (all_redex_fine es c h.0 i h.1 w.1) (T, i, h, w)
     redex_fine (Marshal A m e) c T i h w =
@@ -124,14 +126,14 @@ record Packs' (z : World) (c : Home) (T : Typ) (s : Bytes) (a b : Act Expr Value
   value : Value
   marked : a ≡ Is (VStr mark)
   valued : b ≡ Is value
-  packs_so : packing z c T mark (bare_value c value) ≡ Packs s
+  packs_so : packing z T mark (packed z.environment c value T) ≡ Packs s
 
 packed_string : (p : Packing) (s : Bytes) → packs p ≡ Goes (Str s) → p ≡ Packs s
 packed_string (Refuses x) s e = absurd cc
 packed_string (Packs r) s e = let q : r ≡ s = cc in ap Packs q
 
 marshal_parts : (z : World) (c : Home) (T : Typ) (m w : Expr) (s : Bytes) (a b : Act Expr Value) → parts (Marshal T) m w (marshal_step z c T) a b ≡ Goes (Str s) → Packs' z c T s a b
-marshal_parts z c T m w s (Is (VStr mark)) (Is v) e = record { mark = mark; value = v; marked = refl; valued = refl; packs_so = packed_string (packing z c T mark (bare_value c v)) s e }
+marshal_parts z c T m w s (Is (VStr mark)) (Is v) e = record { mark = mark; value = v; marked = refl; valued = refl; packs_so = packed_string (packing z T mark (packed z.environment c v T)) s e }
 marshal_parts z c T m w s (Is _) (Is v) e = absurd cc
 marshal_parts z c T m w s (Is u) (Goes t) e = absurd cc
 marshal_parts z c T m w s (Is u) (Turns y t) e = absurd cc
@@ -161,12 +163,13 @@ string_fine E mark T v s e = by_mark (mark_at E mark) e
 
 -- a typed value within the bounds
 value_read : (mode : Mode) (z : World) (c : Home) (T : Typ) (mark s : Bytes) (v : Value) → IsCoherent z.environment → Known mode z.environment T → ValueTyped mode z.environment v c (seen mode z.environment c T) → TypeFits T → ValueWithin v →
-    packing z c T mark (bare_value c v) ≡ Packs s → (F : Environment) → Grows z.environment F → IsReadBack (landing F T s)
+    packing z T mark (packed z.environment c v T) ≡ Packs s → (F : Environment) → Grows z.environment F → IsReadBack (landing F T s)
 unfolding packing
 value_read mode z c T mark s v i k t w h e F g =
     let E : Environment = z.environment in
-    let p : PValue = packed E (bare_value c v) T in
-    let made : marshalled E mark T p ≡ AString s = a_string (marshalled E mark T p) s e in
+    let p : PValue = bare_packed E (bare_value c v) T in
+    let same : p ≡ packed E c v T = packed_alike mode E v c (seen mode E c T) T t in
+    let made : marshalled E mark T p ≡ AString s = a_string (marshalled E mark T p) s (ap (λ x. packing z T mark x) same ∙ e) in
     let fits = packed_fits E i v c T 1 h (string_fine E mark T p s made) in
     read_back_later E F g mark T p s (packable mode E i v c T k t w.0 w.1 fits (packed_small E v c T h)) made
 

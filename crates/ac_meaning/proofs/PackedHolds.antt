@@ -25,8 +25,8 @@ use Rattle.ac_rules.proofs.Carried.{IsStill, AreStill, StillArms, HasStill, AllH
 use Rattle.ac_rules.proofs.Trust.{IsOf, trusted}
 use Rattle.ac_rules.proofs.HeadViews.{head_seen}
 use Rattle.ac_meaning.specs.BareTerms.{bare, bare_all, bare_arms, WTuple, WPresent, bare_value, bare_values}
-use Rattle.ac_meaning.specs.BarePacking.{packed, all_packed, packed_term, packed_terms, packed_arms}
 use Rattle.ac_rules.proofs.Rules.{agree_some}
+use Rattle.ac_meaning.specs.BarePacking.{bare_packed as packed, bare_all_packed as all_packed, bare_packed_term as packed_term, bare_packed_terms as packed_terms, bare_packed_arms as packed_arms}
 use Rattle.ac_meaning.proofs.Homes.{all_seen}
 use Rattle.ac_meaning.proofs.HeadsSeen.{at_head, int_at, bool_at, str_at, unit_at, exn_at, tuple_at, list_at, option_at}
 use Rattle.ac_meaning.specs.Typed.{Typed, AllTyped, ArmsTyped, ValueTyped, ValuesTyped}
@@ -232,7 +232,7 @@ module _ (mode : Mode) (E : Environment) (coherent : IsCoherent E) where
     still (Seq es) c G X t w = all_still es c G t.0 t.1 (both_true _ _ w).1
     still (Match e arms) c G X t w = let p = both_true _ _ (both_true _ _ (both_true _ _ w).0).0 in (still e c G _ t.1 p.0, arms_still arms c G t.0 X t.2 p.1)
     still (Try e arms) c G X t w = let p = both_true _ _ (both_true _ _ (both_true _ _ w).0).0 in (still e c G _ t.0 p.0, arms_still arms c G _ X t.1 p.1)
-    still (Raise A e) c G X t w = still e c G _ t (both_true _ _ w).1
+    still (Raise A e) c G X t w = still e c G _ t.1 (both_true _ _ w).1
     still (Prim k es) c G X t w = all_still es c G t.0 t.1 (both_true _ _ w).1
     still (Marshal A a b) c G X t w = let p = both_true _ _ w in (still a c G _ t.1 (both_true _ _ p.0).1, still b c G _ t.2 p.1)
     still (Unmarshal A e) c G X t w = still e c G _ t.1 (both_true _ _ w).1

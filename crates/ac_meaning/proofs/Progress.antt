@@ -4,6 +4,7 @@ use mathlib.Core.Bool.{true≢false}
 use Rattle.ac_types.specs.Types.{Bytes, Typ, TBool, TStr, TExn, TList, TFun, Typs, typ, mentions}
 use Rattle.ac_terms.specs.Terms.{Home, Expr, Int, Boolean, Str, Unit', Exn, ExnOf, Tuple, Nil, Empty, Present, Cons, Var, Own, Ref, Lam, Rec, App, Let, If, Seq, Match, Try, Raise, Prim, Marshal, Unmarshal, Packed, Val, Bracket, Exprs, no_exprs, expr, Arms, no_arms, arm, Value, VStr, VTuple, VCons, VPresent, VLam, VRec, VProxy, Values, value}
 use Rattle.ac_terms.specs.Defs.{Environment}
+use Rattle.ac_rules.specs.Plain.{packed}
 use Rattle.ac_rules.specs.Views.{Mode, is_known}
 use Rattle.ac_rules.specs.Coherent.{IsCoherent}
 use Rattle.ac_terms.proofs.AllLaws.{all_append}
@@ -16,7 +17,6 @@ use Rattle.ac_meaning.specs.Brackets.{is_function_value}
 use Rattle.ac_meaning.specs.References.{route}
 use Rattle.ac_rules.specs.Growth.{Grows}
 use Rattle.ac_meaning.specs.Packing.{Packing, Refuses, Packs, Arrival, Unfit, Brings, packing, arrival}
-use Rattle.ac_meaning.specs.BareTerms.{bare_value}
 use Rattle.ac_meaning.proofs.Results.{Result, Spending, M, give, raise, follow, lift}
 use Rattle.ac_meaning.proofs.Eval.{with_text, own_by, ref_by, opened, branching, throws, answering, constant, fitted, no_more, packed_as, marshals, arrived_as, unmarshals, across, crossing, eval, eval_all, eval_rest, eval_arms, calling, depth}
 use Rattle.ac_meaning.proofs.Arrivals.{Arrives}
@@ -91,7 +91,7 @@ module _ (arrives : Arrives) (mode : Mode) where
   pub marshal_ok : (m v : Value) (c : Home) (A T : Typ) (z : World) → IsCoherent z.environment → Is c TStr z.environment m → T ≡ TStr → Good z c T (marshals c A m v z)
   marshal_ok m v c A T z i h e =
       let s = shape mode z.environment m c TStr TStr refl h in
-      subst (λ x. Good z c T (marshals c A x v z)) (sym s.1) (by (packing z c A s.0 (bare_value c v)))
+      subst (λ x. Good z c T (marshals c A x v z)) (sym s.1) (by (packing z A s.0 (packed z.environment c v A)))
     where
       by : (p : Packing) → Good z c T (packed_as VStr p z)
       by (Refuses x) = grows_not z.environment i
@@ -207,7 +207,7 @@ module _ (arrives : Arrives) (mode : Mode) where
       sound (Try t arms) c G T us z i e h =
           then_ok z.environment (Is c T) (Is c T) (eval mode t apps c us z) give (λ x. eval_arms mode arms apps c us (exception_value x) (raise x)) (sound t c G T us z i e h.0) (λ v y g p. (grows_not y.environment g.after, p))
           (λ x y g. arms_sound arms c G TExn T us (exception_value x) x y (later z y g c i) (written_later z y g c i us G e) (arms_later z y g c i arms G TExn T h.1) refl)
-      sound (Raise A t) c G T us z i e h = seq_ok z.environment (Is c TExn) (Is c T) (eval mode t apps c us z) throws (sound t c G TExn us z i e h) (λ v y g p. throw_ok mode v c T y g.after p)
+      sound (Raise A t) c G T us z i e h = seq_ok z.environment (Is c TExn) (Is c T) (eval mode t apps c us z) throws (sound t c G TExn us z i e h.1) (λ v y g p. throw_ok mode v c T y g.after p)
       sound (Prim k ts) c G T us z i e h =
           seq_ok z.environment (Are c h.0) (Is c T) (eval_all mode ts apps c us z) (λ ws. answering constant (primitive k ws)) (all_sound ts c G h.0 us z i e h.1)
           (λ ws y g p.
@@ -243,7 +243,7 @@ module _ (arrives : Arrives) (mode : Mode) where
       rest_sound no_exprs c G U Us T us v z i e h l p = let q : U ≡ T = subst (λ X. IsLast (typ U X) T) h l in (grows_not z.environment i.0, subst (λ X. Is c X z.environment v) q p)
       rest_sound (expr t ts) c G U Us T us v z i e h l p =
           seq_ok z.environment (Is c h.0) (Is c T) (eval mode t apps c us z) (λ w. eval_rest mode ts apps c us w) (sound t c G h.0 us z i e h.3)
-          (λ w y g q. rest_sound ts c G h.0 h.1 T us w y (later z y g c i) (written_later z y g c i us G e) (terms_later z y g c i ts G h.1 h.4) (subst (λ X. IsLast (typ U X) T) h.2 l) q)
+          (λ w y g q. rest_sound ts c G h.0 h.1 T us w y (later z y g c i) (written_later z y g c i us G e) (terms_later z y g c i ts G h.1 h.4) (subst (λ X. IsLast (typ U X) T) h.2 l).1 q)
 
       arms_sound : (arms : Arms) (c : Home) (G : List Typ) (A T : Typ) (us : Written) (v : Value) (x : Exception) (z : World) → At z c → WrittenTyped mode z.environment us c G → ArmsTyped mode z.environment arms c G A T → Is c A z.environment v → Good z c T (eval_arms mode arms apps c us v (raise x) z)
       arms_sound no_arms c G A T us v x z i e h p = grows_not z.environment i.0

@@ -10,7 +10,7 @@ use Rattle.ac_rules.specs.Views.{Mode, opens}
 use Rattle.ac_meaning.specs.Substitution.{Written, Slot, Free, Bound, up, slot_in, slot, from_slot, binders, all_binders, inst, inst_all, inst_arms}
 use Rattle.ac_meaning.specs.Matching.{fit, fit_all}
 use Rattle.ac_meaning.specs.Brackets.{is_function_value}
-use Rattle.ac_meaning.specs.Typed.{seen, Known, IsHome, Fits, AllFit, Typed, AllTyped, ArmsTyped, ValueTyped, ValuesTyped, WrittenTyped}
+use Rattle.ac_meaning.specs.Typed.{seen, Known, IsHome, HasArm, Fits, AllFit, Typed, AllTyped, ArmsTyped, ValueTyped, ValuesTyped, WrittenTyped}
 
 module _ (mode : Mode) (E : Environment) where
   abbrev sees : Home → Typ → Typ
@@ -117,6 +117,10 @@ module _ (mode : Mode) (E : Environment) where
   from_slot_typed c D (Free i) T h = h
   from_slot_typed c D (Bound S v) T h = h
 
+  inst_arm : (arms : Arms) (d : ℕ) (us : Written) → HasArm arms → HasArm (inst_arms d us arms)
+  inst_arm no_arms d us h = h
+  inst_arm (arm p e rest) d us h = tt
+
   mutual
     pub inst_typed : (t : Expr) (c : Home) (D G : List Typ) (T : Typ) (us : Written) (d : ℕ) → d ≡ length D → WrittenTyped mode E us c G → Typed mode E t c (D ++ G) T → Typed mode E (inst d us t) c D T
     inst_typed (Int k) c D G T us d n e h = h
@@ -139,9 +143,9 @@ module _ (mode : Mode) (E : Environment) where
     inst_typed (Let A t b) c D G T us d n e h = (inst_typed t c D G (sees c A) us d n e h.0, inst_typed b c (sees c A ∷ D) G T us (suc d) (ap suc n) e h.1, h.2)
     inst_typed (If t a b) c D G T us d n e h = (inst_typed t c D G TBool us d n e h.0, inst_typed a c D G T us d n e h.1, inst_typed b c D G T us d n e h.2)
     inst_typed (Seq ts) c D G T us d n e h = (h.0, all_inst_typed ts c D G h.0 us d n e h.1, h.2)
-    inst_typed (Match t arms) c D G T us d n e h = (h.0, inst_typed t c D G h.0 us d n e h.1, arms_inst_typed arms c D G h.0 T us d n e h.2)
-    inst_typed (Try t arms) c D G T us d n e h = (inst_typed t c D G T us d n e h.0, arms_inst_typed arms c D G TExn T us d n e h.1)
-    inst_typed (Raise A t) c D G T us d n e h = inst_typed t c D G TExn us d n e h
+    inst_typed (Match t arms) c D G T us d n e h = (h.0, inst_typed t c D G h.0 us d n e h.1, arms_inst_typed arms c D G h.0 T us d n e h.2, inst_arm arms d us h.3)
+    inst_typed (Try t arms) c D G T us d n e h = (inst_typed t c D G T us d n e h.0, arms_inst_typed arms c D G TExn T us d n e h.1, inst_arm arms d us h.2)
+    inst_typed (Raise A t) c D G T us d n e h = (h.0, inst_typed t c D G TExn us d n e h.1, h.2)
     inst_typed (Prim k ts) c D G T us d n e h = (h.0, all_inst_typed ts c D G h.0 us d n e h.1, h.2)
     inst_typed (Marshal A m t) c D G T us d n e h = (h.0, inst_typed m c D G TStr us d n e h.1, inst_typed t c D G (sees c A) us d n e h.2, h.3)
     inst_typed (Unmarshal A t) c D G T us d n e h = (h.0, inst_typed t c D G TStr us d n e h.1, h.2)

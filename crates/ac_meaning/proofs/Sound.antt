@@ -95,23 +95,23 @@ module _ (mode : Mode) (E : Environment) (coherent : IsCoherent E) where
   unfolding is_option
   optional v c A h = ⊎_elim (λ p. ap is_option p.1) (λ p. ap is_option p.1) (shape mode E v c (TOpt A) (TOpt A) refl h)
 
-  list_ok : (L A B : Typ) (b c : Home) (f : Value → Pure Value) → ((x : Value) → Of b A x → PureOk (Of c B) (f x)) → (v : Value) → Of b (TList A) v → PureOk (Of c (TList B)) (crossing_list L f v)
+  list_ok : (L A B : Typ) (b c : Home) (f : Value → Pure Value) → TList B ≡ sees c L → IsKnown L → ((x : Value) → Of b A x → PureOk (Of c B) (f x)) → (v : Value) → Of b (TList A) v → PureOk (Of c (TList B)) (crossing_list L f v)
   unfolding is_list
-  list_ok L A B b c f h (VNil U) k = (B, refl)
-  list_ok L A B b c f h (VCons x y) k =
+  list_ok L A B b c f l m h (VNil U) k = (B, refl, l, m)
+  list_ok L A B b c f l m h (VCons x y) k =
       let e = k.1 in
       let s : k.0 ≡ A = cc in
-      then_pure (Of c B) (Of c (TList B)) (f x) _ (h x (at k.0 A b x s k.2)) (λ u p. then_pure (Of c (TList B)) (Of c (TList B)) (crossing_list L f y) _ (list_ok L A B b c f h y (at (TList k.0) (TList A) b y (ap TList s) k.3)) (λ w q. (B, refl, p, q)))
-  list_ok L A B b c f h v k = absurd (true≢false (sym (listed v b A k)))
+      then_pure (Of c B) (Of c (TList B)) (f x) _ (h x (at k.0 A b x s k.2)) (λ u p. then_pure (Of c (TList B)) (Of c (TList B)) (crossing_list L f y) _ (list_ok L A B b c f l m h y (at (TList k.0) (TList A) b y (ap TList s) k.3)) (λ w q. (B, refl, p, q)))
+  list_ok L A B b c f l m h v k = absurd (true≢false (sym (listed v b A k)))
 
-  option_ok : (L A B : Typ) (b c : Home) (f : Value → Pure Value) → ((x : Value) → Of b A x → PureOk (Of c B) (f x)) → (v : Value) → Of b (TOpt A) v → PureOk (Of c (TOpt B)) (crossing_option L f v)
+  option_ok : (L A B : Typ) (b c : Home) (f : Value → Pure Value) → TOpt B ≡ sees c L → IsKnown L → ((x : Value) → Of b A x → PureOk (Of c B) (f x)) → (v : Value) → Of b (TOpt A) v → PureOk (Of c (TOpt B)) (crossing_option L f v)
   unfolding is_option
-  option_ok L A B b c f h (VAbsent U) k = (B, refl)
-  option_ok L A B b c f h (VPresent x) k =
+  option_ok L A B b c f l m h (VAbsent U) k = (B, refl, l, m)
+  option_ok L A B b c f l m h (VPresent x) k =
       let e = k.1 in
       let s : k.0 ≡ A = cc in
       then_pure (Of c B) (Of c (TOpt B)) (f x) _ (h x (at k.0 A b x s k.2)) (λ u p. (B, refl, p))
-  option_ok L A B b c f h v k = absurd (true≢false (sym (optional v b A k)))
+  option_ok L A B b c f l m h v k = absurd (true≢false (sym (optional v b A k)))
 
   -- what is inside a seal of a name
   inside_is : (d : Home) (n t : Bytes) (w : Value) → inside n t (VSeal d n t w) ≡ Some (d, w)
@@ -167,10 +167,10 @@ module _ (mode : Mode) (E : Environment) (coherent : IsCoherent E) where
           (sym (seen_tuple E mode c Ts))
       cross_ok_with (TList T) k b c v o i =
           subst (λ X. PureOk (Of c X) (crossing_list (TList T) (crossing_with mode E next T b c) v)) (sym (seen_list E mode c T))
-          (list_ok (TList T) (sees b T) (sees c T) b c (crossing_with mode E next T b c) (λ x j. cross_ok_with T k b c x o j) v (at _ _ b v (seen_list E mode b T) i))
+          (list_ok (TList T) (sees b T) (sees c T) b c (crossing_with mode E next T b c) (sym (seen_list E mode c T)) k (λ x j. cross_ok_with T k b c x o j) v (at _ _ b v (seen_list E mode b T) i))
       cross_ok_with (TOpt T) k b c v o i =
           subst (λ X. PureOk (Of c X) (crossing_option (TOpt T) (crossing_with mode E next T b c) v)) (sym (seen_opt E mode c T))
-          (option_ok (TOpt T) (sees b T) (sees c T) b c (crossing_with mode E next T b c) (λ x j. cross_ok_with T k b c x o j) v (at _ _ b v (seen_opt E mode b T) i))
+          (option_ok (TOpt T) (sees b T) (sees c T) b c (crossing_with mode E next T b c) (sym (seen_opt E mode c T)) k (λ x j. cross_ok_with T k b c x o j) v (at _ _ b v (seen_opt E mode b T) i))
       cross_ok_with (TFun T U) k b c v o i =
           let s = looks v b (TFun T U) (TFun (sees b T) (sees b U)) (seen_fun E mode b T U) i in
           let l = all_left (is_known E) (mentions T) (mentions U) k in

@@ -2,7 +2,7 @@
 use Rattle.std.proofs.Common.{◌≡◌, refl}
 use Rattle.std.specs.Prelude.{pos, false, [], ◌∷◌, None, codes}
 use Rattle.ac_types.specs.Types.{Bytes, Typ, TInt, TStr, TFun}
-use Rattle.ac_terms.specs.Terms.{Main, Expr, Int, Str, Var, Lam, App, Marshal, Unmarshal, VInt}
+use Rattle.ac_terms.specs.Terms.{Main, Expr, Int, Str, Var, Lam, App, Marshal, Unmarshal, KInt, VInt}
 use Rattle.ac_terms.specs.Defs.{Environment, AMark, Here}
 use Rattle.ac_rules.specs.Views.{Mode, Plain, Coloured}
 use Rattle.ac_meaning.specs.Worlds.{fresh}
@@ -27,7 +27,7 @@ sent (Refuses x) = []
 sent (Packs s) = s
 
 seven_sent : Bytes
-seven_sent = sent (packing (fresh marked [] false) Main TInt (codes "M") (WInt (pos 7)))
+seven_sent = sent (packing (fresh marked [] false) TInt (codes "M") (KInt (pos 7)))
 
 -- marshal is next in it, and gives the string
 marshals_seven : (mode : Mode) → Marshals mode (fresh marked [] false) seven TInt seven_sent

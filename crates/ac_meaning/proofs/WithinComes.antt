@@ -10,7 +10,7 @@ use Rattle.ac_types.proofs.Same.{both_true}
 use Rattle.ac_types.specs.Types.{Bytes, Typ}
 use Rattle.ac_types.specs.Sigs.{Typed_name}
 use Rattle.ac_types.specs.Words.{is_word, is_between}
-use Rattle.ac_terms.specs.Terms.{Home, In, Expr}
+use Rattle.ac_terms.specs.Terms.{Home, In, Expr, PValue}
 use Rattle.ac_terms.specs.Defs.{Environment, Field, Module, Def, AModule, AnImport, AMark, Packet}
 use Rattle.ac_terms.specs.Parts.{Part, OfType, term_parts, sig_types, def_parts}
 use Rattle.ac_terms.specs.Bounds.{is_string, is_upper, is_lower, fits_type, fits_term, fits_def, fits_packet, has_small_types}
@@ -24,8 +24,6 @@ use Rattle.ac_rules.specs.Faults.{Fault, NoMark, Depth, Function, Size, Marshall
 use Rattle.ac_rules.proofs.ListLaws.{all_at}
 use Rattle.ac_rules.proofs.FaultLaws.{gives_packet}
 use Rattle.ac_meaning.specs.Worlds.{World}
-use Rattle.ac_meaning.specs.BareTerms.{BareValue}
-use Rattle.ac_meaning.specs.BarePacking.{packed}
 use Rattle.ac_meaning.specs.Packing.{Packing, Refuses, Packs, packing, answer, of_fault, of_cause, import_name, Arrival, Unfit, Brings, arrival, brought, Landing, Sinks, Lands, landing, received, admitted}
 use Rattle.ac_meaning.specs.References.{own_field}
 use Rattle.ac_meaning.proofs.Coherences.{is_field, is_sound}
@@ -138,19 +136,19 @@ PackingWithin (Packs s) = is_string s ≡ true
 at_most : (n : ℕ) → n ≤ 1048576 → nat_le n 1048576 ≡ true
 at_most n h = grind (arith, nat_tests)
 
-packing_within : (z : World) (c : Home) (T : Typ) (mark : Bytes) (v : BareValue) → PackingWithin (packing z c T mark v)
+packing_within : (z : World) (T : Typ) (mark : Bytes) (v : PValue) → PackingWithin (packing z T mark v)
 unfolding packing
-packing_within z c T mark v = by (marshalled z.environment mark T (packed z.environment v T)) refl
+packing_within z T mark v = by (marshalled z.environment mark T v) refl
   where
-    by : (m : Marshalled) → marshalled z.environment mark T (packed z.environment v T) ≡ m → PackingWithin (answer m)
+    by : (m : Marshalled) → marshalled z.environment mark T v ≡ m → PackingWithin (answer m)
     by (NoString f) e = fault_within f
-    by (AString s) e = at_most (length s) (gives_packet z.environment mark T (packed z.environment v T) s e).short
+    by (AString s) e = at_most (length s) (gives_packet z.environment mark T v s e).short
 
 pub comes_within : ComesWithin
 comes_within = record {
   fields = field_within;
   brought = λ mode z c T s F v w i q. subst (ArrivalWithin mode) q (arrival_within mode z c T s i);
   unfit = λ z c T s x i q. subst (ArrivalWithin Coloured) q (arrival_within Coloured z c T s i);
-  refused = λ z c T mark v x q. subst PackingWithin q (packing_within z c T mark v);
-  packed = λ z c T mark v s q. subst PackingWithin q (packing_within z c T mark v);
+  refused = λ z T mark v x q. subst PackingWithin q (packing_within z T mark v);
+  packed = λ z T mark v s q. subst PackingWithin q (packing_within z T mark v);
 }

@@ -21,7 +21,7 @@ use Rattle.ac_rules.specs.Coherent.{IsCoherent}
 use Rattle.ac_rules.proofs.Rules.{map_some, then_some, some_there}
 use Rattle.ac_rules.proofs.ViewLaws.{within}
 use Rattle.ac_meaning.specs.BareTerms.{bare, bare_all, bare_arms, bare_value, bare_values}
-use Rattle.ac_meaning.specs.BarePacking.{packed, all_packed, packed_term, packed_terms, packed_arms}
+use Rattle.ac_meaning.specs.BarePacking.{bare_packed as packed, bare_all_packed as all_packed, bare_packed_term as packed_term, bare_packed_terms as packed_terms, bare_packed_arms as packed_arms}
 use Rattle.ac_meaning.proofs.Within.{Within, AllWithin, ArmsWithin, ValueWithin, ValuesWithin, width}
 
 -- everything travels and is short

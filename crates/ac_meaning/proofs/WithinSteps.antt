@@ -3,11 +3,12 @@ use Rattle.std.proofs.Common.{◌≡◌, refl, ap, ap₂, ◌∙◌, ℕ, suc, B
 use Rattle.std.specs.Prelude.{option_map, is_some}
 use Rattle.ac_types.proofs.FirstLaws.{none≢some}
 use Rattle.ac_types.specs.Types.{Bytes, same_bytes, Typ, TInt, TBool, TStr, TUnit, TExn, TTuple, TList, TOpt, TFun, TAbs, Typs, no_types, typ}
-use Rattle.ac_terms.specs.Terms.{Home, Main, In, Expr, Int, Boolean, Str, Unit', Exn, ExnOf, Tuple, Nil, Empty, Present, Cons, Var, Own, Ref, Lam, Rec, App, Let, If, Seq, Match, Try, Raise, Prim, Marshal, Unmarshal, Packed, Val, Bracket, Exprs, no_exprs, expr, Value, VInt, VBool, VStr, VUnit, VExn, VTuple, VNil, VCons, VAbsent, VPresent, VLam, VRec, VProxy, VSeal, Values, no_values, value}
+use Rattle.ac_terms.specs.Terms.{Home, Main, In, Expr, Int, Boolean, Str, Unit', Exn, ExnOf, Tuple, Nil, Empty, Present, Cons, Var, Own, Ref, Lam, Rec, App, Let, If, Seq, Match, Try, Raise, Prim, Marshal, Unmarshal, Packed, Val, Bracket, Exprs, no_exprs, expr, PValue, Value, VInt, VBool, VStr, VUnit, VExn, VTuple, VNil, VCons, VAbsent, VPresent, VLam, VRec, VProxy, VSeal, Values, no_values, value}
 use Rattle.ac_terms.specs.Spelling.{term_count}
 use Rattle.ac_terms.specs.Bounds.{is_width, is_string}
 use Rattle.ac_terms.specs.Primitives.{has_text}
 use Rattle.ac_terms.specs.Defs.{Environment}
+use Rattle.ac_rules.specs.Plain.{packed}
 use Rattle.ac_rules.specs.Views.{Mode, opens, representation}
 use Rattle.ac_rules.specs.Coherent.{IsCoherent}
 use Rattle.ac_meaning.specs.Worlds.{Exception, World, match_failure, counted}
@@ -18,7 +19,7 @@ use Rattle.ac_meaning.specs.Primitives.{spelled, primitive, answered, exception_
 use Rattle.ac_meaning.specs.Brackets.{enclosed, all_enclosed, is_function_value, inside, unsealed, at_name, bracket_step}
 use Rattle.ac_meaning.specs.References.{own_field, Route, Nowhere, Once, Twice, route, routed}
 use Rattle.ac_meaning.specs.Packing.{Packing, Refuses, Packs, packs, packing, Arrival, Unfit, Brings, arrival, brings, marshal_step, unmarshal_step}
-use Rattle.ac_meaning.specs.BareTerms.{BareValue, bare_value}
+use Rattle.ac_meaning.specs.BareTerms.{BareValue}
 use Rattle.ac_meaning.specs.Reduction.{apply, branch, look, look_all, look_main, step}
 use Rattle.ac_meaning.proofs.Within.{TypeFits, Within, AllWithin, ValueWithin, ValuesWithin, width, RaisedWithin, ActWithin}
 use Rattle.ac_meaning.proofs.WithinLaws.{Good, loosened, inst_within, chosen_within, part_within}
@@ -37,8 +38,8 @@ pub record ComesWithin : Type 0 where
   pub fields : (E : Environment) → IsCoherent E → (j f : ℕ) (e : Expr) → own_field E (In j) f ≡ Some e → Within false e
   pub brought : (mode : Mode) (z : World) (c : Home) (T : Typ) (s : Bytes) (F : Environment) (v : Mode → Value) (w : BareValue) → IsCoherent z.environment → arrival z c T s ≡ Brings F v w → ValueWithin (v mode)
   pub unfit : (z : World) (c : Home) (T : Typ) (s : Bytes) (x : Exception) → IsCoherent z.environment → arrival z c T s ≡ Unfit x → RaisedWithin x
-  pub refused : (z : World) (c : Home) (T : Typ) (mark : Bytes) (v : BareValue) (x : Exception) → packing z c T mark v ≡ Refuses x → RaisedWithin x
-  pub packed : (z : World) (c : Home) (T : Typ) (mark : Bytes) (v : BareValue) (s : Bytes) → packing z c T mark v ≡ Packs s → is_string s ≡ true
+  pub refused : (z : World) (T : Typ) (mark : Bytes) (v : PValue) (x : Exception) → packing z T mark v ≡ Refuses x → RaisedWithin x
+  pub packed : (z : World) (T : Typ) (mark : Bytes) (v : PValue) (s : Bytes) → packing z T mark v ≡ Packs s → is_string s ≡ true
 
 no_text : RaisedWithin match_failure
 no_text = (refl, refl)
@@ -142,7 +143,7 @@ module _ (comes : ComesWithin) (mode : Mode) (z : World) (coherent : IsCoherent 
   packs_within (Packs s) h k = k s refl
 
   marshal_within : (c : Home) (T : Typ) (m v : Value) → Good (marshal_step z c T m v)
-  marshal_within c T (VStr mark) v = packs_within (packing z c T mark (bare_value c v)) (λ x e. comes.refused z c T mark (bare_value c v) x e) (λ s e. comes.packed z c T mark (bare_value c v) s e)
+  marshal_within c T (VStr mark) v = let p : PValue = packed z.environment c v T in packs_within (packing z T mark p) (λ x e. comes.refused z T mark p x e) (λ s e. comes.packed z T mark p s e)
   marshal_within c T _ v = tt
 
   brings_within : (T : Typ) (a : Arrival) → ((x : Exception) → a ≡ Unfit x → RaisedWithin x) → ((F : Environment) (v : Mode → Value) (w : BareValue) → a ≡ Brings F v w → ValueWithin (v mode)) → Good (brings mode z T a)

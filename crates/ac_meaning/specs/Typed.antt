@@ -1,4 +1,4 @@
--- Typing as the reduction keeps it, in either mode: without bounds on the size of types, and with what a bracket, a proxy and a seal have inside. Each type that is seen is known, and each home that is named is one, so that it is kept as the definitions grow.
+-- Typing as the reduction keeps it, in either mode: the rules without bounds on the size of types and the numbers of exceptions, and with what a bracket, a proxy and a seal have inside. Each type that is seen is known, and each home that is named is one, so that it is kept as the definitions grow.
 use Rattle.std.specs.Prelude.{◌≡◌, true, false, List, [], ◌∷◌, ◌++◌, Some, Option, ℕ}
 use Rattle.std.specs.Prelude.{option_map, slice_get}
 use Rattle.ac_types.specs.Types.{Typ, TInt, TBool, TStr, TUnit, TExn, TTuple, TList, TOpt, TFun, TAbs, Typs, no_types, typ}
@@ -13,11 +13,15 @@ use Rattle.ac_meaning.specs.Substitution.{Written}
 abbrev pub own_type : Environment → Home → ℕ → Option Typ
 own_type E c f = option_map (λ (x : Field). x.ty) (slice_get (fields_of E c) f)
 
--- the last of some types
+-- the last of some types, behind units
 abbrev pub IsLast : Typs → Typ → Type 0
 IsLast no_types T = ⊥
 IsLast (typ U no_types) T = U ≡ T
-IsLast (typ U (typ V Vs)) T = IsLast (typ V Vs) T
+IsLast (typ U (typ V Vs)) T = (U ≡ TUnit) × IsLast (typ V Vs) T
+
+abbrev pub HasArm : Arms → Type 0
+HasArm no_arms = ⊥
+HasArm (arm p e rest) = Unit {0}
 
 module _ (mode : Mode) (E : Environment) where
   abbrev pub seen : Home → Typ → Typ
@@ -60,8 +64,8 @@ module _ (mode : Mode) (E : Environment) where
     Typed (Exn k) c G T = T ≡ TExn
     Typed (ExnOf k e) c G T = (T ≡ TExn) × Typed e c G TStr
     Typed (Tuple es) c G T = (Ts : Typs) × (T ≡ TTuple Ts) × AllTyped es c G Ts
-    Typed (Nil A) c G T = (B : Typ) × (T ≡ TList B)
-    Typed (Empty A) c G T = (B : Typ) × (T ≡ TOpt B)
+    Typed (Nil A) c G T = (B : Typ) × (T ≡ TList B) × (T ≡ seen c A) × Known A
+    Typed (Empty A) c G T = (B : Typ) × (T ≡ TOpt B) × (T ≡ seen c A) × Known A
     Typed (Present e) c G T = (A : Typ) × (T ≡ TOpt A) × Typed e c G A
     Typed (Cons a b) c G T = (A : Typ) × (T ≡ TList A) × Typed a c G A × Typed b c G (TList A)
     Typed (Var i) c G T = slice_get G i ≡ Some T
@@ -73,9 +77,9 @@ module _ (mode : Mode) (E : Environment) where
     Typed (Let A e b) c G T = Typed e c G (seen c A) × Typed b c (seen c A ∷ G) T × Known A
     Typed (If e a b) c G T = Typed e c G TBool × Typed a c G T × Typed b c G T
     Typed (Seq es) c G T = (Ts : Typs) × AllTyped es c G Ts × IsLast Ts T
-    Typed (Match e arms) c G T = (A : Typ) × Typed e c G A × ArmsTyped arms c G A T
-    Typed (Try e arms) c G T = Typed e c G T × ArmsTyped arms c G TExn T
-    Typed (Raise A e) c G T = Typed e c G TExn
+    Typed (Match e arms) c G T = (A : Typ) × Typed e c G A × ArmsTyped arms c G A T × HasArm arms
+    Typed (Try e arms) c G T = Typed e c G T × ArmsTyped arms c G TExn T × HasArm arms
+    Typed (Raise A e) c G T = (T ≡ seen c A) × Typed e c G TExn × Known A
     Typed (Prim k es) c G T = (Ts : Typs) × AllTyped es c G Ts × (primitive_type k Ts ≡ Some T)
     Typed (Marshal A m e) c G T = (T ≡ TStr) × Typed m c G TStr × Typed e c G (seen c A) × Known A
     Typed (Unmarshal A e) c G T = (T ≡ seen c A) × Typed e c G TStr × Known A
@@ -99,9 +103,9 @@ module _ (mode : Mode) (E : Environment) where
     ValueTyped VUnit c T = T ≡ TUnit
     ValueTyped (VExn k s) c T = T ≡ TExn
     ValueTyped (VTuple vs) c T = (Ts : Typs) × (T ≡ TTuple Ts) × ValuesTyped vs c Ts
-    ValueTyped (VNil A) c T = (B : Typ) × (T ≡ TList B)
+    ValueTyped (VNil A) c T = (B : Typ) × (T ≡ TList B) × (T ≡ seen c A) × Known A
     ValueTyped (VCons v w) c T = (A : Typ) × (T ≡ TList A) × ValueTyped v c A × ValueTyped w c (TList A)
-    ValueTyped (VAbsent A) c T = (B : Typ) × (T ≡ TOpt B)
+    ValueTyped (VAbsent A) c T = (B : Typ) × (T ≡ TOpt B) × (T ≡ seen c A) × Known A
     ValueTyped (VPresent v) c T = (A : Typ) × (T ≡ TOpt A) × ValueTyped v c A
     ValueTyped (VLam A e) c T = (B : Typ) × (T ≡ TFun (seen c A) B) × Typed e c (seen c A ∷ []) B × Known A
     ValueTyped (VRec A B e) c T = (T ≡ TFun (seen c A) (seen c B)) × Typed e c (seen c A ∷ TFun (seen c A) (seen c B) ∷ []) (seen c B) × Known A × Known B

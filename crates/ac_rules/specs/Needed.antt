@@ -71,7 +71,7 @@ packed_def E mark is i = elim (slice_get E i) [ None ↦ [] | Some e ↦ def_ren
 abbrev pub packet_of_entries : Environment → ℕ → List ℕ → Typ → PValue → Packet
 packet_of_entries E mark is T v = record { defs = flat_map (packed_def E mark is) is; ty = T; value = value_renumbered (place_in is) v }
 
--- the set computed, where each entry speaks of earlier ones alone: downwards from entry k
+-- that set computed, where each entry speaks of earlier ones alone (`needed_is_least`): downwards from entry k
 abbrev pub needed_below : Environment → ℕ → ℕ → List ℕ → List ℕ
 needed_below E mark zero set = []
 needed_below E mark (suc k) set =

@@ -1,6 +1,6 @@
 //! What holds of packets: what is accepted keeps everything, what is packed is accepted again, and what an import links to rests on no entry that has arrived.
 
-ghost use Rattle.std.specs.Prelude.{◌≡◌, ℕ, false, ◌++◌, None, Some, IsTrue, is_none, nat_le};
+ghost use Rattle.std.specs.Prelude.{◌≡◌, ◌<◌, ℕ, false, List, ◌++◌, length, Contains, None, Some, IsTrue, is_none, nat_le};
 ghost use Rattle.std.specs.List.{list_all};
 ghost use Rattle.sha2.specs.Sha256.{sha256};
 ghost use Rattle.ac_types.specs.Types.{Bytes, Typ};
@@ -11,7 +11,7 @@ ghost use Rattle.ac_terms.specs.Bounds.{fits_packet, Spells};
 ghost use Rattle.ac_rules.specs.Links.{has_arrived, is_exact, linked, InPacket};
 ghost use Rattle.ac_rules.specs.Coherent.{IsCoherent, mark_of};
 ghost use Rattle.ac_rules.specs.Typing.{Holds};
-ghost use Rattle.ac_rules.specs.Needed.{mark_at, packet_for};
+ghost use Rattle.ac_rules.specs.Needed.{mark_at, AreNeeded, needed_by, packet_for};
 ghost use Rattle.ac_rules.specs.Packets.{cause, Accepts};
 ghost use Rattle.ac_rules.specs.Faults.{AString, marshalled};
 ghost use Rattle.ac_rules.specs.RoundTrip.{IsPackable, IsExcused};
@@ -44,4 +44,9 @@ pub fn rebinding()
 /// A packet that is accepted is accepted with further own entries too, or refused for a clash or for want of room alone.
 pub fn rebinding_own()
     ensures { (E F : Environment) (p : Packet) (T : Typ) → Widens E F → IsCoherent E → IsCoherent F → IsTrue (fits_packet p) → cause sha256 E p T ≡ None → IsKept (cause sha256 F p T) }
+{}
+
+/// The needed entries are the least set that holds the roots and what the packet form of each member speaks of, in the order of the environment.
+pub fn needed_is_least()
+    ensures { (E : Environment) (mark : ℕ) (roots : List ℕ) → IsCoherent E → ((i : ℕ) → Contains roots i → i < length E) → AreNeeded E mark roots (needed_by E mark roots) }
 {}
