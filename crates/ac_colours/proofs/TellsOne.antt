@@ -13,7 +13,7 @@ use Rattle.ac_rules.specs.Views.{Coloured, bare, view, head, opened, is_known, a
 use Rattle.ac_rules.specs.Typing.{tuple_parts, list_item, option_item}
 use Rattle.ac_rules.specs.Plain.{where_there, in_front, packed, all_packed, all_travel, plain, PlainValue}
 use Rattle.ac_rules.specs.Coherent.{IsCoherent}
-use Rattle.ac_rules.proofs.EarlierLaws.{all_left, all_right}
+use Rattle.ac_terms.proofs.AllLaws.{all_left, all_right}
 use Rattle.ac_rules.proofs.KnownTypes.{head_known, head_step, opened_known}
 use Rattle.ac_rules.proofs.HeadViews.{head_seen}
 use Rattle.ac_meaning.specs.Typed.{ValueTyped, ValuesTyped}
