@@ -1,16 +1,16 @@
 -- The types of the forms that bind variables or write types, from those of their parts.
-use Rattle.std.proofs.Common.{◌≡◌, refl, sym, ap, ap₂, ◌∙◌, subst, true, false, List, [], ◌∷◌, ◌++◌, Option, Some, None}
+use Rattle.std.proofs.Common.{◌≡◌, refl, sym, ap, ◌∙◌, subst, true, false, List, [], ◌∷◌, ◌++◌, Option, Some, None}
 use Rattle.std.specs.Prelude.{option_map, option_and_then, Result, IfOk}
 use Rattle.std.proofs.lemmas.List.{append-nil}
 use Rattle.ac_types.specs.First.{given}
-use Rattle.ac_types.specs.Types.{Typ, TBool, TFun}
+use Rattle.ac_types.specs.Types.{Typ, TFun}
 use Rattle.ac_types.specs.ReadTypes.{typ_of}
 use Rattle.ac_types.specs.declared.memory.Memory.{Memory}
 use Rattle.ac_types.specs.declared.ty.Ty.{Ty}
 use Rattle.ac_terms.specs.Terms.{Expr, Pattern, Lam, Rec, Let}
 use Rattle.ac_terms.specs.Defs.{Environment}
 use Rattle.ac_terms.specs.Read.{home_of}
-use Rattle.ac_terms.specs.Typing.{has, both_same}
+use Rattle.ac_terms.specs.Typing.{has}
 use Rattle.ac_rules.specs.Views.{Coloured}
 use Rattle.ac_rules.specs.Typing.{type_of, variables, joined, seen}
 use Rattle.ac_check.specs.Checking.{scope_of, arm_type, newest_first}
@@ -20,10 +20,6 @@ use Rattle.ac_check.proofs.KeptLaws.{K, kept_is, lam_some, rec_no_result, rec_so
 -- the same answer, of an equal type
 pub carry : (r : Result (Option Ty) Memory) (x y : Option Typ) → x ≡ y → IfOk r (λ o. option_map typ_of o ≡ x) → IfOk r (λ o. option_map typ_of o ≡ y)
 carry r x y e h = subst (λ (z : Option Typ). IfOk r (λ o. option_map typ_of o ≡ z)) e h
-
-pub choice_is : {c a b x y z : Option Typ} → c ≡ x → a ≡ y → b ≡ z → given (has c TBool) (both_same a b) ≡ given (has x TBool) (both_same y z)
-choice_is {c} {a} {b} {x} {y} p q r =
-    ap (λ (o : Option Typ). given (has o TBool) (both_same a b)) p ∙ ap₂ (λ (o u : Option Typ). given (has x TBool) (both_same o u)) q r
 
 module _ (E : Environment) (p : Place) (v : List Typ) where
   -- the type of a term whose variables have these types, and a type that is written

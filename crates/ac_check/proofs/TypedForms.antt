@@ -1,11 +1,11 @@
 -- Each form of a term as it is read, and its type from those of its parts.
-use Rattle.std.proofs.Common.{ℕ, ◌≡◌, sym, ap, ap₂, ◌∙◌, subst, false, List, map, Option, Some, None}
-use Rattle.std.specs.Prelude.{option_map, option_and_then, Result, Ok, IfOk}
+use Rattle.std.proofs.Common.{ℕ, ◌≡◌, sym, ap, ap₂, ◌∙◌, subst, false, List, map, Option}
+use Rattle.std.specs.Prelude.{option_map, Result, Ok, IfOk}
 use Rattle.ac_types.specs.Types.{Typ}
 use Rattle.ac_types.specs.ReadTypes.{typ_of}
 use Rattle.ac_types.specs.declared.memory.Memory.{Memory}
 use Rattle.ac_types.specs.declared.ty.Ty.{Ty}
-use Rattle.ac_terms.specs.Terms.{Expr, Tuple, Nil, Empty, Present, Cons, Var, Lam, Rec, App, Let, If, Seq, Match, Try, Raise, Prim, exprs, Arms, arms}
+use Rattle.ac_terms.specs.Terms.{Expr, Tuple, Nil, Empty, Present, Cons, Var, Lam, Rec, App, Let, If, Seq, Match, Try, Raise, Prim, exprs, arms}
 use Rattle.ac_terms.specs.Defs.{Environment}
 use Rattle.ac_terms.specs.Read.{expr_of}
 use Rattle.ac_terms.specs.declared.term.Term.{Term}
@@ -16,7 +16,7 @@ use Rattle.ac_terms.specs.declared.term.PVal.TheViews.{out-Term}
 use Rattle.ac_terms.specs.declared.term.Term.TheVariants as term
 use Rattle.ac_terms.proofs.ReadLaws.{expr_out, expr_of-Tuple, expr_of-Seq, expr_of-Prim}
 use Rattle.ac_rules.specs.Views.{Coloured}
-use Rattle.ac_rules.specs.Typing.{Scope, type_of, arm_types, one_of}
+use Rattle.ac_rules.specs.Typing.{Scope, type_of}
 use Rattle.ac_check.specs.Checking.{arm_of}
 use Rattle.ac_check.specs.PlainTerms.{IsPlainTerm}
 use Rattle.ac_check.proofs.TermLaws.{layer, expr_of-Match, expr_of-Try}
@@ -92,9 +92,3 @@ module _ (E : Environment) (S : Scope) where
 
   pub same_answer : (r : Result (Option Ty) Memory) (e f : Expr) (x : Option Typ) → e ≡ f → x ≡ typed f → IfOk r (λ o. option_map typ_of o ≡ x) → IfOk r (λ o. option_map typ_of o ≡ typed e)
   same_answer r e f x q h a = carry r x (typed e) (h ∙ ap typed (sym q)) a
-
-  pub match_some : (T : Typ) (e : Expr) (ps : Arms) → Some T ≡ typed e → option_and_then one_of (arm_types Coloured false E S T ps) ≡ typed (Match e ps)
-  match_some T e ps h = ap (option_and_then (λ (U : Typ). option_and_then one_of (arm_types Coloured false E S U ps))) h
-
-  pub match_none : (e : Expr) (ps : Arms) → None ≡ typed e → None ≡ typed (Match e ps)
-  match_none e ps h = ap (option_and_then (λ (U : Typ). option_and_then one_of (arm_types Coloured false E S U ps))) h

@@ -9,7 +9,7 @@ use Rattle.ac_types.specs.declared.ty.Ty.TheVariants as ty
 use Rattle.ac_types.proofs.SizeLaws.{type_laws}
 use Rattle.ac_types.proofs.Same.{both_true}
 use Rattle.ac_terms.specs.Primitives.{primitive_type}
-use Rattle.ac_terms.specs.Terms.{Expr, arms}
+use Rattle.ac_terms.specs.Terms.{arms}
 use Rattle.ac_terms.specs.Typing.{has, both_same, last_of}
 use Rattle.ac_terms.specs.Read.{expr_of, pattern_of, home_of}
 use Rattle.ac_terms.specs.declared.term.Term.{Term}
@@ -25,7 +25,7 @@ use Rattle.ac_check.proofs.TermLaws.{form_laws, types_collected, arms_collected,
 use Rattle.ac_check.proofs.ArmLaws.{arm_none, arm_some, arms_all}
 use Rattle.ac_check.proofs.ScopeLaws.{types_in-One, types_in-More}
 use Rattle.ac_check.proofs.FormLaws.{carry, function_some, recursive_no_result, recursive_big, recursive_some, binding_other, binding_some, body_some}
-use Rattle.ac_check.proofs.TypedForms.{tuple_form, nil_form, empty_form, var_form, present_form, cons_form, app_form, lam_form, rec_form, let_form, if_form, seq_form, match_form, try_form, raise_form, prim_form, plain_as, from_ok, same_type, same_answer, match_some, match_none}
+use Rattle.ac_check.proofs.TypedForms.{tuple_form, nil_form, empty_form, var_form, present_form, cons_form, app_form, lam_form, rec_form, let_form, if_form, seq_form, match_form, try_form, raise_form, prim_form, plain_as, from_ok, same_type, same_answer}
 use Rattle.ac_check.proofs.typing.+typing.Goals as goal
 
 -- the list of terms
