@@ -2,12 +2,12 @@
 use Rattle.std.proofs.Common.{◌≡◌, ◌⊎◌, inl, inr, ℕ, refl, sym, ap, ◌∙◌, subst, Bool, true, false, cond, [], ◌∷◌, Option, Some, None}
 use Rattle.ac_types.specs.First.{or_else}
 use Rattle.ac_types.specs.Types.{Typ, TInt, TBool, TStr, TUnit, TExn, TTuple, TList, TOpt, TFun, TAbs, TMine}
-use Rattle.ac_terms.specs.Terms.{Home, Main, Expr, Int, Boolean, Str, Unit', Exn, ExnOf, Tuple, Nil, Empty, Present, Cons, Var, Own, Ref, Lam, Rec, App, Let, If, Seq, Match, Try, Raise, Prim, Marshal, Unmarshal, Packed, Val, Bracket, Exprs, no_exprs, expr, Value, VStr, VTuple, VCons, VPresent, VProxy, Values, value}
+use Rattle.ac_terms.specs.Terms.{Home, Main, Expr, Int, Boolean, Str, Unit', Exn, ExnOf, Tuple, Nil, Empty, Present, Cons, Var, Own, Ref, Lam, Rec, App, Let, If, Seq, Match, Try, Raise, Prim, Marshal, Unmarshal, Packed, Val, Bracket, Exprs, no_exprs, expr, Value, VStr, VTuple, VCons, VPresent, VProxy, value}
 use Rattle.ac_terms.specs.Defs.{Environment}
 use Rattle.ac_rules.specs.Views.{Mode}
 use Rattle.ac_rules.specs.Typing.{is_function}
 use Rattle.ac_meaning.specs.Worlds.{Exception, World, match_failure}
-use Rattle.ac_meaning.specs.Acts.{Act, Is, Goes, Turns, Applies, Raises, Wrong, becomes, or_raises, within, part, parts, At}
+use Rattle.ac_meaning.specs.Acts.{Act, Is, Goes, Turns, Applies, Raises, Wrong, or_raises, within, part, parts, At}
 use Rattle.ac_meaning.specs.Substitution.{inst}
 use Rattle.ac_meaning.specs.Matching.{chosen}
 use Rattle.ac_meaning.specs.Primitives.{spelled, primitive, answered, exception_of, exception_value, thrown}

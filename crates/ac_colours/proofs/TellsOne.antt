@@ -1,15 +1,15 @@
 -- All of a typed value without a function travels; so a typed seal at a first-order type tells exactly one thing.
-use Rattle.std.proofs.Common.{◌≡◌, refl, sym, ap, ◌∙◌, subst, ℕ, suc, Bool, true, false, cond, List, [], ◌∷◌, ◌++◌, Option, Some}
+use Rattle.std.proofs.Common.{◌≡◌, refl, sym, ap, ◌∙◌, subst, ℕ, suc, Bool, true, cond, List, [], ◌∷◌, ◌++◌, Option, Some}
 use Rattle.std.specs.Prelude.{option_map, option_to_list}
 use Rattle.std.specs.List.{list_all}
 use Rattle.ac_types.proofs.Same.{and_true, both_true}
 use Rattle.ac_types.specs.First.{given}
-use Rattle.ac_types.specs.Types.{Bytes, Typ, TTuple, TList, TOpt, TUnit, TAbs, Typs, no_types, typ, mentions, mentions_of_all, has_function}
+use Rattle.ac_types.specs.Types.{Bytes, Typ, TTuple, TList, TOpt, TUnit, TAbs, Typs, no_types, typ, mentions, mentions_of_all}
 use Rattle.ac_terms.specs.Terms.{Home, PValue, KTuple, KList, KPresent, PValues, no_pvalues, pvalue, Value, VInt, VBool, VStr, VUnit, VExn, VTuple, VNil, VCons, VAbsent, VPresent, VLam, VRec, VProxy, VSeal, Values, no_values, value}
 use Rattle.ac_terms.specs.Defs.{Environment}
 use Rattle.ac_terms.specs.Spelling.{two}
 use Rattle.ac_terms.specs.Heads.{Head, value_heads, all_value_heads}
-use Rattle.ac_rules.specs.Views.{Coloured, bare, view, head, opened, is_known, are_known, IsFirstOrder}
+use Rattle.ac_rules.specs.Views.{Coloured, view, head, opened, is_known, are_known, IsFirstOrder}
 use Rattle.ac_rules.specs.Typing.{tuple_parts, list_item, option_item}
 use Rattle.ac_rules.specs.Plain.{where_there, in_front, packed, all_packed, all_travel, plain, PlainValue}
 use Rattle.ac_rules.specs.Coherent.{IsCoherent}

@@ -1,22 +1,19 @@
 -- A typed value is packed alike with brackets and without.
-use Rattle.std.proofs.Common.{◌≡◌, refl, sym, ap, ap₂, ◌∙◌, ℕ, zero, suc, Bool, true, false, Option, Some, None, List, [], ◌∷◌}
-use Rattle.std.specs.Prelude.{pos}
-use Rattle.ac_types.specs.Types.{Bytes, Typ, TInt, TStr, TUnit, TExn, TTuple, TList, TOpt, TFun, TAbs, Typs, no_types, typ}
-use Rattle.ac_terms.specs.Terms.{Home, Main, Expr, Int, Boolean, Str, Unit', Exn, ExnOf, Tuple, Nil, Empty, Present, Cons, Var, Own, Ref, Lam, Rec, App, Let, If, Seq, Match, Try, Raise, Prim, Marshal, Unmarshal, Packed, Val, Bracket, Exprs, no_exprs, expr, exprs, Arms, no_arms, arm, PValue, KInt, KBool, KStr, KUnit, KExn, KTuple, KList, KAbsent, KPresent, KFun, PValues, no_pvalues, pvalue, Value, VInt, VBool, VStr, VUnit, VExn, VTuple, VNil, VCons, VAbsent, VPresent, VLam, VRec, VProxy, VSeal, Values, no_values, value}
+use Rattle.std.proofs.Common.{◌≡◌, refl, ap, ap₂, Option, Some, None, List}
+use Rattle.ac_types.specs.Types.{Typ, TList, Typs, no_types, typ}
+use Rattle.ac_terms.specs.Terms.{Home, Expr, Int, Boolean, Str, Unit', Exn, ExnOf, Tuple, Nil, Empty, Present, Cons, Var, Own, Ref, Lam, Rec, App, Let, If, Seq, Match, Try, Raise, Prim, Marshal, Unmarshal, Packed, Val, Bracket, Exprs, no_exprs, expr, Arms, no_arms, arm, PValue, KTuple, KPresent, pvalue, Value, VInt, VBool, VStr, VUnit, VExn, VTuple, VNil, VCons, VAbsent, VPresent, VLam, VRec, VProxy, VSeal, Values, no_values, value}
 use Rattle.ac_terms.specs.Defs.{Environment}
-use Rattle.ac_rules.specs.Views.{Mode, Coloured, head}
+use Rattle.ac_rules.specs.Views.{Mode, head}
 use Rattle.ac_rules.specs.Typing.{tuple_parts, list_item, option_item}
 use Rattle.ac_rules.specs.Plain.{where_there, in_front, travelling, packed, all_packed, packed_term, packed_terms, packed_arms}
 use Rattle.ac_meaning.specs.BareTerms.{bare, bare_all, bare_arms, bare_value, bare_values}
 use Rattle.ac_meaning.specs.BarePacking.{bare_packed, bare_all_packed, bare_packed_term, bare_packed_terms, bare_packed_arms}
 use Rattle.ac_meaning.specs.Typed.{Typed, AllTyped, ArmsTyped, ValueTyped, ValuesTyped}
+use Rattle.ac_meaning.proofs.Inst.{ap₃}
 
 there_same : {A : Type 0} (o : Option A) (f g : A → PValue) → ((a : A) → f a ≡ g a) → where_there o f ≡ where_there o g
 there_same None f g h = refl
 there_same (Some a) f g h = h a
-
-ap₃ : {A B C D : Type 0} (f : A → B → C → D) {a a' : A} {b b' : B} {c c' : C} → a ≡ a' → b ≡ b' → c ≡ c' → f a b c ≡ f a' b' c'
-ap₃ f {a' = a'} {b = b} {c = c} p q r = ap (λ x. f x b c) p ∙ ap₂ (f a') q r
 
 module _ (mode : Mode) (E : Environment) where
   mutual
@@ -83,4 +80,3 @@ module _ (mode : Mode) (E : Environment) where
     arms_alike : (arms : Arms) (c : Home) (G : List Typ) (A X : Typ) → ArmsTyped mode E arms c G A X → bare_packed_arms E (bare_arms c arms) ≡ packed_arms E c arms
     arms_alike no_arms c G A X w = refl
     arms_alike (arm p e rest) c G A X w = ap₂ (arm p) (term_alike e c _ X w.2) (arms_alike rest c G A X w.3)
-
