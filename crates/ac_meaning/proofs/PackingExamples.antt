@@ -20,17 +20,13 @@ use Rattle.ac_rules.proofs.Samples.{t, c_name, c_t, one_entry}
 use Rattle.ac_rules.proofs.PlainExamples.{increment, b_t}
 use Rattle.ac_meaning.specs.Worlds.{World, fresh}
 use Rattle.ac_meaning.specs.Acts.{Act, Goes, Raises, At, Over, Returned, iter}
+use Rattle.ac_rules.specs.Plain.{packed}
 use Rattle.ac_meaning.specs.Packing.{packing, landing, marshal_step, bare_marshal_step, unmarshal_step, marshal_failure, unmarshal_failure}
 use Rattle.ac_meaning.specs.Reduction.{step}
 use Rattle.ac_meaning.specs.BareTerms.{WUnit, bare, bare_value}
-use Rattle.ac_meaning.specs.BarePacking.{packed as packed_bare}
 use Rattle.ac_meaning.specs.BareReduction as lean
 use Rattle.ac_meaning.proofs.Programs.{number, plus, print_int}
 use Rattle.ac_types.specs.Sigs.{MyName}
-
--- the packed value of a value in a home
-abbrev pub packed : Environment → Home → Value → Typ → PValue
-packed E c v T = packed_bare E (bare_value c v) T
 
 abbrev pub a_mark : Bytes → Entry
 a_mark s = record { def = AMark s; name = None; seen = Here; link = None }
@@ -152,7 +148,7 @@ unfolding packing
 a_foreign_function = refl
 
 pub a_foreign_function_bare :
-    bare_marshal_step (fresh increments [] false) Main (TFun b_t b_t) (bare_value Main (VStr (codes "MK"))) (bare_value Main foreign) ≡ Raises (marshal_failure (codes "function"))
+    bare_marshal_step (fresh increments [] false) (TFun b_t b_t) (bare_value Main (VStr (codes "MK"))) (bare_value Main foreign) ≡ Raises (marshal_failure (codes "function"))
 unfolding packing
 a_foreign_function_bare = refl
 
