@@ -44,3 +44,4 @@ pub mod PackedHolds
 pub mod ReadBack
 mod PackingExamples
 mod RebuiltExamples
+mod ArrivalExamples
