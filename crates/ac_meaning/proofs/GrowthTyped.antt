@@ -1,13 +1,10 @@
 -- What is typed stays typed as the definitions grow: terms, values and values that are written for variables.
 use Rattle.std.proofs.Common.{◌≡◌, sym, ap, ap₂, ◌∙◌, subst, List, [], ◌∷◌, ◌++◌, Some}
-use Rattle.std.specs.Prelude.{ℕ, option_map, option_and_then, slice_get}
-use Rattle.ac_types.specs.Types.{Bytes, Typ, TBool, TStr, TExn, TList, TFun, TAbs, Typs, with_mine}
-use Rattle.ac_types.specs.Sigs.{Signature, under}
+use Rattle.std.specs.Prelude.{ℕ, option_map, slice_get}
+use Rattle.ac_types.specs.Types.{Typ, TBool, TStr, TExn, TList, TFun, TAbs, Typs}
 use Rattle.ac_terms.specs.Terms.{Home, Pattern, PWild, PVar, PInt, PBool, PStr, PUnit, PTuple, PNil, PCons, PAbsent, PPresent, PExn, PExnOf, Patterns, no_patterns, pattern', Expr, Int, Boolean, Str, Unit', Exn, ExnOf, Tuple, Nil, Empty, Present, Cons, Var, Own, Ref, Lam, Rec, App, Let, If, Seq, Match, Try, Raise, Prim, Marshal, Unmarshal, Packed, Val, Bracket, Exprs, no_exprs, expr, Arms, no_arms, arm, Value, VInt, VBool, VStr, VUnit, VExn, VTuple, VNil, VCons, VAbsent, VPresent, VLam, VRec, VProxy, VSeal, Values, no_values, value}
-use Rattle.ac_terms.specs.Defs.{Environment, Field, signature_at, name_at}
+use Rattle.ac_terms.specs.Defs.{Environment, Field}
 use Rattle.ac_rules.specs.Views.{Mode, Coloured}
-use Rattle.ac_rules.specs.Typing.{value_in, outside}
-use Rattle.ac_rules.proofs.Rules.{map_some, then_some}
 use Rattle.ac_meaning.specs.Substitution.{Written}
 use Rattle.ac_rules.specs.Growth.{Extends}
 use Rattle.ac_meaning.specs.Typed.{own_type, seen, Known, IsHome, Fits, AllFit, Typed, AllTyped, ArmsTyped, ValueTyped, ValuesTyped, WrittenTyped}

@@ -4,11 +4,10 @@ use Rattle.std.specs.Prelude.{option_map, option_and_then, slice_get, ◌&&◌}
 use Rattle.std.specs.List.{list_all}
 use Rattle.ac_types.proofs.Same.{both_true}
 use Rattle.ac_types.proofs.FirstLaws.{none≢some, some_eq}
-use Rattle.ac_types.specs.Types.{Typ}
-use Rattle.ac_terms.specs.Terms.{Expr, Home, Main, In}
+use Rattle.ac_terms.specs.Terms.{Expr, In}
 use Rattle.ac_terms.specs.Defs.{Environment, Field, Module, AModule, module_of, def_of}
 use Rattle.ac_terms.specs.Bounds.{is_lower, fits_type, fits_term}
-use Rattle.ac_rules.specs.Views.{Mode, Coloured, view, are_known}
+use Rattle.ac_rules.specs.Views.{Mode, Coloured, view}
 use Rattle.ac_rules.specs.Typing.{of_field}
 use Rattle.ac_rules.specs.Coherent.{IsCoherent}
 use Rattle.ac_rules.proofs.KnownTypes.{values_known, own_known}

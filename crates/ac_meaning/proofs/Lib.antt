@@ -57,3 +57,4 @@ pub mod Kept
 pub mod MarshalledRead
 mod PackingExamples
 mod RebuiltExamples
+mod ArrivalExamples

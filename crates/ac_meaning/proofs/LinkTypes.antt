@@ -1,6 +1,6 @@
 -- In a coherent environment each value of a definition comes from a field of its type, as the homes on the way see it.
-use Rattle.std.proofs.Common.{◌≡◌, refl, sym, ap, ap₂, ◌∙◌, subst, ℕ, zero, suc, ◌<◌, Bool, true, false, not, ◌&&◌, ◌||◌, List, [], ◌∷◌, ◌++◌, Option, Some, None, take, map, flat_map, arith}
-use Rattle.std.specs.Prelude.{option_map, option_and_then, slice_get, unwrap_or, position, is_some, is_none}
+use Rattle.std.proofs.Common.{◌≡◌, refl, sym, ap, ap₂, ◌∙◌, subst, ℕ, suc, ◌<◌, Bool, true, false, not, ◌&&◌, ◌||◌, List, [], ◌∷◌, ◌++◌, Option, Some, None, take, map, flat_map, arith}
+use Rattle.std.specs.Prelude.{option_map, option_and_then, slice_get, unwrap_or, position, is_some}
 use Rattle.std.specs.Option.{option_map_or}
 use Rattle.std.specs.List.{list_all}
 use mathlib.Core.Bool.{true≢false}
@@ -26,7 +26,7 @@ use Rattle.ac_rules.proofs.Rules.{map_some, then_some, has_some, agree_some, mod
 use Rattle.ac_rules.proofs.EarlierLaws.{position-first, position-later, known_earlier, found_keeps, no_first, names_some}
 use Rattle.ac_rules.proofs.PartLaws.{AllPass, pass_left, pass_right, pass_under}
 use Rattle.ac_terms.proofs.AllLaws.{all_left, all_right, all_implies, all_append}
-use Rattle.ac_rules.proofs.ViewLaws.{or_none, or_none_left, exact_keeps, keeps_name, exact_not_least, foreign_view, passes}
+use Rattle.ac_rules.proofs.ViewLaws.{or_none, or_none_left, exact_keeps, keeps_name, exact_not_least, foreign_view}
 use Rattle.ac_rules.proofs.BareLaws.{known_has}
 use Rattle.ac_meaning.specs.References.{module_behind, field_number, target, is_by_version, Once, Twice, through, seen_inside, route}
 use Rattle.ac_meaning.specs.Typed.{own_type}

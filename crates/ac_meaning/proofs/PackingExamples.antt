@@ -7,7 +7,7 @@ use Rattle.ac_terms.specs.Spelling.{two, value_bytes}
 use Rattle.std.specs.Prelude.{ℕ, zero, suc, pos, Bool, true, false, [], ◌∷◌, ◌++◌, length, take, Option, Some, None, is_none, codes, replicate, nat_lt}
 use Rattle.std.specs.Int.{int_wrap}
 use Rattle.std.specs.Fmt.{digits}
-use Rattle.ac_types.specs.Types.{Bytes, Typ, TInt, TStr, TBool, TUnit, TTuple, TList, TFun, typs, TOpt}
+use Rattle.ac_types.specs.Types.{Bytes, Typ, TInt, TStr, TBool, TUnit, TTuple, TList, TFun, typs}
 use Rattle.ac_types.specs.Words.{is_reserved}
 use Rattle.ac_terms.specs.Terms.{Home, Main, In, Expr, Str, Unit', Var, Ref, Lam, App, Prim, Marshal, Unmarshal, Packed, Val, exprs, Value, VInt, VStr, VUnit, VTuple, VNil, VCons, VLam, VProxy, no_values, value, PValue, KInt, KStr, KFun, Present, KUnit}
 use Rattle.ac_terms.specs.Defs.{Environment, Entry, AMark, Here, AModule, Packet}
@@ -16,7 +16,7 @@ use Rattle.ac_terms.specs.Heads.{packed_heads}
 use Rattle.ac_terms.specs.Reading.{packet_of}
 use Rattle.ac_rules.specs.Views.{Plain, Coloured}
 use Rattle.ac_rules.specs.Faults.{Fault, Depth, Function, Size, NoString, behind, marshalled, first_fault, whole_fault}
-use Rattle.ac_rules.proofs.Samples.{t, c_name, c_t, one_entry}
+use Rattle.ac_rules.proofs.Samples.{c_t, one_entry}
 use Rattle.ac_rules.proofs.PlainExamples.{increment, b_t}
 use Rattle.ac_meaning.specs.Worlds.{World, fresh}
 use Rattle.ac_meaning.specs.Acts.{Act, Goes, Raises, At, Over, Returned, iter}

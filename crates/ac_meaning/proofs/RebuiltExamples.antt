@@ -1,9 +1,9 @@
 -- The values that are rebuilt of packed values, computed: each kind of value, functions, and abstract types.
 use Rattle.std.proofs.Common.{◌≡◌, refl}
-use Rattle.std.specs.Prelude.{pos, true, false, [], ◌∷◌, ◌++◌, None, Some, codes}
-use Rattle.ac_types.specs.Types.{Typ, TInt, TBool, TStr, TUnit, TExn, TTuple, TList, TOpt, TFun, TAbs, TMine, typs}
+use Rattle.std.specs.Prelude.{pos, true, [], ◌∷◌, ◌++◌, None, Some, codes}
+use Rattle.ac_types.specs.Types.{Typ, TInt, TBool, TStr, TUnit, TExn, TTuple, TList, TOpt, TFun, TAbs, typs}
 use Rattle.ac_types.specs.Sigs.{MyName, Exact, HereAlready}
-use Rattle.ac_terms.specs.Terms.{Home, Main, In, Var, Lam, Rec, App, Packed, Val, PValue, KInt, KBool, KStr, KUnit, KExn, KTuple, KList, KAbsent, KPresent, KFun, no_pvalues, pvalue, Value, VInt, VBool, VStr, VUnit, VExn, VTuple, VNil, VCons, VAbsent, VPresent, VLam, VRec, VProxy, VSeal, no_values, value}
+use Rattle.ac_terms.specs.Terms.{Home, Main, In, Var, Lam, Rec, App, Packed, Val, KInt, KBool, KStr, KUnit, KExn, KTuple, KList, KAbsent, KPresent, KFun, no_pvalues, pvalue, VInt, VBool, VStr, VUnit, VExn, VTuple, VNil, VCons, VAbsent, VPresent, VLam, VRec, VProxy, VSeal, no_values, value}
 use Rattle.ac_terms.specs.Defs.{Environment, AModule, AnImport, Here}
 use Rattle.ac_rules.specs.Views.{Mode, Plain, Coloured}
 use Rattle.ac_rules.proofs.Samples.{t, c_name, c_t, abstract_sig, one_entry}

@@ -1,17 +1,16 @@
 -- The least entry of a name, and the first item of a list that passes.
-use Rattle.std.proofs.Common.{◌≡◌, refl, sym, ap, ◌∙◌, subst, ℕ, zero, suc, ◌+◌, ◌<◌, Bool, true, false, not, cond, nat_lt, ◌&&◌, List, [], ◌∷◌, ◌++◌, length, map, Some, None, take, Option}
+use Rattle.std.proofs.Common.{◌≡◌, refl, sym, ap, ◌∙◌, ℕ, zero, suc, ◌+◌, ◌<◌, Bool, true, false, not, cond, nat_lt, ◌&&◌, List, [], ◌∷◌, length, Some, None, take, Option}
 use Rattle.std.specs.Prelude.{position, option_map, slice_get, ◌||◌}
 use Rattle.std.specs.Option.{option_map_or}
-use Rattle.std.specs.List.{list_all, position_or_len}
+use Rattle.std.specs.List.{position_or_len}
 use Rattle.std.proofs.lemmas.Bool.Decides.{nat_tests}
 use mathlib.Core.Bool.{true≢false}
 use native.Mathlib.Omega.{arith}
-use Rattle.ac_types.proofs.Same.{both_true, and_true, bytes_eq}
+use Rattle.ac_types.proofs.Same.{bytes_eq}
 use Rattle.ac_types.proofs.FirstLaws.{none≢some, some_eq}
-use Rattle.ac_types.specs.Types.{Bytes, Typ, mentions, same_bytes}
-use Rattle.ac_types.specs.Sigs.{Typed_name, Signature, under, type_under, is_abstract}
+use Rattle.ac_types.specs.Types.{Bytes}
+use Rattle.ac_types.specs.Sigs.{Signature, type_under, is_abstract}
 use Rattle.ac_terms.specs.Defs.{Environment, Entry, names, find_name, name_at, signature}
-use Rattle.ac_terms.specs.Parts.{Part, OfType, OfRef, OfHome, Captured, part_mentions}
 use Rattle.ac_rules.specs.Views.{declares, is_known}
 use Rattle.ac_rules.proofs.Rules.{map_some}
 

@@ -1,5 +1,5 @@
 -- What was known stays as the definitions grow: entries, names, representations, views and bare types.
-use Rattle.std.proofs.Common.{◌≡◌, refl, sym, ap, ap₂, ◌∙◌, subst, ℕ, zero, suc, ◌+◌, ◌<◌, ◌≤◌, Bool, true, false, List, [], ◌∷◌, ◌++◌, length, Option, Some, None, append_assoc, append-nil, length-append}
+use Rattle.std.proofs.Common.{◌≡◌, refl, sym, ap, ◌∙◌, subst, ℕ, zero, suc, ◌+◌, ◌<◌, ◌≤◌, true, [], ◌++◌, length, Some, append_assoc, append-nil, length-append}
 use Rattle.std.specs.Prelude.{option_map, option_and_then, slice_get, unwrap_or, is_some}
 use Rattle.std.specs.List.{list_all}
 use native.Mathlib.Omega.{arith}
@@ -9,7 +9,7 @@ use Rattle.ac_types.specs.Sigs.{Signature}
 use Rattle.ac_terms.specs.Terms.{Home, Main, In}
 use Rattle.ac_terms.specs.Defs.{Environment, Entry, Module, Def, module_of, signature, def_of, module_at, signature_at, name_at, names, find_name}
 use Rattle.ac_terms.proofs.AllLaws.{all_left, all_right, all_append, all_implies}
-use Rattle.ac_rules.specs.Views.{Mode, Plain, Coloured, representation, opened, has_name, opens, rounds, bare, view, head, is_known, are_known}
+use Rattle.ac_rules.specs.Views.{Mode, Plain, Coloured, representation, opened, opens, rounds, bare, view, head, is_known, are_known}
 use Rattle.ac_rules.specs.Typing.{is_home, is_function_home, fields_of, value_in}
 use Rattle.ac_rules.specs.Links.{has_arrived}
 use Rattle.ac_rules.specs.Coherent.{IsCoherent}
@@ -19,7 +19,7 @@ use Rattle.ac_rules.proofs.ListLaws.{get_old}
 use Rattle.ac_rules.proofs.ViewLaws.{within}
 use Rattle.ac_rules.proofs.BareLaws.{known_has, bare_mentions_none, closed}
 use Rattle.ac_rules.proofs.LookupLaws.{name_old, fields_old, value_old, find_old, known_old, representation_old, view_old}
-use Rattle.ac_rules.proofs.KnownTypes.{rounds_plus, rounds_still, each_same, opened_known, head_old, has_value, HasValue}
+use Rattle.ac_rules.proofs.KnownTypes.{rounds_plus, rounds_still, each_same, opened_known, head_old, has_value}
 
 -- growth is an order
 pub extends_not : (E : Environment) → IsCoherent E → Extends E E

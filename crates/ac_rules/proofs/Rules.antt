@@ -6,12 +6,12 @@ use Rattle.ac_types.specs.First.{given}
 use Rattle.ac_types.proofs.FirstLaws.{none≢some, some_eq, given_some}
 use Rattle.ac_types.proofs.Same.{both_true, same_eq}
 use Rattle.ac_types.specs.Types.{Bytes, Typ, TInt, TBool, TStr, TUnit, TExn, TTuple, TFun, TOpt, TList, Typs, typ, agree}
-use Rattle.ac_terms.specs.Terms.{Home, Main, In, PValue, Value, Expr, Exprs, expr, Arms, Int, Boolean, Str, Unit', Exn, ExnOf, Tuple, Nil, Empty, Var, App, Lam, Let, If, Seq, Match, Try, Raise, Rec, Prim, Unmarshal, Marshal, Packed, Val, Bracket, Present, Cons, Own, Ref}
+use Rattle.ac_terms.specs.Terms.{Home, Main, In, PValue, Expr, Exprs, expr, Arms, Int, Boolean, Str, Unit', Exn, ExnOf, Tuple, Nil, Empty, Var, App, Lam, Let, If, Seq, Match, Try, Raise, Rec, Prim, Unmarshal, Marshal, Packed, Present, Cons, Own, Ref}
 use Rattle.ac_terms.specs.Defs.{Environment, Module, Def, AModule, AnImport, AMark, module_of, signature, def_of, module_at}
 use Rattle.ac_terms.specs.Primitives.{has_text, is_exception, primitive_type}
 use Rattle.ac_terms.specs.Typing.{has, both_same, also, last_of}
 use Rattle.ac_rules.specs.Views.{Mode, Plain, Coloured, view, are_known}
-use Rattle.ac_rules.specs.Typing.{Scope, bind, all_of, field_type, ref_type, HasType, applied, kept_in, holds, value_type, seen, types_of, arm_types, one_of, a_list, an_option, joined, is_home, is_function_home}
+use Rattle.ac_rules.specs.Typing.{Scope, bind, field_type, ref_type, HasType, applied, kept_in, holds, seen, types_of, arm_types, one_of, a_list, an_option, joined, is_home, is_function_home}
 
 pub has_some : (o : Option Typ) (U : Typ) → has o U ≡ true → o ≡ Some U
 has_some None U e = absurd (true≢false (sym e))
@@ -240,14 +240,3 @@ module _ (mode : Mode) (E : Environment) (S : Scope) where
 
   pub rule-Packed : (A : Typ) (v : PValue) (T : Typ) → HasType mode E S (Packed A v) T → (holds mode false E v A ≡ true) × (are_known E A ≡ true) × (view mode E S.home A ≡ T)
   rule-Packed A v T h = ends _ A T h
-
-  pub rule-Val : (A : Typ) (v : Value) (T : Typ) → HasType mode E S (Val A v) T →
-      (value_type mode false E S.home v ≡ Some (view mode E S.home A)) × (are_known E A ≡ true) × (view mode E S.home A ≡ T)
-  rule-Val A v T h = let p = ends _ A T h in ((agrees _ S.home A p.0).1, p.1, p.2)
-
-  pub rule-Bracket : (c : Home) (A : Typ) (e : Expr) (T : Typ) → HasType mode E S (Bracket c A e) T →
-      (is_home E c ≡ true) × HasType mode E (all_of E c) e (view mode E c A) × (are_known E A ≡ true) × (view mode E S.home A ≡ T)
-  rule-Bracket c A e T h =
-      let p = ends _ A T h in
-      let q = both_true _ _ p.0 in
-      (q.0, (agrees _ c A q.1).1, p.1, p.2)

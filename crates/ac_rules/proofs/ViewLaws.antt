@@ -7,7 +7,7 @@ use mathlib.Core.Path.{ap₂}
 use native.Mathlib.Omega.{arith}
 use Rattle.sha2.specs.Sha256.{sha256}
 use Rattle.ac_types.specs.First.{or_else, first_some}
-use Rattle.ac_types.proofs.Same.{both_true, and_true, bytes_eq}
+use Rattle.ac_types.proofs.Same.{both_true, bytes_eq}
 use Rattle.ac_types.proofs.FirstLaws.{none≢some, some_eq}
 use Rattle.ac_types.specs.Types.{Bytes, Typ, TInt, TBool, TStr, TUnit, TExn, TTuple, TList, TOpt, TFun, TAbs, TMine, Typs, no_types, typ, mentions, mentions_of_all, with_each, all_with_each}
 use Rattle.ac_types.specs.Sigs.{Typed_name, Constraint, Ranges, Exact}
