@@ -218,8 +218,7 @@ fn rec(
     ensures { IfOk result (λ t. RecOf (type_of from.now) (type_of to.now) body t) }
 {
     let body = body?;
-    let from = ty(alloc, from)?;
-    let to = ty(alloc, to)?;
+    let (from, to) = both(ty(alloc, from), ty(alloc, to))?;
     Ok(Term::Rec(from, to, body))
 }
 
@@ -269,9 +268,10 @@ fn arm<'a>(alloc: Global, case: &'a SArm, scope: &'a Scope<'a>) -> Result<Arm, M
     requires { too_many (bind (variables (arm_of case.now).0) (names_in scope.now)) (arm_of case.now).1 ≡ None }
     ensures { IfOk result (λ a. read_arm a ≡ (pattern_in (arm_of case.now).0, elaborated (bind (variables (arm_of case.now).0) (names_in scope.now)) (arm_of case.now).1)) }
 {
-    let pat = pattern(alloc, &case.pat)?;
     let names = variables(alloc, &case.pat)?;
     let inner = Scope::Arm(&*scope, names.as_slice());
-    let body = term(alloc, &case.body, &inner)?;
-    Ok(Arm { pat, body })
+    both(pattern(alloc, &case.pat), term(alloc, &case.body, &inner)).map(|(pat, body)| Arm {
+        pat,
+        body,
+    })
 }
