@@ -4,6 +4,7 @@
 mod copy;
 mod def;
 mod env;
+pub mod laws;
 mod pat;
 mod term;
 
