@@ -1,7 +1,9 @@
 // Tokens as a text, `m` for `myname`, and what they are: numbers, `n..m` for a range, a last `*`; `!` where they are nothing.
 
-use ac_types::{Atom, Constraint, Range};
-use ac_version::{VToken, VersionFault, read_constraint, read_version};
+use ac_types::{Atom, Constraint, Name, Range};
+use ac_version::{
+    VToken, VersionFault, constraint_text, meets, read_constraint, read_version, version_text,
+};
 use std::alloc::{AllocError, Global};
 use std::test::Fail;
 
@@ -164,5 +166,74 @@ fn versions_and_constraints(rt: HostRuntime) -> Result<(), Fail> {
         let got = constraint(rt.alloc(), text)?;
         assert_eq!(rt; got.as_slice(), want);
     }
+    Ok(())
+}
+
+// A constraint, a version, and whether the version meets it.
+const MEETINGS: [(&[u8], &[u8], bool); 7] = [
+    (b"1.2-4.*", b"1.2", true),
+    (b"1.2-4.*", b"1.4.9", true),
+    (b"1.2-4.*", b"1.5", false),
+    (b"1.2-4.*", b"2.3", false),
+    (b"*", b"m", true),
+    (b"1", b"m", false),
+    (b"1", b"1.2", false),
+];
+
+// A constraint or a version, and how it is printed.
+const PRINTED: [(&[u8], &[u8]); 3] = [(b"1.2-4.*", b"1.2-4.*"), (b"-3.4-", b"-3.4-"), (b"*", b"*")];
+
+fn is_met(alloc: Global, wanted: &[u8], had: &[u8]) -> Result<Option<bool>, AllocError> {
+    let wanted = tokens(alloc, wanted)?;
+    let had = tokens(alloc, had)?;
+    let Ok(wanted) = read_constraint(alloc, wanted.as_slice()) else {
+        return Ok(None);
+    };
+    match read_version(alloc, had.as_slice()) {
+        Ok(had) => Ok(Some(meets(&had, &wanted, &Name([0; 32])))),
+        Err(_) => Ok(None),
+    }
+}
+
+fn printed(alloc: Global, text: &[u8]) -> Result<Vec<u8>, AllocError> {
+    let mut out = Vec::new(alloc);
+    let tokens = tokens(alloc, text)?;
+    if let Ok(constraint) = read_constraint(alloc, tokens.as_slice()) {
+        match constraint_text(alloc, &constraint) {
+            Ok(text) => out.extend_from_slice(text.as_slice())?,
+            Err(_) => out.push(b'?')?,
+        }
+    }
+    Ok(out)
+}
+
+fn printed_version(alloc: Global, text: &[u8]) -> Result<Vec<u8>, AllocError> {
+    let mut out = Vec::new(alloc);
+    let tokens = tokens(alloc, text)?;
+    if let Ok(version) = read_version(alloc, tokens.as_slice()) {
+        match version_text(alloc, &version) {
+            Ok(text) => out.extend_from_slice(text.as_slice())?,
+            Err(_) => out.push(b'?')?,
+        }
+    }
+    Ok(out)
+}
+
+#[test]
+fn versions_meet_constraints(rt: HostRuntime) -> Result<(), Fail> {
+    for (wanted, had, holds) in MEETINGS {
+        assert_eq!(rt; is_met(rt.alloc(), wanted, had)?, Some(holds));
+    }
+    Ok(())
+}
+
+#[test]
+fn prints_constraints(rt: HostRuntime) -> Result<(), Fail> {
+    for (text, want) in PRINTED {
+        let got = printed(rt.alloc(), text)?;
+        assert_eq!(rt; got.as_slice(), want);
+    }
+    let got = printed_version(rt.alloc(), b"1.m.20")?;
+    assert_eq!(rt; got.as_slice(), b"1.myname.20".as_slice());
     Ok(())
 }
