@@ -1,16 +1,17 @@
--- A tree whose forms all run has a term without own fields, references, marshal, unmarshal and captured values.
+-- A tree whose forms all run has a term of the source, without own fields, references, marshal, unmarshal and captured values.
 use Rattle.std.proofs.Common.{◌≡◌, true, List, ◌∷◌, Option, Some, None, ℕ, refl, sym}
 use Rattle.std.specs.Option.{option_or}
+use mathlib.Core.Bool.{true≢false}
 use Rattle.ac_types.specs.Types.{Bytes}
 use Rattle.ac_types.proofs.FirstLaws.{none≢some}
 use Rattle.ac_types.proofs.Same.{both_true, and_true}
-use Rattle.ac_terms.specs.Terms.{Expr, ExnOf, Tuple, Present, Cons, Own, Ref, Lam, Rec, App, Let, If, Seq, Match, Try, Raise, Prim, Exprs, no_exprs, expr, Arms, no_arms, arm}
+use Rattle.ac_terms.specs.Terms.{Expr, ExnOf, Tuple, Present, Cons, Own, Ref, Lam, Rec, App, Let, If, Seq, Match, Try, Raise, Prim, Marshal, Unmarshal, Packed, Val, Bracket, Exprs, no_exprs, expr, Arms, no_arms, arm}
 use Rattle.ac_syntax.specs.Trees.{Tree, ExExnOf, ExTuple, ExPresent, ExCons, ExOf, ExFun, ExRec, ExApp, ExLet, ExLetRec, ExIf, ExSeq, ExMatch, ExTry, ExRaise, ExAnd, ExOr, ExOp, ExMarshal, ExUnmarshal, Trees, no_trees, tree, ArmTrees, no_arm_trees, arm_tree}
 use Rattle.ac_resolve.specs.Names.{primitive}
 use Rattle.ac_resolve.specs.declared.primitive.Primitive.{Primitive}
 use Rattle.ac_resolve.specs.Elaboration.{variables, bind, primitive_at, value_of, applied, elaborated, elaborated_all, elaborated_arms}
 use Rattle.ac_check.specs.PlainTerms.{is_plain, are_plain, arms_plain}
-use Rattle.ac_meaning.specs.Laws.{packs_nothing, pack_nothing, arms_pack_nothing}
+use Rattle.ac_meaning.specs.Laws.{is_source, are_source, arms_are_source}
 use Rattle.ac_load.specs.Built.{unbuilt, unbuilt_all, unbuilt_arms}
 
 both_none : (a b : Option ℕ) → option_or a b ≡ None → (a ≡ None) × (b ≡ None)
@@ -80,41 +81,46 @@ mutual
       let parts = both_none (unbuilt b) (unbuilt_arms arms) h in
       and_true (tree_plain b (bind (variables p) names) parts.0) (arm_trees_plain arms names parts.1)
 
--- such a term neither marshals nor unmarshals
+-- such a term is one of the source
 mutual
-  pub plain_packs_nothing : (e : Expr) → is_plain e ≡ true → packs_nothing e ≡ true
-  plain_packs_nothing (ExnOf k e) h = plain_packs_nothing e h
-  plain_packs_nothing (Tuple es) h = plain_pack_nothing es h
-  plain_packs_nothing (Present e) h = plain_packs_nothing e h
-  plain_packs_nothing (Cons a b) h =
-      let parts = both_true _ _ h in and_true (plain_packs_nothing a parts.0) (plain_packs_nothing b parts.1)
-  plain_packs_nothing (Own f) h = refl
-  plain_packs_nothing (Ref j x) h = refl
-  plain_packs_nothing (Lam T e) h = plain_packs_nothing e h
-  plain_packs_nothing (Rec T U e) h = plain_packs_nothing e h
-  plain_packs_nothing (App f a) h =
-      let parts = both_true _ _ h in and_true (plain_packs_nothing f parts.0) (plain_packs_nothing a parts.1)
-  plain_packs_nothing (Let T e b) h =
-      let parts = both_true _ _ h in and_true (plain_packs_nothing e parts.0) (plain_packs_nothing b parts.1)
-  plain_packs_nothing (If c a b) h =
+  pub plain_source : (e : Expr) → is_plain e ≡ true → is_source e ≡ true
+  plain_source (ExnOf k e) h = plain_source e h
+  plain_source (Tuple es) h = plain_sources es h
+  plain_source (Present e) h = plain_source e h
+  plain_source (Cons a b) h =
+      let parts = both_true _ _ h in and_true (plain_source a parts.0) (plain_source b parts.1)
+  plain_source (Own f) h = refl
+  plain_source (Ref j x) h = refl
+  plain_source (Lam T e) h = plain_source e h
+  plain_source (Rec T U e) h = plain_source e h
+  plain_source (App f a) h =
+      let parts = both_true _ _ h in and_true (plain_source f parts.0) (plain_source a parts.1)
+  plain_source (Let T e b) h =
+      let parts = both_true _ _ h in and_true (plain_source e parts.0) (plain_source b parts.1)
+  plain_source (If c a b) h =
       let parts = both_true _ _ h in
       let ways = both_true _ _ parts.1 in
-      and_true (plain_packs_nothing c parts.0) (and_true (plain_packs_nothing a ways.0) (plain_packs_nothing b ways.1))
-  plain_packs_nothing (Seq es) h = plain_pack_nothing es h
-  plain_packs_nothing (Match e arms) h =
-      let parts = both_true _ _ h in and_true (plain_packs_nothing e parts.0) (plain_arms_pack_nothing arms parts.1)
-  plain_packs_nothing (Try e arms) h =
-      let parts = both_true _ _ h in and_true (plain_packs_nothing e parts.0) (plain_arms_pack_nothing arms parts.1)
-  plain_packs_nothing (Raise T e) h = plain_packs_nothing e h
-  plain_packs_nothing (Prim k es) h = plain_pack_nothing es h
-  plain_packs_nothing e h = h
+      and_true (plain_source c parts.0) (and_true (plain_source a ways.0) (plain_source b ways.1))
+  plain_source (Seq es) h = plain_sources es h
+  plain_source (Match e arms) h =
+      let parts = both_true _ _ h in and_true (plain_source e parts.0) (plain_source_arms arms parts.1)
+  plain_source (Try e arms) h =
+      let parts = both_true _ _ h in and_true (plain_source e parts.0) (plain_source_arms arms parts.1)
+  plain_source (Raise T e) h = plain_source e h
+  plain_source (Prim k es) h = plain_sources es h
+  plain_source (Marshal T m e) h = absurd (true≢false (sym h))
+  plain_source (Unmarshal T e) h = absurd (true≢false (sym h))
+  plain_source (Packed T v) h = absurd (true≢false (sym h))
+  plain_source (Val T v) h = absurd (true≢false (sym h))
+  plain_source (Bracket c T e) h = absurd (true≢false (sym h))
+  plain_source _ h = refl
 
-  plain_pack_nothing : (es : Exprs) → are_plain es ≡ true → pack_nothing es ≡ true
-  plain_pack_nothing no_exprs h = refl
-  plain_pack_nothing (expr e es) h =
-      let parts = both_true _ _ h in and_true (plain_packs_nothing e parts.0) (plain_pack_nothing es parts.1)
+  plain_sources : (es : Exprs) → are_plain es ≡ true → are_source es ≡ true
+  plain_sources no_exprs h = refl
+  plain_sources (expr e es) h =
+      let parts = both_true _ _ h in and_true (plain_source e parts.0) (plain_sources es parts.1)
 
-  plain_arms_pack_nothing : (arms : Arms) → arms_plain arms ≡ true → arms_pack_nothing arms ≡ true
-  plain_arms_pack_nothing no_arms h = refl
-  plain_arms_pack_nothing (arm p e arms) h =
-      let parts = both_true _ _ h in and_true (plain_packs_nothing e parts.0) (plain_arms_pack_nothing arms parts.1)
+  plain_source_arms : (arms : Arms) → arms_plain arms ≡ true → arms_are_source arms ≡ true
+  plain_source_arms no_arms h = refl
+  plain_source_arms (arm p e arms) h =
+      let parts = both_true _ _ h in and_true (plain_source e parts.0) (plain_source_arms arms parts.1)
