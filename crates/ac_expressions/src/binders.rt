@@ -12,18 +12,59 @@ use ac_syntax::{HIGHEST_TYPE, SName, SType, Sign, Stop, Symbol, refused_at, whol
 use std::alloc::Global;
 
 /// A name with its type.
-#[derive(Drop)]
 pub struct Binder {
     pub name: SName,
     pub ty: SType,
 }
 
+// One call lets a binder go; a derived drop would stand part by part where it is let go.
+impl Drop for Binder {
+    fn drop(self) {
+        let Binder { name: _, ty: _ } = self;
+    }
+}
+
+impl Binder {
+    /// The name and the type.
+    pub fn into_parts(self) -> (SName, SType)
+        ensures { result ≡ (self.name, self.ty) }
+    {
+        let Binder { name, ty } = self;
+        (name, ty)
+    }
+}
+
 /// A function's name, argument and result.
-#[derive(Drop)]
 pub struct Head {
     pub name: SName,
     pub argument: Binder,
     pub result: SType,
+}
+
+impl Drop for Head {
+    fn drop(self) {
+        let Head {
+            name: _,
+            argument: _,
+            result: _,
+        } = self;
+    }
+}
+
+impl Head {
+    /// The name, the argument and the result.
+    pub fn into_parts(self) -> (SName, Binder, SType)
+        ensures name { result.0 ≡ self.name }
+        ensures argument { result.1 ≡ self.argument }
+        ensures ty { result.2 ≡ self.result }
+    {
+        let Head {
+            name,
+            argument,
+            result,
+        } = self;
+        (name, argument, result)
+    }
 }
 
 /// A type with this symbol behind it.

@@ -170,7 +170,8 @@ pub fn let_in(
     let height = bound.height.max(body.height) + 1;
     let bound = bound.tree;
     let body = body.tree;
-    let kind = SExprKind::Let(binder.name, binder.ty, bound, body);
+    let (name, ty) = binder.into_parts();
+    let kind = SExprKind::Let(name, ty, bound, body);
     let tree = Box::new(alloc, SExpr { at, kind })?;
     Ok(Parsed { tree, height })
 }
@@ -193,11 +194,13 @@ pub fn let_rec(
     let height = bound.height.max(body.height) + 1;
     let bound = bound.tree;
     let body = body.tree;
+    let (name, argument, result) = head.into_parts();
+    let (arg, ty) = argument.into_parts();
     let function = SFun {
-        name: head.name,
-        arg: head.argument.name,
-        ty: head.argument.ty,
-        result: head.result,
+        name,
+        arg,
+        ty,
+        result,
         body: bound,
     };
     let kind = SExprKind::LetRec(function, body);
@@ -215,7 +218,8 @@ pub fn fun(alloc: Global, at: u32, binder: Binder, body: Parsed) -> Result<Parse
 {
     let height = body.height + 1;
     let body = body.tree;
-    let kind = SExprKind::Fun(binder.name, binder.ty, body);
+    let (name, ty) = binder.into_parts();
+    let kind = SExprKind::Fun(name, ty, body);
     let tree = Box::new(alloc, SExpr { at, kind })?;
     Ok(Parsed { tree, height })
 }
@@ -230,11 +234,13 @@ pub fn rec(alloc: Global, at: u32, head: Head, body: Parsed) -> Result<Parsed, M
 {
     let height = body.height + 1;
     let body = body.tree;
+    let (name, argument, result) = head.into_parts();
+    let (arg, ty) = argument.into_parts();
     let function = SFun {
-        name: head.name,
-        arg: head.argument.name,
-        ty: head.argument.ty,
-        result: head.result,
+        name,
+        arg,
+        ty,
+        result,
         body,
     };
     let kind = SExprKind::Rec(function);

@@ -16,7 +16,7 @@ use crate::build::{self, Choice, Operator, Parsed, operator_of};
 use crate::front::{begins_atom, expect, lone_number, negated, next_prefix};
 use crate::keywords::{Keyword, after_bar, next_keyword};
 use crate::leaves::leaf;
-use crate::patterns::pattern;
+use crate::patterns::parsed_pattern;
 use ac_syntax::{SArm, SExpr, Sign, SignKind, Stop, Symbol, after, here, next, refused_at};
 use ac_types::{Box, Many};
 use std::alloc::Global;
@@ -72,10 +72,11 @@ fn arm<'s, 't>(
     ensures shorter { IfOk result (λ x. length x.1.now < length signs.now) }
     ensures none { IfErr result (λ e. OnSyntax e (Nothing (IsArm depth) (read_signs signs.now))) }
 {
-    let (pat, behind) = pattern(alloc, signs)?;
+    let (parsed, behind) = parsed_pattern(alloc, signs)?;
     let later = expect(Symbol::Arrow, behind)?;
     let (body, rest) = expr(alloc, depth, later)?;
     let height = body.height;
+    let pat = parsed.into_tree();
     let body = body.tree.into_inner();
     Ok(((SArm { pat, body }, height), rest))
 }

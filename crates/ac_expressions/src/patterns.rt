@@ -20,10 +20,26 @@ use std::alloc::Global;
 const HIGHEST_PATTERN: u32 = 500;
 
 /// A pattern, and its height.
-#[derive(Drop)]
 pub struct ParsedPat {
     pub tree: SPat,
     pub height: u32,
+}
+
+// One call lets a pattern go; a derived drop would stand part by part where it is let go.
+impl Drop for ParsedPat {
+    fn drop(self) {
+        let ParsedPat { tree: _, height: _ } = self;
+    }
+}
+
+impl ParsedPat {
+    /// The pattern alone.
+    pub fn into_tree(self) -> SPat
+        ensures { result ≡ self.tree }
+    {
+        let ParsedPat { tree, height: _ } = self;
+        tree
+    }
 }
 
 /// A list's head and tail.
@@ -36,8 +52,8 @@ fn cons(alloc: Global, at: u32, head: ParsedPat, tail: ParsedPat) -> Result<Pars
     ensures height { IfOk result (λ x. pat_measured x) }
 {
     let height = head.height.max(tail.height) + 1;
-    let head = Box::new(alloc, head.tree)?;
-    let tail = Box::new(alloc, tail.tree)?;
+    let head = Box::new(alloc, head.into_tree())?;
+    let tail = Box::new(alloc, tail.into_tree())?;
     let kind = SPatKind::Cons(head, tail);
     Ok(ParsedPat {
         tree: SPat { at, kind },
@@ -54,7 +70,7 @@ fn prefixed_by(alloc: Global, at: u32, prefix: Prefix, item: ParsedPat) -> Resul
     ensures height { IfOk result (λ x. pat_measured x) }
 {
     let height = item.height + 1;
-    let item = Box::new(alloc, item.tree)?;
+    let item = Box::new(alloc, item.into_tree())?;
     match prefix {
         Prefix::Present => {
             let kind = SPatKind::Present(item);
@@ -75,7 +91,8 @@ fn variable(at: u32, binder: Binder) -> ParsedPat
     ensures tree { pat_of result.tree ≡ PatVar at (binder_of binder).0 (binder_of binder).1 }
     ensures height { pat_measured result }
 {
-    let kind = SPatKind::Var(binder.name, binder.ty);
+    let (name, ty) = binder.into_parts();
+    let kind = SPatKind::Var(name, ty);
     ParsedPat {
         tree: SPat { at, kind },
         height: 1,
@@ -185,12 +202,12 @@ fn tuple<'s, 't>(
     let (second, mut rest) = whole(alloc, depth - 1, signs)?;
     let mut height = first.height.max(second.height);
     let mut parts = Many::new(alloc);
-    parts.push(first.tree)?;
-    parts.push(second.tree)?;
+    parts.push(first.into_tree())?;
+    parts.push(second.into_tree())?;
     while let Some(behind) = after(Symbol::Comma, rest) {
         let (part, later) = whole(alloc, depth - 1, behind)?;
         height = height.max(part.height);
-        parts.push(part.tree)?;
+        parts.push(part.into_tree())?;
         rest = later;
     }
     let end = expect(Symbol::Close, rest)?;
@@ -301,6 +318,18 @@ fn whole<'s, 't>(
     Ok((cons(alloc, here(signs), head, tail)?, end))
 }
 
+/// The pattern at the front, with its height; see `pattern`.
+pub fn parsed_pattern<'s, 't>(
+    alloc: Global,
+    signs: &'s [Sign<'t>],
+) -> Result<(ParsedPat, &'s [Sign<'t>]), Stop>
+    ensures tree { IfOk result (λ x. IsPattern (read_signs signs.now) (pat_of x.0.tree) (read_signs x.1.now)) }
+    ensures shorter { IfOk result (λ x. length x.1.now < length signs.now) }
+    ensures none { IfErr result (λ e. OnSyntax e (NoPattern (read_signs signs.now))) }
+{
+    whole(alloc, HIGHEST_PATTERN, signs)
+}
+
 /// The pattern at the front, taken as long as it can be, and what is left. It has a height of at most 500.
 /// `Syntax` where no pattern stands there.
 pub fn pattern<'s, 't>(alloc: Global, signs: &'s [Sign<'t>]) -> Result<(SPat, &'s [Sign<'t>]), Stop>
@@ -308,6 +337,6 @@ pub fn pattern<'s, 't>(alloc: Global, signs: &'s [Sign<'t>]) -> Result<(SPat, &'
     ensures shorter { IfOk result (λ x. length x.1.now < length signs.now) }
     ensures none { IfErr result (λ e. OnSyntax e (NoPattern (read_signs signs.now))) }
 {
-    let (parsed, rest) = whole(alloc, HIGHEST_PATTERN, signs)?;
-    Ok((parsed.tree, rest))
+    let (parsed, rest) = parsed_pattern(alloc, signs)?;
+    Ok((parsed.into_tree(), rest))
 }

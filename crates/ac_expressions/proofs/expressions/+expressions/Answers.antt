@@ -11,6 +11,7 @@ use Rattle.ac_syntax.specs.ReadSigns.{read_signs}
 use Rattle.ac_syntax.specs.ReadTrees.{pat_of, expr_of, arm_of}
 use Rattle.ac_syntax.specs.declared.surface.SExpr.{SExpr}
 use Rattle.ac_syntax.specs.declared.surface.SArm.{SArm}
+use Rattle.ac_syntax.specs.declared.surface.SPat.{SPat}
 use Rattle.ac_syntax.specs.declared.sign.Symbol.TheVariants.{Arrow, Close, Comma, Semicolon, Else, Equals, In, Then, With}
 use Rattle.ac_syntax.proofs.OnStop.{on_syntax_more, refused}
 use Rattle.ac_expressions.specs.Parsing.{Nothing, Before, Made}
@@ -41,29 +42,31 @@ before-returns-in_err-rest-clause-none t c =
     let p = err_from_is_err_and c.from_residual-in_err-rest.result c.from_residual-in_err-rest.ensures.1 in
     rw (p.1, p.2) (on_syntax_more _ (unbefore _ _ _ _ _ c.in_ok-tree.ensures.tree) c.in_err-rest.ensures.none)
 
-pub arm-returns-in_err-pat-clause-none : goal.arm-returns-in_err-pat-clause-none
-arm-returns-in_err-pat-clause-none t c =
+pub arm-returns-in_err-parsed-clause-none : goal.arm-returns-in_err-parsed-clause-none
+arm-returns-in_err-parsed-clause-none t c =
     let p = err_from_is_err_and c.from_residual.result c.from_residual.ensures.1 in
-    rw (p.1, p.2) (on_syntax_more _ (arm_no_pattern _ _) c.in_err-pat.ensures.none)
+    rw (p.1, p.2) (on_syntax_more _ (arm_no_pattern _ _) c.in_err-parsed.ensures.none)
 
 pub arm-returns-in_err-later-clause-none : goal.arm-returns-in_err-later-clause-none
 arm-returns-in_err-later-clause-none t c =
     let p = err_from_is_err_and c.from_residual-in_err-later.result c.from_residual-in_err-later.ensures.1 in
-    rw (p.1, p.2) (on_syntax_more _ (arm_no_arrow _ _ _ _ c.in_ok-pat.ensures.tree) c.in_err-later.ensures.none)
+    rw (p.1, p.2) (on_syntax_more _ (arm_no_arrow _ _ _ _ c.in_ok-parsed.ensures.tree) c.in_err-later.ensures.none)
 
 pub arm-returns-in_err-body-clause-none : goal.arm-returns-in_err-body-clause-none
 arm-returns-in_err-body-clause-none t c =
     let p = err_from_is_err_and c.from_residual-in_err-body.result c.from_residual-in_err-body.ensures.1 in
-    rw (p.1, p.2) (on_syntax_more _ (arm_no_body _ _ _ _ c.in_ok-pat.ensures.tree _ c.in_ok-later.ensures.found) c.in_err-body.ensures.none)
+    rw (p.1, p.2) (on_syntax_more _ (arm_no_body _ _ _ _ c.in_ok-parsed.ensures.tree _ c.in_ok-later.ensures.found) c.in_err-body.ensures.none)
 
 pub arm-returns-clause-tree : goal.arm-returns-clause-tree
 arm-returns-clause-tree t c =
-    let made = arm_of-made c.in_ok-pat.pat c.into_inner-body.result ∙ ap (λ (e : SExpr). (pat_of c.in_ok-pat.pat, expr_of e)) c.into_inner-body.ensures in
-    subst (λ (x : PatTree × Tree). IsArm c.args.depth (read_signs c.args.signs.now) x (read_signs c.in_ok-body.rest.now)) (sym made) (then _ (before c.in_ok-pat.ensures.tree c.in_ok-later.ensures.found) c.in_ok-body.ensures.tree)
+    let made = arm_of-made c.into_tree-pat.result c.into_inner-body.result ∙ ap (λ (e : SExpr). (pat_of c.into_tree-pat.result, expr_of e)) c.into_inner-body.ensures
+    ∙ ap (λ (p : SPat). (pat_of p, expr_of c.in_ok-body.body.tree)) c.into_tree-pat.ensures in
+    subst (λ (x : PatTree × Tree). IsArm c.args.depth (read_signs c.args.signs.now) x (read_signs c.in_ok-body.rest.now)) (sym made) (then _ (before c.in_ok-parsed.ensures.tree c.in_ok-later.ensures.found) c.in_ok-body.ensures.tree)
 
 pub arm-returns-clause-height : goal.arm-returns-clause-height
 arm-returns-clause-height t c =
-    let made = arm_of-made c.in_ok-pat.pat c.into_inner-body.result ∙ ap (λ (e : SExpr). (pat_of c.in_ok-pat.pat, expr_of e)) c.into_inner-body.ensures in
+    let made = arm_of-made c.into_tree-pat.result c.into_inner-body.result ∙ ap (λ (e : SExpr). (pat_of c.into_tree-pat.result, expr_of e)) c.into_inner-body.ensures
+    ∙ ap (λ (p : SPat). (pat_of p, expr_of c.in_ok-body.body.tree)) c.into_tree-pat.ensures in
     c.in_ok-body.ensures.height ∙ sym (ap (λ (x : PatTree × Tree). height x.1) made)
 
 pub arms-returns-in_err-first-clause-none : goal.arms-returns-in_err-first-clause-none

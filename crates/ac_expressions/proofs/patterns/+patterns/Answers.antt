@@ -1,4 +1,4 @@
-use Rattle.std.proofs.Common.{◌<◌, ◌≤◌, ◌-◌, ◌+◌, ℕ, List, [], ◌∷◌, map, refl, sym, ap, subst, ◌∙◌, arith}
+use Rattle.std.proofs.Common.{◌<◌, ◌≤◌, ◌-◌, ◌+◌, ℕ, List, [], ◌∷◌, map, refl, sym, ap, subst, ◌∙◌, arith, ◌++◌}
 use Rattle.std.proofs.lemmas.List.{map-append}
 use Rattle.std.proofs.lemmas.Result.{IfOk-weaker, IfErr-weaker, err_from_is_err_and}
 use Rattle.ac_syntax.specs.Signs.{Sign}
@@ -6,6 +6,7 @@ use Rattle.ac_syntax.specs.Trees.{PatTree, PatCons, pat_height}
 use Rattle.ac_syntax.specs.Patterns.{Pattern, Prefixed, Single, IsPatTree}
 use Rattle.ac_syntax.specs.ReadSigns.{read_signs}
 use Rattle.ac_syntax.specs.ReadTrees.{pat_of}
+use Rattle.ac_syntax.specs.declared.surface.SPat.{SPat}
 use Rattle.ac_syntax.proofs.OnStop.{on_syntax_more, refused}
 use Rattle.ac_expressions.specs.Parsing.{NoPat}
 use Rattle.ac_expressions.proofs.Readers.{word_at}
@@ -95,7 +96,7 @@ tuple-returns-in_err-part-clause-none t c =
 
 pub tuple-loop-behind-preserved : goal.tuple-loop-behind-preserved
 tuple-loop-behind-preserved t c =
-    let parts = ap (map pat_of) c.in_ok-push-3.ensures.ok ∙ map-append pat_of c.loop-behind.parts (c.in_ok-part.part.tree ∷ []) in
+    let parts = ap (map pat_of) (c.in_ok-push-3.ensures.ok ∙ ap (λ (p : SPat). c.loop-behind.parts ++ p ∷ []) c.into_tree-in-Some.ensures) ∙ map-append pat_of c.loop-behind.parts (c.in_ok-part.part.tree ∷ []) in
     let low : pat_height (pat_of c.in_ok-part.part.tree) ≤ c.args.depth - 1 = c.in_ok-part.ensures.tree.low in
     record {
       read = part_read _ _ _ _ _ c.loop-behind.invariant.read _ c.in-Some.ensures.found _ _ _ c.in_ok-part.ensures.tree parts;

@@ -9,10 +9,10 @@ use Rattle.ac_expressions.proofs.patterns.prefixed_by.Goals as goal
 
 pub returns-in-Exn-clause-tree : goal.returns-in-Exn-clause-tree
 returns-in-Exn-clause-tree c =
-    pat_of-ExnOf c.args.at c.in-Exn.number _ ∙ ap (λ (p : SPat). PatExnOf c.args.at c.in-Exn.number (pat_of p)) c.in_ok-item.ensures
+    pat_of-ExnOf c.args.at c.in-Exn.number _ ∙ ap (λ (p : SPat). PatExnOf c.args.at c.in-Exn.number (pat_of p)) (c.in_ok-item.ensures ∙ c.into_tree.ensures)
     ∙ sym (ap (λ (x : Prefix). prefixed_pat x c.args.at (pat_of c.args.item.tree)) c.in-Exn.is)
 
 pub returns-in-Exn-clause-height : goal.returns-in-Exn-clause-height
 returns-in-Exn-clause-height c =
-    let same = pat_of-ExnOf c.args.at c.in-Exn.number _ ∙ ap (λ (p : SPat). PatExnOf c.args.at c.in-Exn.number (pat_of p)) c.in_ok-item.ensures in
+    let same = pat_of-ExnOf c.args.at c.in-Exn.number _ ∙ ap (λ (p : SPat). PatExnOf c.args.at c.in-Exn.number (pat_of p)) (c.in_ok-item.ensures ∙ c.into_tree.ensures) in
     omega (arith, c.requires.item, ap pat_height same)
