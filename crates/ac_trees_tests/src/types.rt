@@ -3,7 +3,7 @@
 use crate::words::word;
 use ac_types::{
     Atom, Box, Constraint, Many, Memory, Range, Resolve, Sig, SigType, Text, Ty, TyField, Version,
-    small, ty_eq,
+    eq_under, small, ty_eq,
 };
 use std::alloc::Global;
 
@@ -71,4 +71,25 @@ fn copies_a_version_and_what_it_meets(rt: HostRuntime) {
     let uri = Text::from_slice(alloc, b"lib:c").expect(&rt, "memory");
     let by = Resolve::Uri(uri).copy(alloc).expect(&rt, "memory");
     assert!(rt; matches!(by, Resolve::Uri(_)));
+}
+
+fn own(alloc: Global, name: &[u8]) -> Result<Ty, Memory> {
+    word(alloc, name).map(Ty::Mine)
+}
+
+// In the signature `t` is abstract, and `u` is manifest as bool.
+#[test]
+fn an_abstract_type_stands_for_itself(rt: HostRuntime) {
+    let sig = sample_sig(rt.alloc()).expect(&rt, "memory");
+    let ty = own(rt.alloc(), b"t").expect(&rt, "memory");
+    assert!(rt; eq_under(&sig, &sig, &ty, &ty));
+    assert!(rt; !eq_under(&sig, &sig, &Ty::Bool, &ty));
+}
+
+#[test]
+fn a_manifest_type_stands_for_what_it_is(rt: HostRuntime) {
+    let sig = sample_sig(rt.alloc()).expect(&rt, "memory");
+    let ty = own(rt.alloc(), b"u").expect(&rt, "memory");
+    assert!(rt; eq_under(&sig, &sig, &Ty::Bool, &ty));
+    assert!(rt; !eq_under(&sig, &sig, &Ty::Int, &ty));
 }
