@@ -1,16 +1,16 @@
 -- A number and its bytes say the same, at any number of bytes.
-use Rattle.std.proofs.Common.{◌≡◌, refl, sym, ap, ◌∙◌, ℕ, zero, suc, ◌+◌, ◌*◌, ◌^◌, ◌<◌, ◌≤◌, ◌/◌, List, [], ◌∷◌, ◌++◌, length, take, drop, slice_index, append_assoc, length-append, arith, inl, inr}
+use Rattle.std.proofs.Common.{◌≡◌, refl, sym, ap, ◌∙◌, ℕ, zero, suc, ◌+◌, ◌*◌, ◌^◌, ◌<◌, ◌≤◌, ◌/◌, [], ◌∷◌, ◌++◌, length, take, drop, arith, inl, inr}
 use Rattle.std.specs.Prelude.{ℤ, pos, negsuc, FitsSigned}
-use Rattle.std.specs.Int.{w16, w32, w64, byte_at, bytes_high_first, from_be_bytes, cast_signed, cast_unsigned}
+use Rattle.std.specs.Int.{w16, w32, w64, byte_at, from_be_bytes, cast_signed, cast_unsigned}
 use Rattle.std.proofs.Math.Nat.{mod-lt, mul-le-mul_right}
 use Rattle.std.proofs.lemmas.Bool.{cases_lt}
-use Rattle.std.proofs.lemmas.Int.{of_z-to_z, to_z-of_z}
-use Rattle.std.proofs.lemmas.List.{append-nil, length-take-le, take-append-drop, take_at, drop_at, get_or-take}
+use Rattle.std.proofs.lemmas.Int.{to_z-of_z}
+use Rattle.std.proofs.lemmas.List.{append-nil, length-take-le, take-append-drop, take_at, drop_at}
 use Rattle.byteorder.specs.Endian.{big_from}
-use Rattle.byteorder.specs.Numbers.{big_from-cons, big_from-take, big_from-lt, big_number-reads_back, length-bytes_high_first}
+use Rattle.byteorder.specs.Numbers.{big_from-cons, big_from-lt, big_number-reads_back, length-bytes_high_first}
 use Rattle.ac_types.specs.Types.{Bytes}
 use Rattle.ac_bytes.specs.Cursors.{Unread, Takes}
-use Rattle.ac_bytes.specs.Numbers.{AreBytes, number, big_endian, two, four, eight}
+use Rattle.ac_bytes.specs.Numbers.{AreBytes, number, big_endian, eight}
 
 -- the number of bytes is the one that byteorder reads from them
 pub number-big_from : (bs : Bytes) → number bs ≡ big_from 0 (length bs) bs
@@ -77,15 +77,20 @@ bytes_again bs are =
 pub front_taken : (k : ℕ) (bs front rest : Bytes) → k ≤ length bs → front ≡ take k bs → rest ≡ drop k bs → (length front ≡ k) × (bs ≡ front ++ rest)
 front_taken k bs front rest long f r = (ap length f ∙ length-take-le k bs long, sym (ap (λ x. x ++ rest) f ∙ ap (λ y. take k bs ++ y) r ∙ take-append-drop k bs))
 
--- a number that was put is the only one that is taken again
+-- bytes that were put are the only ones, of so many, that are taken again
+pub front_taken_again : (bs cs rest : Bytes) (old new : Unread) → length cs ≡ length bs → old.left ≡ bs ++ rest → Takes old cs new → (cs ≡ bs) × (new.left ≡ rest)
+front_taken_again bs cs rest old new len put taken =
+    let both : cs ++ new.left ≡ bs ++ rest = sym taken.0 ∙ put in (
+      sym (take_at cs new.left (length bs) len) ∙ ap (take (length bs)) both ∙ take_at bs rest (length bs) refl,
+      sym (drop_at cs new.left (length bs) len) ∙ ap (drop (length bs)) both ∙ drop_at bs rest (length bs) refl,
+    )
+
+-- and so a number
 pub taken_again : (k n m : ℕ) (rest : Bytes) (old new : Unread) → n < 256 ^ k → m < 256 ^ k → old.left ≡ big_endian k n ++ rest → Takes old (big_endian k m) new → (m ≡ n) × (new.left ≡ rest)
 taken_again k n m rest old new fits small put taken =
-    let both : big_endian k m ++ new.left ≡ big_endian k n ++ rest = sym taken.0 ∙ put in
-    let front : big_endian k m ≡ big_endian k n =
-        sym (take_at (big_endian k m) new.left k (length-bytes_high_first k m)) ∙ ap (take k) both ∙ take_at (big_endian k n) rest k (length-bytes_high_first k n) in
-    let behind : new.left ≡ rest =
-        sym (drop_at (big_endian k m) new.left k (length-bytes_high_first k m)) ∙ ap (drop k) both ∙ drop_at (big_endian k n) rest k (length-bytes_high_first k n) in
-    (sym (number_again k m small) ∙ ap number front ∙ number_again k n fits, behind)
+    let len = length-bytes_high_first k m ∙ sym (length-bytes_high_first k n) in
+    let p = front_taken_again (big_endian k n) (big_endian k m) rest old new len put taken in
+    (sym (number_again k m small) ∙ ap number p.0 ∙ number_again k n fits, p.1)
 
 -- and a signed one
 eight_below : (z : ℤ) → FitsSigned w64 z → cast_unsigned w64 z < 256 ^ 8
@@ -97,7 +102,7 @@ signed_taken_again z y rest old new fits small put taken =
     let p = taken_again 8 (cast_unsigned w64 z) (cast_unsigned w64 y) rest old new (eight_below z fits) (eight_below y small) put taken in
     (sym (to_z-of_z w64 y small) ∙ ap (cast_signed w64) p.0 ∙ to_z-of_z w64 z fits, p.1)
 
--- the number of so many bytes as the prelude has it
+-- what std reads of two, of four and of eight bytes is the number that they write
 pub number-two : (a b : ℕ) → from_be_bytes w16 (a ∷ b ∷ []) ≡ number (a ∷ b ∷ [])
 number-two a b = omega arith
 

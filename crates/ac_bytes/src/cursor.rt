@@ -41,7 +41,8 @@ impl<'a> Cursor<'a> {
 
     /// The next byte, `None` exactly where none is left.
     pub fn take_u8(&mut self) -> Option<u8>
-        ensures { MatchOption result ((length self.old.left < 1) × (self.new ≡ self.old)) (λ n. Takes self.old (n ∷ []) self.new) }
+        ensures { MatchOption result ((length self.old.left < 1) × (self.new ≡ self.old))
+            (λ n. Takes self.old (n ∷ []) self.new) }
     {
         let (first, rest) = self.left.split_first()?;
         let n = *first;
@@ -52,7 +53,8 @@ impl<'a> Cursor<'a> {
 
     /// The number in the next two bytes, `None` exactly where fewer are left.
     pub fn take_u16(&mut self) -> Option<u16>
-        ensures { MatchOption result ((length self.old.left < 2) × (self.new ≡ self.old)) (λ n. Takes self.old (two n) self.new) }
+        ensures { MatchOption result ((length self.old.left < 2) × (self.new ≡ self.old))
+            (λ n. Takes self.old (two n) self.new) }
     {
         let (n, rest) = u16_in_front(self.left)?;
         self.left = rest;
@@ -62,7 +64,8 @@ impl<'a> Cursor<'a> {
 
     /// The number in the next four bytes, `None` exactly where fewer are left.
     pub fn take_u32(&mut self) -> Option<u32>
-        ensures { MatchOption result ((length self.old.left < 4) × (self.new ≡ self.old)) (λ n. Takes self.old (four n) self.new) }
+        ensures { MatchOption result ((length self.old.left < 4) × (self.new ≡ self.old))
+            (λ n. Takes self.old (four n) self.new) }
     {
         let (n, rest) = u32_in_front(self.left)?;
         self.left = rest;
@@ -72,7 +75,8 @@ impl<'a> Cursor<'a> {
 
     /// The signed number in the next eight bytes, `None` exactly where fewer are left.
     pub fn take_i64(&mut self) -> Option<i64>
-        ensures { MatchOption result ((length self.old.left < 8) × (self.new ≡ self.old)) (λ z. Takes self.old (eight z) self.new) }
+        ensures { MatchOption result ((length self.old.left < 8) × (self.new ≡ self.old))
+            (λ z. Takes self.old (eight z) self.new) }
     {
         let (z, rest) = i64_in_front(self.left)?;
         self.left = rest;
@@ -82,7 +86,8 @@ impl<'a> Cursor<'a> {
 
     /// The name in the next 32 bytes, `None` exactly where fewer are left.
     pub fn take_name(&mut self) -> Option<Name>
-        ensures { MatchOption result ((length self.old.left < 32) × (self.new ≡ self.old)) (λ name. (length name.0 ≡ 32) × Takes self.old name.0 self.new) }
+        ensures { MatchOption result ((length self.old.left < 32) × (self.new ≡ self.old))
+            (λ name. (length name.0 ≡ 32) × Takes self.old name.0 self.new) }
     {
         let (name, rest) = name_in_front(self.left)?;
         self.left = rest;
@@ -92,7 +97,8 @@ impl<'a> Cursor<'a> {
 
     /// The next bytes, that many, `None` exactly where fewer are left.
     pub fn take_bytes(&mut self, count: u32) -> Option<&'a [u8]>
-        ensures { MatchOption result ((length self.old.left < count) × (self.new ≡ self.old)) (λ bytes. (length bytes.now ≡ count) × Takes self.old bytes.now self.new) }
+        ensures { MatchOption result ((length self.old.left < count) × (self.new ≡ self.old))
+            (λ bytes. (length bytes.now ≡ count) × Takes self.old bytes.now self.new) }
     {
         let count = count as usize;
         if self.left.len() < count {
@@ -106,7 +112,9 @@ impl<'a> Cursor<'a> {
 
     /// The number in the next four bytes, `None` exactly where fewer are left or where it is above `max`.
     pub fn counted(&mut self, max: u32) -> Option<u32>
-        ensures { MatchOption result (((length self.old.left < 4) ⊎ (max < number (take 4 self.old.left))) × (self.new ≡ self.old)) (λ n. (n ≤ max) × Takes self.old (four n) self.new) }
+        ensures { MatchOption result
+            (((length self.old.left < 4) ⊎ (max < number (take 4 self.old.left))) × (self.new ≡ self.old))
+            (λ n. (n ≤ max) × Takes self.old (four n) self.new) }
     {
         let (n, rest) = u32_in_front(self.left)?;
         if n > max {

@@ -15,13 +15,19 @@ pub fn bytes_again()
     ensures { (bs : List ℕ) → AreBytes bs → big_endian (length bs) (number bs) ≡ bs }
 {}
 
-/// A number that was put is the only one that is taken again, and what was put after it is left.
+/// Bytes that were put are the only ones, of so many, that are taken again; what was put after them is left.
+pub fn front_taken_again()
+    ensures { (bs cs rest : List ℕ) (old new : Unread) → length cs ≡ length bs
+        → old.left ≡ bs ++ rest → Takes old cs new → (cs ≡ bs) × (new.left ≡ rest) }
+{}
+
+/// The same of a number, in as many bytes as hold it.
 pub fn taken_again()
     ensures { (k n m : ℕ) (rest : List ℕ) (old new : Unread) → n < 256 ^ k → m < 256 ^ k
         → old.left ≡ big_endian k n ++ rest → Takes old (big_endian k m) new → (m ≡ n) × (new.left ≡ rest) }
 {}
 
-/// The same of a signed number.
+/// The same of a signed number in eight bytes.
 pub fn signed_taken_again()
     ensures { (z y : ℤ) (rest : List ℕ) (old new : Unread) → FitsSigned w64 z → FitsSigned w64 y
         → old.left ≡ eight z ++ rest → Takes old (eight y) new → (y ≡ z) × (new.left ≡ rest) }

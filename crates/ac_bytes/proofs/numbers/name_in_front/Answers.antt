@@ -1,4 +1,4 @@
-use Rattle.std.proofs.Common.{length, arith}
+use Rattle.std.proofs.Common.{arith}
 use Rattle.ac_bytes.proofs.Inverse.{front_taken}
 use Rattle.ac_bytes.proofs.numbers.name_in_front.Goals as goal
 
