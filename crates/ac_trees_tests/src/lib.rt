@@ -1,6 +1,8 @@
-//! Tests of the trees, their versions, the table of blocks and the store of values.
+//! Tests of the trees, their versions, numbers in bytes, the table of blocks and the store of values.
 #![tactic(auto)]
 
+#[cfg(test)]
+mod bytes;
 #[cfg(test)]
 mod code;
 #[cfg(test)]
