@@ -20,17 +20,20 @@ pub fn place_behind(bytes: &[u8]) -> Place
     ensures line { result.line ≡ line_of bytes.now }
     ensures column { result.column ≡ column_of bytes.now }
 {
-    let mut line = 1;
-    let mut column = 1;
+    let mut feeds = 0;
+    let mut since = 0;
     for byte in bytes {
         if *byte == b'\n' {
-            line += 1;
-            column = 1;
+            feeds += 1;
+            since = 0;
         } else {
-            column += 1;
+            since += 1;
         }
     }
-    Place { line, column }
+    Place {
+        line: feeds + 1,
+        column: since + 1,
+    }
 }
 
 // A byte that a terminal may take for a command is shown as `?`.

@@ -7,10 +7,10 @@ use crate::untyped::{Untyped, untyped};
 use crate::wants::wants;
 use ac_load::Kind;
 use ac_parser::parse_program;
-use ac_resolve::elaborate;
-use ac_syntax::Surface;
+use ac_resolve::{elaborate, named};
+use ac_syntax::{SExpr, SExprKind, Surface};
 use ac_terms::{Env, Term};
-use ac_types::{Many, Ty};
+use ac_types::{Many, Memory, Ty};
 use std::alloc::Global;
 
 // The word of a refusal and its number, as `acute` tells them.
@@ -69,7 +69,9 @@ fn write_name(page: &mut Page, text: &[u8], at: u32, said: &[u8]) {
 fn write_reason(page: &mut Page, text: &[u8], kind: Kind) {
     match kind {
         Kind::TooLong { .. } => page.put(b"a text has at most 1,048,576 bytes\n"),
-        Kind::Lexical { .. } => page.put(b"here begins no token, no separator and no whole comment\n"),
+        Kind::Lexical { .. } => page.put(
+            b"here begins no token, no separator and no whole comment\n",
+        ),
         Kind::TooDeep { .. } => page.put(b"here more than 200 are open\n"),
         Kind::Syntax { at } if at as usize >= text.len() => {
             page.put(b"here the text ends, and the program doesn't\n");
@@ -78,7 +80,9 @@ fn write_reason(page: &mut Page, text: &[u8], kind: Kind) {
         Kind::Unbuilt { .. } => page.put(b"this form doesn't run yet\n"),
         Kind::Unbound { at } => write_name(page, text, at, b" isn't in scope\n"),
         Kind::Repeated { at } => write_name(page, text, at, b" is bound twice in one pattern\n"),
-        Kind::TooMany { .. } => page.put(b"a count passes its limit, which is one less than this number\n"),
+        Kind::TooMany { .. } => page.put(
+            b"a count passes its limit, which is one less than this number\n",
+        ),
         Kind::IllTyped { .. } | Kind::Memory => {}
     }
 }
@@ -93,16 +97,42 @@ fn written(term: &Term) -> Option<&Ty> {
     }
 }
 
+// The type of the argument of a primitive that is applied.
+fn wanted(alloc: Global, tree: &SExpr) -> Result<Option<Ty>, Memory> {
+    let SExprKind::App(function, _) = &tree.kind else {
+        return Ok(None);
+    };
+    let SExprKind::Of(owner, name) = &function.kind else {
+        return Ok(None);
+    };
+    match named(&owner.word, &name.word) {
+        Some(primitive) => primitive.argument(alloc).map(Some),
+        None => Ok(None),
+    }
+}
+
+// Adds a type behind what it is.
+fn write_fact(page: &mut Page, what: &[u8], ty: &Ty) {
+    page.put(b"  ");
+    page.put(what);
+    page.put(b": ");
+    write_type(page, ty);
+    page.put(b"\n");
+}
+
 // Adds the part that has no type, what is asked of it, and the types of its parts.
-fn write_untyped(page: &mut Page, file: &str, text: &[u8], found: &Untyped) {
+fn write_untyped(alloc: Global, page: &mut Page, file: &str, text: &[u8], found: &Untyped) {
     write_place(page, file, text, found.tree.at);
     page.put(b"this has no type: ");
     page.put(wants(&found.tree.kind));
     page.put(b"\n");
     if let Some(ty) = written(found.term) {
-        page.put(b"  written: ");
-        write_type(page, ty);
-        page.put(b"\n");
+        write_fact(page, b"written", ty);
+    }
+    match wanted(alloc, found.tree) {
+        Ok(Some(ty)) => write_fact(page, b"wanted", &ty),
+        Ok(None) => {}
+        Err(_) => page.lose(),
     }
     for part in found.parts.as_slice() {
         page.put(b"  ");
@@ -128,7 +158,7 @@ fn explain_type(alloc: Global, page: &mut Page, file: &str, text: &[u8], surface
         return;
     };
     match untyped(alloc, tree, &program.main) {
-        Ok(Some(found)) => write_untyped(page, file, text, &found),
+        Ok(Some(found)) => write_untyped(alloc, page, file, text, &found),
         Ok(None) => {}
         Err(_) => page.lose(),
     }
