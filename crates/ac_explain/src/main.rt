@@ -11,7 +11,7 @@ mod types;
 mod untyped;
 mod wants;
 
-use ac_load::{Shelf, load};
+use ac_load::{Kind, Shelf, load};
 use ac_types::Many;
 use page::Page;
 use reasons::write_refusal;
@@ -27,19 +27,19 @@ fn no_shelf(alloc: Global) -> Shelf
     Shelf(Many::new(alloc))
 }
 
-// Adds what is said of a text, and gives whether it is accepted.
-fn explain(alloc: Global, page: &mut Page, file: &str, text: &[u8]) -> bool {
+// Adds what is said of a text, and gives the status.
+fn explain(alloc: Global, page: &mut Page, file: &str, text: &[u8]) -> u8 {
     match load(alloc, text, &no_shelf(alloc)) {
         Ok(loaded) => {
             page.put(file.as_bytes());
             page.put(b": accepted, of type ");
             write_type(page, &loaded.ty);
             page.put(b"\n");
-            true
+            0
         }
         Err(refusal) => {
             write_refusal(alloc, page, file, text, refusal.kind);
-            false
+            if let Kind::Memory = refusal.kind { 4 } else { 1 }
         }
     }
 }
@@ -55,20 +55,22 @@ fn explain_file(rt: &HostRuntime, file: &str) -> io::Result<u8> {
         }
     };
     let mut page = Page::new(rt.alloc());
-    let is_accepted = explain(rt.alloc(), &mut page, file, &text);
+    let status = explain(rt.alloc(), &mut page, file, &text);
     rt.stdout().write_all(page.bytes())?;
-    Ok(if is_accepted { 0 } else { 1 })
+    Ok(status)
 }
 
-// Says it of each file, and gives the greatest status.
+// Says it of each file that the words name, and gives the greatest status; 7 where they name none.
 fn explain_files(rt: &HostRuntime) -> io::Result<u8> {
     let mut status = 0u8;
+    let mut named = 0usize;
     for (i, file) in env::args(rt)?.enumerate() {
         if i > 0 {
             status = status.max(explain_file(rt, file.as_str())?);
+            named = i;
         }
     }
-    Ok(status)
+    Ok(if named == 0 { 7 } else { status })
 }
 
 fn main(rt: HostRuntime) -> ExitCode {
