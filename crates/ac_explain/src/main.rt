@@ -39,7 +39,11 @@ fn explain(alloc: Global, page: &mut Page, file: &str, text: &[u8]) -> u8 {
         }
         Err(refusal) => {
             write_refusal(alloc, page, file, text, refusal.kind);
-            if let Kind::Memory = refusal.kind { 4 } else { 1 }
+            if let Kind::Memory = refusal.kind {
+                4
+            } else {
+                1
+            }
         }
     }
 }

@@ -20,8 +20,7 @@ pub fn place_behind(bytes: &[u8]) -> Place
     ensures line { result.line ≡ line_of bytes.now }
     ensures column { result.column ≡ column_of bytes.now }
 {
-    let mut feeds = 0;
-    let mut since = 0;
+    let (mut feeds, mut since) = (0, 0);
     for byte in bytes {
         if *byte == b'\n' {
             feeds += 1;
@@ -96,14 +95,16 @@ fn shown_in(bytes: &[u8]) -> usize
     most
 }
 
+fn is_part(byte: u8) -> bool {
+    matches!(byte, b'a'..=b'z' | b'A'..=b'Z' | b'0'..=b'9' | b'_' | b'\'')
+}
+
 /// The bytes of the name that begins at a place.
 pub fn name_at(text: &[u8], at: usize) -> &[u8] {
     let rest = &text[at.min(text.len())..];
-    let mut len = 0;
-    for byte in rest {
-        match byte {
-            b'a'..=b'z' | b'A'..=b'Z' | b'0'..=b'9' | b'_' | b'\'' => len += 1,
-            _ => return &rest[..len],
+    for i in 0..rest.len() {
+        if !is_part(rest[i]) {
+            return &rest[..i];
         }
     }
     rest

@@ -145,7 +145,7 @@ fn write_untyped(alloc: Global, page: &mut Page, file: &str, text: &[u8], found:
 
 // Looks for the part of a program that has no type.
 fn explain_type(alloc: Global, page: &mut Page, file: &str, text: &[u8], surface: &Surface) {
-    if surface.defs.len() > 0 {
+    if !surface.defs.as_slice().is_empty() {
         return;
     }
     let Some(tree) = &surface.expr else {
