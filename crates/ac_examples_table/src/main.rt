@@ -13,10 +13,10 @@ ghost use Rattle.ac_meaning.specs.Laws.{IsTypedProgram};
 mod listing;
 
 use ac_load::{Shelf, load};
-use ac_outside::SureWorld;
+use ac_outside::{SureWorld, World};
 use ac_rules::Loaded;
 use ac_run::{RunEnd, Session};
-use ac_types::{Many, Text};
+use ac_types::{Many, Memory, Text};
 use listing::Listing;
 use std::alloc::Global;
 use std::{fs, io};
@@ -45,13 +45,24 @@ fn write_end(listing: &mut Listing, end: &RunEnd) {
     }
 }
 
+fn run_in<W: World>(
+    alloc: Global,
+    loaded: Loaded,
+    steps: u64,
+    world: &mut W,
+) -> Result<RunEnd, Memory>
+    requires { IsTypedProgram (environment_of loaded.env) (expr_of loaded.main) (typ_of loaded.ty) }
+{
+    let mut session = Session::new(alloc, loaded, steps, false)?;
+    Ok(session.run(world))
+}
+
 fn write_run(alloc: Global, listing: &mut Listing, loaded: Loaded, steps: u64)
     requires { IsTypedProgram (environment_of loaded.env) (expr_of loaded.main) (typ_of loaded.ty) }
 {
     let mut world = SureWorld::new(alloc, Text::new(alloc));
-    match Session::new(alloc, loaded, steps, false) {
-        Ok(mut session) => {
-            let end = session.run(&mut world);
+    match run_in(alloc, loaded, steps, &mut world) {
+        Ok(end) => {
             listing.printed(world.console().as_slice());
             write_end(listing, &end);
         }
@@ -71,7 +82,10 @@ fn listing_of(alloc: Global, text: &[u8], steps: u64) -> Listing {
 fn main(rt: HostRuntime) -> io::Result<()> {
     for line in rt.lines(rt.alloc()) {
         let line = line?;
-        let (name, steps) = line.as_str().split_once(' ').unwrap_or((line.as_str(), "0"));
+        let (name, steps) = line
+            .as_str()
+            .split_once(' ')
+            .unwrap_or((line.as_str(), "0"));
         let steps = u64::from(steps.parse::<u32>().unwrap_or(0));
         let text = fs::read(&rt, name)?;
         let listing = listing_of(rt.alloc(), &text, steps);
