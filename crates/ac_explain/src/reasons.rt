@@ -3,7 +3,7 @@
 use crate::page::Page;
 use crate::place::{name_at, place_behind, write_line};
 use crate::types::write_type;
-use crate::untyped::{Untyped, untyped};
+use crate::untyped::{Untyped, first_untyped};
 use crate::wants::wants;
 use ac_load::Kind;
 use ac_parser::parse_program;
@@ -157,7 +157,7 @@ fn explain_type(alloc: Global, page: &mut Page, file: &str, text: &[u8], surface
     let Ok(program) = elaborate(alloc, surface, &env) else {
         return;
     };
-    match untyped(alloc, tree, &program.main) {
+    match first_untyped(alloc, tree, &program.main) {
         Ok(Some(found)) => write_untyped(alloc, page, file, text, &found),
         Ok(None) => {}
         Err(_) => page.lose(),

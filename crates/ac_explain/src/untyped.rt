@@ -27,7 +27,7 @@ pub struct Untyped<'a> {
 
 // Where the search goes from an expression without a type.
 #[derive(Drop)]
-enum Step<'a> {
+enum Way<'a> {
     Into(Part<'a>),
     Here(Many<Typed>),
 }
@@ -48,7 +48,7 @@ fn type_in(alloc: Global, term: &Term, vars: &Many<Ty>) -> Result<Option<Ty>, Me
 }
 
 // The first part that has no type, or the types of all parts.
-fn step<'a>(alloc: Global, whole: &Part<'a>) -> Result<Step<'a>, Memory> {
+fn way_on<'a>(alloc: Global, whole: &Part<'a>) -> Result<Way<'a>, Memory> {
     let mut found = Many::new(alloc);
     for part in parts_of(alloc, whole)?.into_vec() {
         match type_in(alloc, part.term, &part.vars)? {
@@ -56,14 +56,14 @@ fn step<'a>(alloc: Global, whole: &Part<'a>) -> Result<Step<'a>, Memory> {
                 at: part.tree.at,
                 ty,
             })?,
-            None => return Ok(Step::Into(part)),
+            None => return Ok(Way::Into(part)),
         }
     }
-    Ok(Step::Here(found))
+    Ok(Way::Here(found))
 }
 
 /// The first part, in the order of evaluation, that has no type though all its parts have, of a program without one.
-pub fn untyped<'a>(
+pub fn first_untyped<'a>(
     alloc: Global,
     tree: &'a SExpr,
     term: &'a Term,
@@ -74,9 +74,9 @@ pub fn untyped<'a>(
         vars: Many::new(alloc),
     };
     for _ in 0..STEPS {
-        match step(alloc, &part)? {
-            Step::Into(inner) => part = inner,
-            Step::Here(parts) => {
+        match way_on(alloc, &part)? {
+            Way::Into(inner) => part = inner,
+            Way::Here(parts) => {
                 return Ok(Some(Untyped {
                     tree: part.tree,
                     term: part.term,
