@@ -7,7 +7,7 @@ use crate::untyped::{Untyped, first_untyped};
 use crate::wants::wants;
 use ac_load::Kind;
 use ac_parser::parse_program;
-use ac_resolve::{elaborate, named};
+use ac_resolve::{RawProgram, elaborate, named};
 use ac_syntax::{SExpr, SExprKind, Surface};
 use ac_terms::{Env, Term};
 use ac_types::{Many, Memory, Ty};
@@ -143,24 +143,42 @@ fn write_untyped(alloc: Global, page: &mut Page, file: &str, text: &[u8], found:
     }
 }
 
-// Looks for the part of a program that has no type.
-fn explain_type(alloc: Global, page: &mut Page, file: &str, text: &[u8], surface: &Surface) {
+// The term of a program without definitions.
+fn main_term(alloc: Global, surface: &Surface) -> Option<Term> {
     if !surface.defs.as_slice().is_empty() {
-        return;
+        return None;
     }
-    let Some(tree) = &surface.expr else {
-        return;
-    };
     let env = Env {
         entries: Many::new(alloc),
     };
-    let Ok(program) = elaborate(alloc, surface, &env) else {
-        return;
-    };
-    match first_untyped(alloc, tree, &program.main) {
+    match elaborate(alloc, surface, &env) {
+        Ok(RawProgram { env: _, main }) => Some(main),
+        Err(_) => None,
+    }
+}
+
+// Adds what is to be said of the first part that has no type.
+fn explain_term(
+    alloc: Global,
+    page: &mut Page,
+    file: &str,
+    text: &[u8],
+    tree: &SExpr,
+    main: &Term,
+) {
+    match first_untyped(alloc, tree, main) {
         Ok(Some(found)) => write_untyped(alloc, page, file, text, &found),
         Ok(None) => {}
         Err(_) => page.lose(),
+    }
+}
+
+// Looks for the part of a program that has no type.
+fn explain_type(alloc: Global, page: &mut Page, file: &str, text: &[u8], surface: &Surface) {
+    if let Some(tree) = &surface.expr
+        && let Some(main) = main_term(alloc, surface)
+    {
+        explain_term(alloc, page, file, text, tree, &main);
     }
 }
 

@@ -7,13 +7,13 @@ pub loop-byte-preserved : goal.loop-byte-preserved
 loop-byte-preserved c =
     let v = c.loop-byte.invariant in
     elim c.if-byte-eq10.branch [
-      then-byte-eq10 w ↦ rw (w.feeds-is, w.since-is) (record {
+      | then-byte-eq10 w ↦ rw (w.feeds-is, w.since-is) (record {
         few = omega (arith, v.few);
         near = omega arith;
         lines = lines_feed _ _ _ _ c.loop-byte-test.true w.if-byte-eq10.true v.lines;
         columns = columns_feed _ _ _ _ c.loop-byte-test.true w.if-byte-eq10.true v.columns;
       })
-    | else-byte-eq10 w ↦ rw (w.feeds-is, w.since-is) (record {
+      | else-byte-eq10 w ↦ rw (w.feeds-is, w.since-is) (record {
         few = omega (arith, v.few);
         near = omega (arith, v.near);
         lines = lines_no _ _ _ _ c.loop-byte-test.true w.if-byte-eq10.false v.lines;
