@@ -3,8 +3,9 @@ use Rattle.std.specs.Prelude.{ℕ, Bool, true, false, List, [], ◌∷◌, Optio
 use Rattle.ac_types.specs.Types.{Bytes}
 use Rattle.ac_terms.specs.Terms.{Expr, Int, Boolean, Str, Unit', Tuple, exprs, Value, VInt, VBool, VStr, VUnit, VExn, VTuple, Values, no_values, value}
 use Rattle.ac_code.specs.Constants.{Const, CInt, CBool, CStr, CUnit, CPart, Answer, Gives, Prints, Sends, Receives, Fails, NoSense, Meaning, meaning, applied}
-use Rattle.ac_meaning.specs.Worlds.{Exception, World, exception, end_of_file, no_channel, bad_frame, printed, with_sent, with_left}
-use Rattle.ac_meaning.specs.Frames.{Frame, Whole, Bad, AtEnd, next_frame}
+use Rattle.ac_meaning.specs.Worlds.{Exception, World, exception, end_of_file, no_channel, bad_frame, with_write, with_left}
+use Rattle.ac_meaning.specs.Writes.{Print, Send}
+use Rattle.ac_outside.specs.Frames.{Frame, Whole, Bad, AtEnd, next_frame}
 use Rattle.ac_meaning.specs.Acts.{Act, Is, Goes, Turns, Raises, Wrong}
 
 -- the constant that a value is; a string with two ints is the argument of `Str.sub`
@@ -49,19 +50,19 @@ primitive k vs = answer_at (meaning k) (consts_of vs)
 module _ {T A : Type 0} (spell : Const → T) where
   -- a string is sent where there is a channel
   abbrev pub sending : Bool → Bytes → World → Act T A
-  sending true s z = Turns (with_sent s z) (spell CUnit)
+  sending true s z = Turns (with_write (Send s) z) (spell CUnit)
   sending false s z = Raises no_channel
 
   -- the next frame is received; where there is none, the input stays as it is
   abbrev pub receiving : Frame → World → Act T A
   receiving (Whole s rest) z = Turns (with_left rest z) (spell (CStr s))
-  receiving Bad z = Raises bad_frame
+  receiving (Bad n got) z = Raises bad_frame
   receiving AtEnd z = Raises end_of_file
 
   -- an applied primitive becomes its answer
   abbrev pub answered : World → Answer → Act T A
   answered z (Gives c) = Goes (spell c)
-  answered z (Prints s) = Turns (printed s z) (spell CUnit)
+  answered z (Prints s) = Turns (with_write (Print s) z) (spell CUnit)
   answered z (Sends s) = sending z.has_channel s z
   answered z Receives = receiving (next_frame z.input) z
   answered z (Fails k s) = Raises (exception k s)
