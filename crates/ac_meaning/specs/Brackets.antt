@@ -14,7 +14,8 @@ enclosed b T v = Bracket b T (Val T v)
 abbrev pub all_enclosed : Home → Typs → Values → Option Exprs
 all_enclosed b no_types no_values = Some no_exprs
 all_enclosed b (typ T Ts) (value v vs) = option_map (expr (enclosed b T v)) (all_enclosed b Ts vs)
-all_enclosed b Ts vs = None
+all_enclosed b no_types (value v vs) = None
+all_enclosed b (typ T Ts) no_values = None
 
 abbrev pub is_function_value : Value → Bool
 is_function_value (VLam T e) = true
@@ -52,7 +53,8 @@ inside n t (VProxy b T U f) = None
 -- a bracket of the seal's home
 abbrev pub unsealed : Option (Home × Value) → Option Typ → Option Expr
 unsealed (Some p) (Some T) = Some (enclosed p.0 T p.1)
-unsealed p R = None
+unsealed (Some p) None = None
+unsealed None R = None
 
 -- `Bracket(b, n.t, v)` in a home, where n.t is R, by whether b opens n and whether the home does
 abbrev pub at_name : Home → Bytes → Bytes → Option Typ → Value → Bool → Bool → Act Expr Value

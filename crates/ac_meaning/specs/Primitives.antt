@@ -31,7 +31,8 @@ const_of (VSeal b n t v) = None
 
 abbrev pub all_there : Option Const → Option (List Const) → Option (List Const)
 all_there (Some c) (Some cs) = Some (c ∷ cs)
-all_there o os = None
+all_there (Some c) None = None
+all_there None os = None
 
 -- the constants that values are, where each is one
 abbrev pub consts_of : Values → Option (List Const)
@@ -49,7 +50,8 @@ spelled (CPart s i n) = Tuple (exprs (Str s ∷ Int i ∷ Int n ∷ []))
 -- what a primitive answers of values
 abbrev pub answer_at : Option Meaning → Option (List Const) → Answer
 answer_at (Some m) (Some cs) = applied m cs
-answer_at m cs = NoSense
+answer_at (Some m) None = NoSense
+answer_at None cs = NoSense
 
 abbrev pub primitive : ℕ → Values → Answer
 primitive k vs = answer_at (meaning k) (consts_of vs)
