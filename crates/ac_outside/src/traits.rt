@@ -1,6 +1,7 @@
 // The traits of the outside, and what their calls answer.
 ghost use Rattle.std.specs.Prelude.{◌≡◌, ◌<◌, ◌≤◌, ℕ, List, Bool, IsTrue, length};
 ghost use Rattle.ac_outside.specs.Outside.{Rose, Contents, NeverFall, IsWithin, Takes, rest, Reads, Wrote, Created, Appended, OthersSame};
+ghost use Rattle.ac_outside.specs.Frames.{IsFrame};
 
 /// What a read answers.
 #[derive(Clone, Copy, Debug, PartialEq, Eq)]
@@ -86,8 +87,9 @@ pub trait World: Source {
         ensures later { write_faults self.old ≤ write_faults self.new }
         ensures later_reads { Self.read_faults self.old ≤ Self.read_faults self.new };
 
-    /// Adds one whole frame to the channel.
+    /// Adds one whole frame to the channel, its length among the bytes.
     fn send(&mut self, bytes: &[u8]) -> Put
+        requires { IsFrame bytes.now }
         ensures bytes { IsTrue Self.told → Wrote result (channel self.old) (channel self.new) bytes.now }
         ensures others { IsTrue Self.told → (Self.left self.new ≡ Self.left self.old) × (console self.new ≡ console self.old) }
         ensures cause { result ≡ Put.Failed → Rose (write_faults self.old) (write_faults self.new) }

@@ -3,6 +3,7 @@ ghost use Rattle.std.specs.Prelude.{◌≡◌, ◌≢◌, ◌≤◌, ◌<◌, �
 ghost use native.Mathlib.Omega.{arith};
 ghost use Rattle.ac_outside.specs.Outside.{Rose, IsWithin, Takes, rest, Wrote};
 ghost use Rattle.ac_outside.specs.Calls.{unused};
+ghost use Rattle.ac_outside.specs.Frames.{IsFrame};
 
 use crate::calls::Calls;
 use crate::taking::take_from;
@@ -110,6 +111,7 @@ impl World for SureWorld {
 
     /// `Failed` never comes.
     fn send(&mut self, bytes: &[u8]) -> Put
+        requires { IsFrame bytes.now }
         ensures bytes { Wrote result self.old.channel self.new.channel bytes.now }
         ensures others { (self.new.left ≡ self.old.left) × (self.new.console ≡ self.old.console) }
         ensures cause { result ≡ Put.Failed → Rose 0 0 }
@@ -237,6 +239,7 @@ impl World for MemoryWorld {
 
     /// `Failed` comes exactly for the sends that are to fail, which send nothing.
     fn send(&mut self, bytes: &[u8]) -> Put
+        requires { IsFrame bytes.now }
         ensures bytes { Wrote result self.old.world.channel self.new.world.channel bytes.now }
         ensures others { (self.new.world.left ≡ self.old.world.left) × (self.new.world.console ≡ self.old.world.console) }
         ensures cause { result ≡ Put.Failed → Rose self.old.writes.failed self.new.writes.failed }
