@@ -66,6 +66,12 @@ pub trait Source {
         ensures cause { result ≡ Got.Failed → Rose (read_faults self.old) (read_faults self.new) }
         ensures later { read_faults self.old ≤ read_faults self.new }
         ensures passes { passes self.old self.new };
+
+    /// It holds where nothing is read.
+    ghost passes_none: { (a : Self) → passes a a };
+
+    /// It holds over several reads.
+    ghost passes_on: { (a b c : Self) → passes a b → passes b c → passes a c };
 }
 
 /// What a program meets while it runs: its input, a console and a channel. It tells what they have, or nothing.

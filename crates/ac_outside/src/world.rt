@@ -1,5 +1,6 @@
 // Worlds in memory.
-ghost use Rattle.std.specs.Prelude.{◌≡◌, ◌≢◌, ◌≤◌, ◌<◌, ◌↔◌, [], true, Contains, length};
+ghost use Rattle.std.specs.Prelude.{◌≡◌, ◌≢◌, ◌≤◌, ◌<◌, ◌↔◌, [], true, Contains, length, refl};
+ghost use Rattle.std.proofs.Common.{◌∙◌};
 ghost use native.Mathlib.Omega.{arith};
 ghost use Rattle.ac_outside.specs.Outside.{Rose, IsWithin, Takes, rest, Wrote};
 ghost use Rattle.ac_outside.specs.Calls.{unused};
@@ -84,6 +85,10 @@ impl Source for SureWorld {
         }
         got
     }
+
+    ghost passes_none = { λ _. (refl, refl) };
+
+    ghost passes_on = { λ _ _ _ h k. (k.0 ∙ h.0, k.1 ∙ h.1) };
 }
 
 impl World for SureWorld {
@@ -208,6 +213,10 @@ impl Source for MemoryWorld {
         }
         self.world.read(buf)
     }
+
+    ghost passes_none = { λ _. (refl, refl, refl) };
+
+    ghost passes_on = { λ _ _ _ h k. (k.0 ∙ h.0, k.1 ∙ h.1, k.2 ∙ h.2) };
 }
 
 impl World for MemoryWorld {
