@@ -1,6 +1,6 @@
 // The traits of the outside, and what their calls answer.
 ghost use Rattle.std.specs.Prelude.{◌≡◌, ◌<◌, ◌≤◌, ℕ, List, Bool, IsTrue, length};
-ghost use Rattle.ac_outside.specs.Outside.{Rose, Contents, NeverFall, IsWithin, Takes, rest, Reads, Wrote, Created, Appended, OthersSame};
+ghost use Rattle.ac_outside.specs.Outside.{Rose, Contents, NeverFall, IsWithin, Takes, rest, Reads, IsShort, Wrote, Created, Appended, OthersSame};
 ghost use Rattle.ac_outside.specs.Frames.{IsFrame};
 
 /// What a read answers.
@@ -123,12 +123,13 @@ pub trait Files {
     /// How often a write of a name has failed.
     ghost write_faults: { Self → List ℕ → ℕ };
 
-    /// Reads from a place on, in bytes from 0. Each file keeps its bytes, and the read of a missing one fails.
+    /// Reads from a place on, in bytes from 0. Each file keeps its bytes, fewer than 2^64, and the read of a missing one fails.
     fn read(&mut self, name: &str, from: u64, buf: &mut [u8]) -> Got
         requires { 0 < length buf.old }
         ensures bound { IsWithin result (length buf.new) }
         ensures bytes { IsTrue told → Reads result (contents self.old name.now) from buf.new }
         ensures same { IsTrue told → contents self.new ≡ contents self.old }
+        ensures short { IsTrue told → IsShort (contents self.old name.now) }
         ensures cause { result ≡ Got.Failed → Rose (read_faults self.old name.now) (read_faults self.new name.now) }
         ensures later { NeverFall (read_faults self.old) (read_faults self.new) }
         ensures later_writes { NeverFall (write_faults self.old) (write_faults self.new) };
