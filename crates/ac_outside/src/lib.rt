@@ -7,6 +7,8 @@
 
 mod calls;
 mod files;
+mod filling;
+mod frames;
 mod laws;
 mod real;
 mod sink;
@@ -16,6 +18,7 @@ mod world;
 
 pub use calls::Calls;
 pub use files::{MemoryFile, MemoryFiles};
+pub use frames::{FrameGot, Frames};
 pub use laws::frame_back;
 pub use real::{RealFiles, RealSink};
 pub use sink::{MemorySink, SureSink};
