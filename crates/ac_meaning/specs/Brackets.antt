@@ -14,23 +14,47 @@ enclosed b T v = Bracket b T (Val T v)
 abbrev pub all_enclosed : Home → Typs → Values → Option Exprs
 all_enclosed b no_types no_values = Some no_exprs
 all_enclosed b (typ T Ts) (value v vs) = option_map (expr (enclosed b T v)) (all_enclosed b Ts vs)
-all_enclosed b Ts vs = None
+all_enclosed b no_types (value v vs) = None
+all_enclosed b (typ T Ts) no_values = None
 
 abbrev pub is_function_value : Value → Bool
 is_function_value (VLam T e) = true
 is_function_value (VRec T U e) = true
 is_function_value (VProxy b T U f) = true
-is_function_value v = false
+is_function_value (VInt n) = false
+is_function_value (VBool b) = false
+is_function_value (VStr s) = false
+is_function_value VUnit = false
+is_function_value (VExn k s) = false
+is_function_value (VTuple vs) = false
+is_function_value (VNil T) = false
+is_function_value (VCons v w) = false
+is_function_value (VAbsent T) = false
+is_function_value (VPresent v) = false
+is_function_value (VSeal b n t v) = false
 
 -- what is inside a seal at n.t, with its home
 abbrev pub inside : Bytes → Bytes → Value → Option (Home × Value)
 inside n t (VSeal d m u w) = cond (same_bytes m n && same_bytes u t) (Some (d, w)) None
-inside n t v = None
+inside n t (VInt k) = None
+inside n t (VBool b) = None
+inside n t (VStr s) = None
+inside n t VUnit = None
+inside n t (VExn k s) = None
+inside n t (VTuple vs) = None
+inside n t (VNil T) = None
+inside n t (VCons v w) = None
+inside n t (VAbsent T) = None
+inside n t (VPresent v) = None
+inside n t (VLam T e) = None
+inside n t (VRec T U e) = None
+inside n t (VProxy b T U f) = None
 
 -- a bracket of the seal's home
 abbrev pub unsealed : Option (Home × Value) → Option Typ → Option Expr
 unsealed (Some p) (Some T) = Some (enclosed p.0 T p.1)
-unsealed p R = None
+unsealed (Some p) None = None
+unsealed None R = None
 
 -- `Bracket(b, n.t, v)` in a home, where n.t is R, by whether b opens n and whether the home does
 abbrev pub at_name : Home → Bytes → Bytes → Option Typ → Value → Bool → Bool → Act Expr Value

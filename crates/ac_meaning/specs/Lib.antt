@@ -1,6 +1,6 @@
+pub mod Writes
 pub mod Worlds
 pub mod Read
-pub mod Frames
 pub mod Acts
 pub mod Substitution
 pub mod Matching

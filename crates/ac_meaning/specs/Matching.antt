@@ -27,7 +27,8 @@ abbrev mutual
   pub fit_all : Patterns → Values → Written → Option Written
   fit_all no_patterns no_values ws = Some ws
   fit_all (pattern' p ps) (value v vs) ws = option_and_then (fit_all ps vs) (fit p v ws)
-  fit_all ps vs ws = None
+  fit_all no_patterns (value v vs) ws = None
+  fit_all (pattern' p ps) no_values ws = None
 
 -- the body of the first arm whose pattern fits
 abbrev pub chosen : Arms → Value → Option Expr

@@ -1,10 +1,11 @@
 -- Constants, exceptions and primitives.
 use Rattle.std.specs.Prelude.{ℕ, Bool, true, false, List, [], ◌∷◌, Option, Some, None}
 use Rattle.ac_types.specs.Types.{Bytes}
-use Rattle.ac_terms.specs.Terms.{Expr, Int, Boolean, Str, Unit', Tuple, exprs, Value, VInt, VBool, VStr, VUnit, VExn, VTuple, Values, no_values, value}
+use Rattle.ac_terms.specs.Terms.{Expr, Int, Boolean, Str, Unit', Tuple, exprs, Value, VInt, VBool, VStr, VUnit, VExn, VTuple, VNil, VCons, VAbsent, VPresent, VLam, VRec, VProxy, VSeal, Values, no_values, value}
 use Rattle.ac_code.specs.Constants.{Const, CInt, CBool, CStr, CUnit, CPart, Answer, Gives, Prints, Sends, Receives, Fails, NoSense, Meaning, meaning, applied}
-use Rattle.ac_meaning.specs.Worlds.{Exception, World, exception, end_of_file, no_channel, bad_frame, printed, with_sent, with_left}
-use Rattle.ac_meaning.specs.Frames.{Frame, Whole, Bad, AtEnd, next_frame}
+use Rattle.ac_meaning.specs.Worlds.{Exception, World, exception, end_of_file, no_channel, bad_frame, with_write, with_left}
+use Rattle.ac_meaning.specs.Writes.{Print, Send}
+use Rattle.ac_outside.specs.Frames.{Frame, Whole, Bad, AtEnd, next_frame}
 use Rattle.ac_meaning.specs.Acts.{Act, Is, Goes, Turns, Raises, Wrong}
 
 -- the constant that a value is; a string with two ints is the argument of `Str.sub`
@@ -18,11 +19,20 @@ const_of (VBool b) = Some (CBool b)
 const_of (VStr s) = Some (CStr s)
 const_of VUnit = Some CUnit
 const_of (VTuple vs) = const_of_parts vs
-const_of v = None
+const_of (VExn k s) = None
+const_of (VNil T) = None
+const_of (VCons v w) = None
+const_of (VAbsent T) = None
+const_of (VPresent v) = None
+const_of (VLam T e) = None
+const_of (VRec T U e) = None
+const_of (VProxy b T U f) = None
+const_of (VSeal b n t v) = None
 
 abbrev pub all_there : Option Const → Option (List Const) → Option (List Const)
 all_there (Some c) (Some cs) = Some (c ∷ cs)
-all_there o os = None
+all_there (Some c) None = None
+all_there None os = None
 
 -- the constants that values are, where each is one
 abbrev pub consts_of : Values → Option (List Const)
@@ -40,7 +50,8 @@ spelled (CPart s i n) = Tuple (exprs (Str s ∷ Int i ∷ Int n ∷ []))
 -- what a primitive answers of values
 abbrev pub answer_at : Option Meaning → Option (List Const) → Answer
 answer_at (Some m) (Some cs) = applied m cs
-answer_at m cs = NoSense
+answer_at (Some m) None = NoSense
+answer_at None cs = NoSense
 
 abbrev pub primitive : ℕ → Values → Answer
 primitive k vs = answer_at (meaning k) (consts_of vs)
@@ -49,19 +60,19 @@ primitive k vs = answer_at (meaning k) (consts_of vs)
 module _ {T A : Type 0} (spell : Const → T) where
   -- a string is sent where there is a channel
   abbrev pub sending : Bool → Bytes → World → Act T A
-  sending true s z = Turns (with_sent s z) (spell CUnit)
+  sending true s z = Turns (with_write (Send s) z) (spell CUnit)
   sending false s z = Raises no_channel
 
   -- the next frame is received; where there is none, the input stays as it is
   abbrev pub receiving : Frame → World → Act T A
   receiving (Whole s rest) z = Turns (with_left rest z) (spell (CStr s))
-  receiving Bad z = Raises bad_frame
+  receiving (Bad n got) z = Raises bad_frame
   receiving AtEnd z = Raises end_of_file
 
   -- an applied primitive becomes its answer
   abbrev pub answered : World → Answer → Act T A
   answered z (Gives c) = Goes (spell c)
-  answered z (Prints s) = Turns (printed s z) (spell CUnit)
+  answered z (Prints s) = Turns (with_write (Print s) z) (spell CUnit)
   answered z (Sends s) = sending z.has_channel s z
   answered z Receives = receiving (next_frame z.input) z
   answered z (Fails k s) = Raises (exception k s)
@@ -70,7 +81,19 @@ module _ {T A : Type 0} (spell : Const → T) where
 -- an exception with a text, and an exception as a value
 abbrev pub exception_of : ℕ → Value → Act Expr Value
 exception_of k (VStr s) = Is (VExn k (Some s))
-exception_of k v = Wrong
+exception_of k (VInt n) = Wrong
+exception_of k (VBool b) = Wrong
+exception_of k VUnit = Wrong
+exception_of k (VExn j s) = Wrong
+exception_of k (VTuple vs) = Wrong
+exception_of k (VNil T) = Wrong
+exception_of k (VCons v w) = Wrong
+exception_of k (VAbsent T) = Wrong
+exception_of k (VPresent v) = Wrong
+exception_of k (VLam T e) = Wrong
+exception_of k (VRec T U e) = Wrong
+exception_of k (VProxy b T U f) = Wrong
+exception_of k (VSeal b n t v) = Wrong
 
 abbrev pub exception_value : Exception → Value
 exception_value x = VExn x.number x.text
@@ -78,4 +101,16 @@ exception_value x = VExn x.number x.text
 -- an exception is raised
 abbrev pub thrown : Value → Act Expr Value
 thrown (VExn k s) = Raises (exception k s)
-thrown v = Wrong
+thrown (VInt n) = Wrong
+thrown (VBool b) = Wrong
+thrown (VStr s) = Wrong
+thrown VUnit = Wrong
+thrown (VTuple vs) = Wrong
+thrown (VNil T) = Wrong
+thrown (VCons v w) = Wrong
+thrown (VAbsent T) = Wrong
+thrown (VPresent v) = Wrong
+thrown (VLam T e) = Wrong
+thrown (VRec T U e) = Wrong
+thrown (VProxy b T U f) = Wrong
+thrown (VSeal b n t v) = Wrong

@@ -7,6 +7,9 @@
 
 mod calls;
 mod files;
+mod filling;
+mod frames;
+mod laws;
 mod real;
 mod sink;
 mod taking;
@@ -15,6 +18,8 @@ mod world;
 
 pub use calls::Calls;
 pub use files::{MemoryFile, MemoryFiles};
+pub use frames::{FrameGot, Frames};
+pub use laws::frame_back;
 pub use real::{RealFiles, RealSink};
 pub use sink::{MemorySink, SureSink};
 pub use traits::{Files, Got, Put, Sink, Source, World};

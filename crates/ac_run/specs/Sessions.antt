@@ -1,15 +1,18 @@
 -- Sessions, how they end, and what they leave on console and channel.
-use Rattle.std.specs.Prelude.{◌≡◌, ℕ, Bool, [], ◌++◌, Option}
+use Rattle.std.specs.Prelude.{◌≡◌, ◌⊎◌, ℕ, Bool, false, IsTrue, List, [], ◌∷◌, ◌++◌, Option}
 use Rattle.ac_types.specs.Types.{Bytes}
 use Rattle.ac_terms.specs.Terms.{Expr, Value}
 use Rattle.ac_terms.specs.Defs.{Environment}
 use Rattle.ac_terms.specs.Read.{expr_of, environment_of}
 use Rattle.ac_outside.specs.Outside.{Extends}
+use Rattle.ac_outside.specs.Frames.{frame_of}
 use Rattle.ac_rules.specs.Views.{Mode}
 use Rattle.ac_rules.specs.declared.loaded.Loaded.{Loaded}
 use Rattle.ac_machine.specs.States.{Core, Ask, AskDone, AskRaised, AskSpent, Paused}
 use Rattle.ac_machine.specs.Resumes as standing
 use Rattle.ac_machine.specs.Seen.{Seen, standing}
+use Rattle.ac_meaning.specs.Writes.{Write, Print, Send, Console, Channel, written}
+use Rattle.ac_meaning.specs.Worlds.{World}
 use Rattle.ac_meaning.specs.Read.{exn_of}
 use Rattle.ac_meaning.specs.Acts.{Outcome, Returned, Raised, Spent}
 use Rattle.ac_meaning.specs.Reduction.{Ends}
@@ -30,27 +33,66 @@ environment s = environment_of s.program.env
 abbrev pub main : Session → Expr
 main s = expr_of s.program.main
 
--- the reduction of a session's program, which has no input
-abbrev pub ProgramEnds : Mode → Session → Outcome Value → Type 0
-ProgramEnds mode s o = Ends mode (environment s) (main s) [] s.sends s.steps o
+-- the reduction of a session's program with this input
+abbrev pub ProgramEnds : Mode → Session → Bytes → Outcome Value → Type 0
+ProgramEnds mode s input o = Ends mode (environment s) (main s) input s.sends s.steps o
 
--- the machine has stopped for this reason, after so many applications
-pub record HasStopped (m : Seen) (why : Ask) (made : ℕ) : Type 0 where
+-- a program gets this input: what its world has left to read, where that is told. Until sessions read, none has one
+pub record HasInput (told : Bool) (left input : Bytes) : Type 0 where
+  pub there : IsTrue told → left ≡ input
+  pub none : input ≡ []
+
+-- a session's machine has stopped for this reason, and definitions and applications are those of this world
+pub record HasStopped (s : Session) (why : Ask) (z : World) : Type 0 where
+  pub able : s.machine.lost ≡ false
   pub core : Core
-  pub stands : standing m ≡ standing.At (Paused why core)
-  pub counted : core.made ≡ made
+  pub stands : standing s.machine ≡ standing.At (Paused why core)
+  pub counted : core.made ≡ z.made
+  pub defines : environment s ≡ z.environment
 
--- a run ends so where the reduction ends so, within N applications, and its machine has stopped accordingly; a fault and want of memory may come on every way
-abbrev pub IsEnd : {A : Type 0} → ℕ → RunEnd → Outcome A → Seen → Type 0
-IsEnd N end.Finished (Returned v z) m = HasStopped m AskDone z.made
-IsEnd N (end.Uncaught e) (Raised x z) m = (exn_of e ≡ x) × HasStopped m (AskRaised x.number x.text) z.made
-IsEnd N (end.Spent steps) (Spent z) m = (steps ≡ N) × HasStopped m AskSpent z.made
-IsEnd N end.WriteFault o m = Unit {0}
-IsEnd N end.Memory o m = Unit {0}
-IsEnd N end o m = ⊥
+-- a session ends so where the reduction ends so, and its machine has stopped accordingly; a fault and want of memory may come on every way
+abbrev pub IsEnd : {A : Type 0} → RunEnd → Outcome A → Session → Type 0
+IsEnd end.Finished (Returned v z) s = HasStopped s AskDone z
+IsEnd (end.Uncaught e) (Raised x z) s = (exn_of e ≡ x) × HasStopped s (AskRaised x.number x.text) z
+IsEnd (end.Spent steps) (Spent z) s = (steps ≡ s.steps) × HasStopped s AskSpent z
+IsEnd end.WriteFault o s = Unit {0}
+IsEnd end.Memory o s = Unit {0}
+IsEnd end o s = ⊥
 
--- after a run all of it was written, and after a fault or want of memory a front
-abbrev pub Leaves : RunEnd → Bytes → Bytes → Bytes → Type 0
-Leaves end.WriteFault old new all = Extends old new all
-Leaves end.Memory old new all = Extends old new all
-Leaves end old new all = new ≡ old ++ all
+-- console and channel of a world
+pub record Streams : Type 0 where
+  pub console : Bytes
+  pub channel : Bytes
+
+abbrev pub streams : Bytes → Bytes → Streams
+streams console channel = record { console = console; channel = channel }
+
+-- with these writes added
+abbrev pub with_writes : List Write → Streams → Streams
+with_writes writes s = streams (s.console ++ written Console writes) (s.channel ++ written Channel writes)
+
+-- of this write a prefix was added to its stream, and nothing to the other
+abbrev pub Begun : Write → Streams → Streams → Type 0
+Begun (Print s) old new = Extends old.console new.console s × (new.channel ≡ old.channel)
+Begun (Send s) old new = (new.console ≡ old.console) × Extends old.channel new.channel (frame_of s)
+
+-- of these writes, made in their order, one was begun and none came after it; where the streams are told, they say so
+pub record StopsIn (told : Bool) (all : List Write) (old new : Streams) : Type 0 where
+  pub before : List Write
+  pub write : Write
+  pub after : List Write
+  pub order : all ≡ before ++ write ∷ after
+  pub begun : IsTrue told → Begun write (with_writes before old) new
+
+-- some of them were made, and then none
+pub record StopsBehind (told : Bool) (all : List Write) (old new : Streams) : Type 0 where
+  pub before : List Write
+  pub after : List Write
+  pub order : all ≡ before ++ after
+  pub made : IsTrue told → new ≡ with_writes before old
+
+-- what a session leaves of the writes of its program: all of them; after a fault of writing those before one of them and a prefix of it; and want of memory may come anywhere
+abbrev pub Leaves : RunEnd → Bool → List Write → Streams → Streams → Type 0
+Leaves end.WriteFault told all old new = StopsIn told all old new
+Leaves end.Memory told all old new = StopsIn told all old new ⊎ StopsBehind told all old new
+Leaves end told all old new = IsTrue told → new ≡ with_writes all old

@@ -8,6 +8,8 @@ mod code;
 #[cfg(test)]
 mod crossing;
 #[cfg(test)]
+mod framed;
+#[cfg(test)]
 mod terms;
 #[cfg(test)]
 mod types;

@@ -1,0 +1,82 @@
+-- What a reader of frames keeps, and what a call of it answers.
+use Rattle.std.specs.Prelude.{◌≡◌, ◌<◌, ◌≤◌, ℕ, Option, Some, None, [], ◌++◌, length, drop}
+use Rattle.std.specs.Int.{from_be_bytes, w32}
+use Rattle.ac_types.specs.Types.{Bytes}
+use Rattle.ac_outside.specs.Frames.{longest, Frame, Whole, Bad, AtEnd, next_frame}
+use Rattle.ac_outside.specs.declared.frames.FrameGot.{FrameGot}
+use Rattle.ac_outside.specs.declared.frames.FrameGot.TheVariants as answers
+use Rattle.ac_outside.specs.declared.frames.Stop.{Stop}
+use Rattle.ac_outside.specs.declared.frames.Stop.TheVariants as stops
+use Rattle.ac_outside.specs.declared.frames.Part.{Part}
+
+-- a reader of frames
+pub data Reader : Type 0 where
+  -- it has taken these bytes of a frame that isn't whole yet
+  Keeps : Bytes → Reader
+  -- it has met no frame: the length, and how many bytes say that it is none
+  Refused : ℕ → ℕ → Reader
+  -- memory ran out
+  Lost : Reader
+
+-- the bytes that it has taken and not given
+abbrev pub held : Reader → Bytes
+held (Keeps bytes) = bytes
+held (Refused n g) = []
+held Lost = []
+
+-- there are bytes that are no frame for this reason
+pub record IsBad (n g : ℕ) : Type 0 where
+  pub bytes : Bytes
+  pub is : next_frame bytes ≡ Bad n g
+
+-- the reader after an answer, where it kept these bytes before, whatever its source is
+abbrev pub Goes : FrameGot → Bytes → Reader → Type 0
+Goes (answers.Frame s) kept new = (length s.0 ≤ longest) × (new ≡ Keeps [])
+Goes answers.End kept new = (kept ≡ []) × (new ≡ Keeps [])
+Goes (answers.Bad n g) kept new = IsBad n g × (new ≡ Refused n g)
+Goes answers.Failed kept new = (more : Bytes) × (new ≡ Keeps (kept ++ more))
+Goes answers.Memory kept new = new ≡ Lost
+
+-- the same of every reader: one that has met no frame, or has lost memory, stays so
+abbrev pub Follows : FrameGot → Reader → Reader → Type 0
+Follows answer (Keeps kept) new = Goes answer kept new
+Follows answer (Refused n g) new = (answer ≡ answers.Bad n g) × (new ≡ Refused n g)
+Follows answer Lost new = (answer ≡ answers.Memory) × (new ≡ Lost)
+
+-- what is answered where these bytes were kept or left, and what is left then
+abbrev pub Gives : FrameGot → Bytes → Reader → Bytes → Type 0
+Gives (answers.Frame s) all new left = next_frame all ≡ Whole s.0 left
+Gives answers.End all new left = (all ≡ []) × (left ≡ [])
+Gives (answers.Bad n g) all new left = (next_frame all ≡ Bad n g) × (left ≡ drop g all)
+Gives answers.Failed all new left = all ≡ held new ++ left
+Gives answers.Memory all new left = Unit {0}
+
+-- the same of every reader: one that has met no frame, or has lost memory, takes nothing
+abbrev pub Receives : FrameGot → Reader → Bytes → Reader → Bytes → Type 0
+Receives answer (Keeps kept) left new now = Gives answer (kept ++ left) new now
+Receives answer (Refused n g) left new now = now ≡ left
+Receives answer Lost left new now = now ≡ left
+
+-- what a part of a frame has: its length's bytes, and those behind it
+abbrev pub kept : Part → Bytes
+kept p = p.head.0 ++ p.body.0
+
+-- a part of a frame has no more bytes than the frame
+pub record IsPart (head body : Bytes) : Type 0 where
+  pub short : length head ≤ 4
+  pub none : length head < 4 → body ≡ []
+  pub over : longest < from_be_bytes w32 head → body ≡ []
+  pub within : length body ≤ from_be_bytes w32 head
+
+abbrev pub reader : Option Stop → Bytes → Reader
+reader None bytes = Keeps bytes
+reader (Some (stops.Bad n g)) bytes = Refused n g
+reader (Some stops.Memory) bytes = Lost
+
+-- the reader that an answer leaves, where it has these bytes
+abbrev pub left_by : FrameGot → Bytes → Reader
+left_by (answers.Frame s) bytes = Keeps bytes
+left_by answers.End bytes = Keeps bytes
+left_by (answers.Bad n g) bytes = Refused n g
+left_by answers.Failed bytes = Keeps bytes
+left_by answers.Memory bytes = Lost
