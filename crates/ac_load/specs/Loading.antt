@@ -2,6 +2,7 @@
 use Rattle.std.specs.Prelude.{◌≡◌, ◌<◌, ℕ, suc, false, List, [], Some, None, length, map, slice_get}
 use Rattle.ac_types.specs.Types.{Bytes, Typ}
 use Rattle.ac_terms.specs.Terms.{Main, Expr}
+use Rattle.ac_terms.specs.Defs.{Environment}
 use Rattle.ac_terms.specs.Read.{bytes_of}
 use Rattle.ac_rules.specs.Views.{Coloured}
 use Rattle.ac_rules.specs.Typing.{Scope, all_of, type_of, HasType}
@@ -24,9 +25,17 @@ pub record IsSource (text : Bytes) (tree : ProgramTree) : Type 0 where
   pub has : HasTree IsProgram text tree
   pub built : first_unbuilt tree ≡ None
 
--- the texts of a shelf
-abbrev pub texts : Shelf → List Bytes
-texts shelf = map (λ (x : ShelfEntry). bytes_of x.text) shelf.0
+-- a text of a shelf, and the URI by which imports ask for it
+pub record ShelfText : Type 0 where
+  pub uri : Bytes
+  pub text : Bytes
+
+abbrev pub shelf_text : ShelfEntry → ShelfText
+shelf_text entry = record { uri = bytes_of entry.uri; text = bytes_of entry.text }
+
+-- the texts of a shelf, in their order
+abbrev pub shelf_of : Shelf → List ShelfText
+shelf_of shelf = map shelf_text shelf.0
 
 -- the text is a module, whose forms all run
 pub record IsShelved (text : Bytes) : Type 0 where
@@ -35,24 +44,25 @@ pub record IsShelved (text : Bytes) : Type 0 where
   pub built : first_unbuilt tree ≡ None
 
 -- the first n texts of a shelf are modules whose forms all run
-abbrev pub Shelved : List Bytes → ℕ → Type 0
-Shelved shelf n = (i : ℕ) → i < n → (text : Bytes) → slice_get shelf i ≡ Some text → IsShelved text
+abbrev pub Shelved : List ShelfText → ℕ → Type 0
+Shelved shelf n = (i : ℕ) → i < n → (s : ShelfText) → slice_get shelf i ≡ Some s → IsShelved s.text
 
 -- the main program, where there are no definitions
 abbrev pub main_scope : Scope
 main_scope = all_of [] Main
 
--- the text is a program with this term, of this type
-pub record HasTerm (text : Bytes) (e : Expr) (T : Typ) : Type 0 where
+-- the text is a program with this term, of this type, over these definitions; today there are none
+pub record HasTerm (text : Bytes) (E : Environment) (e : Expr) (T : Typ) : Type 0 where
   pub tree : ProgramTree
   pub source : IsSource text tree
+  pub no_definitions : E ≡ []
   pub elaborates : Elaborates tree e
-  pub typed : HasType Coloured [] main_scope e T
+  pub typed : HasType Coloured E (all_of E Main) e T
 
 -- beside a shelf whose texts are all modules
-pub record Accepted (text : Bytes) (shelf : List Bytes) (e : Expr) (T : Typ) : Type 0 where
+pub record Accepted (text : Bytes) (shelf : List ShelfText) (E : Environment) (e : Expr) (T : Typ) : Type 0 where
   pub shelved : Shelved shelf (length shelf)
-  pub has_term : HasTerm text e T
+  pub has_term : HasTerm text E e T
 
 -- a fault of the parser, and one of the scopes, as a kind of refusal
 abbrev pub parse_kind : ParseFault → Kind
@@ -83,8 +93,8 @@ pub data IsProgramRefused (text : Bytes) : Kind → Type 0 where
   ill_typed : {tree : ProgramTree} {e : Expr} → IsSource text tree → Elaborates tree e → type_of Coloured false [] main_scope e ≡ None → IsProgramRefused text (IllTyped 0)
 
 -- the first part that is refused: the texts of the shelf in order, from part 1 on, and then the program, which is part 0
-pub data IsRefused (text : Bytes) (shelf : List Bytes) : ℕ → Kind → Type 0 where
-  of_shelf : {i : ℕ} {s : Bytes} {kind : Kind} → Shelved shelf i → slice_get shelf i ≡ Some s → IsModuleRefused s kind → IsRefused text shelf (suc i) kind
+pub data IsRefused (text : Bytes) (shelf : List ShelfText) : ℕ → Kind → Type 0 where
+  of_shelf : {i : ℕ} {s : ShelfText} {kind : Kind} → Shelved shelf i → slice_get shelf i ≡ Some s → IsModuleRefused s.text kind → IsRefused text shelf (suc i) kind
   of_program : {kind : Kind} → Shelved shelf (length shelf) → IsProgramRefused text kind → IsRefused text shelf 0 kind
 
 -- what a kind says; want of memory says nothing

@@ -8,7 +8,7 @@ ghost use Rattle.ac_meaning.specs.Loads.{IsLoaded};
 ghost use Rattle.ac_syntax.specs.ReadTrees.{surface_of};
 ghost use Rattle.ac_load.specs.Built.{first_unbuilt};
 ghost use Rattle.ac_load.specs.declared.kind.Kind.TheVariants.{Unbuilt};
-ghost use Rattle.ac_load.specs.Loading.{texts, IsShelved, HasTerm, Accepted, IsModuleRefused, IsProgramRefused, IsRefused, Says};
+ghost use Rattle.ac_load.specs.Loading.{shelf_of, IsShelved, HasTerm, Accepted, IsModuleRefused, IsProgramRefused, IsRefused, Says};
 
 use crate::built::unbuilt;
 use crate::kind::{Kind, Refusal};
@@ -25,10 +25,13 @@ use std::alloc::Global;
 /// The program of a text beside a shelf of at most 256 texts, or the first part that is refused, and why.
 pub fn load(alloc: Global, program: &[u8], shelf: &Shelf) -> Result<Loaded, Refusal>
     requires few { length shelf.now.0 ≤ 256 }
-    ensures accepted { IfOk result (λ l. Accepted program.now (texts shelf.now) (expr_of l.main) (typ_of l.ty)) }
-    ensures loaded { IfOk result (λ l. IsLoaded (environment_of l.env) (expr_of l.main) (typ_of l.ty)) }
+    ensures accepted { IfOk result (λ l.
+        Accepted program.now (shelf_of shelf.now) (environment_of l.env) (expr_of l.main) (typ_of l.ty)) }
+    ensures loaded { IfOk result (λ l.
+        IsLoaded (environment_of l.env) (expr_of l.main) (typ_of l.ty)) }
     ensures alone { IfOk result (λ l. environment_of l.env ≡ []) }
-    ensures refused { IfErr result (λ r. Says r.kind (IsRefused program.now (texts shelf.now) r.part r.kind)) }
+    ensures refused { IfErr result (λ r.
+        Says r.kind (IsRefused program.now (shelf_of shelf.now) r.part r.kind)) }
 {
     let mut part = 0;
     for entry in shelf.0.as_slice() {
@@ -66,8 +69,10 @@ fn check_built(surface: &Surface) -> Result<(), Kind>
 
 // The program of a text, or the first cause why it is refused.
 fn program_of(alloc: Global, text: &[u8]) -> Result<Loaded, Kind>
-    ensures has_term { IfOk result (λ l. HasTerm text.now (expr_of l.main) (typ_of l.ty)) }
-    ensures loaded { IfOk result (λ l. IsLoaded (environment_of l.env) (expr_of l.main) (typ_of l.ty)) }
+    ensures has_term { IfOk result (λ l.
+        HasTerm text.now (environment_of l.env) (expr_of l.main) (typ_of l.ty)) }
+    ensures loaded { IfOk result (λ l.
+        IsLoaded (environment_of l.env) (expr_of l.main) (typ_of l.ty)) }
     ensures alone { IfOk result (λ l. environment_of l.env ≡ []) }
     ensures refused { IfErr result (λ kind. Says kind (IsProgramRefused text.now kind)) }
 {

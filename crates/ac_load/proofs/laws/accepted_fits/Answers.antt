@@ -2,4 +2,4 @@ use Rattle.ac_load.proofs.TextLaws.{fits}
 use Rattle.ac_load.proofs.laws.accepted_fits.Goals as goal
 
 pub returns : goal.returns
-returns c = λ text shelf e T a. fits a
+returns c = λ text shelf E e T a. fits a

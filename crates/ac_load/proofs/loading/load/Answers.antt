@@ -1,10 +1,10 @@
-use Rattle.ac_load.specs.Loading.{texts, of_program}
+use Rattle.ac_load.specs.Loading.{shelf_of, of_program}
 use Rattle.ac_load.proofs.LoadLaws.{says, of_next, text_at, all_shelved}
 use Rattle.ac_load.proofs.loading.load.Goals as goal
 
 pub returns-in-Err-clause-refused : goal.returns-in-Err-clause-refused
 returns-in-Err-clause-refused c =
-    of_next _ (texts c.args.shelf.now) _ _ _ c.in-Err.kind c.loop-entry.invariant.part c.loop-entry.invariant.shelved
+    of_next _ (shelf_of c.args.shelf.now) _ _ _ _ c.in-Err.kind c.loop-entry.invariant.part c.loop-entry.invariant.shelved
     (text_at c.args.shelf.now _ c.loop-entry.entry-index c.entry-item.result _ c.as_slice-entry-items.ensures c.loop-entry-test.true c.entry-item.is c.as_slice.ensures)
     c.in-Err.ensures.refused
 
