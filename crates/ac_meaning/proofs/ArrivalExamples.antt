@@ -13,9 +13,10 @@ use Rattle.ac_terms.specs.Names.{name_by}
 use Rattle.ac_terms.proofs.Samples.{number_module, any_m1, pair_type}
 use Rattle.ac_rules.specs.Views.{Mode, Plain, Coloured}
 use Rattle.ac_rules.proofs.Samples.{t}
+use Rattle.ac_meaning.specs.Writes.{Console, written}
 use Rattle.ac_meaning.specs.Worlds.{Exception, fresh}
 use Rattle.ac_meaning.specs.Acts.{State, At, Over, Returned, Raised, iter}
-use Rattle.ac_meaning.specs.Frames.{frame_of}
+use Rattle.ac_outside.specs.Frames.{frame_of}
 use Rattle.ac_terms.specs.Spelling.{packet_bytes}
 use Rattle.ac_rules.specs.Packets.{Full}
 use Rattle.ac_meaning.specs.Packing.{packing, landing, Sinks, received, of_cause, unmarshal_failure, resolve_failure}
@@ -29,8 +30,8 @@ behind E d link = E ++ record { def = d; name = name_by sha256 E d; seen = Here;
 
 -- what was printed, and what was raised
 abbrev said : State Expr Value → Option (Bytes × Option Exception)
-said (Over (Returned v z)) = Some (z.console, None)
-said (Over (Raised x z)) = Some (z.console, Some x)
+said (Over (Returned v z)) = Some (written Console z.writes, None)
+said (Over (Raised x z)) = Some (written Console z.writes, Some x)
 said s = None
 
 abbrev runs : Mode → Environment → List Bytes → Expr → Option (Bytes × Option Exception)

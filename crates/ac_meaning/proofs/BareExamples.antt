@@ -2,7 +2,7 @@
 use Rattle.std.proofs.Common.{◌≡◌, refl}
 use Rattle.std.specs.Int.{int_wrap}
 use Rattle.std.specs.Fmt.{digits}
-use Rattle.std.specs.Prelude.{ℕ, pos, false, [], codes}
+use Rattle.std.specs.Prelude.{ℕ, pos, false, [], ◌∷◌, codes}
 use Rattle.ac_types.specs.Types.{TInt}
 use Rattle.ac_terms.specs.Terms.{Main, In, Expr, App, Ref}
 use Rattle.ac_terms.specs.Defs.{Environment}
@@ -16,11 +16,11 @@ use Rattle.ac_meaning.proofs.Programs.{number, printed_by, made_by, two_entries,
 abbrev bare_steps : ℕ → Environment → Expr → ℕ → State Bare BareValue
 bare_steps k E e N = iter (step N) k (At (bare Main e) (fresh E [] false))
 
-pub counts_alike : bare_steps 60 [] (countdown 3) 3 ≡ Over (Returned WUnit (printed_by (codes "a0") 3))
+pub counts_alike : bare_steps 60 [] (countdown 3) 3 ≡ Over (Returned WUnit (printed_by (codes "a" ∷ codes "0" ∷ []) 3))
 unfolding int_wrap digits
 counts_alike = refl
 
-pub spends_alike : bare_steps 60 [] (countdown 3) 2 ≡ Over (Spent (printed_by (codes "a") 2))
+pub spends_alike : bare_steps 60 [] (countdown 3) 2 ≡ Over (Spent (printed_by (codes "a" ∷ []) 2))
 unfolding int_wrap
 spends_alike = refl
 

@@ -17,7 +17,7 @@ use Rattle.ac_rules.specs.Coherent.{IsCoherent}
 use Rattle.ac_terms.proofs.AllLaws.{all_left, all_right, all_append}
 use Rattle.ac_meaning.specs.Worlds.{Exception, World, match_failure, counted, fresh}
 use Rattle.ac_rules.specs.Growth.{Grows}
-use Rattle.ac_meaning.specs.Frames.{Frame, Whole, Bad, AtEnd, next_frame}
+use Rattle.ac_outside.specs.Frames.{Frame, Whole, Bad, AtEnd, next_frame}
 use Rattle.ac_meaning.specs.Acts.{Act, Is, Goes, Turns, Applies, Raises, Wrong, becomes, or_raises, within, part, Spent, State, At, Over, after}
 use Rattle.ac_meaning.specs.Substitution.{Written, inst}
 use Rattle.ac_meaning.specs.Matching.{fit, chosen}
@@ -156,7 +156,7 @@ module _ (arrives : Arrives) (mode : Mode) where
 
     received_ok : (f : Frame) (c : Home) (T : Typ) → T ≡ TStr → Good c T (receiving spelled f z)
     received_ok (Whole s rest) c T h = (grows_not E coherent, h)
-    received_ok Bad c T h = tt
+    received_ok (Bad n got) c T h = tt
     received_ok AtEnd c T h = tt
 
     answer_ok : (a : Answer) (c : Home) (T : Typ) → AnswerOf T a → Good c T (answered spelled z a)

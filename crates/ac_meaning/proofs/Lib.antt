@@ -11,7 +11,7 @@ pub mod Reduces
 pub mod Endings
 pub mod Changes
 pub mod Budgets
-pub mod Fronts
+pub mod WriteOrders
 pub mod Coherences
 pub mod Homes
 pub mod Programs

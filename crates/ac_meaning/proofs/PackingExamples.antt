@@ -9,7 +9,7 @@ use Rattle.std.specs.Int.{int_wrap}
 use Rattle.std.specs.Fmt.{digits}
 use Rattle.ac_types.specs.Types.{Bytes, Typ, TInt, TStr, TBool, TUnit, TTuple, TList, TFun, typs}
 use Rattle.ac_types.specs.Words.{is_reserved}
-use Rattle.ac_terms.specs.Terms.{Home, Main, In, Expr, Str, Unit', Var, Ref, Lam, App, Prim, Marshal, Unmarshal, Packed, Val, exprs, Value, VInt, VStr, VUnit, VTuple, VNil, VCons, VLam, VProxy, no_values, value, PValue, KInt, KStr, KFun, Present, KUnit}
+use Rattle.ac_terms.specs.Terms.{Main, In, Expr, Str, Unit', Var, Ref, Lam, App, Prim, Marshal, Unmarshal, Packed, Val, exprs, Value, VInt, VStr, VUnit, VTuple, VNil, VCons, VLam, VProxy, no_values, value, KInt, KStr, KFun, Present, KUnit}
 use Rattle.ac_terms.specs.Defs.{Environment, Entry, AMark, Here, AModule, Packet}
 use Rattle.ac_terms.specs.Nesting.{value_nesting}
 use Rattle.ac_terms.specs.Heads.{packed_heads}
@@ -18,6 +18,7 @@ use Rattle.ac_rules.specs.Views.{Plain, Coloured}
 use Rattle.ac_rules.specs.Faults.{Fault, Depth, Function, Size, NoString, behind, marshalled, first_fault, whole_fault}
 use Rattle.ac_rules.proofs.Samples.{c_t, one_entry}
 use Rattle.ac_rules.proofs.PlainExamples.{increment, b_t}
+use Rattle.ac_meaning.specs.Writes.{Print, Send}
 use Rattle.ac_meaning.specs.Worlds.{World, fresh}
 use Rattle.ac_meaning.specs.Acts.{Act, Goes, Raises, At, Over, Returned, iter}
 use Rattle.ac_rules.specs.Plain.{packed}
@@ -47,15 +48,15 @@ send_five = sent_of (Marshal TInt (Str (codes "StdLib")) (number 5))
 abbrev five_world : World
 five_world = fresh (a_mark (codes "StdLib") ∷ []) [] true
 
-pub five_is_sent : iter (step Coloured 0) 4 (At send_five five_world) ≡ Over (Returned VUnit (record five_world { sent = five_bytes ∷ [] }))
+pub five_is_sent : iter (step Coloured 0) 4 (At send_five five_world) ≡ Over (Returned VUnit (record five_world { writes = Send five_bytes ∷ [] }))
 unfolding packing
 five_is_sent = refl
 
-pub five_is_sent_plain : iter (step Plain 0) 4 (At send_five five_world) ≡ Over (Returned VUnit (record five_world { sent = five_bytes ∷ [] }))
+pub five_is_sent_plain : iter (step Plain 0) 4 (At send_five five_world) ≡ Over (Returned VUnit (record five_world { writes = Send five_bytes ∷ [] }))
 unfolding packing
 five_is_sent_plain = refl
 
-pub five_is_sent_bare : iter (lean.step 0) 4 (At (bare Main send_five) five_world) ≡ Over (Returned WUnit (record five_world { sent = five_bytes ∷ [] }))
+pub five_is_sent_bare : iter (lean.step 0) 4 (At (bare Main send_five) five_world) ≡ Over (Returned WUnit (record five_world { writes = Send five_bytes ∷ [] }))
 unfolding packing
 five_is_sent_bare = refl
 
@@ -66,11 +67,11 @@ add_received = print_int (plus (number 3) (Unmarshal TInt receive))
 abbrev in_a_frame : World
 in_a_frame = fresh [] (0 ∷ 0 ∷ 0 ∷ 0x11 ∷ five_bytes) false
 
-pub eight_is_printed : iter (step Coloured 0) 9 (At add_received in_a_frame) ≡ Over (Returned VUnit (record (fresh [] [] false) { console = codes "8" }))
+pub eight_is_printed : iter (step Coloured 0) 9 (At add_received in_a_frame) ≡ Over (Returned VUnit (record (fresh [] [] false) { writes = Print (codes "8") ∷ [] }))
 unfolding int_wrap digits is_reserved landing
 eight_is_printed = refl
 
-pub eight_is_printed_bare : iter (lean.step 0) 9 (At (bare Main add_received) in_a_frame) ≡ Over (Returned WUnit (record (fresh [] [] false) { console = codes "8" }))
+pub eight_is_printed_bare : iter (lean.step 0) 9 (At (bare Main add_received) in_a_frame) ≡ Over (Returned WUnit (record (fresh [] [] false) { writes = Print (codes "8") ∷ [] }))
 unfolding int_wrap digits is_reserved landing
 eight_is_printed_bare = refl
 

@@ -1,5 +1,5 @@
 -- What the examples of the reduction speak of: terms, definitions and ends.
-use Rattle.std.specs.Prelude.{ℕ, pos, false, List, [], ◌∷◌, ◌++◌, Some, codes}
+use Rattle.std.specs.Prelude.{ℕ, pos, false, List, [], ◌∷◌, ◌++◌, map, Some, codes}
 use Rattle.ac_types.specs.Types.{Bytes, Typ, TInt, TAbs}
 use Rattle.ac_terms.specs.Terms.{PVar, PCons, PNil, Expr, Int, Str, Var, Rec, App, If, Seq, Match, Prim, Nil, Cons, exprs, arms, Value}
 use Rattle.ac_types.specs.Types.{TList, TFun}
@@ -7,6 +7,7 @@ use Rattle.ac_terms.specs.Terms.{Let}
 use Rattle.ac_terms.specs.Defs.{Environment, AnImport, Here}
 use Rattle.ac_rules.specs.Views.{Mode}
 use Rattle.ac_rules.proofs.Samples.{t, one_entry, wanted}
+use Rattle.ac_meaning.specs.Writes.{Print}
 use Rattle.ac_meaning.specs.Worlds.{World, fresh}
 use Rattle.ac_meaning.specs.Acts.{State, At, iter}
 use Rattle.ac_meaning.specs.Reduction.{step}
@@ -15,9 +16,9 @@ use Rattle.ac_meaning.specs.Reduction.{step}
 abbrev pub after_steps : ℕ → Mode → Expr → ℕ → State Expr Value
 after_steps k mode e N = iter (step mode N) k (At e (fresh [] [] false))
 
--- the world after these bytes were printed and so many applications made
-abbrev pub printed_by : Bytes → ℕ → World
-printed_by s n = record { environment = []; console = s; sent = []; input = []; has_channel = false; made = n }
+-- the world after these prints and so many applications
+abbrev pub printed_by : List Bytes → ℕ → World
+printed_by ss n = record { environment = []; writes = map Print ss; input = []; has_channel = false; made = n }
 
 abbrev pub number : ℕ → Expr
 number n = Int (pos n)

@@ -6,6 +6,7 @@ use Rattle.std.specs.Prelude.{pos, neg_ℤ, true, false, [], ◌∷◌, Some, No
 use Rattle.ac_types.specs.Types.{Bytes, TInt, TStr, TList, TFun}
 use Rattle.ac_terms.specs.Terms.{PWild, PVar, PInt, PStr, PTuple, PPresent, PAbsent, PExn, PExnOf, patterns, Expr, Int, Boolean, Str, Unit', Exn, ExnOf, Tuple, Present, Var, Lam, App, Let, If, Seq, Match, Try, Raise, Prim, exprs, arms, VInt, VStr, VUnit, VTuple, VNil, VCons, no_values, value}
 use Rattle.ac_rules.specs.Views.{Plain, Coloured}
+use Rattle.ac_meaning.specs.Writes.{Send}
 use Rattle.ac_meaning.specs.Worlds.{Exception, fresh, match_failure, end_of_file, no_channel, bad_frame}
 use Rattle.ac_meaning.specs.Acts.{At, Over, Returned, Raised, Spent, Stuck, iter}
 use Rattle.ac_meaning.specs.Reduction.{step}
@@ -18,20 +19,20 @@ abbrev not_found : Exception
 not_found = record { number = 2; text = None }
 
 -- functions, and the budget: with three applications the program ends, and with two it stops in front of the third
-pub three_applications : after_steps 60 Coloured (countdown 3) 3 ≡ Over (Returned VUnit (printed_by (codes "a0") 3))
+pub three_applications : after_steps 60 Coloured (countdown 3) 3 ≡ Over (Returned VUnit (printed_by (codes "a" ∷ codes "0" ∷ []) 3))
 unfolding int_wrap digits
 three_applications = refl
 
-pub two_are_spent : after_steps 60 Coloured (countdown 3) 2 ≡ Over (Spent (printed_by (codes "a") 2))
+pub two_are_spent : after_steps 60 Coloured (countdown 3) 2 ≡ Over (Spent (printed_by (codes "a" ∷ []) 2))
 unfolding int_wrap
 two_are_spent = refl
 
-pub plain_alike : after_steps 60 Plain (countdown 3) 2 ≡ Over (Spent (printed_by (codes "a") 2))
+pub plain_alike : after_steps 60 Plain (countdown 3) 2 ≡ Over (Spent (printed_by (codes "a" ∷ []) 2))
 unfolding int_wrap
 plain_alike = refl
 
 -- without an application no budget is needed, and one application needs one
-pub none_needed : after_steps 9 Coloured (print_int (plus (number 3) (number 4))) 0 ≡ Over (Returned VUnit (printed_by (codes "7") 0))
+pub none_needed : after_steps 9 Coloured (print_int (plus (number 3) (number 4))) 0 ≡ Over (Returned VUnit (printed_by (codes "7" ∷ []) 0))
 unfolding int_wrap digits
 none_needed = refl
 
@@ -80,7 +81,7 @@ no_arm = refl
 -- `IO.print_int (try 1 / 0 with Not_found -> 1 | Division_by_zero -> 2 end)`
 pub a_handler :
     after_steps 9 Coloured (print_int (Try (over (number 1) (number 0)) (arms ((PExn 2, number 1) ∷ (PExn 3, number 2) ∷ [])))) 0 ≡
-    Over (Returned VUnit (printed_by (codes "2") 0))
+    Over (Returned VUnit (printed_by (codes "2" ∷ []) 0))
 unfolding digits
 a_handler = refl
 
@@ -101,7 +102,7 @@ an_arm_raises = refl
 -- the text of an exception is matched, and what was printed stays
 pub a_text_is_matched :
     after_steps 20 Coloured (Try (then' (print (codes "x")) (Raise TStr (ExnOf 0 (Str (codes "why"))))) (arms ((PExnOf 0 (PStr (codes "no")), Str []) ∷ (PExnOf 0 (PVar TStr), Var 0) ∷ []))) 0 ≡
-    Over (Returned (VStr (codes "why")) (printed_by (codes "x") 0))
+    Over (Returned (VStr (codes "why")) (printed_by (codes "x" ∷ []) 0))
 a_text_is_matched = refl
 
 -- a handler around a value
@@ -112,16 +113,16 @@ nothing_raised = refl
 abbrev says : Bytes → Expr → Expr
 says s e = then' (print s) e
 
-pub operands_in_order : after_steps 20 Coloured (plus (says (codes "1") (number 1)) (says (codes "2") (number 2))) 0 ≡ Over (Returned (VInt (pos 3)) (printed_by (codes "12") 0))
+pub operands_in_order : after_steps 20 Coloured (plus (says (codes "1") (number 1)) (says (codes "2") (number 2))) 0 ≡ Over (Returned (VInt (pos 3)) (printed_by (codes "1" ∷ codes "2" ∷ []) 0))
 unfolding int_wrap
 operands_in_order = refl
 
-pub function_first : after_steps 20 Coloured (App (says (codes "f") (Lam TInt (Var 0))) (says (codes "a") (number 1))) 1 ≡ Over (Returned (VInt (pos 1)) (printed_by (codes "fa") 1))
+pub function_first : after_steps 20 Coloured (App (says (codes "f") (Lam TInt (Var 0))) (says (codes "a") (number 1))) 1 ≡ Over (Returned (VInt (pos 1)) (printed_by (codes "f" ∷ codes "a" ∷ []) 1))
 function_first = refl
 
 pub parts_in_order :
     after_steps 30 Coloured (Tuple (exprs (says (codes "1") Unit' ∷ says (codes "2") Unit' ∷ says (codes "3") Unit' ∷ []))) 0 ≡
-    Over (Returned (VTuple (value VUnit (value VUnit (value VUnit no_values)))) (printed_by (codes "123") 0))
+    Over (Returned (VTuple (value VUnit (value VUnit (value VUnit no_values)))) (printed_by (codes "1" ∷ codes "2" ∷ codes "3" ∷ []) 0))
 parts_in_order = refl
 
 -- what comes after a raise isn't evaluated
@@ -130,20 +131,20 @@ unfolding int_wrap
 nothing_after_a_raise = refl
 
 -- one branch alone is evaluated
-pub one_branch : after_steps 9 Coloured (If (Boolean false) (says (codes "1") Unit') (says (codes "2") Unit')) 0 ≡ Over (Returned VUnit (printed_by (codes "2") 0))
+pub one_branch : after_steps 9 Coloured (If (Boolean false) (says (codes "1") Unit') (says (codes "2") Unit')) 0 ≡ Over (Returned VUnit (printed_by (codes "2" ∷ []) 0))
 one_branch = refl
 
 -- `IO.print_int (-7 / 2); IO.print_string " "; IO.print_int (-7 mod 2)`
 pub towards_zero :
     after_steps 30 Coloured (Seq (exprs (print_int (over (Int (neg_ℤ (pos 7))) (number 2)) ∷ print (codes " ") ∷ print_int (modulo (Int (neg_ℤ (pos 7))) (number 2)) ∷ []))) 0 ≡
-    Over (Returned VUnit (printed_by (codes "-3 -1") 0))
+    Over (Returned VUnit (printed_by (codes "-3" ∷ codes " " ∷ codes "-1" ∷ []) 0))
 unfolding int_wrap digits
 towards_zero = refl
 
 -- `IO.print_int (9223372036854775807 + 1); IO.print_int (1 / 0)`
 pub wraps_and_divides :
     after_steps 30 Coloured (then' (print_int (plus (number 9223372036854775807) (number 1))) (print_int (over (number 1) (number 0)))) 0 ≡
-    Over (Raised division_by_zero (printed_by (codes "-9223372036854775808") 0))
+    Over (Raised division_by_zero (printed_by (codes "-9223372036854775808" ∷ []) 0))
 unfolding int_wrap digits
 wraps_and_divides = refl
 
@@ -171,13 +172,13 @@ pub nowhere_to_send : after_steps 3 Coloured (send (codes "a")) 0 ≡ Over (Rais
 nowhere_to_send = refl
 
 pub two_are_sent :
-    iter (step Coloured 0) 9 (At (then' (send (codes "a")) (send (codes "bc"))) (fresh [] [] true)) ≡ Over (Returned VUnit (record (fresh [] [] true) { sent = codes "a" ∷ codes "bc" ∷ [] }))
+    iter (step Coloured 0) 9 (At (then' (send (codes "a")) (send (codes "bc"))) (fresh [] [] true)) ≡ Over (Returned VUnit (record (fresh [] [] true) { writes = Send (codes "a") ∷ Send (codes "bc") ∷ [] }))
 two_are_sent = refl
 
 -- over one frame and one byte more: the frame, and then the bad frame each time
 pub a_frame_and_a_bad_one :
     iter (step Coloured 0) 20 (At (Tuple (exprs (receive ∷ Try receive (arms ((PExnOf 6 (PVar TStr), Var 0) ∷ [])) ∷ receive ∷ []))) (fresh [] (0 ∷ 0 ∷ 0 ∷ 2 ∷ 104 ∷ 105 ∷ 7 ∷ []) false)) ≡
-    Over (Raised bad_frame (record (fresh [] (7 ∷ []) false) { console = [] }))
+    Over (Raised bad_frame (fresh [] (7 ∷ []) false))
 a_frame_and_a_bad_one = refl
 
 pub a_received_frame : iter (step Coloured 0) 3 (At receive (fresh [] (0 ∷ 0 ∷ 0 ∷ 2 ∷ 104 ∷ 105 ∷ []) false)) ≡ Over (Returned (VStr (codes "hi")) (fresh [] [] false))

@@ -12,7 +12,7 @@ use Rattle.ac_rules.specs.Views.{Mode}
 use Rattle.ac_rules.specs.Coherent.{IsCoherent}
 use Rattle.ac_rules.proofs.Rules.{then_some}
 use Rattle.ac_meaning.specs.Worlds.{Exception, World}
-use Rattle.ac_meaning.specs.Frames.{Frame, Whole, Bad as bad, AtEnd, next_frame}
+use Rattle.ac_outside.specs.Frames.{Frame, Whole, Bad as bad, AtEnd, next_frame}
 use Rattle.ac_meaning.specs.Substitution.{Written, slot_in}
 use Rattle.ac_meaning.specs.Primitives.{const_of, all_there, consts_of, answer_at}
 use Rattle.ac_rules.specs.Growth.{Grows}
@@ -339,7 +339,7 @@ module _ (mode : Mode) where
 
   receive_ok : (f : Frame) (c : Home) (T : Typ) (z : World) → IsCoherent z.environment → T ≡ TStr → Ok z.environment (Of c T) (receives constant f z)
   receive_ok (Whole s rest) c T z i h = (grows_not z.environment i, h)
-  receive_ok bad c T z i h = grows_not z.environment i
+  receive_ok (bad n got) c T z i h = grows_not z.environment i
   receive_ok AtEnd c T z i h = grows_not z.environment i
 
   pub answer_ok : (a : Answer) (c : Home) (T : Typ) (z : World) → IsCoherent z.environment → AnswerOf T a → Ok z.environment (Of c T) (answering constant a z)

@@ -1,5 +1,5 @@
 -- What primitives answer of constants within the bounds is within them.
-use Rattle.std.proofs.Common.{◌≡◌, refl, ap, ◌∙◌, subst, ℕ, zero, suc, ◌+◌, ◌<◌, ◌≤◌, ◌^◌, Bool, true, false, ◌&&◌, nat_lt, List, [], ◌∷◌, ◌++◌, length, take, drop, Option, Some, None, length-append}
+use Rattle.std.proofs.Common.{◌≡◌, refl, ap, ◌∙◌, subst, ℕ, zero, suc, ◌+◌, ◌<◌, ◌≤◌, ◌^◌, Bool, true, false, nat_lt, List, [], ◌∷◌, ◌++◌, length, take, drop, Option, Some, None, length-append}
 use Rattle.std.specs.Prelude.{FitsSigned, ℤ, pos, negsuc, cond, nat_le, int_rem, int_div, unsigned_abs, slice_get, codes, ◌+ℤ◌, ◌-ℤ◌, ◌*ℤ◌, neg_ℤ}
 use Rattle.std.specs.Int.{int_wrap, w32, w64, from_be_bytes}
 use Rattle.std.specs.Fmt.{signed_decimal}
@@ -10,14 +10,13 @@ use Rattle.std.proofs.lemmas.Bool.Decides.{nat_tests}
 use mathlib.Core.Bool.{true≢false}
 use native.Mathlib.Omega.{arith}
 use Rattle.ac_types.proofs.FirstLaws.{none≢some, some_eq}
-use Rattle.ac_types.proofs.Same.{both_true}
 use Rattle.ac_types.specs.Types.{Bytes}
 use Rattle.ac_terms.specs.Terms.{Value, VInt, VBool, VStr, VUnit, VTuple, Values, no_values, value}
 use Rattle.ac_terms.specs.Primitives.{is_exception}
 use Rattle.ac_terms.specs.Bounds.{is_string, is_integer}
 use Rattle.ac_code.specs.Constants.{Const, CInt, CBool, CStr, CUnit, CPart, Answer, Gives, Prints, Sends, Receives, Fails, NoSense, Meaning, One, Two, meanings, meaning, applied, sum, difference, product, quotient, remainder, negation, equal, less, joined, opposite, print_int, print_string, send, receive, size, sub_string, of_int, part, same_int, most_bytes, invalid_argument, division_by_zero}
 use Rattle.ac_meaning.specs.Worlds.{World}
-use Rattle.ac_meaning.specs.Frames.{Frame, Whole, Bad, AtEnd, next_frame}
+use Rattle.ac_outside.specs.Frames.{longest, Frame, Whole, Bad, AtEnd, next_frame}
 use Rattle.ac_meaning.specs.Primitives.{const_of_parts, const_of, all_there, consts_of, spelled, answer_at, primitive, answered, sending, receiving}
 use Rattle.ac_meaning.proofs.Within.{Within, ValueWithin, ValuesWithin}
 use Rattle.ac_meaning.proofs.WithinLaws.{Good}
@@ -263,15 +262,19 @@ whole_short (a ∷ (b ∷ [])) s rest e = absurd cc
 whole_short (a ∷ (b ∷ (c ∷ []))) s rest e = absurd cc
 whole_short (a ∷ (b ∷ (c ∷ (d ∷ bs)))) s rest e = by (from_be_bytes w32 (a ∷ b ∷ c ∷ d ∷ [])) _ refl e
   where
-    by : (n : ℕ) (b : Bool) → (nat_le n most_bytes && nat_le n (length bs)) ≡ b → cond b (Whole (take n bs) (drop n bs)) Bad ≡ Whole s rest → is_string s ≡ true
-    by n false p q = absurd cc
-    by n true p q =
+    there : (n : ℕ) (b : Bool) → nat_le n longest ≡ true → cond b (Whole (take n bs) (drop n bs)) (Bad n (4 + length bs)) ≡ Whole s rest → is_string s ≡ true
+    there n false p q = absurd cc
+    there n true p q =
         let same : take n bs ≡ s = cc in
-        subst (λ x. is_string x ≡ true) same (bytes_at_most (length (take n bs)) n (take_few n bs) (both_true (nat_le n most_bytes) _ p).0)
+        subst (λ x. is_string x ≡ true) same (bytes_at_most (length (take n bs)) n (take_few n bs) p)
+
+    by : (n : ℕ) (b : Bool) → nat_le n longest ≡ b → cond b (cond (nat_le n (length bs)) (Whole (take n bs) (drop n bs)) (Bad n (4 + length bs))) (Bad n 4) ≡ Whole s rest → is_string s ≡ true
+    by n false p q = absurd cc
+    by n true p q = there n (nat_le n (length bs)) p q
 
 received_within : (f : Frame) (z : World) → ((s rest : Bytes) → f ≡ Whole s rest → is_string s ≡ true) → Good (receiving spelled f z)
 received_within (Whole s rest) z h = h s rest refl
-received_within Bad z h = (refl, refl)
+received_within (Bad n got) z h = (refl, refl)
 received_within AtEnd z h = (refl, refl)
 
 sent_within : (b : Bool) (s : Bytes) (z : World) → Good (sending spelled b s z)
