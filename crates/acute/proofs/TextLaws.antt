@@ -2,77 +2,96 @@
 use Rattle.std.proofs.Common.{◌≡◌, ◌⊎◌, inl, inr, ℕ, List, [], false, refl, sym, ◌∙◌, ap, subst}
 use Rattle.ac_types.specs.Types.{Typ}
 use Rattle.ac_terms.specs.Terms.{Expr, Value}
-use Rattle.ac_rules.specs.Views.{Coloured}
+use Rattle.ac_terms.specs.Defs.{Environment}
+use Rattle.ac_rules.specs.Views.{Mode}
+use Rattle.ac_meaning.specs.BareTerms.{BareValue}
 use Rattle.ac_meaning.specs.Acts.{Outcome, Returned, Raised, Spent, Stuck}
-use Rattle.ac_meaning.specs.Laws.{Console, written_by}
-use Rattle.ac_meaning.proofs.Runs.{one_end}
-use Rattle.ac_load.specs.Loading.{Accepted, IsRefused}
+use Rattle.ac_meaning.specs.Laws.{IsTypedProgram, bare_end, writes_of}
+use Rattle.ac_meaning.proofs.Admitted.{arrives}
+use Rattle.ac_meaning.proofs.BareEndings.{ends_alike, one_bare_end}
+use Rattle.ac_load.specs.Loading.{Shelved, Accepted, IsRefused}
 use Rattle.ac_load.specs.declared.kind.Kind.{Kind}
-use Rattle.ac_load.proofs.TextLaws.{not_both, one_term}
+use Rattle.ac_load.proofs.TextLaws.{not_both, one_term, runs}
+use Rattle.acute.specs.declared.status.Status.{Status}
+use Rattle.acute.specs.declared.status.TheConstants.Status.{FINISHED, REFUSED, UNCAUGHT, SPENT}
 use Rattle.acute.specs.Refusals.{kind_line}
 use Rattle.acute.specs.Lines.{uncaught_line, spent_line}
 use Rattle.acute.specs.Meaning.{Answer, answer, EndsWithin, Means, refused, finished, uncaught, spent}
 
-abbrev pub status_of : Outcome Value → ℕ
-status_of (Returned v z) = 0
-status_of (Raised x z) = 2
-status_of (Spent z) = 3
-status_of Stuck = 0
+abbrev pub status_of : {A : Type 0} → Outcome A → Status
+status_of (Returned v z) = FINISHED
+status_of (Raised x z) = UNCAUGHT
+status_of (Spent z) = SPENT
+status_of Stuck = FINISHED
 
-abbrev pub line_of : ℕ → Outcome Value → List ℕ
+abbrev pub line_of : {A : Type 0} → ℕ → Outcome A → List ℕ
 line_of steps (Returned v z) = []
 line_of steps (Raised x z) = uncaught_line x
 line_of steps (Spent z) = spent_line steps
 line_of steps Stuck = []
 
 -- what an end of the program gives
-abbrev pub given_by : ℕ → Outcome Value → Answer
-given_by steps o = answer (status_of o) (written_by Console o) (line_of steps o)
+abbrev pub given_by : {A : Type 0} → ℕ → Outcome A → Answer
+given_by steps o = answer (status_of o) (writes_of o) (line_of steps o)
+
+-- which is the same without brackets
+given_bare : (steps : ℕ) (o : Outcome Value) → given_by steps (bare_end o) ≡ given_by steps o
+given_bare steps (Returned v z) = refl
+given_bare steps (Raised x z) = refl
+given_bare steps (Spent z) = refl
+given_bare steps Stuck = refl
+
+-- so it is the same in both modes
+pub one_answer : (m n : Mode) {E : Environment} {e : Expr} {T : Typ} {steps : ℕ} {o p : Outcome Value} → IsTypedProgram E e T → EndsWithin m steps E e o → EndsWithin n steps E e p → given_by steps o ≡ given_by steps p
+one_answer m n {E = E} {e = e} {T = T} {steps = steps} {o = o} {p = p} typed ends others =
+    let same : bare_end o ≡ bare_end p = one_bare_end E e [] false steps (bare_end o) (bare_end p) (ends_alike arrives E e T typed m [] false steps o ends) (ends_alike arrives E e T typed n [] false steps p others) in
+    sym (given_bare steps o) ∙ ap (given_by steps) same ∙ given_bare steps p
 
 -- the text is refused
-record IsRefusal (text : List ℕ) (a : Answer) : Type 0 where
+record IsRefusal (text : List ℕ) (shelf : List Shelved) (a : Answer) : Type 0 where
   kind : Kind
-  refused : IsRefused text [] 0 kind
-  is : a ≡ answer 1 [] (kind_line kind)
+  refused : IsRefused text shelf 0 kind
+  is : a ≡ answer REFUSED [] (kind_line kind)
 
 -- the text has a program, which ends so
-record IsRun (text : List ℕ) (steps : ℕ) (a : Answer) : Type 0 where
+record IsRun (mode : Mode) (text : List ℕ) (shelf : List Shelved) (steps : ℕ) (a : Answer) : Type 0 where
+  env : Environment
   term : Expr
   type : Typ
   outcome : Outcome Value
-  accepted : Accepted text [] term type
-  ends : EndsWithin steps term outcome
+  accepted : Accepted text shelf env term type
+  ends : EndsWithin mode steps env term outcome
   is : a ≡ given_by steps outcome
 
-cases : {text : List ℕ} {steps : ℕ} {a : Answer} → Means text steps a → IsRefusal text a ⊎ IsRun text steps a
+cases : {mode : Mode} {text : List ℕ} {shelf : List Shelved} {steps : ℕ} {a : Answer} → Means mode text shelf steps a → IsRefusal text shelf a ⊎ IsRun mode text shelf steps a
 cases (refused k x) = inl (record { kind = k; refused = x; is = refl })
-cases (finished e T v z y h) = inr (record { term = e; type = T; outcome = Returned v z; accepted = y; ends = h; is = refl })
-cases (uncaught e T x z y h) = inr (record { term = e; type = T; outcome = Raised x z; accepted = y; ends = h; is = refl })
-cases (spent e T z y h) = inr (record { term = e; type = T; outcome = Spent z; accepted = y; ends = h; is = refl })
+cases (finished E e T v z y h) = inr (record { env = E; term = e; type = T; outcome = Returned v z; accepted = y; ends = h; is = refl })
+cases (uncaught E e T x z y h) = inr (record { env = E; term = e; type = T; outcome = Raised x z; accepted = y; ends = h; is = refl })
+cases (spent E e T z y h) = inr (record { env = E; term = e; type = T; outcome = Spent z; accepted = y; ends = h; is = refl })
 
 abbrev Alike : Answer → Answer → Type 0
-Alike a b = (a.status ≡ b.status) × (a.console ≡ b.console)
+Alike a b = (a.status ≡ b.status) × (a.writes ≡ b.writes)
 
 same_answer : {a b : Answer} → a ≡ b → Alike a b
-same_answer is = (ap (λ (x : Answer). x.status) is, ap (λ (x : Answer). x.console) is)
+same_answer is = (ap (λ (x : Answer). x.status) is, ap (λ (x : Answer). x.writes) is)
 
-refused_alike : {text : List ℕ} {a b : Answer} → IsRefusal text a → IsRefusal text b → Alike a b
+refused_alike : {text : List ℕ} {shelf : List Shelved} {a b : Answer} → IsRefusal text shelf a → IsRefusal text shelf b → Alike a b
 refused_alike r s =
     let left = same_answer r.is in
     let right = same_answer s.is in
     (left.0 ∙ sym right.0, left.1 ∙ sym right.1)
 
-run_alike : {text : List ℕ} {steps : ℕ} {a b : Answer} → IsRun text steps a → IsRun text steps b → Alike a b
-run_alike {steps = steps} r s =
-    let term = one_term r.accepted s.accepted in
-    let same = one_end Coloured [] s.term [] false steps r.outcome s.outcome (subst (λ (e : Expr). EndsWithin steps e r.outcome) term r.ends) s.ends in
-    same_answer (r.is ∙ ap (given_by steps) same ∙ sym s.is)
+run_alike : (m n : Mode) {text : List ℕ} {shelf : List Shelved} {steps : ℕ} {a b : Answer} → IsRun m text shelf steps a → IsRun n text shelf steps b → Alike a b
+run_alike m n {steps = steps} r s =
+    let one = one_term r.accepted s.accepted in
+    let moved = subst (λ (e : Expr). EndsWithin m steps s.env e r.outcome) one.1 (subst (λ (E : Environment). EndsWithin m steps E r.term r.outcome) one.0 r.ends) in
+    same_answer (r.is ∙ one_answer m n (runs s.accepted) moved s.ends ∙ sym s.is)
 
-alike : {text : List ℕ} {steps : ℕ} {a b : Answer} → IsRefusal text a ⊎ IsRun text steps a → IsRefusal text b ⊎ IsRun text steps b → Alike a b
-alike (inl r) (inl s) = refused_alike r s
-alike (inl r) (inr s) = absurd (not_both r.refused s.accepted)
-alike (inr r) (inl s) = absurd (not_both s.refused r.accepted)
-alike (inr r) (inr s) = run_alike r s
+alike : (m n : Mode) {text : List ℕ} {shelf : List Shelved} {steps : ℕ} {a b : Answer} → IsRefusal text shelf a ⊎ IsRun m text shelf steps a → IsRefusal text shelf b ⊎ IsRun n text shelf steps b → Alike a b
+alike m n (inl r) (inl s) = refused_alike r s
+alike m n (inl r) (inr s) = absurd (not_both r.refused s.accepted)
+alike m n (inr r) (inl s) = absurd (not_both s.refused r.accepted)
+alike m n (inr r) (inr s) = run_alike m n r s
 
-pub one : {text : List ℕ} {steps : ℕ} {a b : Answer} → Means text steps a → Means text steps b → (a.status ≡ b.status) × (a.console ≡ b.console)
-one m n = alike (cases m) (cases n)
+pub one : (m n : Mode) {text : List ℕ} {shelf : List Shelved} {steps : ℕ} {a b : Answer} → Means m text shelf steps a → Means n text shelf steps b → (a.status ≡ b.status) × (a.writes ≡ b.writes)
+one m n a b = alike m n (cases a) (cases b)

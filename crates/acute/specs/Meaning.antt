@@ -2,31 +2,35 @@
 use Rattle.std.specs.Prelude.{ℕ, false, List, []}
 use Rattle.ac_types.specs.Types.{Typ}
 use Rattle.ac_terms.specs.Terms.{Expr, Value}
-use Rattle.ac_rules.specs.Views.{Coloured}
+use Rattle.ac_terms.specs.Defs.{Environment}
+use Rattle.ac_rules.specs.Views.{Mode}
+use Rattle.ac_meaning.specs.Writes.{Write}
 use Rattle.ac_meaning.specs.Worlds.{Exception, World}
 use Rattle.ac_meaning.specs.Acts.{Outcome, Returned, Raised, Spent}
 use Rattle.ac_meaning.specs.Reduction.{Ends}
-use Rattle.ac_load.specs.Loading.{Accepted, IsRefused}
+use Rattle.ac_load.specs.Loading.{Shelved, Accepted, IsRefused}
 use Rattle.ac_load.specs.declared.kind.Kind.{Kind}
+use Rattle.acute.specs.declared.status.Status.{Status}
+use Rattle.acute.specs.declared.status.TheConstants.Status.{FINISHED, REFUSED, UNCAUGHT, SPENT}
 use Rattle.acute.specs.Refusals.{kind_line}
 use Rattle.acute.specs.Lines.{uncaught_line, spent_line}
 
--- what a command gives where nothing fails: a status, what stands on output, and what stands on errors
+-- what a command gives where nothing fails: a status, the writes on output, and the line on errors
 pub record Answer : Type 0 where
-  pub status : ℕ
-  pub console : List ℕ
+  pub status : Status
+  pub writes : List Write
   pub line : List ℕ
 
-abbrev pub answer : ℕ → List ℕ → List ℕ → Answer
-answer status console line = record { status = status; console = console; line = line }
+abbrev pub answer : Status → List Write → List ℕ → Answer
+answer status writes line = record { status = status; writes = writes; line = line }
 
--- the program's term, without definitions, input and a channel, reduces to this end within the budget
-abbrev pub EndsWithin : ℕ → Expr → Outcome Value → Type 0
-EndsWithin steps e o = Ends Coloured [] e [] false steps o
+-- over these definitions the term reduces to this end within the budget, without input and a channel
+abbrev pub EndsWithin : Mode → ℕ → Environment → Expr → Outcome Value → Type 0
+EndsWithin mode steps E e o = Ends mode E e [] false steps o
 
--- a text is refused, or its program ends with a value, with an exception, or in front of an application too many. What it printed by then stands on output
-pub data Means (text : List ℕ) (steps : ℕ) : Answer → Type 0 where
-  refused : (kind : Kind) → IsRefused text [] 0 kind → Means text steps (answer 1 [] (kind_line kind))
-  finished : (e : Expr) (T : Typ) (v : Value) (z : World) → Accepted text [] e T → EndsWithin steps e (Returned v z) → Means text steps (answer 0 z.console [])
-  uncaught : (e : Expr) (T : Typ) (x : Exception) (z : World) → Accepted text [] e T → EndsWithin steps e (Raised x z) → Means text steps (answer 2 z.console (uncaught_line x))
-  spent : (e : Expr) (T : Typ) (z : World) → Accepted text [] e T → EndsWithin steps e (Spent z) → Means text steps (answer 3 z.console (spent_line steps))
+-- a text beside a shelf is refused, or its program ends with a value, with an exception, or in front of an application too many
+pub data Means (mode : Mode) (text : List ℕ) (shelf : List Shelved) (steps : ℕ) : Answer → Type 0 where
+  refused : (kind : Kind) → IsRefused text shelf 0 kind → Means mode text shelf steps (answer REFUSED [] (kind_line kind))
+  finished : (E : Environment) (e : Expr) (T : Typ) (v : Value) (z : World) → Accepted text shelf E e T → EndsWithin mode steps E e (Returned v z) → Means mode text shelf steps (answer FINISHED z.writes [])
+  uncaught : (E : Environment) (e : Expr) (T : Typ) (x : Exception) (z : World) → Accepted text shelf E e T → EndsWithin mode steps E e (Raised x z) → Means mode text shelf steps (answer UNCAUGHT z.writes (uncaught_line x))
+  spent : (E : Environment) (e : Expr) (T : Typ) (z : World) → Accepted text shelf E e T → EndsWithin mode steps E e (Spent z) → Means mode text shelf steps (answer SPENT z.writes (spent_line steps))

@@ -3,6 +3,8 @@ use Rattle.std.specs.Prelude.{ℕ, List, [], ◌∷◌, ◌++◌, codes}
 use Rattle.std.specs.Fmt.{decimal}
 use Rattle.ac_load.specs.declared.kind.Kind.{Kind}
 use Rattle.ac_load.specs.declared.kind.Kind.TheVariants.{TooLong, Lexical, TooDeep, Syntax, Unbuilt, Unbound, Repeated, TooMany, IllTyped, Memory}
+use Rattle.acute.specs.declared.status.Status.{Status}
+use Rattle.acute.specs.declared.status.TheConstants.Status.{REFUSED, OUT_OF_MEMORY}
 use Rattle.acute.specs.Streams.{memory_line}
 
 -- a word and a number
@@ -21,6 +23,6 @@ kind_line (TooMany count) = refused_at (codes "too_many") count
 kind_line (IllTyped def) = refused_at (codes "type") def
 kind_line Memory = memory_line
 
-abbrev pub kind_status : Kind → ℕ
-kind_status Memory = 4
-kind_status kind = 1
+abbrev pub kind_status : Kind → Status
+kind_status Memory = OUT_OF_MEMORY
+kind_status kind = REFUSED

@@ -1,6 +1,7 @@
 -- Files and streams before and after a call, and what a call wrote.
-use Rattle.std.specs.Prelude.{◌≡◌, ◌⊎◌, ℕ, Bool, IsTrue, List, [], ◌∷◌, ◌++◌, take, codes, Option, Some}
-use Rattle.ac_outside.specs.Outside.{Extends}
+use Rattle.std.specs.Prelude.{◌≡◌, ℕ, Bool, IsTrue, List, [], ◌∷◌, ◌++◌, take, codes, Option, Some}
+use Rattle.ac_outside.specs.Outside.{Contents, Extends}
+use Rattle.ac_meaning.specs.Writes.{Write, Console, piece, written}
 
 -- a file of a name: what it has, where that is told, and its count of failed reads before and after the call
 pub record Reading : Type 0 where
@@ -17,11 +18,15 @@ pub record Writing : Type 0 where
   pub before : ℕ
   pub after : ℕ
 
-abbrev pub reading : Bool → Option (List ℕ) → ℕ → ℕ → Reading
-reading told bytes before after = record { told = told; bytes = bytes; before = before; after = after }
+-- the file of a name, by what files have and count, before and after the call
+abbrev pub reading : {Files : Type 0} → Bool → (Files → Contents) → (Files → List ℕ → ℕ) → Files → Files → List ℕ → Reading
+reading told contents faults old new name =
+    record { told = told; bytes = contents old name; before = faults old name; after = faults new name }
 
-abbrev pub writing : Bool → List ℕ → List ℕ → ℕ → ℕ → Writing
-writing told old new before after = record { told = told; old = old; new = new; before = before; after = after }
+-- a stream, by what it has and counts, before and after the call
+abbrev pub writing : {Sink : Type 0} → Bool → (Sink → List ℕ) → (Sink → ℕ) → Sink → Sink → Writing
+writing told bytes faults old new =
+    record { told = told; old = bytes old; new = bytes new; before = faults old; after = faults new }
 
 -- the text is what is read of the file: all, or its first 1,048,577 bytes
 abbrev pub IsTextOf : Reading → List ℕ → Type 0
@@ -29,11 +34,19 @@ IsTextOf file text = IsTrue file.told → (bytes : List ℕ) × (file.bytes ≡ 
 
 -- exactly this was written
 abbrev pub Whole : Writing → List ℕ → Type 0
-Whole stream piece = IsTrue stream.told → stream.new ≡ stream.old ++ piece
+Whole stream bytes = IsTrue stream.told → stream.new ≡ stream.old ++ bytes
 
--- some front of this was written, and no more
+-- some prefix of this was written, and no more
 abbrev pub Part : Writing → List ℕ → Type 0
-Part stream piece = IsTrue stream.told → Extends stream.old stream.new piece
+Part stream bytes = IsTrue stream.told → Extends stream.old stream.new bytes
+
+-- one of these writes was begun, after all those before it, and none came after it
+pub record StopsIn (output : Writing) (writes : List Write) : Type 0 where
+  pub before : List Write
+  pub write : Write
+  pub after : List Write
+  pub order : writes ≡ before ++ write ∷ after
+  pub begun : IsTrue output.told → Extends (output.old ++ written Console before) output.new (piece Console write)
 
 abbrev pub words_line : List ℕ
 words_line = codes "acute: words refused" ++ 10 ∷ []
@@ -46,15 +59,3 @@ write_line = codes "acute: write fault" ++ 10 ∷ []
 
 abbrev pub memory_line : List ℕ
 memory_line = codes "acute: out of memory" ++ 10 ∷ []
-
--- a line that a failed write or want of memory asks for
-abbrev pub IsFaultLine : List ℕ → Type 0
-IsFaultLine line = (line ≡ write_line) ⊎ (line ≡ memory_line)
-
--- some front of the piece was written, and then some front of a line of that kind
-pub record Cut (stream : Writing) (piece : List ℕ) : Type 0 where
-  pub middle : List ℕ
-  pub line : List ℕ
-  pub is_line : IsFaultLine line
-  pub before : Extends stream.old middle piece
-  pub behind : Extends middle stream.new line

@@ -4,6 +4,7 @@
 mod laws;
 mod reading;
 mod refusal;
+mod status;
 #[cfg(test)]
 mod tests;
 mod top;
@@ -16,7 +17,8 @@ use std::alloc::Global;
 use std::env;
 use std::io::ErrorKind;
 use std::process::ExitCode;
-use top::{Status, acute};
+use status::Status;
+use top::acute;
 
 fn main(rt: HostRuntime) -> ExitCode {
     let alloc = rt.alloc();
@@ -24,7 +26,7 @@ fn main(rt: HostRuntime) -> ExitCode {
     let mut errors = RealSink::new(rt.stderr());
     let words = match words_of(alloc, &rt) {
         Ok(words) => words,
-        Err(_) => return ExitCode::from(4),
+        Err(_) => return ExitCode::from(Status::OUT_OF_MEMORY.0),
     };
     let mut files = RealFiles::new(rt);
     let Status(status) = acute(alloc, &words, &mut files, &mut output, &mut errors);

@@ -2,6 +2,7 @@
 ghost use Rattle.std.specs.Prelude.{◌≡◌, IfOk, string_bytes};
 ghost use Rattle.acute.specs.Refusals.{kind_line, kind_status};
 
+use crate::status::Status;
 use ac_load::Kind;
 use std::alloc::{AllocError, Global};
 
@@ -23,12 +24,12 @@ pub fn line(kind: Kind, alloc: Global) -> Result<String, AllocError>
     }
 }
 
-/// The status of a refusal: 1, or 4 for want of memory.
-pub fn status(kind: Kind) -> u8
+/// The status of a refusal; want of memory has its own.
+pub fn status(kind: Kind) -> Status
     ensures { result ≡ kind_status kind }
 {
     match kind {
-        Kind::Memory => 4,
-        _ => 1,
+        Kind::Memory => Status::OUT_OF_MEMORY,
+        _ => Status::REFUSED,
     }
 }

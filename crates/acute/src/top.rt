@@ -3,8 +3,11 @@ ghost use Rattle.std.specs.Prelude.{◌≡◌, ◌⊎◌, [], List, ℕ, Option,
 ghost use Rattle.ac_types.specs.ReadTypes.{typ_of};
 ghost use Rattle.ac_terms.specs.Read.{environment_of, expr_of};
 ghost use Rattle.ac_meaning.specs.Read.{exn_of};
+ghost use Rattle.ac_rules.specs.Views.{Mode};
+ghost use Rattle.ac_meaning.specs.Loads.{IsLoaded};
 ghost use Rattle.ac_load.specs.Loading.{Accepted};
 ghost use Rattle.ac_words.specs.Commands.{command_of, request_of, run, Request};
+ghost use Rattle.acute.specs.declared.status.TheConstants.Status.{UNCAUGHT, SPENT, OUT_OF_MEMORY};
 ghost use Rattle.acute.specs.Streams.{Reading, reading, writing, memory_line};
 ghost use Rattle.acute.specs.Refusals.{kind_line, kind_status};
 ghost use Rattle.acute.specs.Lines.{uncaught_line, spent_line};
@@ -12,6 +15,7 @@ ghost use Rattle.acute.specs.Meaning.{Answer, Means};
 ghost use Rattle.acute.specs.Endings.{texts, Ended, Said, Gives};
 
 use crate::reading::{ReadFault, read_text};
+use crate::status::Status;
 use crate::world::run_on;
 use crate::{refusal, uncaught};
 use ac_command::read_words;
@@ -24,11 +28,6 @@ use ac_types::Many;
 use ac_words::{Command, Run};
 use std::alloc::{AllocError, Global};
 
-/// How the program ends: 0 finished, 1 the program is refused, 2 by an exception that nothing handles, 3 in front of
-/// an application that isn't allowed, 4 want of memory, 5 a read failed, 6 a write failed, 7 the words are refused.
-#[derive(Clone, Copy, Debug, PartialEq, Eq)]
-pub struct Status(pub u8);
-
 /// Does what the words ask for, which are those after the program's own name.
 pub fn acute<F: Files, O: Sink, E: Sink>(
     alloc: Global,
@@ -39,10 +38,10 @@ pub fn acute<F: Files, O: Sink, E: Sink>(
 ) -> Status
     // How the call ends: a row for each way.
     ensures ends { Ended (command_of (texts words.now))
-        (λ name. reading F.told (F.contents files.old name) (F.read_faults files.old name) (F.read_faults files.new name))
-        (writing O.told (O.written output.old) (O.written output.new) (O.faults output.old) (O.faults output.new))
-        (writing E.told (E.written errors.old) (E.written errors.new) (E.faults errors.old) (E.faults errors.new))
-        result.0 }
+        (reading F.told F.contents F.read_faults files.old files.new)
+        (writing O.told O.written O.faults output.old output.new)
+        (writing E.told E.written E.faults errors.old errors.new)
+        result }
     // No file is created or changed.
     ensures kept { IsTrue F.told → F.contents files.new ≡ F.contents files.old }
     // Where the words are refused, no file is touched.
@@ -53,7 +52,7 @@ pub fn acute<F: Files, O: Sink, E: Sink>(
             let request = run_of(command);
             run_file(alloc, request.file, request.steps, files, output, errors)
         }
-        Ok(None) => say(errors, b"acute: words refused\n", 7),
+        Ok(None) => say(errors, b"acute: words refused\n", Status::WORDS_REFUSED),
         Err(_) => no_memory(errors),
     }
 }
@@ -77,15 +76,15 @@ fn run_file<F: Files, O: Sink, E: Sink>(
     errors: &mut E,
 ) -> Status
     ensures ends { Ended (Some (run name.now steps))
-        (λ name. reading F.told (F.contents files.old name) (F.read_faults files.old name) (F.read_faults files.new name))
-        (writing O.told (O.written output.old) (O.written output.new) (O.faults output.old) (O.faults output.new))
-        (writing E.told (E.written errors.old) (E.written errors.new) (E.faults errors.old) (E.faults errors.new))
-        result.0 }
+        (reading F.told F.contents F.read_faults files.old files.new)
+        (writing O.told O.written O.faults output.old output.new)
+        (writing E.told E.written E.faults errors.old errors.new)
+        result }
     ensures kept { IsTrue F.told → F.contents files.new ≡ F.contents files.old }
 {
     match read_text(alloc, files, name) {
         Ok(text) => run_text(alloc, text.as_slice(), steps, output, errors),
-        Err(ReadFault::Failed) => say(errors, b"acute: read fault\n", 5),
+        Err(ReadFault::Failed) => say(errors, b"acute: read fault\n", Status::READ_FAULT),
         Err(ReadFault::Memory) => no_memory(errors),
     }
 }
@@ -98,11 +97,11 @@ fn run_text<O: Sink, E: Sink>(
     output: &mut O,
     errors: &mut E,
 ) -> Status
-    ensures { (request : Option Request) (files : List ℕ → Reading) → ((a : Answer) → Means text.now steps a → Gives request files a) →
+    ensures { (request : Option Request) (files : List ℕ → Reading) → ((a : Answer) → ((mode : Mode) → Means mode text.now [] steps a) → Gives request files a) →
         Ended request files
-        (writing O.told (O.written output.old) (O.written output.new) (O.faults output.old) (O.faults output.new))
-        (writing E.told (E.written errors.old) (E.written errors.new) (E.faults errors.old) (E.faults errors.new))
-        result.0 }
+        (writing O.told O.written O.faults output.old output.new)
+        (writing E.told E.written E.faults errors.old errors.new)
+        result }
 {
     match load(alloc, text, &no_shelf(alloc)) {
         Ok(loaded) => run_program(alloc, loaded, steps, output, errors),
@@ -124,21 +123,20 @@ fn run_program<O: Sink, E: Sink>(
     output: &mut O,
     errors: &mut E,
 ) -> Status
-    requires accepted { (text : List ℕ) × Accepted text [] (expr_of loaded.main) (typ_of loaded.ty) }
-    requires alone { environment_of loaded.env ≡ [] }
-    ensures { (text : List ℕ) → Accepted text [] (expr_of loaded.main) (typ_of loaded.ty) →
-        (request : Option Request) (files : List ℕ → Reading) → ((a : Answer) → Means text steps a → Gives request files a) →
+    requires loaded { IsLoaded (environment_of loaded.env) (expr_of loaded.main) (typ_of loaded.ty) }
+    ensures { (text : List ℕ) → Accepted text [] (environment_of loaded.env) (expr_of loaded.main) (typ_of loaded.ty) →
+        (request : Option Request) (files : List ℕ → Reading) → ((a : Answer) → ((mode : Mode) → Means mode text [] steps a) → Gives request files a) →
         Ended request files
-        (writing O.told (O.written output.old) (O.written output.new) (O.faults output.old) (O.faults output.new))
-        (writing E.told (E.written errors.old) (E.written errors.new) (E.faults errors.old) (E.faults errors.new))
-        result.0 }
+        (writing O.told O.written O.faults output.old output.new)
+        (writing E.told E.written E.faults errors.old errors.new)
+        result }
 {
     match Session::new(alloc, loaded, steps, false) {
         Ok(mut session) => match run_on(&mut session, output) {
-            RunEnd::Finished => Status(0),
+            RunEnd::Finished => Status::FINISHED,
             RunEnd::Uncaught(exn) => tell_uncaught(alloc, &exn, errors),
             RunEnd::Spent { steps } => tell_spent(alloc, steps, errors),
-            RunEnd::WriteFault => say(errors, b"acute: write fault\n", 6),
+            RunEnd::WriteFault => say(errors, b"acute: write fault\n", Status::WRITE_FAULT),
             RunEnd::Memory => no_memory(errors),
         },
         Err(_) => no_memory(errors),
@@ -147,8 +145,8 @@ fn run_program<O: Sink, E: Sink>(
 
 // Writes the line of a refusal.
 fn refuse<E: Sink>(alloc: Global, kind: Kind, errors: &mut E) -> Status
-    ensures { let stream = writing E.told (E.written errors.old) (E.written errors.new) (E.faults errors.old) (E.faults errors.new)
-        in Said stream (kind_line kind) (kind_status kind) result.0 ⊎ Said stream memory_line 4 result.0 }
+    ensures { let stream = writing E.told E.written E.faults errors.old errors.new
+        in Said stream (kind_line kind) (kind_status kind) result ⊎ Said stream memory_line OUT_OF_MEMORY result }
 {
     match refusal::line(kind, alloc) {
         Ok(line) => say(errors, line.as_bytes(), refusal::status(kind)),
@@ -158,22 +156,22 @@ fn refuse<E: Sink>(alloc: Global, kind: Kind, errors: &mut E) -> Status
 
 // Writes the line of an exception.
 fn tell_uncaught<E: Sink>(alloc: Global, exn: &Exn, errors: &mut E) -> Status
-    ensures { let stream = writing E.told (E.written errors.old) (E.written errors.new) (E.faults errors.old) (E.faults errors.new)
-        in Said stream (uncaught_line (exn_of exn.now)) 2 result.0 ⊎ Said stream memory_line 4 result.0 }
+    ensures { let stream = writing E.told E.written E.faults errors.old errors.new
+        in Said stream (uncaught_line (exn_of exn.now)) UNCAUGHT result ⊎ Said stream memory_line OUT_OF_MEMORY result }
 {
     match uncaught::line(alloc, exn) {
-        Ok(line) => say(errors, line.as_slice(), 2),
+        Ok(line) => say(errors, line.as_slice(), Status::UNCAUGHT),
         Err(_) => no_memory(errors),
     }
 }
 
 // Writes the line of a budget that is spent.
 fn tell_spent<E: Sink>(alloc: Global, budget: u64, errors: &mut E) -> Status
-    ensures { let stream = writing E.told (E.written errors.old) (E.written errors.new) (E.faults errors.old) (E.faults errors.new)
-        in Said stream (spent_line budget) 3 result.0 ⊎ Said stream memory_line 4 result.0 }
+    ensures { let stream = writing E.told E.written E.faults errors.old errors.new
+        in Said stream (spent_line budget) SPENT result ⊎ Said stream memory_line OUT_OF_MEMORY result }
 {
     match spent_line(alloc, budget) {
-        Ok(line) => say(errors, line.as_bytes(), 3),
+        Ok(line) => say(errors, line.as_bytes(), Status::SPENT),
         Err(_) => no_memory(errors),
     }
 }
@@ -185,18 +183,18 @@ fn spent_line(alloc: Global, budget: u64) -> Result<String, AllocError>
 }
 
 fn no_memory<E: Sink>(errors: &mut E) -> Status
-    ensures { Said (writing E.told (E.written errors.old) (E.written errors.new) (E.faults errors.old) (E.faults errors.new)) memory_line 4 result.0 }
+    ensures { Said (writing E.told E.written E.faults errors.old errors.new) memory_line OUT_OF_MEMORY result }
 {
-    say(errors, b"acute: out of memory\n", 4)
+    say(errors, b"acute: out of memory\n", Status::OUT_OF_MEMORY)
 }
 
 // Writes a line on errors, before an end with this status.
-fn say<E: Sink>(errors: &mut E, line: &[u8], status: u8) -> Status
-    ensures { Said (writing E.told (E.written errors.old) (E.written errors.new) (E.faults errors.old) (E.faults errors.new)) line.now status result.0 }
+fn say<E: Sink>(errors: &mut E, line: &[u8], status: Status) -> Status
+    ensures { Said (writing E.told E.written E.faults errors.old errors.new) line.now status result }
 {
     match errors.write(line) {
-        Put::Done => Status(status),
-        Put::Failed => Status(6),
-        Put::Memory => Status(4),
+        Put::Done => status,
+        Put::Failed => Status::WRITE_FAULT,
+        Put::Memory => Status::OUT_OF_MEMORY,
     }
 }

@@ -3,10 +3,10 @@ ghost use Rattle.std.specs.Prelude.{◌≡◌, ◌≤◌, ◌<◌, ℕ, [], None
 ghost use native.Mathlib.Omega.{arith};
 ghost use Rattle.ac_terms.specs.Terms.{Value};
 ghost use Rattle.ac_outside.specs.Outside.{Rose, IsWithin, Takes, rest, Wrote};
-ghost use Rattle.ac_rules.specs.Views.{Coloured};
+ghost use Rattle.ac_rules.specs.Views.{Mode};
 ghost use Rattle.ac_meaning.specs.Acts.{Outcome};
-ghost use Rattle.ac_meaning.specs.Laws.{Console, written_by};
-ghost use Rattle.ac_run.specs.Sessions.{ProgramEnds, IsEnd, Leaves};
+ghost use Rattle.ac_meaning.specs.Laws.{writes_of};
+ghost use Rattle.ac_run.specs.Sessions.{ProgramEnds, IsEnd, Leaves, streams};
 
 use ac_outside::{Got, Put, Sink, Source, World};
 use ac_run::{RunEnd, Session};
@@ -67,8 +67,9 @@ impl<O: Sink, K: Named> World for SinkWorld<'_, O, K> {
 
 /// Runs a program, whose prints go to a sink.
 pub fn run_on<O: Sink>(session: &mut Session, output: &mut O) -> RunEnd
-    ensures ends { session.old.end ≡ None → (o : Outcome Value) → ProgramEnds Coloured session.old o → IsEnd session.old.steps result o session.new.machine }
-    ensures console { session.old.end ≡ None → IsTrue O.told → (o : Outcome Value) → ProgramEnds Coloured session.old o → Leaves result (O.written output.old) (O.written output.new) (written_by Console o) }
+    ensures ends { session.old.end ≡ None → (mode : Mode) (o : Outcome Value) → ProgramEnds mode session.old [] o →
+        IsEnd result o session.new × Leaves result O.told (writes_of o) (streams (O.written output.old) []) (streams (O.written output.new) []) }
+    ensures steps { session.old.end ≡ None → session.new.steps ≡ session.old.steps }
     ensures cause { session.old.end ≡ None → result ≡ RunEnd.WriteFault → Rose (O.faults output.old) (O.faults output.new) }
 {
     let mut end = RunEnd::Memory;
@@ -84,8 +85,9 @@ fn run_at<'a, O: Sink, K: Named>(
     end: &mut RunEnd,
 ) -> &'a mut O
     requires { output.ghost_name ≡ K.name }
-    ensures ends { session.old.end ≡ None → (o : Outcome Value) → ProgramEnds Coloured session.old o → IsEnd session.old.steps end.new o session.new.machine }
-    ensures console { session.old.end ≡ None → IsTrue O.told → (o : Outcome Value) → ProgramEnds Coloured session.old o → Leaves end.new (O.written output.old) (O.written result.now) (written_by Console o) }
+    ensures ends { session.old.end ≡ None → (mode : Mode) (o : Outcome Value) → ProgramEnds mode session.old [] o →
+        IsEnd end.new o session.new × Leaves end.new O.told (writes_of o) (streams (O.written output.old) []) (streams (O.written result.now) []) }
+    ensures steps { session.old.end ≡ None → session.new.steps ≡ session.old.steps }
     ensures cause { session.old.end ≡ None → end.new ≡ RunEnd.WriteFault → Rose (O.faults output.old) (O.faults result.now) }
     ensures same_reference { result.ghost_name ≡ output.entry.ghost_name }
 {

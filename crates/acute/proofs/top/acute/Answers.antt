@@ -1,11 +1,12 @@
 use Rattle.std.proofs.Common.{sym, refl, None}
+use Rattle.acute.specs.declared.status.TheConstants.Status.{WORDS_REFUSED}
 use Rattle.acute.proofs.EndingLaws.{end_alone, end_early}
 use Rattle.acute.proofs.top.acute.Goals as goal
 
 pub returns-in-Ok-None-clause-ends : goal.returns-in-Ok-None-clause-ends
 returns-in-Ok-None-clause-ends g c =
     let none = rw c.in-Ok-None.field-0-is at c.in-Ok-None.ensures in
-    rw (sym none) (end_alone None _ _ _ 7 _ refl (record { same = refl }) _ c.say.ensures)
+    rw (sym none) (end_alone None _ _ _ WORDS_REFUSED _ refl (record { same = refl }) _ _ refl _ c.say.ensures)
 
 pub returns-in-Ok-Some-clause-ends : goal.returns-in-Ok-Some-clause-ends
 returns-in-Ok-Some-clause-ends g c =
