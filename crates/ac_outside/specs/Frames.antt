@@ -30,8 +30,8 @@ pub data Frame : Type 0 where
 abbrev pub framed : ℕ → Bytes → Frame
 framed n rest =
     cond (nat_le n longest)
-        (cond (nat_le n (length rest)) (Whole (take n rest) (drop n rest)) (Bad n (4 + length rest)))
-        (Bad n 4)
+    (cond (nat_le n (length rest)) (Whole (take n rest) (drop n rest)) (Bad n (4 + length rest)))
+    (Bad n 4)
 
 -- the frame that comes next
 abbrev pub next_frame : Bytes → Frame

@@ -55,6 +55,11 @@ abbrev pub Reads : Got → Option (List ℕ) → ℕ → List ℕ → Type 0
 Reads got (Some bytes) from buf = Takes got (drop from bytes) buf
 Reads got None from buf = got ≡ Failed
 
+-- a file has fewer than 2^64 bytes
+abbrev pub IsShort : Option (List ℕ) → Type 0
+IsShort None = Unit {0}
+IsShort (Some bytes) = length bytes < 2 ^ 64
+
 -- some front of the piece was written, and the rest was not
 pub record Extends (old new piece : List ℕ) : Type 0 where
   pub front : List ℕ

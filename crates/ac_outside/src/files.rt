@@ -2,7 +2,7 @@
 ghost use Rattle.std.specs.Prelude.{◌≡◌, ◌⊎◌, ◌<◌, ◌≤◌, ◌↔◌, ◌++◌, [], true, None, IsTrue, MatchOption, IfSome, OnOk, OnErr, Contains, length};
 ghost use Rattle.ac_outside.specs.Calls.{unused};
 ghost use Rattle.ac_outside.specs.Kept.{bytes_of, StandsAt};
-ghost use Rattle.ac_outside.specs.Outside.{Rose, IsWithin, OthersSame, NeverFall, Reads, Created, Appended, or_empty};
+ghost use Rattle.ac_outside.specs.Outside.{Rose, IsWithin, OthersSame, NeverFall, Reads, IsShort, Created, Appended, or_empty};
 
 use crate::calls::Calls;
 use crate::taking::take_from;
@@ -65,10 +65,13 @@ impl MemoryFiles {
 }
 
 fn text_of<'a>(files: &'a [MemoryFile], name: &str) -> Option<&'a Text>
-    ensures { MatchOption result (bytes_of files.now name.now ≡ None) (λ text. bytes_of files.now name.now ≡ Some text.now.0) }
+    ensures short { IsShort (bytes_of files.now name.now) }
+    ensures text { MatchOption result (bytes_of files.now name.now ≡ None) (λ text. bytes_of files.now name.now ≡ Some text.now.0) }
 {
     let at = place_of(files, name)?;
-    Some(&files[at].bytes)
+    let text = &files[at].bytes;
+    let _len = text.as_slice().len();
+    Some(text)
 }
 
 fn place_of(files: &[MemoryFile], name: &str) -> Option<usize>
@@ -98,13 +101,15 @@ impl Files for MemoryFiles {
         ensures bound { IsWithin result (length buf.new) }
         ensures bytes { Reads result (bytes_of self.old.files name.now) from buf.new }
         ensures same { self.new.files ≡ self.old.files }
+        ensures short { IsShort (bytes_of self.old.files name.now) }
         ensures cause { result ≡ Got.Failed → Rose self.old.reads.failed self.new.reads.failed }
         ensures later { self.old.reads.failed ≤ self.new.reads.failed }
         ensures later_writes { self.old.writes.failed ≤ self.new.writes.failed }
         ensures fails { (result ≡ Got.Failed) ↔ (Contains self.old.reads.fail self.old.reads.made ⊎ (bytes_of self.old.files name.now ≡ None)) }
     {
+        let found = text_of(&self.files, name);
         if !self.reads.next_fails()
-            && let Some(text) = text_of(&self.files, name)
+            && let Some(text) = found
         {
             return take_from(text.as_slice(), from, buf);
         }

@@ -1,6 +1,7 @@
 // The traits of the outside, and what their calls answer.
 ghost use Rattle.std.specs.Prelude.{◌≡◌, ◌<◌, ◌≤◌, ℕ, List, Bool, IsTrue, length};
-ghost use Rattle.ac_outside.specs.Outside.{Rose, Contents, NeverFall, IsWithin, Takes, rest, Reads, Wrote, Created, Appended, OthersSame};
+ghost use Rattle.ac_outside.specs.Outside.{Rose, Contents, NeverFall, IsWithin, Takes, rest, Reads, IsShort, Wrote, Created, Appended, OthersSame};
+ghost use Rattle.ac_outside.specs.Frames.{IsFrame};
 
 /// What a read answers.
 #[derive(Clone, Copy, Debug, PartialEq, Eq)]
@@ -65,6 +66,12 @@ pub trait Source {
         ensures cause { result ≡ Got.Failed → Rose (read_faults self.old) (read_faults self.new) }
         ensures later { read_faults self.old ≤ read_faults self.new }
         ensures passes { passes self.old self.new };
+
+    /// It holds where nothing is read.
+    ghost passes_none: { (a : Self) → passes a a };
+
+    /// It holds over several reads.
+    ghost passes_on: { (a b c : Self) → passes a b → passes b c → passes a c };
 }
 
 /// What a program meets while it runs: its input, a console and a channel. It tells what they have, or nothing.
@@ -86,8 +93,9 @@ pub trait World: Source {
         ensures later { write_faults self.old ≤ write_faults self.new }
         ensures later_reads { Self.read_faults self.old ≤ Self.read_faults self.new };
 
-    /// Adds one whole frame to the channel.
+    /// Adds one whole frame to the channel, its length among the bytes.
     fn send(&mut self, bytes: &[u8]) -> Put
+        requires { IsFrame bytes.now }
         ensures bytes { IsTrue Self.told → Wrote result (channel self.old) (channel self.new) bytes.now }
         ensures others { IsTrue Self.told → (Self.left self.new ≡ Self.left self.old) × (console self.new ≡ console self.old) }
         ensures cause { result ≡ Put.Failed → Rose (write_faults self.old) (write_faults self.new) }
@@ -115,12 +123,13 @@ pub trait Files {
     /// How often a write of a name has failed.
     ghost write_faults: { Self → List ℕ → ℕ };
 
-    /// Reads from a place on, in bytes from 0. Each file keeps its bytes, and the read of a missing one fails.
+    /// Reads from a place on, in bytes from 0. Each file keeps its bytes, fewer than 2^64, and the read of a missing one fails.
     fn read(&mut self, name: &str, from: u64, buf: &mut [u8]) -> Got
         requires { 0 < length buf.old }
         ensures bound { IsWithin result (length buf.new) }
         ensures bytes { IsTrue told → Reads result (contents self.old name.now) from buf.new }
         ensures same { IsTrue told → contents self.new ≡ contents self.old }
+        ensures short { IsTrue told → IsShort (contents self.old name.now) }
         ensures cause { result ≡ Got.Failed → Rose (read_faults self.old name.now) (read_faults self.new name.now) }
         ensures later { NeverFall (read_faults self.old) (read_faults self.new) }
         ensures later_writes { NeverFall (write_faults self.old) (write_faults self.new) };

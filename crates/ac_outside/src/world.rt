@@ -1,8 +1,10 @@
 // Worlds in memory.
-ghost use Rattle.std.specs.Prelude.{◌≡◌, ◌≢◌, ◌≤◌, ◌<◌, ◌↔◌, [], true, Contains, length};
+ghost use Rattle.std.specs.Prelude.{◌≡◌, ◌≢◌, ◌≤◌, ◌<◌, ◌↔◌, [], true, Contains, length, refl};
+ghost use Rattle.std.proofs.Common.{◌∙◌};
 ghost use native.Mathlib.Omega.{arith};
 ghost use Rattle.ac_outside.specs.Outside.{Rose, IsWithin, Takes, rest, Wrote};
 ghost use Rattle.ac_outside.specs.Calls.{unused};
+ghost use Rattle.ac_outside.specs.Frames.{IsFrame};
 
 use crate::calls::Calls;
 use crate::taking::take_from;
@@ -83,6 +85,10 @@ impl Source for SureWorld {
         }
         got
     }
+
+    ghost passes_none = { λ _. (refl, refl) };
+
+    ghost passes_on = { λ _ _ _ h k. (k.0 ∙ h.0, k.1 ∙ h.1) };
 }
 
 impl World for SureWorld {
@@ -110,6 +116,7 @@ impl World for SureWorld {
 
     /// `Failed` never comes.
     fn send(&mut self, bytes: &[u8]) -> Put
+        requires { IsFrame bytes.now }
         ensures bytes { Wrote result self.old.channel self.new.channel bytes.now }
         ensures others { (self.new.left ≡ self.old.left) × (self.new.console ≡ self.old.console) }
         ensures cause { result ≡ Put.Failed → Rose 0 0 }
@@ -206,6 +213,10 @@ impl Source for MemoryWorld {
         }
         self.world.read(buf)
     }
+
+    ghost passes_none = { λ _. (refl, refl, refl) };
+
+    ghost passes_on = { λ _ _ _ h k. (k.0 ∙ h.0, k.1 ∙ h.1, k.2 ∙ h.2) };
 }
 
 impl World for MemoryWorld {
@@ -237,6 +248,7 @@ impl World for MemoryWorld {
 
     /// `Failed` comes exactly for the sends that are to fail, which send nothing.
     fn send(&mut self, bytes: &[u8]) -> Put
+        requires { IsFrame bytes.now }
         ensures bytes { Wrote result self.old.world.channel self.new.world.channel bytes.now }
         ensures others { (self.new.world.left ≡ self.old.world.left) × (self.new.world.console ≡ self.old.world.console) }
         ensures cause { result ≡ Put.Failed → Rose self.old.writes.failed self.new.writes.failed }
