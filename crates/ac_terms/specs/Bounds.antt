@@ -2,6 +2,7 @@
 use Rattle.std.specs.Prelude.{◌≡◌, ℕ, ℤ, pos, negsuc, zero, suc, ◌==◌, ◌+◌, ◌^◌, ◌≤◌, ◌&&◌, ◌||◌, Bool, true, false, nat_lt, nat_le, nat_eq, List, [], ◌∷◌, length, map, None, IsTrue, slice_index}
 use Rattle.std.specs.List.{list_all}
 use Rattle.std.specs.Option.{option_map_or}
+use Rattle.ac_types.specs.Limits.{longest_string, longest_packet}
 use Rattle.ac_types.specs.Words.{is_word, is_between}
 use Rattle.ac_types.specs.Types.{Bytes, Typ, TTuple, TList, TOpt, TFun, TAbs, TMine, Typs, no_types, typ, is_small}
 use Rattle.ac_terms.specs.Terms.{Home, Main, In, Pattern, PVar, PInt, PStr, PTuple, PCons, PPresent, PExn, PExnOf, Patterns, no_patterns, pattern', Expr, Int, Boolean, Str, Unit', Exn, ExnOf, Tuple, Nil, Empty, Present, Cons, Var, Own, Ref, Lam, Rec, App, Let, If, Seq, Match, Try, Raise, Prim, Marshal, Unmarshal, Packed, Val, Bracket, Exprs, no_exprs, expr, Arms, no_arms, arm, PValue, KInt, KBool, KStr, KUnit, KExn, KTuple, KList, KAbsent, KPresent, KFun, PValues, no_pvalues, pvalue}
@@ -19,12 +20,12 @@ is_lower w = is_word w && (is_between 97 122 (slice_index w 0) || slice_index w 
 abbrev pub is_upper : Bytes → Bool
 is_upper w = is_word w && is_between 65 90 (slice_index w 0)
 
--- a name has 32 bytes, a string at most 1,048,576
+-- a name has 32 bytes
 abbrev pub is_name : Bytes → Bool
 is_name n = nat_eq (length n) 32
 
 abbrev pub is_string : Bytes → Bool
-is_string s = nat_le (length s) 1048576
+is_string s = nat_le (length s) longest_string
 
 -- numbers of two bytes, of four bytes, and signed ones of eight
 abbrev pub is_two : ℕ → Bool
@@ -206,8 +207,8 @@ fits_packet p =
     fits_type false p.ty && is_small p.ty &&
     fits_value p.value && nat_le (value_nesting p.value) 500 && has_small_types (value_parts p.value)
 
--- the bytes of a packet within the bounds, at most 1,048,576
+-- the bytes of a packet within the bounds, and no more than a packet may have
 pub record Spells (bytes : Bytes) (p : Packet) : Type 0 where
   pub fits : IsTrue (fits_packet p)
   pub spelled : bytes ≡ packet_bytes p
-  pub short : length bytes ≤ 1048576
+  pub short : length bytes ≤ longest_packet
