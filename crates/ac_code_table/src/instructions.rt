@@ -2,10 +2,10 @@
 
 use crate::listing::Listing;
 use crate::patterns::write_pattern;
-use crate::primitives::primitive;
 use crate::types::write_type;
 use ac_code::{Block, CodeId, CodeTable, Instr};
 use ac_terms::Home;
+use ac_types::primitives::primitive_name;
 use ac_types::{Text, Ty};
 
 // A name and a number behind it.
@@ -65,7 +65,7 @@ fn write_test(listing: &mut Listing, instr: &Instr) {
         }
         Instr::Prim(number) => {
             listing.put(b"Prim ");
-            listing.put(primitive(*number));
+            listing.put(primitive_name(*number));
         }
         Instr::Marshal(ty) => write_typed(listing, b"Marshal ", ty),
         Instr::Unmarshal(ty) => write_typed(listing, b"Unmarshal ", ty),

@@ -10,7 +10,6 @@ ghost use Rattle.std.specs.Prelude.{◌≡◌, []};
 mod instructions;
 mod listing;
 mod patterns;
-mod primitives;
 mod types;
 
 use ac_code::CodeTable;

@@ -1,9 +1,9 @@
 // Patterns.
 
 use crate::listing::Listing;
-use crate::primitives::exception;
 use crate::types::write_type;
 use ac_terms::Pat;
+use ac_types::exceptions::exception_name;
 use ac_types::{Many, Ty};
 
 fn write_variable(listing: &mut Listing, ty: &Ty) {
@@ -54,7 +54,7 @@ pub fn write_pattern(listing: &mut Listing, pattern: &Pat) {
         }
         Pat::Absent => listing.put(b"None"),
         Pat::Present(item) => write_applied(listing, b"Some", item),
-        Pat::Exn(number, None) => listing.put(exception(*number)),
-        Pat::Exn(number, Some(argument)) => write_applied(listing, exception(*number), argument),
+        Pat::Exn(number, None) => listing.put(exception_name(*number)),
+        Pat::Exn(number, Some(argument)) => write_applied(listing, exception_name(*number), argument),
     }
 }

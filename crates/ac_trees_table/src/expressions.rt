@@ -1,10 +1,10 @@
 // Expressions: the form, the names and types that stand in front, the parts, the type that stands behind.
 
-use crate::exceptions::exception;
 use crate::page::Page;
 use crate::patterns::write_pattern;
 use crate::types::write_type;
 use ac_syntax::{SArm, SExpr, SExprKind, SFun};
+use ac_types::exceptions::exception_name;
 
 const PRIMITIVES: [&[u8]; 10] = [
     b"+", b"-", b"*", b"/", b"mod", b"neg", b"=", b"<", b"^", b"not",
@@ -35,7 +35,7 @@ fn leaf(page: &mut Page, kind: &SExprKind, at: u32) {
         SExprKind::Bool(truth) => page.truth(*truth, at),
         SExprKind::Str(text) => page.string(text, at),
         SExprKind::Unit => page.leaf(b"()", at),
-        SExprKind::Exn(number, _) => page.leaf(exception(*number), at),
+        SExprKind::Exn(number, _) => page.leaf(exception_name(*number), at),
         SExprKind::Var(word) => page.leaf(word.text().as_slice(), at),
         _ => {}
     }
@@ -43,7 +43,7 @@ fn leaf(page: &mut Page, kind: &SExprKind, at: u32) {
 
 fn form(kind: &SExprKind) -> &'static [u8] {
     match kind {
-        SExprKind::Exn(number, _) => exception(*number),
+        SExprKind::Exn(number, _) => exception_name(*number),
         SExprKind::Op(number, _) => primitive(*number),
         SExprKind::Tuple(_) => b"tuple",
         SExprKind::Nil(_) => b"[]",

@@ -7,7 +7,6 @@
 #![tactic(auto)]
 
 mod definitions;
-mod exceptions;
 mod expressions;
 mod page;
 mod patterns;

@@ -1,9 +1,9 @@
 // Patterns.
 
-use crate::exceptions::exception;
 use crate::page::Page;
 use crate::types::write_type;
 use ac_syntax::{SPat, SPatKind};
+use ac_types::exceptions::exception_name;
 
 fn leaf(page: &mut Page, kind: &SPatKind, at: u32) {
     match kind {
@@ -14,7 +14,7 @@ fn leaf(page: &mut Page, kind: &SPatKind, at: u32) {
         SPatKind::Unit => page.leaf(b"()", at),
         SPatKind::Nil => page.leaf(b"[]", at),
         SPatKind::Absent => page.leaf(b"None", at),
-        SPatKind::Exn(number, None) => page.leaf(exception(*number), at),
+        SPatKind::Exn(number, None) => page.leaf(exception_name(*number), at),
         SPatKind::Var(name, ty) => {
             page.open(b"var", at);
             page.name(name);
@@ -46,7 +46,7 @@ pub fn write_pattern(page: &mut Page, pattern: &SPat) {
             page.close();
         }
         SPatKind::Exn(number, Some(item)) => {
-            page.open(exception(*number), pattern.at);
+            page.open(exception_name(*number), pattern.at);
             write_pattern(page, item);
             page.close();
         }
