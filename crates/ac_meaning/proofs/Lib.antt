@@ -55,6 +55,7 @@ pub mod HeadsSeen
 pub mod WithinSmall
 pub mod Kept
 pub mod MarshalledRead
+pub mod WritesFit
 mod PackingExamples
 mod RebuiltExamples
 mod ArrivalExamples

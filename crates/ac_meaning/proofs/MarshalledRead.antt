@@ -47,7 +47,7 @@ use Rattle.ac_meaning.proofs.WithinPacked.{Fine, fine_both, packed_fits}
 use Rattle.ac_meaning.proofs.WithinSmall.{packed_small}
 
 -- the invariant of runs: what stands in a state is typed, and within the bounds
-abbrev IsBounded : Mode → Typ → State Expr Value → Type 0
+abbrev pub IsBounded : Mode → Typ → State Expr Value → Type 0
 IsBounded mode T s = IsTyped mode T s × StateWithin s
 
 step_bounded : (mode : Mode) (T : Typ) (N : ℕ) (s : State Expr Value) → IsBounded mode T s → IsBounded mode T (step mode N s)
@@ -62,7 +62,7 @@ run_bounded mode T N (suc k) s h = run_bounded mode T N k (step mode N s) (step_
 pub starts_bounded : (E : Environment) (e : Expr) (T : Typ) → IsTypedProgram E e T → IsTrue (fits_term false e) → (mode : Mode) (input : Bytes) (sends : Bool) → IsBounded mode (lower E mode T) (At e (fresh E input sends))
 starts_bounded E e T p fits mode input sends = (
   (p.coherent, typed_from E p.coherent (known_types E p.coherent) mode e (all_of E Main) T p.source p.typed),
-  loosened e (subst (Within true) (source_rebuilt Coloured E e Main p.source) (term_within Coloured E E false e (all_of E Main) T Main p.typed fits (typed_small E e (all_of E Main) T p.source p.typed).1)),
+  (loosened e (subst (Within true) (source_rebuilt Coloured E e Main p.source) (term_within Coloured E E false e (all_of E Main) T Main p.typed fits (typed_small E e (all_of E Main) T p.source p.typed).1)), tt),
 )
 
 -- the next redex is typed and within the bounds too
@@ -178,13 +178,13 @@ marshal_read mode T z e h U s m F g =
     let E : Environment = z.environment in
     let c : Home = m.home in
     let i : IsCoherent E = h.0.0 in
-    let r = subst (RedexFine mode E) m.is_next (redex_fine mode E e Main T refl h.0.1 h.1) in
+    let r = subst (RedexFine mode E) m.is_next (redex_fine mode E e Main T refl h.0.1 h.1.0) in
     let t = r.2 in
     let w = r.3 in
     let x = marshal_parts z c U m.mark m.packed s (look mode z c m.mark) (look mode z c m.packed) m.gives in
     let good : ActOk E (λ G d. Typed mode G d c [] (seen mode E c U)) (λ G d. ValueTyped mode G d c (seen mode E c U)) (look mode z c m.packed) = kept arrives mode z i m.packed c (seen mode E c U) r.1 t.2 in
     let typed : ValueTyped mode E x.value c (seen mode E c U) = subst (ActOk E (λ G d. Typed mode G d c [] (seen mode E c U)) (λ G d. ValueTyped mode G d c (seen mode E c U))) x.valued good in
-    let within : ValueWithin x.value = subst (ActWithin (Within false) ValueWithin) x.valued (kept_within comes_within mode z i m.packed c w.2) in
+    let within : ValueWithin x.value = subst (ActWithin (Within false) ValueWithin) x.valued (kept_within comes_within mode z i h.1.1 m.packed c w.2) in
     value_read mode z c U x.mark s x.value i t.3 typed w.0 within x.packs_so F g
 
 -- so what a program marshals in any state that it comes to is read again, there and after all that comes later

@@ -1,5 +1,5 @@
 -- Terms and values within the bounds of their spelling, as the reduction keeps them: what can be packed within a function, and what can come to stand there.
-use Rattle.std.proofs.Common.{◌≡◌, ℕ, suc, Bool, true, false, ◌&&◌, [], ◌∷◌}
+use Rattle.std.proofs.Common.{◌≡◌, ℕ, suc, Bool, true, false, ◌&&◌, List, [], ◌∷◌}
 use Rattle.std.specs.Prelude.{nat_le, None}
 use Rattle.std.specs.List.{list_all}
 use Rattle.std.specs.Option.{option_map_or}
@@ -9,6 +9,7 @@ use Rattle.ac_terms.specs.Spelling.{term_count, arm_count}
 use Rattle.ac_terms.specs.Primitives.{has_text, is_exception, primitives}
 use Rattle.ac_terms.specs.Parts.{pattern_types}
 use Rattle.ac_terms.specs.Bounds.{is_string, is_two, is_four, is_integer, is_width, is_lower, fits_type, fits_pattern, takes}
+use Rattle.ac_meaning.specs.Writes.{Write, string_of}
 use Rattle.ac_meaning.specs.Worlds.{Exception}
 use Rattle.ac_meaning.specs.Acts.{Act, Is, Goes, Turns, Applies, Raises, Wrong}
 use Rattle.ac_meaning.specs.Substitution.{Written}
@@ -100,11 +101,16 @@ WrittenWithin (w ∷ ws) = TypeFits w.0 × ValueWithin w.1 × WrittenWithin ws
 abbrev pub RaisedWithin : Exception → Type 0
 RaisedWithin x = (is_exception x.number x.text ≡ true) × (option_map_or is_string x.text true ≡ true)
 
+-- what was written
+abbrev pub WritesWithin : List Write → Type 0
+WritesWithin [] = Unit {0}
+WritesWithin (w ∷ ws) = (is_string (string_of w) ≡ true) × WritesWithin ws
+
 -- what is next
 abbrev pub ActWithin : {S A : Type 0} → (S → Type 0) → (A → Type 0) → Act S A → Type 0
 ActWithin f g (Is v) = g v
 ActWithin f g (Goes s) = f s
-ActWithin f g (Turns z s) = f s
+ActWithin f g (Turns z s) = f s × WritesWithin z.writes
 ActWithin f g (Applies s) = f s
 ActWithin f g (Raises x) = RaisedWithin x
 ActWithin f g Wrong = Unit {0}

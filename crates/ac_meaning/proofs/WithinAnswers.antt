@@ -15,11 +15,12 @@ use Rattle.ac_terms.specs.Terms.{Value, VInt, VBool, VStr, VUnit, VTuple, Values
 use Rattle.ac_terms.specs.Primitives.{is_exception}
 use Rattle.ac_terms.specs.Bounds.{is_string, is_integer}
 use Rattle.ac_code.specs.Constants.{Const, CInt, CBool, CStr, CUnit, CPart, Answer, Gives, Prints, Sends, Receives, Fails, NoSense, Meaning, One, Two, meanings, meaning, applied, sum, difference, product, quotient, remainder, negation, equal, less, joined, opposite, print_int, print_string, send, receive, size, sub_string, of_int, part, same_int, most_bytes, invalid_argument, division_by_zero}
+use Rattle.ac_meaning.specs.Writes.{Print, Send}
 use Rattle.ac_meaning.specs.Worlds.{World}
 use Rattle.ac_outside.specs.Frames.{longest, Frame, Whole, Bad, AtEnd, next_frame}
 use Rattle.ac_meaning.specs.Primitives.{const_of_parts, const_of, all_there, consts_of, spelled, answer_at, primitive, answered, sending, receiving}
-use Rattle.ac_meaning.proofs.Within.{Within, ValueWithin, ValuesWithin}
-use Rattle.ac_meaning.proofs.WithinLaws.{Good}
+use Rattle.ac_meaning.proofs.Within.{Within, ValueWithin, ValuesWithin, WritesWithin}
+use Rattle.ac_meaning.proofs.WithinLaws.{Good, one_more}
 
 abbrev ConstWithin : Const → Type 0
 ConstWithin (CInt n) = is_integer n ≡ true
@@ -34,6 +35,8 @@ ConstsWithin (c ∷ cs) = ConstWithin c × ConstsWithin cs
 
 abbrev AnswerWithin : Answer → Type 0
 AnswerWithin (Gives c) = ConstWithin c
+AnswerWithin (Prints s) = is_string s ≡ true
+AnswerWithin (Sends s) = is_string s ≡ true
 AnswerWithin (Fails k s) = (is_exception k s ≡ true) × (option_map_or is_string s true ≡ true)
 AnswerWithin a = Unit {0}
 
@@ -134,16 +137,23 @@ opposite_within : MeaningWithin (One opposite)
 opposite_within (CBool b) h = tt
 opposite_within _ h = tt
 
+digits_short : (z : ℤ) → is_integer z ≡ true → is_string (signed_decimal z) ≡ true
+digits_short z h = is_at_most (length (signed_decimal z)) 1048576 (let l = digits z h in omega (arith, l))
+  where
+    digits : (z : ℤ) → is_integer z ≡ true → length (signed_decimal z) ≤ 20 + 1
+    digits (pos m) e = let l = below m (2 ^ 63) e in length_signed_le 20 (pos m) (omega (arith, l)) l
+    digits (negsuc m) e = let l = below m (2 ^ 63) e in length_signed_le 20 (negsuc m) (omega (arith, l)) l
+
 print_int_within : MeaningWithin (One print_int)
-print_int_within (CInt n) h = tt
+print_int_within (CInt n) h = digits_short n h
 print_int_within _ h = tt
 
 print_string_within : MeaningWithin (One print_string)
-print_string_within (CStr s) h = tt
+print_string_within (CStr s) h = h
 print_string_within _ h = tt
 
 send_within : MeaningWithin (One send)
-send_within (CStr s) h = tt
+send_within (CStr s) h = h
 send_within _ h = tt
 
 receive_within : MeaningWithin (One receive)
@@ -180,11 +190,7 @@ sub_within (CPart s i n) h = part_within s i n h.0
 sub_within _ h = tt
 
 of_int_within : MeaningWithin (One of_int)
-of_int_within (CInt n) h = is_at_most (length (signed_decimal n)) 1048576 (let l = digits n h in omega (arith, l))
-  where
-    digits : (z : ℤ) → is_integer z ≡ true → length (signed_decimal z) ≤ 20 + 1
-    digits (pos m) e = let l = below m (2 ^ 63) e in length_signed_le 20 (pos m) (omega (arith, l)) l
-    digits (negsuc m) e = let l = below m (2 ^ 63) e in length_signed_le 20 (negsuc m) (omega (arith, l)) l
+of_int_within (CInt n) h = digits_short n h
 of_int_within _ h = tt
 
 abbrev EachWithin : List Meaning → Type 0
@@ -272,23 +278,23 @@ whole_short (a ∷ (b ∷ (c ∷ (d ∷ bs)))) s rest e = by (from_be_bytes w32 
     by n false p q = absurd cc
     by n true p q = there n (nat_le n (length bs)) p q
 
-received_within : (f : Frame) (z : World) → ((s rest : Bytes) → f ≡ Whole s rest → is_string s ≡ true) → Good (receiving spelled f z)
-received_within (Whole s rest) z h = h s rest refl
-received_within (Bad n got) z h = (refl, refl)
-received_within AtEnd z h = (refl, refl)
+received_within : (f : Frame) (z : World) → WritesWithin z.writes → ((s rest : Bytes) → f ≡ Whole s rest → is_string s ≡ true) → Good (receiving spelled f z)
+received_within (Whole s rest) z w h = (h s rest refl, w)
+received_within (Bad n got) z w h = (refl, refl)
+received_within AtEnd z w h = (refl, refl)
 
-sent_within : (b : Bool) (s : Bytes) (z : World) → Good (sending spelled b s z)
-sent_within true s z = tt
-sent_within false s z = (refl, refl)
+sent_within : (b : Bool) (s : Bytes) (z : World) → WritesWithin z.writes → is_string s ≡ true → Good (sending spelled b s z)
+sent_within true s z w h = (tt, one_more z.writes (Send s) w h)
+sent_within false s z w h = (refl, refl)
 
-answered_within : (a : Answer) (z : World) → AnswerWithin a → Good (answered spelled z a)
-answered_within (Gives c) z h = spelled_within c h
-answered_within (Prints s) z h = tt
-answered_within (Sends s) z h = sent_within z.has_channel s z
-answered_within Receives z h = received_within (next_frame z.input) z (λ s rest e. whole_short z.input s rest e)
-answered_within (Fails k s) z h = h
-answered_within NoSense z h = tt
+answered_within : (a : Answer) (z : World) → WritesWithin z.writes → AnswerWithin a → Good (answered spelled z a)
+answered_within (Gives c) z w h = spelled_within c h
+answered_within (Prints s) z w h = (tt, one_more z.writes (Print s) w h)
+answered_within (Sends s) z w h = sent_within z.has_channel s z w h
+answered_within Receives z w h = received_within (next_frame z.input) z w (λ s rest e. whole_short z.input s rest e)
+answered_within (Fails k s) z w h = h
+answered_within NoSense z w h = tt
 
 -- so a primitive comes to what is within the bounds
-pub primitive_answered : (k : ℕ) (vs : Values) (z : World) → ValuesWithin vs → Good (answered spelled z (primitive k vs))
-primitive_answered k vs z h = answered_within (primitive k vs) z (primitive_within k vs h)
+pub primitive_answered : (k : ℕ) (vs : Values) (z : World) → WritesWithin z.writes → ValuesWithin vs → Good (answered spelled z (primitive k vs))
+primitive_answered k vs z w h = answered_within (primitive k vs) z w (primitive_within k vs h)

@@ -1,5 +1,5 @@
 -- What is written into a term and what a pattern binds stays within the bounds.
-use Rattle.std.proofs.Common.{◌≡◌, refl, sym, ap, ◌∙◌, subst, ℕ, zero, suc, ◌+◌, ◌≤◌, Bool, true, false, ◌&&◌, [], ◌∷◌, Option, Some, None}
+use Rattle.std.proofs.Common.{◌≡◌, refl, sym, ap, ◌∙◌, subst, ℕ, zero, suc, ◌+◌, ◌≤◌, Bool, true, false, ◌&&◌, List, [], ◌∷◌, ◌++◌, Option, Some, None}
 use Rattle.std.specs.Prelude.{option_map, option_and_then, nat_eq, nat_le}
 use Rattle.std.specs.List.{list_all}
 use Rattle.std.proofs.lemmas.Bool.Decides.{nat_tests}
@@ -12,13 +12,14 @@ use Rattle.ac_terms.specs.Terms.{Pattern, PWild, PVar, PInt, PBool, PStr, PUnit,
 use Rattle.ac_terms.specs.Spelling.{term_count, arm_count}
 use Rattle.ac_terms.specs.Primitives.{primitives}
 use Rattle.ac_terms.specs.Parts.{pattern_types, all_pattern_types}
-use Rattle.ac_terms.specs.Bounds.{is_two, is_four, is_width, fit_patterns, takes}
+use Rattle.ac_terms.specs.Bounds.{is_string, is_two, is_four, is_width, fit_patterns, takes}
 use Rattle.ac_terms.proofs.AllLaws.{all_left, all_right}
+use Rattle.ac_meaning.specs.Writes.{Write, string_of}
 use Rattle.ac_meaning.specs.Worlds.{Exception}
 use Rattle.ac_meaning.specs.Acts.{Act, Is, Goes, Turns, Applies, Raises, Wrong, or_raises, within}
 use Rattle.ac_meaning.specs.Substitution.{Written, Slot, Free, Bound, up, slot_in, slot, from_slot, binders, inst, inst_all, inst_arms}
 use Rattle.ac_meaning.specs.Matching.{fit, fit_all, chosen}
-use Rattle.ac_meaning.proofs.Within.{TypeFits, PatternFits, Strictly, Within, AllWithin, ArmsWithin, ValueWithin, ValuesWithin, WrittenWithin, RaisedWithin, ActWithin}
+use Rattle.ac_meaning.proofs.Within.{TypeFits, PatternFits, Strictly, Within, AllWithin, ArmsWithin, ValueWithin, ValuesWithin, WrittenWithin, RaisedWithin, WritesWithin, ActWithin}
 
 pub strictly : (s : Bool) (P : Type 0) → P → Strictly s P
 strictly true P h = h
@@ -187,10 +188,15 @@ AllGood a = ActWithin (AllWithin false) ValuesWithin a
 pub part_within : {S T A B : Type 0} (f : S → Type 0) (f' : T → Type 0) (g : A → Type 0) (g' : B → Type 0) (wrap : S → T) (done : A → Act T B) (catch : Exception → Act T B) (a : Act S A) → ActWithin f g a → ((s : S) → f s → f' (wrap s)) → ((v : A) → g v → ActWithin f' g' (done v)) → ((x : Exception) → RaisedWithin x → ActWithin f' g' (catch x)) → ActWithin f' g' (within wrap done catch a)
 part_within f f' g g' wrap done catch (Is v) h w k x = k v h
 part_within f f' g g' wrap done catch (Goes s) h w k x = w s h
-part_within f f' g g' wrap done catch (Turns y s) h w k x = w s h
+part_within f f' g g' wrap done catch (Turns y s) h w k x = (w s h.0, h.1)
 part_within f f' g g' wrap done catch (Applies s) h w k x = w s h
 part_within f f' g g' wrap done catch (Raises y) h w k x = x y h
 part_within f f' g g' wrap done catch Wrong h w k x = tt
+
+-- one write more
+pub one_more : (ws : List Write) (w : Write) → WritesWithin ws → is_string (string_of w) ≡ true → WritesWithin (ws ++ w ∷ [])
+one_more [] w h k = (k, tt)
+one_more (x ∷ ws) w h k = (h.0, one_more ws w h.1 k)
 
 -- arms
 arm_within : (p : Pattern) (t : Expr) (v : Value) (o : Option Written) (rest : Option Expr) (x : Exception) → fit p v [] ≡ o → PatternFits p → ValueWithin v → Within true t → Good (or_raises x rest) → Good (or_raises x (or_else (option_map (λ ws. inst 0 ws t) o) rest))

@@ -21,16 +21,16 @@ use Rattle.ac_meaning.specs.References.{own_field, Route, Nowhere, Once, Twice, 
 use Rattle.ac_meaning.specs.Packing.{Packing, Refuses, Packs, packs, packing, Arrival, Unfit, Brings, arrival, brings, marshal_step, unmarshal_step}
 use Rattle.ac_meaning.specs.BareTerms.{BareValue}
 use Rattle.ac_meaning.specs.Reduction.{apply, branch, look, look_all, look_main, step}
-use Rattle.ac_meaning.proofs.Within.{TypeFits, Within, AllWithin, ValueWithin, ValuesWithin, width, RaisedWithin, ActWithin}
+use Rattle.ac_meaning.proofs.Within.{TypeFits, Within, AllWithin, ValueWithin, ValuesWithin, width, RaisedWithin, WritesWithin, ActWithin}
 use Rattle.ac_meaning.proofs.WithinLaws.{Good, loosened, inst_within, chosen_within, part_within}
 use Rattle.ac_meaning.proofs.WithinAnswers.{primitive_answered}
 
--- a state
+-- a state, with what was written
 abbrev pub StateWithin : State Expr Value → Type 0
-StateWithin (At e z) = Within false e
-StateWithin (Over (Returned v z)) = ValueWithin v
-StateWithin (Over (Raised x z)) = RaisedWithin x
-StateWithin (Over (Spent z)) = Unit {0}
+StateWithin (At e z) = Within false e × WritesWithin z.writes
+StateWithin (Over (Returned v z)) = ValueWithin v × WritesWithin z.writes
+StateWithin (Over (Raised x z)) = RaisedWithin x × WritesWithin z.writes
+StateWithin (Over (Spent z)) = WritesWithin z.writes
 StateWithin (Over Stuck) = Unit {0}
 
 -- what comes into a state from outside its term: fields, and what strings bring; and the exceptions for which nothing is packed or brought
@@ -119,7 +119,7 @@ proxy_within : (s : Bool) (v : Value) → ValueWithin v → Good (cond s (Is v) 
 proxy_within true v h = h
 proxy_within false v h = tt
 
-module _ (comes : ComesWithin) (mode : Mode) (z : World) (coherent : IsCoherent z.environment) where
+module _ (comes : ComesWithin) (mode : Mode) (z : World) (coherent : IsCoherent z.environment) (written : WritesWithin z.writes) where
   abbrev E : Environment
   E = z.environment
 
@@ -148,7 +148,7 @@ module _ (comes : ComesWithin) (mode : Mode) (z : World) (coherent : IsCoherent 
 
   brings_within : (T : Typ) (a : Arrival) → ((x : Exception) → a ≡ Unfit x → RaisedWithin x) → ((F : Environment) (v : Mode → Value) (w : BareValue) → a ≡ Brings F v w → ValueWithin (v mode)) → Good (brings mode z T a)
   brings_within T (Unfit x) h k = h x refl
-  brings_within T (Brings F v w) h k = (tt, k F v w refl)
+  brings_within T (Brings F v w) h k = ((tt, k F v w refl), written)
 
   unmarshal_within : (c : Home) (T : Typ) (v : Value) → Good (unmarshal_step mode z c T v)
   unmarshal_within c T (VStr s) = brings_within T (arrival z c T s) (λ x e. comes.unfit z c T s x coherent e) (λ F v w e. comes.brought mode z c T s F v w coherent e)
@@ -221,7 +221,7 @@ module _ (comes : ComesWithin) (mode : Mode) (z : World) (coherent : IsCoherent 
         (λ x y. chosen_within arms (exception_value x) x h.1 y y)
     kept_within (Prim k es) c h =
         part_within (Counted (term_count es)) (Within false) (Wide (term_count es)) ValueWithin (Prim k) (λ vs. answered spelled z (primitive k vs)) Raises (all_next c es) (all_kept_within es c h.1)
-        (λ s p. (tt, p.1)) (λ vs p. primitive_answered k vs z p.1) (λ x y. y)
+        (λ s p. (tt, p.1)) (λ vs p. primitive_answered k vs z written p.1) (λ x y. y)
     kept_within (Marshal T m e) c h =
         one_part (λ x. Marshal T x e) (λ v. part (λ y. Marshal T m y) (λ w. marshal_step z c T v w) (next c e)) (next c m) (kept_within m c h.1) (λ s p. (h.0, p, h.2))
         (λ v p. one_part (λ y. Marshal T m y) (λ w. marshal_step z c T v w) (next c e) (kept_within e c h.2) (λ s r. (h.0, h.1, r)) (λ w r. marshal_within c T v w))
@@ -240,17 +240,17 @@ module _ (comes : ComesWithin) (mode : Mode) (z : World) (coherent : IsCoherent 
         (λ s r. (ap (λ n. suc n) r.0, (h.0, r.1))) (λ vs r. (ap (λ n. suc n) r.0, (p, r.1))) (λ x y. y)) (λ x y. y)
 
   after_within : (N : ℕ) (a : Act Expr Value) → Good a → StateWithin (after N z a)
-  after_within N (Is v) h = h
-  after_within N (Goes e) h = h
+  after_within N (Is v) h = (h, written)
+  after_within N (Goes e) h = (h, written)
   after_within N (Turns y e) h = h
   after_within N (Applies e) h = by (nat_lt z.made N)
     where
       by : (b : Bool) → StateWithin (cond b (At e (counted z)) (Over (Spent z)))
-      by true = h
-      by false = tt
-  after_within N (Raises x) h = h
+      by true = (h, written)
+      by false = written
+  after_within N (Raises x) h = (h, written)
   after_within N Wrong h = tt
 
 -- over coherent definitions each step keeps it
-pub within_kept : ComesWithin → (mode : Mode) (N : ℕ) (e : Expr) (z : World) → IsCoherent z.environment → Within false e → StateWithin (step mode N (At e z))
-within_kept comes mode N e z i h = after_within comes mode z i N (look_main mode z e) (kept_within comes mode z i e Main h)
+pub within_kept : ComesWithin → (mode : Mode) (N : ℕ) (e : Expr) (z : World) → IsCoherent z.environment → StateWithin (At e z) → StateWithin (step mode N (At e z))
+within_kept comes mode N e z i h = after_within comes mode z i h.1 N (look_main mode z e) (kept_within comes mode z i h.1 e Main h.0)

@@ -8,6 +8,11 @@ pub data Write : Type 0 where
   Print : Bytes → Write
   Send : Bytes → Write
 
+-- the string that is written
+abbrev pub string_of : Write → Bytes
+string_of (Print s) = s
+string_of (Send s) = s
+
 -- what a program writes to
 pub data Stream : Type 0 where
   Console : Stream
