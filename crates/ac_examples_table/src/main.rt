@@ -1,0 +1,82 @@
+//! Runs the programs that its input names, and prints what each printed and how it ended.
+//!
+//! A line of input is the name of a file, a space and a budget of applications. Behind the line stands what
+//! the program printed, a `|` at its front and behind each of its line feeds, and then how the program ended,
+//! with the status of `acute`.
+#![tactic(auto)]
+
+ghost use Rattle.std.specs.Prelude.{◌≡◌, []};
+ghost use Rattle.ac_types.specs.ReadTypes.{typ_of};
+ghost use Rattle.ac_terms.specs.Read.{environment_of, expr_of};
+ghost use Rattle.ac_meaning.specs.Laws.{IsTypedProgram};
+
+mod listing;
+
+use ac_load::{Shelf, load};
+use ac_outside::SureWorld;
+use ac_rules::Loaded;
+use ac_run::{RunEnd, Session};
+use ac_types::{Many, Text};
+use listing::Listing;
+use std::alloc::Global;
+use std::{fs, io};
+
+fn no_shelf(alloc: Global) -> Shelf
+    ensures { result.0 ≡ [] }
+{
+    Shelf(Many::new(alloc))
+}
+
+fn write_end(listing: &mut Listing, end: &RunEnd) {
+    match end {
+        RunEnd::Finished => listing.put(b"finished, status 0\n"),
+        RunEnd::Uncaught(exn) => {
+            listing.put(b"uncaught: ");
+            listing.exception(exn);
+            listing.put(b", status 2\n");
+        }
+        RunEnd::Spent { steps } => {
+            listing.put(b"spent ");
+            listing.number(*steps);
+            listing.put(b", status 3\n");
+        }
+        RunEnd::WriteFault => listing.put(b"write fault, status 6\n"),
+        RunEnd::Memory => listing.put(b"out of memory, status 4\n"),
+    }
+}
+
+fn write_run(alloc: Global, listing: &mut Listing, loaded: Loaded, steps: u64)
+    requires { IsTypedProgram (environment_of loaded.env) (expr_of loaded.main) (typ_of loaded.ty) }
+{
+    let mut world = SureWorld::new(alloc, Text::new(alloc));
+    match Session::new(alloc, loaded, steps, false) {
+        Ok(mut session) => {
+            let end = session.run(&mut world);
+            listing.printed(world.console().as_slice());
+            write_end(listing, &end);
+        }
+        Err(_) => listing.put(b"out of memory, status 4\n"),
+    }
+}
+
+fn listing_of(alloc: Global, text: &[u8], steps: u64) -> Listing {
+    let mut listing = Listing::new(alloc);
+    match load(alloc, text, &no_shelf(alloc)) {
+        Ok(loaded) => write_run(alloc, &mut listing, loaded, steps),
+        Err(_) => listing.put(b"refused, status 1\n"),
+    }
+    listing
+}
+
+fn main(rt: HostRuntime) -> io::Result<()> {
+    for line in rt.lines(rt.alloc()) {
+        let line = line?;
+        let (name, steps) = line.as_str().split_once(' ').unwrap_or((line.as_str(), "0"));
+        let steps = u64::from(steps.parse::<u32>().unwrap_or(0));
+        let text = fs::read(&rt, name)?;
+        let listing = listing_of(rt.alloc(), &text, steps);
+        let found = listing.text();
+        println!(rt; "{line}\n{found}")?;
+    }
+    Ok(())
+}

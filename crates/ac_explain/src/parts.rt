@@ -1,0 +1,194 @@
+// The parts of an expression, in the order of evaluation, each with its term and with the types of its variables.
+
+use ac_syntax::{SArm, SExpr, SExprKind};
+use ac_terms::{Arm, Pat, Term};
+use ac_types::{Many, Memory, Ty};
+use std::alloc::Global;
+
+/// An expression, the term that it elaborates to, and the types of the variables in scope, the newest first.
+#[derive(Drop)]
+pub struct Part<'a> {
+    pub tree: &'a SExpr,
+    pub term: &'a Term,
+    pub vars: Many<Ty>,
+}
+
+// Adds a part that sees the same variables.
+fn add<'a>(
+    alloc: Global,
+    parts: &mut Many<Part<'a>>,
+    tree: &'a SExpr,
+    term: &'a Term,
+    vars: &Many<Ty>,
+) -> Result<(), Memory> {
+    let vars = vars.copy(alloc)?;
+    parts.push(Part { tree, term, vars })
+}
+
+// Adds parts that see the same variables.
+fn add_all<'a>(
+    alloc: Global,
+    parts: &mut Many<Part<'a>>,
+    trees: &'a [SExpr],
+    terms: &'a [Term],
+    vars: &Many<Ty>,
+) -> Result<(), Memory> {
+    for i in 0..trees.len().min(terms.len()) {
+        add(alloc, parts, &trees[i], &terms[i], vars)?;
+    }
+    Ok(())
+}
+
+// These types, and behind them the variables' in scope.
+fn under(alloc: Global, newest: Many<Ty>, vars: &Many<Ty>) -> Result<Many<Ty>, Memory> {
+    let mut all = newest;
+    for ty in vars.as_slice() {
+        all.push(ty.copy(alloc)?)?;
+    }
+    Ok(all)
+}
+
+// This type, and behind it the variables' in scope.
+fn under_one(alloc: Global, ty: &Ty, vars: &Many<Ty>) -> Result<Many<Ty>, Memory> {
+    let mut newest = Many::new(alloc);
+    newest.push(ty.copy(alloc)?)?;
+    under(alloc, newest, vars)
+}
+
+// Adds a part that sees one more variable.
+fn add_under<'a>(
+    alloc: Global,
+    parts: &mut Many<Part<'a>>,
+    tree: &'a SExpr,
+    term: &'a Term,
+    ty: &Ty,
+    vars: &Many<Ty>,
+) -> Result<(), Memory> {
+    let vars = under_one(alloc, ty, vars)?;
+    parts.push(Part { tree, term, vars })
+}
+
+// Adds the body of a recursive function, which sees the function and its argument.
+fn add_recursive<'a>(
+    alloc: Global,
+    parts: &mut Many<Part<'a>>,
+    tree: &'a SExpr,
+    term: &'a Term,
+    vars: &Many<Ty>,
+) -> Result<(), Memory> {
+    let Term::Rec(from, to, body) = term else {
+        return Ok(());
+    };
+    let from_box = ac_types::Box::new(alloc, from.copy(alloc)?)?;
+    let own = Ty::Fun(from_box, ac_types::Box::new(alloc, to.copy(alloc)?)?);
+    let outer = under_one(alloc, &own, vars)?;
+    add_under(alloc, parts, tree, body, from, &outer)
+}
+
+// Puts the types of a pattern's variables in front of these, the last variable first.
+#[cycle(bound)]
+fn bound(alloc: Global, pat: &Pat, vars: Many<Ty>) -> Result<Many<Ty>, Memory> {
+    match pat {
+        Pat::Var(ty) => under_one(alloc, ty, &vars),
+        Pat::Tuple(pats) => bound_by_all(alloc, pats.as_slice(), vars),
+        Pat::Cons(head, tail) => {
+            let vars = bound(alloc, head, vars)?;
+            bound(alloc, tail, vars)
+        }
+        Pat::Present(inner) | Pat::Exn(_, Some(inner)) => bound(alloc, inner, vars),
+        _ => Ok(vars),
+    }
+}
+
+#[cycle(bound)]
+fn bound_by_all(alloc: Global, pats: &[Pat], vars: Many<Ty>) -> Result<Many<Ty>, Memory> {
+    let mut all = vars;
+    for pat in pats {
+        let more = bound(alloc, pat, all)?;
+        all = more;
+    }
+    Ok(all)
+}
+
+// Adds the bodies of arms, which see their patterns' variables.
+fn add_arms<'a>(
+    alloc: Global,
+    parts: &mut Many<Part<'a>>,
+    cases: &'a [SArm],
+    arms: &'a [Arm],
+    vars: &Many<Ty>,
+) -> Result<(), Memory> {
+    for i in 0..cases.len().min(arms.len()) {
+        let vars = bound(alloc, &arms[i].pat, vars.copy(alloc)?)?;
+        parts.push(Part {
+            tree: &cases[i].body,
+            term: &arms[i].body,
+            vars,
+        })?;
+    }
+    Ok(())
+}
+
+// Adds the parts of a form that binds no variable.
+fn add_plain<'a>(
+    alloc: Global,
+    parts: &mut Many<Part<'a>>,
+    kind: &'a SExprKind,
+    term: &'a Term,
+    vars: &Many<Ty>,
+) -> Result<(), Memory> {
+    match (kind, term) {
+        (SExprKind::Exn(_, Some(a)), Term::ExnVal(_, Some(x)))
+        | (SExprKind::Present(a), Term::Present(x))
+        | (SExprKind::Raise(a, _), Term::Raise(_, x)) => add(alloc, parts, a, x, vars),
+        (SExprKind::Tuple(trees), Term::Tuple(terms))
+        | (SExprKind::Seq(trees), Term::Seq(terms))
+        | (SExprKind::Op(_, trees), Term::Prim(_, terms)) => {
+            add_all(alloc, parts, trees.as_slice(), terms.as_slice(), vars)
+        }
+        (SExprKind::App(_, a), Term::Prim(_, terms)) => match terms.get(0) {
+            Some(x) => add(alloc, parts, a, x, vars),
+            None => Ok(()),
+        },
+        (SExprKind::Cons(a, b), Term::Cons(x, y))
+        | (SExprKind::App(a, b), Term::App(x, y))
+        | (SExprKind::And(a, b), Term::If(x, y, _))
+        | (SExprKind::Or(a, b), Term::If(x, _, y)) => {
+            add(alloc, parts, a, x, vars)?;
+            add(alloc, parts, b, y, vars)
+        }
+        (SExprKind::If(a, b, c), Term::If(x, y, z)) => {
+            add(alloc, parts, a, x, vars)?;
+            add(alloc, parts, b, y, vars)?;
+            add(alloc, parts, c, z, vars)
+        }
+        _ => Ok(()),
+    }
+}
+
+/// The parts of an expression. Those of a `let` see the type that it writes.
+pub fn parts_of<'a>(alloc: Global, whole: &Part<'a>) -> Result<Many<Part<'a>>, Memory> {
+    let mut parts = Many::new(alloc);
+    let vars = &whole.vars;
+    match (&whole.tree.kind, whole.term) {
+        (SExprKind::Fun(_, _, a), Term::Lam(ty, x)) => {
+            add_under(alloc, &mut parts, a, x, ty, vars)?;
+        }
+        (SExprKind::Rec(fun), rec) => add_recursive(alloc, &mut parts, &fun.body, rec, vars)?,
+        (SExprKind::Let(_, _, a, b), Term::Let(ty, x, y)) => {
+            add(alloc, &mut parts, a, x, vars)?;
+            add_under(alloc, &mut parts, b, y, ty, vars)?;
+        }
+        (SExprKind::LetRec(fun, b), Term::Let(ty, rec, y)) => {
+            add_recursive(alloc, &mut parts, &fun.body, rec, vars)?;
+            add_under(alloc, &mut parts, b, y, ty, vars)?;
+        }
+        (SExprKind::Match(a, cases), Term::Match(x, arms))
+        | (SExprKind::Try(a, cases), Term::Try(x, arms)) => {
+            add(alloc, &mut parts, a, x, vars)?;
+            add_arms(alloc, &mut parts, cases.as_slice(), arms.as_slice(), vars)?;
+        }
+        (kind, term) => add_plain(alloc, &mut parts, kind, term, vars)?,
+    }
+    Ok(parts)
+}

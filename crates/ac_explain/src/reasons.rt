@@ -1,0 +1,188 @@
+// Why a program is refused.
+
+use crate::page::Page;
+use crate::place::{name_at, place_behind, write_line};
+use crate::types::write_type;
+use crate::untyped::{Untyped, untyped};
+use crate::wants::wants;
+use ac_load::Kind;
+use ac_parser::parse_program;
+use ac_resolve::{elaborate, named};
+use ac_syntax::{SExpr, SExprKind, Surface};
+use ac_terms::{Env, Term};
+use ac_types::{Many, Memory, Ty};
+use std::alloc::Global;
+
+// The word of a refusal and its number, as `acute` tells them.
+fn told(kind: Kind) -> (&'static [u8], u64) {
+    match kind {
+        Kind::TooLong { len } => (b"too_long", len),
+        Kind::Lexical { at } => (b"lexical", u64::from(at)),
+        Kind::TooDeep { at } => (b"too_deep", u64::from(at)),
+        Kind::Syntax { at } => (b"syntax", u64::from(at)),
+        Kind::Unbuilt { at } => (b"unbuilt", u64::from(at)),
+        Kind::Unbound { at } => (b"unbound", u64::from(at)),
+        Kind::Repeated { at } => (b"repeated", u64::from(at)),
+        Kind::TooMany { count } => (b"too_many", u64::from(count)),
+        Kind::IllTyped { def } => (b"type", u64::from(def)),
+        Kind::Memory => (b"memory", 0),
+    }
+}
+
+// The place of a refusal, where it has one.
+fn place_of(kind: Kind) -> Option<u32> {
+    match kind {
+        Kind::Lexical { at }
+        | Kind::TooDeep { at }
+        | Kind::Syntax { at }
+        | Kind::Unbuilt { at }
+        | Kind::Unbound { at }
+        | Kind::Repeated { at } => Some(at),
+        Kind::TooLong { .. } | Kind::TooMany { .. } | Kind::IllTyped { .. } | Kind::Memory => None,
+    }
+}
+
+// Adds the line and the column of a byte.
+fn write_numbers(page: &mut Page, text: &[u8], at: u32) {
+    let place = place_behind(&text[..(at as usize).min(text.len())]);
+    page.number(place.line as u64);
+    page.put(b":");
+    page.number(place.column as u64);
+}
+
+// Adds a place, its line of the text, and a caret below it.
+fn write_place(page: &mut Page, file: &str, text: &[u8], at: u32) {
+    page.put(file.as_bytes());
+    page.put(b":");
+    write_numbers(page, text, at);
+    page.put(b"\n");
+    write_line(page, text, at as usize);
+}
+
+// Adds a name that is meant.
+fn write_name(page: &mut Page, text: &[u8], at: u32, said: &[u8]) {
+    page.put(name_at(text, at as usize));
+    page.put(said);
+}
+
+// Adds why a text is refused, in a sentence.
+fn write_reason(page: &mut Page, text: &[u8], kind: Kind) {
+    match kind {
+        Kind::TooLong { .. } => page.put(b"a text has at most 1,048,576 bytes\n"),
+        Kind::Lexical { .. } => page.put(
+            b"here begins no token, no separator and no whole comment\n",
+        ),
+        Kind::TooDeep { .. } => page.put(b"here more than 200 are open\n"),
+        Kind::Syntax { at } if at as usize >= text.len() => {
+            page.put(b"here the text ends, and the program doesn't\n");
+        }
+        Kind::Syntax { .. } => page.put(b"here no program goes on\n"),
+        Kind::Unbuilt { .. } => page.put(b"this form doesn't run yet\n"),
+        Kind::Unbound { at } => write_name(page, text, at, b" isn't in scope\n"),
+        Kind::Repeated { at } => write_name(page, text, at, b" is bound twice in one pattern\n"),
+        Kind::TooMany { .. } => page.put(
+            b"a count passes its limit, which is one less than this number\n",
+        ),
+        Kind::IllTyped { .. } | Kind::Memory => {}
+    }
+}
+
+// The type that is written in an expression, where it decides whether that has one.
+fn written(term: &Term) -> Option<&Ty> {
+    match term {
+        Term::Nil(ty) | Term::Empty(ty) => Some(ty),
+        Term::Rec(_, to, _) => Some(to),
+        Term::Let(ty, _, _) => Some(ty),
+        _ => None,
+    }
+}
+
+// The type of the argument of a primitive that is applied.
+fn wanted(alloc: Global, tree: &SExpr) -> Result<Option<Ty>, Memory> {
+    let SExprKind::App(function, _) = &tree.kind else {
+        return Ok(None);
+    };
+    let SExprKind::Of(owner, name) = &function.kind else {
+        return Ok(None);
+    };
+    match named(&owner.word, &name.word) {
+        Some(primitive) => primitive.argument(alloc).map(Some),
+        None => Ok(None),
+    }
+}
+
+// Adds a type behind what it is.
+fn write_fact(page: &mut Page, what: &[u8], ty: &Ty) {
+    page.put(b"  ");
+    page.put(what);
+    page.put(b": ");
+    write_type(page, ty);
+    page.put(b"\n");
+}
+
+// Adds the part that has no type, what is asked of it, and the types of its parts.
+fn write_untyped(alloc: Global, page: &mut Page, file: &str, text: &[u8], found: &Untyped) {
+    write_place(page, file, text, found.tree.at);
+    page.put(b"this has no type: ");
+    page.put(wants(&found.tree.kind));
+    page.put(b"\n");
+    if let Some(ty) = written(found.term) {
+        write_fact(page, b"written", ty);
+    }
+    match wanted(alloc, found.tree) {
+        Ok(Some(ty)) => write_fact(page, b"wanted", &ty),
+        Ok(None) => {}
+        Err(_) => page.lose(),
+    }
+    for part in found.parts.as_slice() {
+        page.put(b"  ");
+        write_numbers(page, text, part.at);
+        page.put(b": ");
+        write_type(page, &part.ty);
+        page.put(b"\n");
+    }
+}
+
+// Looks for the part of a program that has no type.
+fn explain_type(alloc: Global, page: &mut Page, file: &str, text: &[u8], surface: &Surface) {
+    if !surface.defs.as_slice().is_empty() {
+        return;
+    }
+    let Some(tree) = &surface.expr else {
+        return;
+    };
+    let env = Env {
+        entries: Many::new(alloc),
+    };
+    let Ok(program) = elaborate(alloc, surface, &env) else {
+        return;
+    };
+    match untyped(alloc, tree, &program.main) {
+        Ok(Some(found)) => write_untyped(alloc, page, file, text, &found),
+        Ok(None) => {}
+        Err(_) => page.lose(),
+    }
+}
+
+/// Adds the line of a refusal as `acute` writes it, its place in the text, and the reason.
+pub fn write_refusal(alloc: Global, page: &mut Page, file: &str, text: &[u8], kind: Kind) {
+    if let Kind::Memory = kind {
+        page.lose();
+        return;
+    }
+    let (word, number) = told(kind);
+    page.put(b"acute: refused: ");
+    page.put(word);
+    page.put(b" at ");
+    page.number(number);
+    page.put(b"\n");
+    if let Some(at) = place_of(kind) {
+        write_place(page, file, text, at);
+    }
+    write_reason(page, text, kind);
+    if let Kind::IllTyped { .. } = kind
+        && let Ok(surface) = parse_program(alloc, text)
+    {
+        explain_type(alloc, page, file, text, &surface);
+    }
+}

@@ -1,0 +1,42 @@
+// What is asked of each form, so that it has a type.
+
+use ac_syntax::SExprKind;
+
+const TOO_LARGE: &[u8] = b"a type has at most 4,096 parts and a height of at most 100";
+
+/// What the form is, and what is asked of its parts.
+pub fn wants(kind: &SExprKind) -> &'static [u8] {
+    match kind {
+        SExprKind::Exn(_, _) => b"the string of an exception is a string",
+        SExprKind::Nil(_) => b"the type of `[]` is a list",
+        SExprKind::Absent(_) => b"the type of `None` is an option",
+        SExprKind::Cons(_, _) => b"`::` joins an element and a list of such elements",
+        SExprKind::App(_, _) => b"a function is applied to an argument of its own type",
+        SExprKind::Rec(_) => b"the body of a function has the type that is written as its result",
+        SExprKind::Let(_, _, _, _) => b"what a `let` binds has the type that it writes",
+        SExprKind::LetRec(_, _) => {
+            b"the body of a function has the type that is written as its result"
+        }
+        SExprKind::If(_, _, _) => b"an `if` has a bool, and two parts of one type",
+        SExprKind::Seq(_) => b"all parts of a sequence but the last are unit",
+        SExprKind::Match(_, _) => {
+            b"the patterns of a `match` fit what is matched, and its arms have one type"
+        }
+        SExprKind::Try(_, _) => {
+            b"the patterns of a `try` fit an exn, and its arms have the type of its body"
+        }
+        SExprKind::Raise(_, _) => b"what is raised is an exn",
+        SExprKind::And(_, _) | SExprKind::Or(_, _) => b"both sides of `&&` and `||` are bools",
+        SExprKind::Op(number, _) => operator(*number),
+        _ => TOO_LARGE,
+    }
+}
+
+fn operator(number: u8) -> &'static [u8] {
+    match number {
+        6 | 7 => b"both sides of `=` and `<` have one type, which is int, bool or string",
+        8 => b"both sides of `^` are strings",
+        9 => b"`not` stands in front of a bool",
+        _ => b"arithmetic is done on ints",
+    }
+}
