@@ -1,6 +1,7 @@
 // A text that grows.
 
-ghost use Rattle.std.specs.Prelude.{◌≡◌, ◌++◌, ◌⊎◌, ℕ, List, [], Some, None, option_map};
+ghost use Rattle.std.specs.Prelude.{◌≡◌, ◌++◌, ◌⊎◌, [], Some, None, option_map};
+ghost use Rattle.std.specs.Option.{option_copied};
 ghost use Rattle.std.specs.Fmt.{decimal, signed_decimal};
 
 use ac_types::Text;
@@ -65,14 +66,21 @@ impl Page {
         }
     }
 
-    /// The bytes, or those of `out of memory` and a line feed where the page isn't whole.
-    pub fn bytes(&self) -> &[u8]
-        ensures { (bytes : List ℕ) → self.now ≡ Some bytes → result.now ≡ bytes }
+    /// From now on the page isn't whole.
+    pub fn lose(&mut self)
+        ensures { self.new ≡ None }
+    {
+        self.whole = false;
+    }
+
+    /// The bytes, `None` exactly where the page isn't whole.
+    pub fn bytes(&self) -> Option<&[u8]>
+        ensures { option_copied result ≡ self.now }
     {
         if self.whole {
-            self.text.as_slice()
+            Some(self.text.as_slice())
         } else {
-            b"out of memory\n"
+            None
         }
     }
 }
