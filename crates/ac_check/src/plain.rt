@@ -9,6 +9,7 @@ ghost use Rattle.ac_check.specs.Checking.{arm_of};
 use ac_terms::{Arm, Term};
 
 /// Whether a term has no own field, no reference, no marshal, no unmarshal and no captured value.
+// Each part is looked at (`&`): an `&&` would be one more branch of the proof.
 #[cycle(plain)]
 #[tactic(auto, using(crate::proofs::TermLaws::typing_laws))]
 pub fn is_plain(t: &Term) -> bool
