@@ -9,6 +9,7 @@ ghost use Rattle.ac_check.specs.Checking.{arm_of};
 use ac_terms::{Arm, Term};
 
 /// Whether a term has no own field, no reference, no marshal, no unmarshal and no captured value.
+// Each part is looked at (`&`): an `&&` would be one more branch of the proof.
 #[cycle(plain)]
 #[tactic(auto, using(crate::proofs::TermLaws::typing_laws))]
 pub fn is_plain(t: &Term) -> bool
@@ -18,15 +19,15 @@ pub fn is_plain(t: &Term) -> bool
         Term::ExnVal(_, Some(text)) => is_plain(text),
         Term::Tuple(parts) => are_plain(parts.as_slice()),
         Term::Present(inner) => is_plain(inner),
-        Term::Cons(head, tail) => is_plain(head) && is_plain(tail),
+        Term::Cons(head, tail) => is_plain(head) & is_plain(tail),
         Term::Lam(_, body) => is_plain(body),
         Term::Rec(_, _, body) => is_plain(body),
-        Term::App(f, a) => is_plain(f) && is_plain(a),
-        Term::Let(_, bound, body) => is_plain(bound) && is_plain(body),
-        Term::If(test, so, otherwise) => is_plain(test) && is_plain(so) && is_plain(otherwise),
+        Term::App(f, a) => is_plain(f) & is_plain(a),
+        Term::Let(_, bound, body) => is_plain(bound) & is_plain(body),
+        Term::If(test, so, otherwise) => is_plain(test) & (is_plain(so) & is_plain(otherwise)),
         Term::Seq(parts) => are_plain(parts.as_slice()),
-        Term::Match(of, cases) => is_plain(of) && arms_plain(cases.as_slice()),
-        Term::Try(of, cases) => is_plain(of) && arms_plain(cases.as_slice()),
+        Term::Match(of, cases) => is_plain(of) & arms_plain(cases.as_slice()),
+        Term::Try(of, cases) => is_plain(of) & arms_plain(cases.as_slice()),
         Term::Raise(_, inner) => is_plain(inner),
         Term::Prim(_, args) => are_plain(args.as_slice()),
         Term::Own(_) => false,
