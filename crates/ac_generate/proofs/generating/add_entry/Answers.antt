@@ -6,7 +6,7 @@ use Rattle.ac_code.specs.ReadCode.{code_of}
 use Rattle.ac_generate.specs.Programs.{fields_generated, field_numbers}
 use Rattle.ac_generate.proofs.Written.{on_ok}
 use Rattle.ac_generate.proofs.TableLaws.{entry_module, module_generated, nothing_generated, fields_kept}
-use Rattle.ac_generate.proofs.generating.generate_entry.Goals as goal
+use Rattle.ac_generate.proofs.generating.add_entry.Goals as goal
 
 pub returns-in_ok-numbers-in-Module-clause-ok : goal.returns-in_ok-numbers-in-Module-clause-ok
 returns-in_ok-numbers-in-Module-clause-ok c =
