@@ -20,12 +20,34 @@ abbrev pub is_function_value : Value → Bool
 is_function_value (VLam T e) = true
 is_function_value (VRec T U e) = true
 is_function_value (VProxy b T U f) = true
-is_function_value v = false
+is_function_value (VInt n) = false
+is_function_value (VBool b) = false
+is_function_value (VStr s) = false
+is_function_value VUnit = false
+is_function_value (VExn k s) = false
+is_function_value (VTuple vs) = false
+is_function_value (VNil T) = false
+is_function_value (VCons v w) = false
+is_function_value (VAbsent T) = false
+is_function_value (VPresent v) = false
+is_function_value (VSeal b n t v) = false
 
 -- what is inside a seal at n.t, with its home
 abbrev pub inside : Bytes → Bytes → Value → Option (Home × Value)
 inside n t (VSeal d m u w) = cond (same_bytes m n && same_bytes u t) (Some (d, w)) None
-inside n t v = None
+inside n t (VInt k) = None
+inside n t (VBool b) = None
+inside n t (VStr s) = None
+inside n t VUnit = None
+inside n t (VExn k s) = None
+inside n t (VTuple vs) = None
+inside n t (VNil T) = None
+inside n t (VCons v w) = None
+inside n t (VAbsent T) = None
+inside n t (VPresent v) = None
+inside n t (VLam T e) = None
+inside n t (VRec T U e) = None
+inside n t (VProxy b T U f) = None
 
 -- a bracket of the seal's home
 abbrev pub unsealed : Option (Home × Value) → Option Typ → Option Expr

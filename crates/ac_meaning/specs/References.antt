@@ -27,7 +27,8 @@ target E j x =
 
 abbrev pub is_by_version : Def → Bool
 is_by_version (AnImport i) = not (is_exact i.constraint)
-is_by_version d = false
+is_by_version (AModule m) = false
+is_by_version (AMark k) = false
 
 -- the way of a value to the field of a module, by their numbers. T is the value's type in its own entry, and S its type in the module, as the module itself sees it
 pub data Route : Type 0 where

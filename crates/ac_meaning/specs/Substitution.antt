@@ -1,7 +1,7 @@
 -- Values written for the variables of a term.
 use Rattle.std.specs.Prelude.{ℕ, zero, suc, ◌+◌, List, [], ◌∷◌}
 use Rattle.ac_types.specs.Types.{Typ}
-use Rattle.ac_terms.specs.Terms.{Pattern, PVar, PTuple, PCons, PPresent, PExnOf, Patterns, no_patterns, pattern', Expr, Int, Boolean, Str, Unit', Exn, ExnOf, Tuple, Nil, Empty, Present, Cons, Var, Own, Ref, Lam, Rec, App, Let, If, Seq, Match, Try, Raise, Prim, Marshal, Unmarshal, Packed, Val, Bracket, Exprs, no_exprs, expr, Arms, no_arms, arm, Value}
+use Rattle.ac_terms.specs.Terms.{Pattern, PWild, PVar, PInt, PBool, PStr, PUnit, PTuple, PNil, PCons, PAbsent, PPresent, PExn, PExnOf, Patterns, no_patterns, pattern', Expr, Int, Boolean, Str, Unit', Exn, ExnOf, Tuple, Nil, Empty, Present, Cons, Var, Own, Ref, Lam, Rec, App, Let, If, Seq, Match, Try, Raise, Prim, Marshal, Unmarshal, Packed, Val, Bracket, Exprs, no_exprs, expr, Arms, no_arms, arm, Value}
 
 -- what comes in the place of a variable: another variable, or a value with the variable's type
 pub data Slot (V : Type 0) : Type 0 where
@@ -40,7 +40,14 @@ abbrev mutual
   binders (PCons p q) = binders p + binders q
   binders (PPresent p) = binders p
   binders (PExnOf k p) = binders p
-  binders p = 0
+  binders PWild = 0
+  binders (PInt n) = 0
+  binders (PBool b) = 0
+  binders (PStr s) = 0
+  binders PUnit = 0
+  binders PNil = 0
+  binders PAbsent = 0
+  binders (PExn k) = 0
 
   pub all_binders : Patterns → ℕ
   all_binders no_patterns = 0
