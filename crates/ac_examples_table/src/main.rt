@@ -13,11 +13,11 @@ ghost use Rattle.ac_meaning.specs.Laws.{IsTypedProgram};
 mod listing;
 
 use ac_load::{Shelf, load};
-use ac_outside::SureWorld;
+use ac_outside::{SureWorld, World};
 use ac_page::Page;
 use ac_rules::Loaded;
 use ac_run::{RunEnd, Session};
-use ac_types::{Many, Text};
+use ac_types::{Many, Memory, Text};
 use listing::{write_exception, write_printed};
 use std::alloc::Global;
 use std::fs;
@@ -47,13 +47,24 @@ fn write_end(listing: &mut Page, end: &RunEnd) {
     }
 }
 
+fn run_in<W: World>(
+    alloc: Global,
+    loaded: Loaded,
+    steps: u64,
+    world: &mut W,
+) -> Result<RunEnd, Memory>
+    requires { IsTypedProgram (environment_of loaded.env) (expr_of loaded.main) (typ_of loaded.ty) }
+{
+    let mut session = Session::new(alloc, loaded, steps, false)?;
+    Ok(session.run(world))
+}
+
 fn write_run(alloc: Global, listing: &mut Page, loaded: Loaded, steps: u64)
     requires { IsTypedProgram (environment_of loaded.env) (expr_of loaded.main) (typ_of loaded.ty) }
 {
     let mut world = SureWorld::new(alloc, Text::new(alloc));
-    match Session::new(alloc, loaded, steps, false) {
-        Ok(mut session) => {
-            let end = session.run(&mut world);
+    match run_in(alloc, loaded, steps, &mut world) {
+        Ok(end) => {
             write_printed(listing, world.console().as_slice());
             write_end(listing, &end);
         }
