@@ -1,4 +1,7 @@
 pub mod LoadLaws
 pub mod NoDefinitions
 pub mod PlainTerms
+pub mod SignBounds
+pub mod TermBounds
 pub mod TextLaws
+pub mod TreeBounds
