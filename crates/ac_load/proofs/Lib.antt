@@ -1,4 +1,5 @@
 pub mod LoadLaws
+pub mod Mentions
 pub mod NoDefinitions
 pub mod PlainTerms
 pub mod SignBounds
