@@ -1,4 +1,8 @@
 pub mod LoadLaws
+pub mod Mentions
 pub mod NoDefinitions
 pub mod PlainTerms
+pub mod SignBounds
+pub mod TermBounds
 pub mod TextLaws
+pub mod TreeBounds

@@ -4,6 +4,7 @@ ghost use Rattle.std.specs.Prelude.{◌≡◌, ◌≤◌, [], length, IfOk, IfEr
 ghost use Rattle.std.specs.Result.{result_err};
 ghost use Rattle.ac_types.specs.ReadTypes.{typ_of};
 ghost use Rattle.ac_terms.specs.Read.{environment_of, expr_of};
+ghost use Rattle.ac_meaning.specs.Loads.{IsLoaded};
 ghost use Rattle.ac_syntax.specs.ReadTrees.{surface_of};
 ghost use Rattle.ac_load.specs.Built.{first_unbuilt};
 ghost use Rattle.ac_load.specs.declared.kind.Kind.TheVariants.{Unbuilt};
@@ -25,6 +26,7 @@ use std::alloc::Global;
 pub fn load(alloc: Global, program: &[u8], shelf: &Shelf) -> Result<Loaded, Refusal>
     requires few { length shelf.now.0 ≤ 256 }
     ensures accepted { IfOk result (λ l. Accepted program.now (texts shelf.now) (expr_of l.main) (typ_of l.ty)) }
+    ensures loaded { IfOk result (λ l. IsLoaded (environment_of l.env) (expr_of l.main) (typ_of l.ty)) }
     ensures alone { IfOk result (λ l. environment_of l.env ≡ []) }
     ensures refused { IfErr result (λ r. Says r.kind (IsRefused program.now (texts shelf.now) r.part r.kind)) }
 {
@@ -65,6 +67,7 @@ fn check_built(surface: &Surface) -> Result<(), Kind>
 // The program of a text, or the first cause why it is refused.
 fn program_of(alloc: Global, text: &[u8]) -> Result<Loaded, Kind>
     ensures has_term { IfOk result (λ l. HasTerm text.now (expr_of l.main) (typ_of l.ty)) }
+    ensures loaded { IfOk result (λ l. IsLoaded (environment_of l.env) (expr_of l.main) (typ_of l.ty)) }
     ensures alone { IfOk result (λ l. environment_of l.env ≡ []) }
     ensures refused { IfErr result (λ kind. Says kind (IsProgramRefused text.now kind)) }
 {

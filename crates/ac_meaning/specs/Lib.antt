@@ -15,6 +15,7 @@ pub mod BarePacking
 pub mod BareReduction
 pub mod Typed
 pub mod Laws
+pub mod Loads
 pub mod States
 pub mod Redexes
 pub mod ReadBack

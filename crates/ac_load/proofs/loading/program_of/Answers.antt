@@ -4,7 +4,7 @@ use Rattle.ac_types.specs.ReadTypes.{typ_of}
 use Rattle.ac_terms.specs.Read.{environment_of, entry_of, expr_of}
 use Rattle.ac_load.specs.Loading.{not_built}
 use Rattle.ac_load.proofs.LoadLaws.{source, parse_fault, scope_fault, at_main, has_term, untyped}
-use Rattle.ac_load.proofs.TextLaws.{plain_term}
+use Rattle.ac_load.proofs.TextLaws.{plain_term, loads_alone}
 use Rattle.ac_load.proofs.loading.program_of.Goals as goal
 
 pub returns-in_err-surface-clause-refused : goal.returns-in_err-surface-clause-refused
@@ -27,6 +27,12 @@ pub returns-in-Ok-clause-has_term : goal.returns-in-Ok-clause-has_term
 returns-in-Ok-clause-has_term c =
     has_term (source c.in_ok-surface.ensures.tree (sym c.in_default.ensures)) c.in_ok-raw.ensures.main
     (at_main (expr_of c.in_ok-raw.raw.main) (ap environment_of c.in_ok-raw.ensures.environment ∙ ap (map entry_of) c.new.ensures) (ap (map typ_of) c.new-2.ensures) c.in-Ok.ensures)
+
+pub returns-in-Ok-clause-loaded : goal.returns-in-Ok-clause-loaded
+returns-in-Ok-clause-loaded c =
+    loads_alone (ap environment_of c.in_ok-raw.ensures.environment ∙ ap (map entry_of) c.new.ensures)
+    (has_term (source c.in_ok-surface.ensures.tree (sym c.in_default.ensures)) c.in_ok-raw.ensures.main
+    (at_main (expr_of c.in_ok-raw.raw.main) (ap environment_of c.in_ok-raw.ensures.environment ∙ ap (map entry_of) c.new.ensures) (ap (map typ_of) c.new-2.ensures) c.in-Ok.ensures))
 
 pub returns-in-Err-IllTyped-clause-refused : goal.returns-in-Err-IllTyped-clause-refused
 returns-in-Err-IllTyped-clause-refused c =
