@@ -37,6 +37,11 @@ main s = expr_of s.program.main
 abbrev pub ProgramEnds : Mode → Session → Bytes → Outcome Value → Type 0
 ProgramEnds mode s input o = Ends mode (environment s) (main s) input s.sends s.steps o
 
+-- a program gets this input: what its world has left to read, where that is told. Until sessions read, none has one
+pub record HasInput (told : Bool) (left input : Bytes) : Type 0 where
+  pub there : IsTrue told → left ≡ input
+  pub none : input ≡ []
+
 -- a session's machine has stopped for this reason, and definitions and applications are those of this world
 pub record HasStopped (s : Session) (why : Ask) (z : World) : Type 0 where
   pub able : s.machine.lost ≡ false

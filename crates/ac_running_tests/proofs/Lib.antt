@@ -1,1 +1,2 @@
 pub mod SmallPrograms
+pub mod SmallFrames

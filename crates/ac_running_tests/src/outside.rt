@@ -68,6 +68,11 @@ fn a_missing_file_of_the_system_is_a_failed_read(rt: HostRuntime) -> Result<(), 
     Ok(())
 }
 
+/// Sends a string of one byte as a whole frame.
+fn send_one<W: World>(world: &mut W, byte: u8) -> Put {
+    world.send(&[0, 0, 0, 1, byte])
+}
+
 #[test]
 fn a_world_keeps_input_console_and_channel_apart(rt: HostRuntime) -> Result<(), Fail> {
     let alloc = rt.alloc();
@@ -76,10 +81,10 @@ fn a_world_keeps_input_console_and_channel_apart(rt: HostRuntime) -> Result<(), 
     assert_eq!(rt; world.read(&mut buf), Got::Bytes(2));
     assert_eq!(rt; world.print(b"p"), Put::Done);
     assert_eq!(rt; world.read(&mut buf), Got::Bytes(1));
-    assert_eq!(rt; world.send(b"s"), Put::Done);
+    assert_eq!(rt; send_one(&mut world, b's'), Put::Done);
     assert_eq!(rt; world.read(&mut buf), Got::End);
     assert_eq!(rt; world.console().as_slice(), b"p".as_slice());
-    assert_eq!(rt; world.channel().as_slice(), b"s".as_slice());
+    assert_eq!(rt; world.channel().as_slice(), b"\x00\x00\x00\x01s".as_slice());
     Ok(())
 }
 
@@ -98,9 +103,9 @@ fn a_world_fails_where_it_is_to(rt: HostRuntime) -> Result<(), Fail> {
     assert_eq!(rt; world.read(&mut buf), Got::Bytes(1));
     assert_eq!(rt; world.print(b"1"), Put::Failed);
     assert_eq!(rt; world.print(b"2"), Put::Done);
-    assert_eq!(rt; world.send(b"3"), Put::Failed);
-    assert_eq!(rt; world.send(b"4"), Put::Done);
+    assert_eq!(rt; send_one(&mut world, b'3'), Put::Failed);
+    assert_eq!(rt; send_one(&mut world, b'4'), Put::Done);
     assert_eq!(rt; world.console().as_slice(), b"2".as_slice());
-    assert_eq!(rt; world.channel().as_slice(), b"4".as_slice());
+    assert_eq!(rt; world.channel().as_slice(), b"\x00\x00\x00\x014".as_slice());
     Ok(())
 }
