@@ -1,37 +1,38 @@
 // Blocks and their instructions.
 
-use crate::listing::Listing;
+use crate::listing::{write_literal, write_truth};
 use crate::patterns::write_pattern;
-use crate::primitives::primitive;
 use crate::types::write_type;
 use ac_code::{Block, CodeId, CodeTable, Instr};
+use ac_page::Page;
 use ac_terms::Home;
+use ac_types::primitives::primitive_name;
 use ac_types::{Text, Ty};
 
 // A name and a number behind it.
-fn write_numbered(listing: &mut Listing, name: &[u8], number: usize) {
+fn write_numbered(listing: &mut Page, name: &[u8], number: usize) {
     listing.put(name);
-    listing.number(number);
+    listing.number(number as u64);
 }
 
-fn write_typed(listing: &mut Listing, name: &[u8], ty: &Ty) {
+fn write_typed(listing: &mut Page, name: &[u8], ty: &Ty) {
     listing.put(name);
     write_type(listing, ty);
 }
 
-fn write_string(listing: &mut Listing, text: &Text) {
+fn write_string(listing: &mut Page, text: &Text) {
     listing.put(b"PushStr ");
-    listing.literal(text);
+    write_literal(listing, text);
 }
 
-fn write_reference(listing: &mut Listing, entry: u32, field: &[u8]) {
+fn write_reference(listing: &mut Page, entry: u32, field: &[u8]) {
     write_numbered(listing, b"Ref ", usize::try_from(entry).unwrap_or(0));
     listing.put(b" ");
     listing.put(field);
 }
 
 // An instruction that makes or pushes a value.
-fn write_pushing(listing: &mut Listing, instr: &Instr) {
+fn write_pushing(listing: &mut Page, instr: &Instr) {
     match instr {
         Instr::PushInt(n) => {
             listing.put(b"PushInt ");
@@ -39,7 +40,7 @@ fn write_pushing(listing: &mut Listing, instr: &Instr) {
         }
         Instr::PushBool(truth) => {
             listing.put(b"PushBool ");
-            listing.truth(*truth);
+            write_truth(listing, *truth);
         }
         Instr::PushStr(text) => write_string(listing, text),
         Instr::PushUnit => listing.put(b"PushUnit"),
@@ -56,7 +57,7 @@ fn write_pushing(listing: &mut Listing, instr: &Instr) {
     }
 }
 
-fn write_test(listing: &mut Listing, instr: &Instr) {
+fn write_test(listing: &mut Page, instr: &Instr) {
     match instr {
         Instr::Test(pattern, to) => {
             listing.put(b"Test ");
@@ -65,7 +66,7 @@ fn write_test(listing: &mut Listing, instr: &Instr) {
         }
         Instr::Prim(number) => {
             listing.put(b"Prim ");
-            listing.put(primitive(*number));
+            listing.put(primitive_name(*number));
         }
         Instr::Marshal(ty) => write_typed(listing, b"Marshal ", ty),
         Instr::Unmarshal(ty) => write_typed(listing, b"Unmarshal ", ty),
@@ -73,7 +74,7 @@ fn write_test(listing: &mut Listing, instr: &Instr) {
     }
 }
 
-fn write_instruction(listing: &mut Listing, instr: &Instr) {
+fn write_instruction(listing: &mut Page, instr: &Instr) {
     match instr {
         Instr::Closure(id) => write_numbered(listing, b"Closure ", id.0),
         Instr::RecClosure(id) => write_numbered(listing, b"RecClosure ", id.0),
@@ -95,7 +96,7 @@ fn write_instruction(listing: &mut Listing, instr: &Instr) {
     }
 }
 
-fn write_home(listing: &mut Listing, home: Home) {
+fn write_home(listing: &mut Page, home: Home) {
     match home {
         Home::Main => listing.put(b" main\n"),
         Home::In(entry) => {
@@ -105,12 +106,12 @@ fn write_home(listing: &mut Listing, home: Home) {
     }
 }
 
-fn write_block(listing: &mut Listing, number: usize, block: &Block) {
+fn write_block(listing: &mut Page, number: usize, block: &Block) {
     write_numbered(listing, b"block ", number);
     write_home(listing, block.home);
     let mut place = 0usize;
     for instr in block.instrs.as_slice() {
-        listing.number(place);
+        listing.number(place as u64);
         listing.put(b" ");
         write_instruction(listing, instr);
         listing.put(b"\n");
@@ -119,7 +120,7 @@ fn write_block(listing: &mut Listing, number: usize, block: &Block) {
 }
 
 /// Adds all blocks of a table.
-pub fn write_blocks(listing: &mut Listing, table: &CodeTable) {
+pub fn write_blocks(listing: &mut Page, table: &CodeTable) {
     for number in 0..table.len() {
         if let Some(block) = table.block(CodeId(number)) {
             write_block(listing, number, block);

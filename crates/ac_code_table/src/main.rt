@@ -10,19 +10,18 @@ ghost use Rattle.std.specs.Prelude.{◌≡◌, []};
 mod instructions;
 mod listing;
 mod patterns;
-mod primitives;
 mod types;
 
 use ac_code::CodeTable;
 use ac_generate::generate;
 use ac_load::{Shelf, load};
+use ac_page::Page;
 use ac_rules::Loaded;
 use ac_terms::Home;
 use ac_types::Many;
 use instructions::write_blocks;
-use listing::Listing;
 use std::alloc::Global;
-use std::io;
+use std::io::{self, Write};
 
 fn no_shelf(alloc: Global) -> Shelf
     ensures { result.0 ≡ [] }
@@ -30,7 +29,7 @@ fn no_shelf(alloc: Global) -> Shelf
     Shelf(Many::new(alloc))
 }
 
-fn write_code(alloc: Global, listing: &mut Listing, loaded: &Loaded) {
+fn write_code(alloc: Global, listing: &mut Page, loaded: &Loaded) {
     let mut table = CodeTable::new(alloc);
     match generate(alloc, &loaded.env, Home::Main, &loaded.main, &mut table) {
         Ok(_) => write_blocks(listing, &table),
@@ -38,8 +37,8 @@ fn write_code(alloc: Global, listing: &mut Listing, loaded: &Loaded) {
     }
 }
 
-fn listing_of(alloc: Global, text: &str) -> Listing {
-    let mut listing = Listing::new(alloc);
+fn listing_of(alloc: Global, text: &str) -> Page {
+    let mut listing = Page::new(alloc);
     match load(alloc, text.as_bytes(), &no_shelf(alloc)) {
         Ok(loaded) => write_code(alloc, &mut listing, &loaded),
         Err(_) => listing.put(b"refused\n"),
@@ -51,8 +50,10 @@ fn main(rt: HostRuntime) -> io::Result<()> {
     for line in rt.lines(rt.alloc()) {
         let line = line?;
         let listing = listing_of(rt.alloc(), line.as_str());
-        let code = listing.text();
-        println!(rt; "{line}\n{code}")?;
+        println!(rt; "{line}")?;
+        rt.stdout()
+            .write_all(listing.bytes().unwrap_or(b"out of memory\n"))?;
+        println!(rt)?;
     }
     Ok(())
 }

@@ -1,19 +1,20 @@
 // Patterns.
 
-use crate::listing::Listing;
-use crate::primitives::exception;
+use crate::listing::{write_literal, write_truth};
 use crate::types::write_type;
+use ac_page::Page;
 use ac_terms::Pat;
+use ac_types::exceptions::exception_name;
 use ac_types::{Many, Ty};
 
-fn write_variable(listing: &mut Listing, ty: &Ty) {
+fn write_variable(listing: &mut Page, ty: &Ty) {
     listing.put(b"(");
     write_type(listing, ty);
     listing.put(b")");
 }
 
 #[cycle(patterns)]
-fn write_tuple(listing: &mut Listing, parts: &Many<Pat>) {
+fn write_tuple(listing: &mut Page, parts: &Many<Pat>) {
     let mut between: &[u8] = b"(";
     for part in parts.as_slice() {
         listing.put(between);
@@ -25,7 +26,7 @@ fn write_tuple(listing: &mut Listing, parts: &Many<Pat>) {
 
 // A constructor with its argument.
 #[cycle(patterns)]
-fn write_applied(listing: &mut Listing, name: &[u8], argument: &Pat) {
+fn write_applied(listing: &mut Page, name: &[u8], argument: &Pat) {
     listing.put(b"(");
     listing.put(name);
     listing.put(b" ");
@@ -35,13 +36,13 @@ fn write_applied(listing: &mut Listing, name: &[u8], argument: &Pat) {
 
 /// Adds a pattern.
 #[cycle(patterns)]
-pub fn write_pattern(listing: &mut Listing, pattern: &Pat) {
+pub fn write_pattern(listing: &mut Page, pattern: &Pat) {
     match pattern {
         Pat::Wild => listing.put(b"_"),
         Pat::Var(ty) => write_variable(listing, ty),
         Pat::Int(n) => listing.integer(*n),
-        Pat::Bool(truth) => listing.truth(*truth),
-        Pat::Str(text) => listing.literal(text),
+        Pat::Bool(truth) => write_truth(listing, *truth),
+        Pat::Str(text) => write_literal(listing, text),
         Pat::Unit => listing.put(b"()"),
         Pat::Tuple(parts) => write_tuple(listing, parts),
         Pat::Nil => listing.put(b"[]"),
@@ -54,7 +55,11 @@ pub fn write_pattern(listing: &mut Listing, pattern: &Pat) {
         }
         Pat::Absent => listing.put(b"None"),
         Pat::Present(item) => write_applied(listing, b"Some", item),
-        Pat::Exn(number, None) => listing.put(exception(*number)),
-        Pat::Exn(number, Some(argument)) => write_applied(listing, exception(*number), argument),
+        Pat::Exn(number, None) => listing.put(exception_name(*number)),
+        Pat::Exn(number, Some(argument)) => write_applied(
+            listing,
+            exception_name(*number),
+            argument,
+        ),
     }
 }

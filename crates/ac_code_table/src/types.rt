@@ -1,10 +1,10 @@
 // Types.
 
-use crate::listing::Listing;
+use ac_page::Page;
 use ac_types::{Many, Ty};
 
 #[cycle(types)]
-fn write_tuple(listing: &mut Listing, parts: &Many<Ty>) {
+fn write_tuple(listing: &mut Page, parts: &Many<Ty>) {
     let mut between: &[u8] = b"(";
     for part in parts.as_slice() {
         listing.put(between);
@@ -15,7 +15,7 @@ fn write_tuple(listing: &mut Listing, parts: &Many<Ty>) {
 }
 
 #[cycle(types)]
-fn write_postfix(listing: &mut Listing, item: &Ty, name: &[u8]) {
+fn write_postfix(listing: &mut Page, item: &Ty, name: &[u8]) {
     listing.put(b"(");
     write_type(listing, item);
     listing.put(name);
@@ -23,7 +23,7 @@ fn write_postfix(listing: &mut Listing, item: &Ty, name: &[u8]) {
 
 /// Adds a type.
 #[cycle(types)]
-pub fn write_type(listing: &mut Listing, ty: &Ty) {
+pub fn write_type(listing: &mut Page, ty: &Ty) {
     match ty {
         Ty::Int => listing.put(b"int"),
         Ty::Bool => listing.put(b"bool"),

@@ -14,12 +14,14 @@ mod listing;
 
 use ac_load::{Shelf, load};
 use ac_outside::{SureWorld, World};
+use ac_page::Page;
 use ac_rules::Loaded;
 use ac_run::{RunEnd, Session};
 use ac_types::{Many, Memory, Text};
-use listing::Listing;
+use listing::{write_exception, write_printed};
 use std::alloc::Global;
-use std::{fs, io};
+use std::fs;
+use std::io::{self, Write};
 
 fn no_shelf(alloc: Global) -> Shelf
     ensures { result.0 ≡ [] }
@@ -27,12 +29,12 @@ fn no_shelf(alloc: Global) -> Shelf
     Shelf(Many::new(alloc))
 }
 
-fn write_end(listing: &mut Listing, end: &RunEnd) {
+fn write_end(listing: &mut Page, end: &RunEnd) {
     match end {
         RunEnd::Finished => listing.put(b"finished, status 0\n"),
         RunEnd::Uncaught(exn) => {
             listing.put(b"uncaught: ");
-            listing.exception(exn);
+            write_exception(listing, exn);
             listing.put(b", status 2\n");
         }
         RunEnd::Spent { steps } => {
@@ -57,21 +59,21 @@ fn run_in<W: World>(
     Ok(session.run(world))
 }
 
-fn write_run(alloc: Global, listing: &mut Listing, loaded: Loaded, steps: u64)
+fn write_run(alloc: Global, listing: &mut Page, loaded: Loaded, steps: u64)
     requires { IsTypedProgram (environment_of loaded.env) (expr_of loaded.main) (typ_of loaded.ty) }
 {
     let mut world = SureWorld::new(alloc, Text::new(alloc));
     match run_in(alloc, loaded, steps, &mut world) {
         Ok(end) => {
-            listing.printed(world.console().as_slice());
+            write_printed(listing, world.console().as_slice());
             write_end(listing, &end);
         }
         Err(_) => listing.put(b"out of memory, status 4\n"),
     }
 }
 
-fn listing_of(alloc: Global, text: &[u8], steps: u64) -> Listing {
-    let mut listing = Listing::new(alloc);
+fn listing_of(alloc: Global, text: &[u8], steps: u64) -> Page {
+    let mut listing = Page::new(alloc);
     match load(alloc, text, &no_shelf(alloc)) {
         Ok(loaded) => write_run(alloc, &mut listing, loaded, steps),
         Err(_) => listing.put(b"refused, status 1\n"),
@@ -89,8 +91,10 @@ fn main(rt: HostRuntime) -> io::Result<()> {
         let steps = u64::from(steps.parse::<u32>().unwrap_or(0));
         let text = fs::read(&rt, name)?;
         let listing = listing_of(rt.alloc(), &text, steps);
-        let found = listing.text();
-        println!(rt; "{line}\n{found}")?;
+        println!(rt; "{line}")?;
+        rt.stdout()
+            .write_all(listing.bytes().unwrap_or(b"out of memory\n"))?;
+        println!(rt)?;
     }
     Ok(())
 }

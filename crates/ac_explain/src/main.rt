@@ -3,7 +3,6 @@
 
 ghost use Rattle.std.specs.Prelude.{◌≡◌, []};
 
-mod page;
 mod parts;
 mod place;
 mod reasons;
@@ -13,7 +12,6 @@ mod wants;
 
 use ac_load::{Kind, Shelf, load};
 use ac_types::Many;
-use page::Page;
 use reasons::write_refusal;
 use std::alloc::Global;
 use std::io::{ErrorKind, Write};
@@ -60,7 +58,8 @@ fn explain_file(rt: &HostRuntime, file: &str) -> io::Result<u8> {
     };
     let mut page = Page::new(rt.alloc());
     let status = explain(rt.alloc(), &mut page, file, &text);
-    rt.stdout().write_all(page.bytes())?;
+    rt.stdout()
+        .write_all(page.bytes().unwrap_or(b"acute: out of memory\n"))?;
     Ok(status)
 }
 

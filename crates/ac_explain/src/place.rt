@@ -3,7 +3,7 @@
 ghost use Rattle.std.specs.Prelude.{◌≡◌, ◌≤◌, length};
 ghost use Rattle.ac_explain.specs.Places.{line_of, column_of};
 
-use crate::page::Page;
+use ac_page::Page;
 
 /// The most bytes of a line that are shown in front of a place, and as many from it on.
 const SHOWN: usize = 100;

@@ -1,11 +1,11 @@
 // Why a program is refused.
 
-use crate::page::Page;
 use crate::place::{name_at, place_behind, write_line};
 use crate::types::write_type;
 use crate::untyped::{Untyped, first_untyped};
 use crate::wants::wants;
 use ac_load::Kind;
+use ac_page::Page;
 use ac_parser::parse_program;
 use ac_resolve::{RawProgram, elaborate, named};
 use ac_syntax::{SExpr, SExprKind, Surface};

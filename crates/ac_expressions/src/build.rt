@@ -10,6 +10,7 @@ ghost use Rattle.ac_expressions.specs.Forms.{measured, prefixed, operator_read, 
 use crate::binders::{Binder, Head};
 use crate::front::Prefix;
 use ac_syntax::{SArm, SExpr, SExprKind, SFun, SType, Symbol};
+use ac_types::primitives::{ADD, CONCAT, DIV, EQ, LT, MUL, REM, SUB};
 use ac_types::{Box, Many, Memory};
 use std::alloc::Global;
 
@@ -42,15 +43,15 @@ pub fn operator_of(symbol: Symbol) -> Option<(u32, Operator)>
     ensures { operator_of symbol ≡ option_map (λ x. (x.0, operator_read x.1)) result }
 {
     match symbol {
-        Symbol::Star => Some((1, Operator::Prim(2))),
-        Symbol::Slash => Some((1, Operator::Prim(3))),
-        Symbol::Mod => Some((1, Operator::Prim(4))),
-        Symbol::Plus => Some((2, Operator::Prim(0))),
-        Symbol::Minus => Some((2, Operator::Prim(1))),
-        Symbol::Caret => Some((2, Operator::Prim(8))),
+        Symbol::Star => Some((1, Operator::Prim(MUL))),
+        Symbol::Slash => Some((1, Operator::Prim(DIV))),
+        Symbol::Mod => Some((1, Operator::Prim(REM))),
+        Symbol::Plus => Some((2, Operator::Prim(ADD))),
+        Symbol::Minus => Some((2, Operator::Prim(SUB))),
+        Symbol::Caret => Some((2, Operator::Prim(CONCAT))),
         Symbol::Cons => Some((3, Operator::Consing)),
-        Symbol::Equals => Some((4, Operator::Prim(6))),
-        Symbol::Less => Some((4, Operator::Prim(7))),
+        Symbol::Equals => Some((4, Operator::Prim(EQ))),
+        Symbol::Less => Some((4, Operator::Prim(LT))),
         Symbol::And => Some((5, Operator::Both)),
         Symbol::Or => Some((6, Operator::Either)),
         _ => None,

@@ -18,6 +18,7 @@ use crate::keywords::{Keyword, after_bar, next_keyword};
 use crate::leaves::leaf;
 use crate::patterns::parsed_pattern;
 use ac_syntax::{SArm, SExpr, Sign, SignKind, Stop, Symbol, after, here, next, refused_at};
+use ac_types::primitives::{NEG, NOT};
 use ac_types::{Box, Many};
 use std::alloc::Global;
 
@@ -315,7 +316,7 @@ fn minus<'s, 't>(
         return Ok((build::number(alloc, at, negated(n)?)?, rest));
     }
     let (operand, rest) = unary(alloc, depth - 1, signs)?;
-    Ok((build::operation(alloc, at, 5, operand)?, rest))
+    Ok((build::operation(alloc, at, NEG, operand)?, rest))
 }
 
 /// A `-` or a `not` with its operand, or an application.
@@ -342,7 +343,7 @@ fn unary<'s, 't>(
             return Err(refused_at(signs));
         }
         let (operand, rest) = unary(alloc, depth - 1, behind)?;
-        return Ok((build::operation(alloc, at, 9, operand)?, rest));
+        return Ok((build::operation(alloc, at, NOT, operand)?, rest));
     }
     app(alloc, depth, signs)
 }

@@ -9,6 +9,9 @@ ghost use Rattle.ac_expressions.specs.Parsing.{Nothing, IsName, NumberAt, NoNumb
 
 use ac_syntax::{SName, Sign, SignKind, Stop, Symbol, after, next, next_name, refused_at};
 use ac_types::Memory;
+use ac_types::exceptions::{
+    FAILURE, INVALID_ARGUMENT, MARSHAL_FAILURE, RESOLVE_FAILURE, SYS_ERROR, UNMARSHAL_FAILURE,
+};
 use std::alloc::Global;
 
 /// A word that takes one argument: `Some`, or an exception with a string, by its number.
@@ -172,12 +175,12 @@ fn prefix_of(symbol: Symbol) -> Option<Prefix>
 {
     match symbol {
         Symbol::SomeWord => Some(Prefix::Present),
-        Symbol::Failure => Some(Prefix::Exn(0)),
-        Symbol::InvalidArgument => Some(Prefix::Exn(1)),
-        Symbol::SysError => Some(Prefix::Exn(6)),
-        Symbol::MarshalFailure => Some(Prefix::Exn(7)),
-        Symbol::UnmarshalFailure => Some(Prefix::Exn(8)),
-        Symbol::ResolveFailure => Some(Prefix::Exn(9)),
+        Symbol::Failure => Some(Prefix::Exn(FAILURE)),
+        Symbol::InvalidArgument => Some(Prefix::Exn(INVALID_ARGUMENT)),
+        Symbol::SysError => Some(Prefix::Exn(SYS_ERROR)),
+        Symbol::MarshalFailure => Some(Prefix::Exn(MARSHAL_FAILURE)),
+        Symbol::UnmarshalFailure => Some(Prefix::Exn(UNMARSHAL_FAILURE)),
+        Symbol::ResolveFailure => Some(Prefix::Exn(RESOLVE_FAILURE)),
         _ => None,
     }
 }

@@ -10,6 +10,7 @@ ghost use Rattle.ac_expressions.specs.Forms.{base_expr, LeafAt, NoLeaf};
 use crate::front::{constant, expect, name};
 use ac_syntax::{SExpr, SExprKind, SName, Sign, SignKind, Stop, Symbol, next, refused_at};
 use ac_types::Word;
+use ac_types::exceptions::{DIVISION_BY_ZERO, END_OF_FILE, MATCH_FAILURE, NOT_FOUND};
 use std::alloc::Global;
 
 #[tactic(auto, using(crate::proofs::ExprLaws::expr_laws))]
@@ -19,10 +20,10 @@ fn base_kind(symbol: Symbol) -> Option<SExprKind>
     match symbol {
         Symbol::True => Some(SExprKind::Bool(true)),
         Symbol::False => Some(SExprKind::Bool(false)),
-        Symbol::NotFound => Some(SExprKind::Exn(2, None)),
-        Symbol::DivisionByZero => Some(SExprKind::Exn(3, None)),
-        Symbol::MatchFailure => Some(SExprKind::Exn(4, None)),
-        Symbol::EndOfFile => Some(SExprKind::Exn(5, None)),
+        Symbol::NotFound => Some(SExprKind::Exn(NOT_FOUND, None)),
+        Symbol::DivisionByZero => Some(SExprKind::Exn(DIVISION_BY_ZERO, None)),
+        Symbol::MatchFailure => Some(SExprKind::Exn(MATCH_FAILURE, None)),
+        Symbol::EndOfFile => Some(SExprKind::Exn(END_OF_FILE, None)),
         _ => None,
     }
 }

@@ -13,6 +13,7 @@ ghost use Rattle.ac_expressions.specs.Parsing.{NoPattern, Nothing, IsTyped, NoPa
 use crate::binders::{Binder, typed};
 use crate::front::{Prefix, begins_name, constant, expect, negated, next_number, next_prefix};
 use ac_syntax::{SPat, SPatKind, Sign, SignKind, Stop, Symbol, after, here, next, refused_at};
+use ac_types::exceptions::{DIVISION_BY_ZERO, END_OF_FILE, MATCH_FAILURE, NOT_FOUND};
 use ac_types::{Box, Many, Memory};
 use std::alloc::Global;
 
@@ -108,10 +109,10 @@ fn base_kind(symbol: Symbol) -> Option<SPatKind>
         Symbol::True => Some(SPatKind::Bool(true)),
         Symbol::False => Some(SPatKind::Bool(false)),
         Symbol::NoneWord => Some(SPatKind::Absent),
-        Symbol::NotFound => Some(SPatKind::Exn(2, None)),
-        Symbol::DivisionByZero => Some(SPatKind::Exn(3, None)),
-        Symbol::MatchFailure => Some(SPatKind::Exn(4, None)),
-        Symbol::EndOfFile => Some(SPatKind::Exn(5, None)),
+        Symbol::NotFound => Some(SPatKind::Exn(NOT_FOUND, None)),
+        Symbol::DivisionByZero => Some(SPatKind::Exn(DIVISION_BY_ZERO, None)),
+        Symbol::MatchFailure => Some(SPatKind::Exn(MATCH_FAILURE, None)),
+        Symbol::EndOfFile => Some(SPatKind::Exn(END_OF_FILE, None)),
         _ => None,
     }
 }

@@ -1,6 +1,7 @@
 -- What the adding of blocks to a table needs.
-use Rattle.std.proofs.Common.{◌≡◌, ℕ, zero, suc, ◌+◌, ◌<◌, List, [], ◌∷◌, ◌++◌, length, map, drop, drop-cons, get_or, add-one, Option, None, Some, Result, Ok, Err, IfOk, refl, sym, ap, ap₂, ◌∙◌, arith, append_assoc}
-use Rattle.std.proofs.lemmas.List.{map-append}
+use Rattle.std.proofs.Common.{◌≡◌, ℕ, zero, suc, ◌+◌, ◌<◌, List, [], ◌∷◌, ◌++◌, length, length-append, map, take, drop, drop-cons, get_or, add-one, Option, None, Some, Result, Ok, Err, IfOk, refl, sym, ap, ap₂, ◌∙◌, arith, append_assoc}
+use Rattle.std.proofs.lemmas.List.{map-append, length-map, append-nil}
+use Rattle.std.proofs.Math.Seq.{take-append_seam}
 use Rattle.std.specs.Prelude.{option_map, option_and_then, slice_get}
 use Rattle.ac_types.specs.Types.{Typ}
 use Rattle.ac_types.specs.ReadTypes.{typ_of}
@@ -18,21 +19,37 @@ use Rattle.ac_terms.specs.Read.{home_of, field_of, expr_of, def_of_code, entry_o
 use Rattle.ac_code.specs.declared.block.Block as code_block
 use Rattle.ac_code.specs.declared.instr.CodeId.{CodeId}
 use Rattle.ac_code.specs.Code.{Instr, Block, Code}
-use Rattle.ac_code.specs.Table.{Table, pushed, placed, with_fields}
+use Rattle.ac_code.specs.Table.{Table, appended, cut, placed, with_fields}
 use Rattle.ac_code.specs.ReadCode.{instr_of, block_of, code_of, number_of}
 use Rattle.ac_generate.specs.Drafts.{Draft, draft_of, wrote, wrote_value}
 use Rattle.ac_generate.specs.Generate.{code, blocks, value_code, value_blocks}
-use Rattle.ac_generate.specs.Programs.{own_block, ending, with_blocks, generated, number, value_number, fields_generated, field_numbers, entry_generated}
+use Rattle.ac_generate.specs.Programs.{own_block, ending, with_blocks, generated, number, value_number, fields_generated, field_numbers, entry_generated, KeepsBlocks}
 use Rattle.ac_generate.proofs.SizeLaws.{block_count, value_block_count}
 
 -- some blocks, and one more
-pub stored : (t0 t1 t2 : Table) (bs : List code_block.Block) (b : code_block.Block) → t1.blocks ≡ t0.blocks ++ bs → t1.fields ≡ t0.fields → t2 ≡ pushed b t1 → code_of t2 ≡ with_blocks (map block_of bs ++ block_of b ∷ []) (code_of t0)
-stored t0 t1 t2 bs b hb hf h =
+stored : (t0 t1 : Table) (bs all : List code_block.Block) (b : code_block.Block) → all ≡ bs ++ b ∷ [] → t1 ≡ appended all t0 → code_of t1 ≡ with_blocks (map block_of bs ++ block_of b ∷ []) (code_of t0)
+stored t0 t1 bs all b ha h =
     ap code_of h
-    ∙ ap₂ (λ (x : List code_block.Block) (y : List (List CodeId)). code_of (record { blocks = x ++ b ∷ []; fields = y })) hb hf
+    ∙ ap (λ (x : List code_block.Block). code_of (appended x t0)) ha
     ∙ ap (λ (x : List Block). record { blocks = x; fields = map (map number_of) t0.fields }) (
-    map-append block_of (t0.blocks ++ bs) (b ∷ []) ∙ ap (λ (x : List Block). x ++ block_of b ∷ []) (map-append block_of t0.blocks bs) ∙ append_assoc (map block_of t0.blocks) (map block_of bs) (block_of b ∷ [])
+    map-append block_of t0.blocks (bs ++ b ∷ []) ∙ ap (λ (x : List Block). map block_of t0.blocks ++ x) (map-append block_of bs (b ∷ []))
     )
+
+-- how many blocks there are then
+pub stored_count : (n : ℕ) (t0 t1 : Table) (bs all : List code_block.Block) (b : code_block.Block) → n ≡ length t1.blocks → all ≡ bs ++ b ∷ [] → t1 ≡ appended all t0 → n ≡ length t0.blocks + length (map block_of bs) + 1
+stored_count n t0 t1 bs all b hn ha h =
+    let added = ap length ha ∙ length-append bs (b ∷ []) in
+    let whole = hn ∙ ap (λ (t : Table). length t.blocks) h ∙ length-append t0.blocks all in
+    let same = length-map bs block_of in
+    omega (arith, added, whole, same)
+
+-- a table that is cut back to its old blocks is the old one, where only blocks were added
+pub cut_back : (old more new : Table) (n : ℕ) → KeepsBlocks more old → more.fields ≡ old.fields → n ≡ length old.blocks → new ≡ cut n more → new ≡ old
+cut_back old more new n (bs, e) hf hn h =
+    h ∙ ap₂ (λ (x : List code_block.Block) (y : List (List CodeId)). record { blocks = x; fields = y }) (ap₂ take hn e ∙ take-append_seam old.blocks bs) hf
+
+pub kept_blocks : (new old : Table) → new ≡ old → KeepsBlocks new old
+kept_blocks new old h = ([], ap (λ (t : Table). t.blocks) h ∙ sym (append-nil old.blocks))
 
 abbrev entry_code : ℕ → Code → Option Module → Code
 entry_code i K o = elim o [
@@ -44,10 +61,10 @@ entry_code i K o = elim o [
 abbrev pub fresh : ℕ → Draft
 fresh n = record { first = n; instrs = []; blocks = [] }
 
-pub whole_stored : (t0 t1 t2 : Table) (bs : List code_block.Block) (h : code_home.Home) (types : List Ty) (is xs : List code_instr.Instr) (last : code_instr.Instr) → t1.blocks ≡ t0.blocks ++ bs → t1.fields ≡ t0.fields → types ≡ [] → is ≡ xs ++ last ∷ [] →
-    t2 ≡ pushed (record { home = h; lambda = None; context = types; instrs = is }) t1 → code_of t2 ≡ with_blocks (map block_of bs ++ own_block (home_of h) (map instr_of xs ++ instr_of last ∷ []) ∷ []) (code_of t0)
-whole_stored t0 t1 t2 bs h types is xs last hb hf ht hi h2 =
-    stored t0 t1 t2 bs (record { home = h; lambda = None; context = types; instrs = is }) hb hf h2
+pub whole_stored : (t0 t1 : Table) (bs all : List code_block.Block) (h : code_home.Home) (types : List Ty) (is xs : List code_instr.Instr) (last : code_instr.Instr) → all ≡ bs ++ record { home = h; lambda = None; context = types; instrs = is } ∷ [] →
+    types ≡ [] → is ≡ xs ++ last ∷ [] → t1 ≡ appended all t0 → code_of t1 ≡ with_blocks (map block_of bs ++ own_block (home_of h) (map instr_of xs ++ instr_of last ∷ []) ∷ []) (code_of t0)
+whole_stored t0 t1 bs all h types is xs last ha ht hi h1 =
+    stored t0 t1 bs all (record { home = h; lambda = None; context = types; instrs = is }) ha h1
     ∙ ap₂ (λ (ts : List Typ) (l : List Instr). with_blocks (map block_of bs ++ record { home = home_of h; lambda = None; context = ts; instrs = l } ∷ []) (code_of t0)) (ap (map typ_of) ht) (ap (map instr_of) hi ∙ map-append instr_of xs (last ∷ []))
 
 pub if_ok : {A E : Type 0} {P Q : A → Type 0} (r : Result A E) → ((a : A) → P a → Q a) → IfOk r P → IfOk r Q

@@ -3,7 +3,7 @@ use Rattle.std.specs.Prelude.{ℕ, suc, ◌+◌, List, [], ◌∷◌, ◌++◌, 
 use Rattle.ac_code.specs.Code as instr
 use Rattle.ac_code.specs.Code.{Instr, Block}
 use Rattle.ac_types.specs.Types.{Typ, TFun}
-use Rattle.ac_terms.specs.Terms.{Home, Expr, Int, Boolean, Str, Unit', Exn, ExnOf, Tuple, Nil, Empty, Present, Cons, Var, Own, Ref, Lam, Rec, App, Let, If, Seq, Match, Try, Raise, Prim, Marshal, Unmarshal, Packed, Exprs, no_exprs, expr, Arms, no_arms, arm, PValue, KInt, KBool, KStr, KUnit, KExn, KTuple, KList, KAbsent, KPresent, KFun, PValues, no_pvalues, pvalue}
+use Rattle.ac_terms.specs.Terms.{Home, Expr, Int, Boolean, Str, Unit', Exn, ExnOf, Tuple, Nil, Empty, Present, Cons, Var, Own, Ref, Lam, Rec, App, Let, If, Seq, Match, Try, Raise, Prim, Marshal, Unmarshal, Packed, Val, Bracket, Exprs, no_exprs, expr, Arms, no_arms, arm, PValue, KInt, KBool, KStr, KUnit, KExn, KTuple, KList, KAbsent, KPresent, KFun, PValues, no_pvalues, pvalue}
 use Rattle.ac_terms.specs.Parts.{pattern_types}
 use Rattle.ac_terms.specs.Spelling.{term_count, value_count}
 use Rattle.ac_generate.specs.Sizes.{lambdas, value_lambdas, bound, unbind, push_text, size, arm_size}
@@ -48,7 +48,8 @@ abbrev mutual
   code (Marshal T m e) p n = code m p n ++ (code e (p + size m) (n + lambdas m) ++ instr.Marshal T ∷ [])
   code (Unmarshal T e) p n = code e p n ++ instr.Unmarshal T ∷ []
   code (Packed T v) p n = value_code v n
-  code e p n = []
+  code (Val T v) p n = []
+  code (Bracket h T e) p n = []
 
   pub all_code : Exprs → ℕ → ℕ → List Instr
   all_code no_exprs p n = []
@@ -83,7 +84,7 @@ abbrev mutual
   value_code (KPresent v) n = value_code v n ++ instr.MakeSome ∷ []
   value_code (KFun h (Lam T e)) n = instr.Constant (n + lambdas e) ∷ []
   value_code (KFun h (Rec T U e)) n = instr.RecConstant (n + lambdas e) ∷ []
-  value_code v n = []
+  value_code (KFun h e) n = []
 
   pub all_value_code : PValues → ℕ → List Instr
   all_value_code no_pvalues n = []
@@ -113,7 +114,18 @@ abbrev mutual
   blocks c G (Marshal T m e) n = blocks c G m n ++ blocks c G e (n + lambdas m)
   blocks c G (Unmarshal T e) n = blocks c G e n
   blocks c G (Packed T v) n = value_blocks v n
-  blocks c G e n = []
+  blocks c G (Int i) n = []
+  blocks c G (Boolean b) n = []
+  blocks c G (Str s) n = []
+  blocks c G Unit' n = []
+  blocks c G (Exn k) n = []
+  blocks c G (Nil T) n = []
+  blocks c G (Empty T) n = []
+  blocks c G (Var i) n = []
+  blocks c G (Own f) n = []
+  blocks c G (Ref j x) n = []
+  blocks c G (Val T v) n = []
+  blocks c G (Bracket h T e) n = []
 
   pub all_blocks : Home → List Typ → Exprs → ℕ → List Block
   all_blocks c G no_exprs n = []
@@ -131,7 +143,13 @@ abbrev mutual
   value_blocks (KPresent v) n = value_blocks v n
   value_blocks (KFun h (Lam T e)) n = blocks h (T ∷ []) e n ++ lambda_block h (Lam T e) [] (code e 0 n) ∷ []
   value_blocks (KFun h (Rec T U e)) n = blocks h (T ∷ TFun T U ∷ []) e n ++ lambda_block h (Rec T U e) [] (code e 0 n) ∷ []
-  value_blocks v n = []
+  value_blocks (KFun h e) n = []
+  value_blocks (KInt i) n = []
+  value_blocks (KBool b) n = []
+  value_blocks (KStr s) n = []
+  value_blocks KUnit n = []
+  value_blocks (KExn k s) n = []
+  value_blocks KAbsent n = []
 
   pub all_value_blocks : PValues → ℕ → List Block
   all_value_blocks no_pvalues n = []

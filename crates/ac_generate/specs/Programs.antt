@@ -2,7 +2,7 @@
 use Rattle.std.specs.Prelude.{◌≡◌, ℕ, suc, ◌+◌, List, [], ◌∷◌, ◌++◌, length, None, Some}
 use Rattle.ac_code.specs.Code as instr
 use Rattle.ac_code.specs.Code.{Instr, Block, Code}
-use Rattle.ac_code.specs.Table.{Table, placed, field_block}
+use Rattle.ac_code.specs.Table.{Table, placed}
 use Rattle.ac_code.specs.declared.block.Block as code
 use Rattle.ac_terms.specs.Terms.{Home, Main, In, Expr, PValue}
 use Rattle.ac_terms.specs.Defs.{Field, Entry, Environment, module_at}
@@ -71,7 +71,3 @@ program_code E e = generated Main e (entries_generated E 0 E (record { blocks = 
 -- the blocks that a table had stand where they stood
 abbrev pub KeepsBlocks : Table → Table → Type 0
 KeepsBlocks new old = (more : List code.Block) × (new.blocks ≡ old.blocks ++ more)
-
--- each field has the block that it had
-abbrev pub KeepsFields : Table → Table → Type 0
-KeepsFields new old = (j f : ℕ) → field_block new j f ≡ field_block old j f

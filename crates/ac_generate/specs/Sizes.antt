@@ -2,7 +2,7 @@
 use Rattle.std.specs.Prelude.{ℕ, zero, suc, ◌+◌, List, [], ◌∷◌, length, Option, Some, None}
 use Rattle.ac_code.specs.Code as instr
 use Rattle.ac_code.specs.Code.{Instr}
-use Rattle.ac_terms.specs.Terms.{Pattern, Expr, Int, Boolean, Str, Unit', Exn, ExnOf, Tuple, Nil, Empty, Present, Cons, Var, Own, Ref, Lam, Rec, App, Let, If, Seq, Match, Try, Raise, Prim, Marshal, Unmarshal, Packed, Exprs, no_exprs, expr, Arms, no_arms, arm, PValue, KInt, KBool, KStr, KUnit, KExn, KTuple, KList, KAbsent, KPresent, KFun, PValues, no_pvalues, pvalue}
+use Rattle.ac_terms.specs.Terms.{Pattern, Expr, Int, Boolean, Str, Unit', Exn, ExnOf, Tuple, Nil, Empty, Present, Cons, Var, Own, Ref, Lam, Rec, App, Let, If, Seq, Match, Try, Raise, Prim, Marshal, Unmarshal, Packed, Val, Bracket, Exprs, no_exprs, expr, Arms, no_arms, arm, PValue, KInt, KBool, KStr, KUnit, KExn, KTuple, KList, KAbsent, KPresent, KFun, PValues, no_pvalues, pvalue}
 use Rattle.ac_terms.specs.Parts.{pattern_types}
 use Rattle.ac_terms.specs.Spelling.{value_count}
 
@@ -26,7 +26,18 @@ abbrev mutual
   lambdas (Marshal T m e) = lambdas m + lambdas e
   lambdas (Unmarshal T e) = lambdas e
   lambdas (Packed T v) = value_lambdas v
-  lambdas e = 0
+  lambdas (Int i) = 0
+  lambdas (Boolean b) = 0
+  lambdas (Str s) = 0
+  lambdas Unit' = 0
+  lambdas (Exn k) = 0
+  lambdas (Nil T) = 0
+  lambdas (Empty T) = 0
+  lambdas (Var i) = 0
+  lambdas (Own f) = 0
+  lambdas (Ref j x) = 0
+  lambdas (Val T v) = 0
+  lambdas (Bracket h T e) = 0
 
   pub all_lambdas : Exprs → ℕ
   all_lambdas no_exprs = 0
@@ -36,13 +47,20 @@ abbrev mutual
   arm_lambdas no_arms = 0
   arm_lambdas (arm p b rest) = lambdas b + arm_lambdas rest
 
+  -- a packed function is a lambda or a recursive lambda
   pub value_lambdas : PValue → ℕ
   value_lambdas (KTuple vs) = all_value_lambdas vs
   value_lambdas (KList vs) = all_value_lambdas vs
   value_lambdas (KPresent v) = value_lambdas v
   value_lambdas (KFun h (Lam T e)) = lambdas e + 1
   value_lambdas (KFun h (Rec T U e)) = lambdas e + 1
-  value_lambdas v = 0
+  value_lambdas (KFun h e) = 0
+  value_lambdas (KInt i) = 0
+  value_lambdas (KBool b) = 0
+  value_lambdas (KStr s) = 0
+  value_lambdas KUnit = 0
+  value_lambdas (KExn k s) = 0
+  value_lambdas KAbsent = 0
 
   pub all_value_lambdas : PValues → ℕ
   all_value_lambdas no_pvalues = 0
@@ -92,7 +110,8 @@ abbrev mutual
   size (Marshal T m e) = size m + (size e + 1)
   size (Unmarshal T e) = size e + 1
   size (Packed T v) = value_size v
-  size e = 0
+  size (Val T v) = 0
+  size (Bracket h T e) = 0
 
   pub all_size : Exprs → ℕ
   all_size no_exprs = 0
@@ -124,7 +143,7 @@ abbrev mutual
   value_size (KPresent v) = value_size v + 1
   value_size (KFun h (Lam T e)) = 1
   value_size (KFun h (Rec T U e)) = 1
-  value_size v = 0
+  value_size (KFun h e) = 0
 
   pub all_value_size : PValues → ℕ
   all_value_size no_pvalues = 0

@@ -3,9 +3,8 @@
 ghost use Rattle.std.specs.Prelude.{◌≡◌, ◌+◌, ◌++◌, ◌∷◌, [], length, map, OnOk, OnErr, IfOk};
 ghost use Rattle.ac_terms.specs.Read.{home_of, expr_of, value_of, environment_of, field_of};
 ghost use Rattle.ac_code.specs.ReadCode.{instr_of, code_of, number_of};
-ghost use Rattle.ac_code.specs.Table.{pushed};
 ghost use Rattle.ac_generate.specs.Drafts.{draft_of};
-ghost use Rattle.ac_generate.specs.Programs.{own_block, ending, with_blocks, generated, number, value_generated, value_number, fields_generated, field_numbers, entry_generated, KeepsBlocks, KeepsFields};
+ghost use Rattle.ac_generate.specs.Programs.{own_block, ending, with_blocks, generated, number, value_generated, value_number, fields_generated, field_numbers, entry_generated, KeepsBlocks};
 
 use crate::scope::Scope;
 use crate::writer::Writer;
@@ -16,7 +15,7 @@ use std::alloc::Global;
 
 /// Adds the code of a term at that home to the table: the blocks of its lambdas, and a last one,
 /// which returns the value of a field, or stops at the end of the main program. Gives the number
-/// of the last. Blocks that were there stay, also after an `Err`.
+/// of the last. Blocks that were there stay, and an `Err` leaves the table as it was.
 pub fn generate(
     alloc: Global,
     _env: &Env,
@@ -28,6 +27,7 @@ pub fn generate(
     ensures number { IfOk result (λ id. id.0 ≡ number (expr_of term.now) (code_of table.old)) }
     ensures blocks { KeepsBlocks table.new table.old }
     ensures fields { table.new.fields ≡ table.old.fields }
+    ensures err { OnErr result (table.new ≡ table.old) }
 {
     let mut writer = Writer::new(alloc, table.len());
     writer.term(home, &Scope::Empty, term)?;
@@ -36,7 +36,7 @@ pub fn generate(
 
 /// Adds the code of a packed value to the table: the blocks of its functions, and a last one at
 /// home in the main program, which returns the value. Gives the number of the last. Blocks that
-/// were there stay, also after an `Err`.
+/// were there stay, and an `Err` leaves the table as it was.
 pub fn generate_value(
     alloc: Global,
     _env: &Env,
@@ -47,6 +47,7 @@ pub fn generate_value(
     ensures number { IfOk result (λ id. id.0 ≡ value_number (value_of value.now) (code_of table.old)) }
     ensures blocks { KeepsBlocks table.new table.old }
     ensures fields { table.new.fields ≡ table.old.fields }
+    ensures err { OnErr result (table.new ≡ table.old) }
 {
     let mut writer = Writer::new(alloc, table.len());
     writer.value(value)?;
@@ -54,12 +55,27 @@ pub fn generate_value(
 }
 
 /// Adds the code of the fields of entry `i` to the table, in order, and keeps their numbers. Only
-/// a module has fields. Blocks that were there stay, also after an `Err`, and after an `Err` each
-/// field has the block that it had.
+/// a module has fields. Blocks that were there stay, and an `Err` leaves the table as it was.
 pub fn generate_entry(alloc: Global, env: &Env, i: u32, table: &mut CodeTable) -> Result<(), Memory>
     ensures ok { OnOk result (code_of table.new ≡ entry_generated (environment_of env.now) i (code_of table.old)) }
     ensures blocks { KeepsBlocks table.new table.old }
-    ensures err { OnErr result (KeepsFields table.new table.old) }
+    ensures err { OnErr result (table.new ≡ table.old) }
+{
+    let blocks = table.len();
+    match add_entry(alloc, env, i, table) {
+        Ok(()) => Ok(()),
+        Err(e) => {
+            table.cut(blocks);
+            Err(e)
+        }
+    }
+}
+
+// Adds the code of the fields of entry `i`, and keeps their numbers. An `Err` may leave more blocks.
+fn add_entry(alloc: Global, env: &Env, i: u32, table: &mut CodeTable) -> Result<(), Memory>
+    ensures ok { OnOk result (code_of table.new ≡ entry_generated (environment_of env.now) i (code_of table.old)) }
+    ensures blocks { KeepsBlocks table.new table.old }
+    ensures err { OnErr result (table.new.fields ≡ table.old.fields) }
 {
     let Some(entry) = env.entry(i) else {
         return Ok(());
@@ -74,7 +90,7 @@ pub fn generate_entry(alloc: Global, env: &Env, i: u32, table: &mut CodeTable) -
     }
 }
 
-// Adds the code of each field, and gives the numbers of their own blocks.
+// Adds the code of each field, and gives the numbers of their own blocks. An `Err` may leave more blocks.
 fn fields(
     alloc: Global,
     env: &Env,
@@ -106,38 +122,29 @@ fn ending(home: Home) -> Instr
 }
 
 impl Writer {
-    // Ends the block that is being written, and adds all blocks to a table. Gives the number of the last.
+    // Ends the block that is being written, and adds all blocks to a table. Gives the number of the
+    // last. An `Err` leaves the table as it was.
     fn store(self, home: Home, last: Instr, table: &mut CodeTable) -> Result<CodeId, Memory>
         ensures ok { OnOk result (code_of table.new ≡ with_blocks ((draft_of self).blocks ++ own_block (home_of home) ((draft_of self).instrs ++ instr_of last ∷ []) ∷ []) (code_of table.old)) }
         ensures number { IfOk result (λ id. id.0 ≡ length table.old.blocks + length (draft_of self).blocks) }
         ensures blocks { KeepsBlocks table.new table.old }
         ensures fields { table.new.fields ≡ table.old.fields }
+        ensures err { OnErr result (table.new ≡ table.old) }
     {
         let Writer {
             alloc,
             first: _,
-            finished,
+            mut finished,
             mut instrs,
         } = self;
         instrs.push(last)?;
-        add_blocks(table, finished)?;
-        table.push(Block {
+        finished.push(Block {
             home,
             lambda: None,
             context: Many::new(alloc),
             instrs: Many::from_vec(instrs),
-        })
+        })?;
+        table.append(finished)?;
+        Ok(CodeId(table.len() - 1))
     }
-}
-
-// Adds blocks at the end of a table.
-fn add_blocks(table: &mut CodeTable, blocks: Vec<Block>) -> Result<(), Memory>
-    ensures ok { OnOk result (table.new.blocks ≡ table.old.blocks ++ blocks.items) }
-    ensures blocks { KeepsBlocks table.new table.old }
-    ensures fields { table.new.fields ≡ table.old.fields }
-{
-    for block in blocks {
-        table.push(block)?;
-    }
-    Ok(())
 }

@@ -4,16 +4,17 @@ ghost use Rattle.std.specs.Prelude.{◌≡◌, IfOk};
 ghost use Rattle.ac_code.specs.Constants.{meaning, One, Two};
 ghost use Rattle.ac_machine.specs.States.{given};
 ghost use Rattle.ac_machine.specs.Machine.{performs, answers};
-ghost use Rattle.ac_machine.specs.Meant.{answer_of, combines, turns};
+ghost use Rattle.ac_machine.specs.Meant.{answer_of, of_binary, of_unary};
 ghost use Rattle.ac_machine.specs.Held.{core, Sound};
 ghost use Rattle.ac_machine.specs.Steps.{Does};
 
 use crate::engine::{Engine, Step};
 use crate::pause::Pause;
 use crate::primitive::{
-    Answer, Operator, Primitive, Turner, combined, constant_in, primitive_of, turned,
+    Answer, Binary, Primitive, Unary, combined, constant_in, primitive_of, turned,
 };
 use ac_terms::Exn;
+use ac_types::exceptions::{DIVISION_BY_ZERO, INVALID_ARGUMENT};
 use ac_types::{Memory, Text};
 use ac_values::Node;
 
@@ -25,14 +26,14 @@ impl Engine {
     {
         match primitive_of(number) {
             None => Ok(Step::Wrong),
-            Some(Primitive::One(turner)) => self.turn(turner),
+            Some(Primitive::One(unary)) => self.turn(unary),
             Some(Primitive::Two(operator)) => self.combine(operator),
         }
     }
 
-    fn combine(&mut self, operator: Operator) -> Result<Step, Memory>
+    fn combine(&mut self, operator: Binary) -> Result<Step, Memory>
         requires sound { Sound self.old }
-        ensures { IfOk result (λ s. Does self.new s (performs (Two (combines operator)) (core self.old))) }
+        ensures { IfOk result (λ s. Does self.new s (performs (Two (of_binary operator)) (core self.old))) }
     {
         let Some((second, below)) = self.newest(self.at.stack) else {
             return Ok(Step::Wrong);
@@ -51,9 +52,9 @@ impl Engine {
         self.answer(answer)
     }
 
-    fn turn(&mut self, turner: Turner) -> Result<Step, Memory>
+    fn turn(&mut self, unary: Unary) -> Result<Step, Memory>
         requires sound { Sound self.old }
-        ensures { IfOk result (λ s. Does self.new s (performs (One (turns turner)) (core self.old))) }
+        ensures { IfOk result (λ s. Does self.new s (performs (One (of_unary unary)) (core self.old))) }
     {
         let Some((v, rest)) = self.newest(self.at.stack) else {
             return Ok(Step::Wrong);
@@ -61,7 +62,7 @@ impl Engine {
         let Some(constant) = constant_in(&self.store, v) else {
             return Ok(Step::Wrong);
         };
-        let answer = turned(self.alloc, turner, &constant)?;
+        let answer = turned(self.alloc, unary, &constant)?;
         self.at.stack = rest;
         self.answer(answer)
     }
@@ -79,11 +80,11 @@ impl Engine {
             Answer::Send(text) => Ok(Step::Pausing(Pause::Send(text))),
             Answer::Receive => Ok(Step::Pausing(Pause::Receive)),
             Answer::Invalid(text) => self.raise_exn(Exn {
-                number: 1,
+                number: INVALID_ARGUMENT,
                 text: Some(text),
             }),
             Answer::ByZero => self.raise_exn(Exn {
-                number: 3,
+                number: DIVISION_BY_ZERO,
                 text: None,
             }),
             Answer::NoSense => Ok(Step::Wrong),

@@ -5,8 +5,12 @@ ghost use Rattle.std.specs.Fmt.{signed_decimal};
 ghost use Rattle.ac_code.specs.Constants.{CInt, CBool, CStr, CUnit, CPart, comes_before, meaning, joined, quotient, remainder, part, invalid_argument};
 ghost use Rattle.ac_values.specs.Values.{stands, values, values_at};
 ghost use Rattle.ac_machine.specs.Machine.{const_in, part_in};
-ghost use Rattle.ac_machine.specs.Meant.{const_of, answer_of, combines, turns, meant};
+ghost use Rattle.ac_machine.specs.Meant.{const_of, answer_of, of_binary, of_unary, meant};
 
+use ac_types::primitives::{
+    ADD, CONCAT, DIV, EQ, LENGTH, LT, MUL, NEG, NOT, OF_INT, PRINT_INT, PRINT_STRING, RECEIVE, REM, SEND,
+    SUB, SUB_STRING,
+};
 use ac_types::{Many, Memory, Text};
 use ac_values::read::{int_in, text_in};
 use ac_values::{Node, Store, Value};
@@ -41,7 +45,7 @@ pub enum Answer {
 
 /// A primitive of two arguments.
 #[derive(Clone, Copy)]
-pub enum Operator {
+pub enum Binary {
     Add,
     Sub,
     Mul,
@@ -54,7 +58,7 @@ pub enum Operator {
 
 /// A primitive of one argument.
 #[derive(Clone, Copy)]
-pub enum Turner {
+pub enum Unary {
     Neg,
     Not,
     PrintInt,
@@ -69,8 +73,8 @@ pub enum Turner {
 /// A primitive.
 #[derive(Clone, Copy)]
 pub enum Primitive {
-    One(Turner),
-    Two(Operator),
+    One(Unary),
+    Two(Binary),
 }
 
 /// The primitive of that number.
@@ -78,23 +82,23 @@ pub fn primitive_of(number: u8) -> Option<Primitive>
     ensures { MatchOption result (meaning number ≡ None) (λ p. meaning number ≡ Some (meant p)) }
 {
     match number {
-        0 => Some(Primitive::Two(Operator::Add)),
-        1 => Some(Primitive::Two(Operator::Sub)),
-        2 => Some(Primitive::Two(Operator::Mul)),
-        3 => Some(Primitive::Two(Operator::Div)),
-        4 => Some(Primitive::Two(Operator::Mod)),
-        5 => Some(Primitive::One(Turner::Neg)),
-        6 => Some(Primitive::Two(Operator::Equal)),
-        7 => Some(Primitive::Two(Operator::Less)),
-        8 => Some(Primitive::Two(Operator::Concat)),
-        9 => Some(Primitive::One(Turner::Not)),
-        10 => Some(Primitive::One(Turner::PrintInt)),
-        11 => Some(Primitive::One(Turner::PrintString)),
-        12 => Some(Primitive::One(Turner::Send)),
-        13 => Some(Primitive::One(Turner::Receive)),
-        14 => Some(Primitive::One(Turner::Length)),
-        15 => Some(Primitive::One(Turner::SubString)),
-        16 => Some(Primitive::One(Turner::OfInt)),
+        ADD => Some(Primitive::Two(Binary::Add)),
+        SUB => Some(Primitive::Two(Binary::Sub)),
+        MUL => Some(Primitive::Two(Binary::Mul)),
+        DIV => Some(Primitive::Two(Binary::Div)),
+        REM => Some(Primitive::Two(Binary::Mod)),
+        NEG => Some(Primitive::One(Unary::Neg)),
+        EQ => Some(Primitive::Two(Binary::Equal)),
+        LT => Some(Primitive::Two(Binary::Less)),
+        CONCAT => Some(Primitive::Two(Binary::Concat)),
+        NOT => Some(Primitive::One(Unary::Not)),
+        PRINT_INT => Some(Primitive::One(Unary::PrintInt)),
+        PRINT_STRING => Some(Primitive::One(Unary::PrintString)),
+        SEND => Some(Primitive::One(Unary::Send)),
+        RECEIVE => Some(Primitive::One(Unary::Receive)),
+        LENGTH => Some(Primitive::One(Unary::Length)),
+        SUB_STRING => Some(Primitive::One(Unary::SubString)),
+        OF_INT => Some(Primitive::One(Unary::OfInt)),
         _ => None,
     }
 }
@@ -133,11 +137,11 @@ fn part_in<'a>(store: &'a Store, parts: &Many<Value>) -> Option<Constant<'a>>
 #[tactic(auto, using(crate::proofs::PrimitiveLaws::operator_laws))]
 pub fn combined(
     alloc: Global,
-    operator: Operator,
+    operator: Binary,
     first: &Constant<'_>,
     second: &Constant<'_>,
 ) -> Result<Answer, Memory>
-    ensures { IfOk result (λ a. answer_of a ≡ combines operator (const_of first.now) (const_of second.now)) }
+    ensures { IfOk result (λ a. answer_of a ≡ of_binary operator (const_of first.now) (const_of second.now)) }
 {
     match (*first, *second) {
         (Constant::Int(x), Constant::Int(y)) => Ok(of_ints(operator, x, y)),
@@ -148,18 +152,18 @@ pub fn combined(
 }
 
 #[tactic(auto, using(crate::proofs::PrimitiveLaws::operator_laws))]
-fn of_ints(operator: Operator, x: i64, y: i64) -> Answer
-    ensures { answer_of result ≡ combines operator (CInt x) (CInt y) }
+fn of_ints(operator: Binary, x: i64, y: i64) -> Answer
+    ensures { answer_of result ≡ of_binary operator (CInt x) (CInt y) }
 {
     match operator {
-        Operator::Add => Answer::Int(x.wrapping_add(y)),
-        Operator::Sub => Answer::Int(x.wrapping_sub(y)),
-        Operator::Mul => Answer::Int(x.wrapping_mul(y)),
-        Operator::Div => quotient(x, y),
-        Operator::Mod => remainder(x, y),
-        Operator::Equal => Answer::Bool(x == y),
-        Operator::Less => Answer::Bool(x < y),
-        Operator::Concat => Answer::NoSense,
+        Binary::Add => Answer::Int(x.wrapping_add(y)),
+        Binary::Sub => Answer::Int(x.wrapping_sub(y)),
+        Binary::Mul => Answer::Int(x.wrapping_mul(y)),
+        Binary::Div => quotient(x, y),
+        Binary::Mod => remainder(x, y),
+        Binary::Equal => Answer::Bool(x == y),
+        Binary::Less => Answer::Bool(x < y),
+        Binary::Concat => Answer::NoSense,
     }
 }
 
@@ -185,24 +189,24 @@ fn remainder(x: i64, y: i64) -> Answer
 }
 
 #[tactic(auto, using(crate::proofs::PrimitiveLaws::operator_laws))]
-fn of_bools(operator: Operator, x: bool, y: bool) -> Answer
-    ensures { answer_of result ≡ combines operator (CBool x) (CBool y) }
+fn of_bools(operator: Binary, x: bool, y: bool) -> Answer
+    ensures { answer_of result ≡ of_binary operator (CBool x) (CBool y) }
 {
     match operator {
-        Operator::Equal => Answer::Bool(x == y),
-        Operator::Less => Answer::Bool(!x && y),
+        Binary::Equal => Answer::Bool(x == y),
+        Binary::Less => Answer::Bool(!x && y),
         _ => Answer::NoSense,
     }
 }
 
 #[tactic(auto, using(crate::proofs::PrimitiveLaws::operator_laws))]
-fn of_texts(alloc: Global, operator: Operator, x: &Text, y: &Text) -> Result<Answer, Memory>
-    ensures { IfOk result (λ a. answer_of a ≡ combines operator (CStr x.now.0) (CStr y.now.0)) }
+fn of_texts(alloc: Global, operator: Binary, x: &Text, y: &Text) -> Result<Answer, Memory>
+    ensures { IfOk result (λ a. answer_of a ≡ of_binary operator (CStr x.now.0) (CStr y.now.0)) }
 {
     match operator {
-        Operator::Equal => Ok(Answer::Bool(x.as_slice() == y.as_slice())),
-        Operator::Less => Ok(Answer::Bool(comes_before(x.as_slice(), y.as_slice()))),
-        Operator::Concat => joined(alloc, x.as_slice(), y.as_slice()),
+        Binary::Equal => Ok(Answer::Bool(x.as_slice() == y.as_slice())),
+        Binary::Less => Ok(Answer::Bool(comes_before(x.as_slice(), y.as_slice()))),
+        Binary::Concat => joined(alloc, x.as_slice(), y.as_slice()),
         _ => Ok(Answer::NoSense),
     }
 }
@@ -232,70 +236,70 @@ fn invalid(alloc: Global, why: &[u8]) -> Result<Answer, Memory>
 }
 
 /// What a primitive of one argument answers.
-pub fn turned(alloc: Global, turner: Turner, constant: &Constant<'_>) -> Result<Answer, Memory>
-    ensures { IfOk result (λ a. answer_of a ≡ turns turner (const_of constant.now)) }
+pub fn turned(alloc: Global, unary: Unary, constant: &Constant<'_>) -> Result<Answer, Memory>
+    ensures { IfOk result (λ a. answer_of a ≡ of_unary unary (const_of constant.now)) }
 {
     match *constant {
-        Constant::Int(n) => of_int(alloc, turner, n),
-        Constant::Bool(b) => Ok(of_bool(turner, b)),
-        Constant::Str(text) => of_text(alloc, turner, text),
-        Constant::Unit => Ok(of_unit(turner)),
-        Constant::Part(text, i, n) => of_part(alloc, turner, text.as_slice(), i, n),
+        Constant::Int(n) => of_int(alloc, unary, n),
+        Constant::Bool(b) => Ok(of_bool(unary, b)),
+        Constant::Str(text) => of_text(alloc, unary, text),
+        Constant::Unit => Ok(of_unit(unary)),
+        Constant::Part(text, i, n) => of_part(alloc, unary, text.as_slice(), i, n),
     }
 }
 
 #[tactic(auto, using(crate::proofs::PrimitiveLaws::operator_laws))]
-fn of_int(alloc: Global, turner: Turner, n: i64) -> Result<Answer, Memory>
-    ensures { IfOk result (λ a. answer_of a ≡ turns turner (CInt n)) }
+fn of_int(alloc: Global, unary: Unary, n: i64) -> Result<Answer, Memory>
+    ensures { IfOk result (λ a. answer_of a ≡ of_unary unary (CInt n)) }
 {
-    match turner {
-        Turner::Neg => Ok(Answer::Int(n.wrapping_neg())),
-        Turner::PrintInt => Ok(Answer::Print(decimal(alloc, n)?)),
-        Turner::OfInt => Ok(Answer::Str(decimal(alloc, n)?)),
+    match unary {
+        Unary::Neg => Ok(Answer::Int(n.wrapping_neg())),
+        Unary::PrintInt => Ok(Answer::Print(decimal(alloc, n)?)),
+        Unary::OfInt => Ok(Answer::Str(decimal(alloc, n)?)),
         _ => Ok(Answer::NoSense),
     }
 }
 
-fn of_bool(turner: Turner, b: bool) -> Answer
-    ensures { answer_of result ≡ turns turner (CBool b) }
+fn of_bool(unary: Unary, b: bool) -> Answer
+    ensures { answer_of result ≡ of_unary unary (CBool b) }
 {
-    match turner {
-        Turner::Not => Answer::Bool(!b),
+    match unary {
+        Unary::Not => Answer::Bool(!b),
         _ => Answer::NoSense,
     }
 }
 
-fn of_text(alloc: Global, turner: Turner, text: &Text) -> Result<Answer, Memory>
-    ensures { IfOk result (λ a. answer_of a ≡ turns turner (CStr text.now.0)) }
+fn of_text(alloc: Global, unary: Unary, text: &Text) -> Result<Answer, Memory>
+    ensures { IfOk result (λ a. answer_of a ≡ of_unary unary (CStr text.now.0)) }
 {
-    match turner {
-        Turner::PrintString => Ok(Answer::Print(text.copy(alloc)?)),
-        Turner::Send => Ok(Answer::Send(text.copy(alloc)?)),
-        Turner::Length => Ok(Answer::Int(text.as_slice().len() as i64)),
+    match unary {
+        Unary::PrintString => Ok(Answer::Print(text.copy(alloc)?)),
+        Unary::Send => Ok(Answer::Send(text.copy(alloc)?)),
+        Unary::Length => Ok(Answer::Int(text.as_slice().len() as i64)),
         _ => Ok(Answer::NoSense),
     }
 }
 
-fn of_unit(turner: Turner) -> Answer
-    ensures { answer_of result ≡ turns turner CUnit }
+fn of_unit(unary: Unary) -> Answer
+    ensures { answer_of result ≡ of_unary unary CUnit }
 {
-    match turner {
-        Turner::Receive => Answer::Receive,
+    match unary {
+        Unary::Receive => Answer::Receive,
         _ => Answer::NoSense,
     }
 }
 
 fn of_part(
     alloc: Global,
-    turner: Turner,
+    unary: Unary,
     text: &[u8],
     place: i64,
     count: i64,
 ) -> Result<Answer, Memory>
-    ensures { IfOk result (λ a. answer_of a ≡ turns turner (CPart text.now place count)) }
+    ensures { IfOk result (λ a. answer_of a ≡ of_unary unary (CPart text.now place count)) }
 {
-    match turner {
-        Turner::SubString => part(alloc, text, place, count),
+    match unary {
+        Unary::SubString => part(alloc, text, place, count),
         _ => Ok(Answer::NoSense),
     }
 }

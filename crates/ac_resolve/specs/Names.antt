@@ -1,5 +1,6 @@
 -- Names: variables in scope, and the primitives of the standard modules.
 use Rattle.std.specs.Prelude.{ℕ, suc, min, true, false, List, [], ◌∷◌, Option, Some, None, option_map, option_and_then, codes}
+use Rattle.ac_types.specs.Primitives as primitives
 use Rattle.ac_types.specs.Types.{Bytes, Typ, TInt, TStr, TUnit, TTuple, typs, same_bytes}
 use Rattle.ac_resolve.specs.declared.primitive.Primitive.{Primitive}
 use Rattle.ac_resolve.specs.declared.primitive.Standard.{Standard}
@@ -36,13 +37,13 @@ abbrev pub primitive : Bytes → Bytes → Option Primitive
 primitive m x = option_and_then (entry_of x) (entry_of m standard)
 
 abbrev pub number_of : Primitive → ℕ
-number_of PrintInt = 10
-number_of PrintString = 11
-number_of Send = 12
-number_of Receive = 13
-number_of Length = 14
-number_of Sub = 15
-number_of OfInt = 16
+number_of PrintInt = primitives.print_int
+number_of PrintString = primitives.print_string
+number_of Send = primitives.send
+number_of Receive = primitives.receive
+number_of Length = primitives.length
+number_of Sub = primitives.sub_string
+number_of OfInt = primitives.of_int
 
 abbrev pub argument_of : Primitive → Typ
 argument_of PrintInt = TInt

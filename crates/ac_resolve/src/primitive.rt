@@ -8,6 +8,9 @@ ghost use Rattle.ac_resolve.specs.Names.{entry_of, standard, io, str, table_of, 
 ghost use Rattle.ac_resolve.specs.Elaboration.{primitive_of};
 
 use ac_terms::Term;
+use ac_types::primitives::{
+    LENGTH, OF_INT, PRINT_INT, PRINT_STRING, RECEIVE, SEND, SUB_STRING,
+};
 use ac_types::{Many, Memory, Ty, Word};
 use std::alloc::Global;
 
@@ -36,13 +39,13 @@ impl Primitive {
         ensures { result ≡ number_of self }
     {
         match self {
-            Primitive::PrintInt => 10,
-            Primitive::PrintString => 11,
-            Primitive::Send => 12,
-            Primitive::Receive => 13,
-            Primitive::Length => 14,
-            Primitive::Sub => 15,
-            Primitive::OfInt => 16,
+            Primitive::PrintInt => PRINT_INT,
+            Primitive::PrintString => PRINT_STRING,
+            Primitive::Send => SEND,
+            Primitive::Receive => RECEIVE,
+            Primitive::Length => LENGTH,
+            Primitive::Sub => SUB_STRING,
+            Primitive::OfInt => OF_INT,
         }
     }
 

@@ -17,8 +17,9 @@ link_at E i = option_and_then (λ (e : Entry). e.link) (slice_get E i)
 
 -- an import is linked to an earlier module that it may link to; nothing else is linked
 abbrev pub IsLinked : Environment → ℕ → Def → Type 0
+IsLinked E i (AModule m) = link_at E i ≡ None
 IsLinked E i (AnImport m) = (j : ℕ) × (link_at E i ≡ Some j) × (j < i) × MayLink E m j
-IsLinked E i d = link_at E i ≡ None
+IsLinked E i (AMark t) = link_at E i ≡ None
 
 -- shelf entries stand first, then own entries, then arrived ones
 abbrev pub rank : Seen → ℕ
@@ -43,7 +44,8 @@ is_uri u = nat_le 1 (length u) && nat_le (length u) 1024
 
 abbrev pub IsModule : Def → Type 0
 IsModule (AModule m) = Unit {0}
-IsModule d = ⊥
+IsModule (AnImport i) = ⊥
+IsModule (AMark t) = ⊥
 
 pub record IsCoherent (E : Environment) : Type 0 where
   -- there are at most 65,535 entries: those of the shelf, own ones, arrived ones

@@ -3,9 +3,9 @@ use Rattle.std.specs.Prelude.{ℕ, suc, ◌+◌, ◌&&◌, ◌||◌, not, Bool, 
 use Rattle.std.specs.List.{list_all, list_any}
 use Rattle.std.specs.Option.{option_map_or}
 use Rattle.ac_types.specs.First.{first_failing, or_else}
-use Rattle.ac_types.specs.Types.{Bytes, Typ, TMine, TTuple, TList, TOpt, TFun, Typs, no_types, typ, same_bytes, with_mine}
+use Rattle.ac_types.specs.Types.{Bytes, Typ, TInt, TBool, TStr, TUnit, TExn, TTuple, TList, TOpt, TFun, TAbs, TMine, Typs, no_types, typ, same_bytes, with_mine}
 use Rattle.ac_types.specs.Sigs.{Typed_name, Sig_type, Signature, Constraint, Ranges, Exact, under, type_under, is_abstract}
-use Rattle.ac_terms.specs.Terms.{In, Expr, Int, Boolean, Str, Unit', Exn, ExnOf, Tuple, Nil, Empty, Present, Cons, Own, Ref, Lam, Rec, Exprs, no_exprs, expr}
+use Rattle.ac_terms.specs.Terms.{In, Expr, Int, Boolean, Str, Unit', Exn, ExnOf, Tuple, Nil, Empty, Present, Cons, Var, Own, Ref, Lam, Rec, App, Let, If, Seq, Match, Try, Raise, Prim, Marshal, Unmarshal, Packed, Val, Bracket, Exprs, no_exprs, expr}
 use Rattle.ac_terms.specs.Defs.{Environment, Field, Module, Import, Def, AModule, AnImport, AMark, signature_at}
 use Rattle.ac_terms.specs.Parts.{part_refs, part_mentions, def_parts, has_captured}
 use Rattle.ac_terms.specs.Bounds.{has_small_types}
@@ -27,11 +27,24 @@ abbrev mutual
   is_valuable (Empty T) = true
   is_valuable (Present e) = is_valuable e
   is_valuable (Cons a b) = is_valuable a && is_valuable b
+  is_valuable (Var i) = false
   is_valuable (Own f) = true
   is_valuable (Ref j x) = true
   is_valuable (Lam T e) = true
   is_valuable (Rec T U e) = true
-  is_valuable e = false
+  is_valuable (App f a) = false
+  is_valuable (Let T e b) = false
+  is_valuable (If c a b) = false
+  is_valuable (Seq es) = false
+  is_valuable (Match e arms) = false
+  is_valuable (Try e arms) = false
+  is_valuable (Raise T e) = false
+  is_valuable (Prim k es) = false
+  is_valuable (Marshal T m e) = false
+  is_valuable (Unmarshal T e) = false
+  is_valuable (Packed T v) = false
+  is_valuable (Val T v) = false
+  is_valuable (Bracket c T e) = false
 
   pub are_valuable : Exprs → Bool
   are_valuable no_exprs = true
@@ -82,12 +95,17 @@ is_distinct_sig s = are_distinct (map (λ (x : Sig_type). x.name) s.types) && ar
 -- the own abstract types that a type mentions
 abbrev mutual
   pub mine : Typ → List Bytes
+  mine TInt = []
+  mine TBool = []
+  mine TStr = []
+  mine TUnit = []
+  mine TExn = []
   mine (TTuple Ts) = all_mine Ts
   mine (TList T) = mine T
   mine (TOpt T) = mine T
   mine (TFun T U) = mine T ++ mine U
+  mine (TAbs n t) = []
   mine (TMine t) = t ∷ []
-  mine T = []
 
   pub all_mine : Typs → List Bytes
   all_mine no_types = []
@@ -136,12 +154,14 @@ has_closed_sig (AMark t) = true
 -- a module's fields are valuable, typed, and cover its signature
 abbrev pub has_sound_fields : Environment → ℕ → Def → Bool
 has_sound_fields E i (AModule m) = list_all (λ (f : Field). is_valuable f.term) m.fields && are_typed E i 0 m.fields && is_none (uncovered m)
-has_sound_fields E i d = true
+has_sound_fields E i (AnImport m) = true
+has_sound_fields E i (AMark t) = true
 
 -- an import has the likespecs that its kind wants
 abbrev pub has_sound_likes : Def → Bool
+has_sound_likes (AModule m) = true
 has_sound_likes (AnImport i) = has_right_likes i.constraint i
-has_sound_likes d = true
+has_sound_likes (AMark t) = true
 
 -- all of it
 abbrev pub is_well_formed : Environment → ℕ → Def → Bool

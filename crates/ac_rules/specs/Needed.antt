@@ -28,7 +28,9 @@ cut m n seen = AnImport (record { name = m.name; sig = m.sig; constraint = Exact
 -- every other definition travels as it is
 abbrev pub form_of : Def → Option Bytes → Seen → Bool → Def
 form_of (AModule m) (Some n) seen true = cut m n seen
-form_of d n seen before = d
+form_of (AModule m) n seen before = AModule m
+form_of (AnImport i) n seen before = AnImport i
+form_of (AMark t) n seen before = AMark t
 
 -- the packet form of entry i
 abbrev pub packet_form : ℕ → ℕ → Entry → Def

@@ -31,7 +31,8 @@ is_unresolved ps k = option_map_or (λ (p : Place). p.unresolved) (slice_get ps 
 -- a definition's spelling with references of four bytes, so that no number of an entry is cut
 abbrev pub wide_bytes : Def → Bytes
 wide_bytes (AModule m) = module_bytes four m
-wide_bytes d = def_bytes d
+wide_bytes (AnImport i) = def_bytes (AnImport i)
+wide_bytes (AMark t) = def_bytes (AMark t)
 
 -- two definitions are equal where these spellings are
 abbrev pub same_def : Def → Def → Bool
@@ -147,8 +148,9 @@ module _ (digest : Bytes → Bytes) where
 
   -- 4: the first import without a link
   abbrev pub is_resolved : Environment → Def → Bool
+  is_resolved E (AModule m) = true
   is_resolved E (AnImport i) = is_some (linked E i InPacket)
-  is_resolved E d = true
+  is_resolved E (AMark t) = true
 
   abbrev pub unresolved : Environment → List Def → Option Cause
   unresolved E ds = option_map Unresolved (first_failing (is_resolved E) ds)

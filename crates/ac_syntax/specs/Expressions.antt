@@ -27,6 +27,7 @@
 use Rattle.std.specs.Prelude.{◌≡◌, ℕ, zero, suc, ◌<◌, ◌≤◌, pos, neg_ℤ, Bool, true, false, List, ◌∷◌, Option, Some, None, if◌then◌else◌, nat_le, nat_eq}
 use Rattle.ac_types.specs.Types.{Bytes}
 use Rattle.ac_syntax.specs.Signs.{Sign, Int, Str, Lower, Upper, Fixed, here}
+use Rattle.ac_types.specs.Primitives as primitives
 use Rattle.ac_syntax.specs.Trees.{TypeTree, PatTree, Tree, ExInt, ExBool, ExStr, ExUnit, ExExn, ExExnOf, ExTuple, ExNil, ExAbsent, ExPresent, ExCons, ExVar, ExOf, ExFun, ExRec, ExApp, ExLet, ExLetRec, ExIf, ExSeq, ExMatch, ExTry, ExRaise, ExAnd, ExOr, ExOp, ExMarshal, ExUnmarshal, Trees, no_trees, tree, ArmTrees, no_arm_trees, arm_tree, height}
 use Rattle.ac_syntax.specs.Types.{IsType}
 use Rattle.ac_syntax.specs.Patterns.{IsPattern, exception, exception_with_string}
@@ -43,15 +44,15 @@ pub data Operator : Type 0 where
 
 -- an operator, with its level, 1 the tightest
 abbrev pub operator_of : Symbol → Option (ℕ × Operator)
-operator_of symbol.Star = Some (1, Prim 2)
-operator_of symbol.Slash = Some (1, Prim 3)
-operator_of symbol.Mod = Some (1, Prim 4)
-operator_of symbol.Plus = Some (2, Prim 0)
-operator_of symbol.Minus = Some (2, Prim 1)
-operator_of symbol.Caret = Some (2, Prim 8)
+operator_of symbol.Star = Some (1, Prim primitives.mul)
+operator_of symbol.Slash = Some (1, Prim primitives.div)
+operator_of symbol.Mod = Some (1, Prim primitives.rem)
+operator_of symbol.Plus = Some (2, Prim primitives.add)
+operator_of symbol.Minus = Some (2, Prim primitives.sub)
+operator_of symbol.Caret = Some (2, Prim primitives.concat)
 operator_of symbol.Cons = Some (3, Consing)
-operator_of symbol.Equals = Some (4, Prim 6)
-operator_of symbol.Less = Some (4, Prim 7)
+operator_of symbol.Equals = Some (4, Prim primitives.eq)
+operator_of symbol.Less = Some (4, Prim primitives.lt)
 operator_of symbol.And = Some (5, Both)
 operator_of symbol.Or = Some (6, Either)
 operator_of s = None
@@ -142,9 +143,9 @@ mutual
     once : {k at p : ℕ} {t : Symbol} {o : Operator} {a b : Tree} {ts r : List Sign} → operator_of t ≡ Some (suc k, o) → side_of (suc k) ≡ Once
         → Parses (Binary k) Closed ts b r → Parses (After (suc k) at a) Closed (Fixed p t ∷ ts) (joined at o a b) r
     minus : {p : ℕ} {e : Tree} {ts r : List Sign} → is_bare ts e ≡ false
-        → Parses Unary Closed ts e r → Parses Unary Closed (Fixed p Minus ∷ ts) (ExOp p 5 (tree e no_trees)) r
+        → Parses Unary Closed ts e r → Parses Unary Closed (Fixed p Minus ∷ ts) (ExOp p primitives.neg (tree e no_trees)) r
     negative : {p q n : ℕ} {ts : List Sign} → Parses Unary Closed (Fixed p Minus ∷ Int q n ∷ ts) (ExInt p (neg_ℤ (pos n))) ts
-    not_ : {p : ℕ} {e : Tree} {ts r : List Sign} → Parses Unary Closed ts e r → Parses Unary Closed (Fixed p Not ∷ ts) (ExOp p 9 (tree e no_trees)) r
+    not_ : {p : ℕ} {e : Tree} {ts r : List Sign} → Parses Unary Closed ts e r → Parses Unary Closed (Fixed p Not ∷ ts) (ExOp p primitives.not (tree e no_trees)) r
     app : {e : Tree} {ts r : List Sign} → Parses App Closed ts e r → Parses Unary Closed ts e r
     some : {p : ℕ} {e : Tree} {ts r : List Sign} → Parses Atom Closed ts e r → Parses App Closed (Fixed p SomeWord ∷ ts) (ExPresent p e) r
     exn_with_string : {p k : ℕ} {t : Symbol} {e : Tree} {ts r : List Sign} → exception_with_string t ≡ Some k

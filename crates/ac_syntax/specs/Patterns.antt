@@ -7,6 +7,7 @@
 --
 -- EXN1 are the exceptions with a string, EXN0 the others. In the tuple form there is at least one comma.
 use Rattle.std.specs.Prelude.{◌≡◌, ℕ, ◌<◌, ◌≤◌, pos, neg_ℤ, true, false, List, ◌∷◌, Option, Some, None}
+use Rattle.ac_types.specs.Exceptions as exceptions
 use Rattle.ac_types.specs.Types.{Bytes}
 use Rattle.ac_syntax.specs.Signs.{Sign, Int, Str, Lower, Fixed, here}
 use Rattle.ac_syntax.specs.Trees.{TypeTree, PatTree, PatWild, PatVar, PatInt, PatBool, PatStr, PatUnit, PatTuple, PatNil, PatCons, PatAbsent, PatPresent, PatExn, PatExnOf, PatTrees, no_pat_trees, pat_tree, pat_height}
@@ -16,20 +17,20 @@ use Rattle.ac_syntax.specs.declared.sign.Symbol.TheVariants.{Open, Close, OpenSq
 
 -- the number of an exception that has no string
 abbrev pub exception : Symbol → Option ℕ
-exception NotFound = Some 2
-exception DivisionByZero = Some 3
-exception MatchFailure = Some 4
-exception EndOfFile = Some 5
+exception NotFound = Some exceptions.not_found
+exception DivisionByZero = Some exceptions.division_by_zero
+exception MatchFailure = Some exceptions.match_failure
+exception EndOfFile = Some exceptions.end_of_file
 exception s = None
 
 -- the number of an exception that has a string
 abbrev pub exception_with_string : Symbol → Option ℕ
-exception_with_string Failure = Some 0
-exception_with_string InvalidArgument = Some 1
-exception_with_string SysError = Some 6
-exception_with_string MarshalFailure = Some 7
-exception_with_string UnmarshalFailure = Some 8
-exception_with_string ResolveFailure = Some 9
+exception_with_string Failure = Some exceptions.failure
+exception_with_string InvalidArgument = Some exceptions.invalid_argument
+exception_with_string SysError = Some exceptions.sys_error
+exception_with_string MarshalFailure = Some exceptions.marshal_failure
+exception_with_string UnmarshalFailure = Some exceptions.unmarshal_failure
+exception_with_string ResolveFailure = Some exceptions.resolve_failure
 exception_with_string s = None
 
 pub data PatLevel : Type 0 where

@@ -2,10 +2,11 @@
 use Rattle.std.specs.Prelude.{◌≡◌, ℕ, ℤ, pos, negsuc, zero, suc, ◌==◌, ◌+◌, ◌^◌, ◌≤◌, ◌&&◌, ◌||◌, Bool, true, false, nat_lt, nat_le, nat_eq, List, [], ◌∷◌, length, map, None, IsTrue, slice_index}
 use Rattle.std.specs.List.{list_all}
 use Rattle.std.specs.Option.{option_map_or}
+use Rattle.ac_types.specs.Limits.{longest_string, longest_packet}
 use Rattle.ac_types.specs.Words.{is_word, is_between}
-use Rattle.ac_types.specs.Types.{Bytes, Typ, TTuple, TList, TOpt, TFun, TAbs, TMine, Typs, no_types, typ, is_small}
-use Rattle.ac_terms.specs.Terms.{Home, Main, In, Pattern, PVar, PInt, PStr, PTuple, PCons, PPresent, PExn, PExnOf, Patterns, no_patterns, pattern', Expr, Int, Boolean, Str, Unit', Exn, ExnOf, Tuple, Nil, Empty, Present, Cons, Var, Own, Ref, Lam, Rec, App, Let, If, Seq, Match, Try, Raise, Prim, Marshal, Unmarshal, Packed, Val, Bracket, Exprs, no_exprs, expr, Arms, no_arms, arm, PValue, KInt, KBool, KStr, KUnit, KExn, KTuple, KList, KAbsent, KPresent, KFun, PValues, no_pvalues, pvalue}
-use Rattle.ac_types.specs.Sigs.{Typed_name, Sig_type, Signature, Atom, Number, MyName, Range, One, Between, UpTo, From, Constraint, Ranges, Exact, Resolve, Uri}
+use Rattle.ac_types.specs.Types.{Bytes, Typ, TInt, TBool, TStr, TUnit, TExn, TTuple, TList, TOpt, TFun, TAbs, TMine, Typs, no_types, typ, is_small}
+use Rattle.ac_terms.specs.Terms.{Home, Main, In, Pattern, PWild, PVar, PInt, PBool, PStr, PUnit, PTuple, PNil, PCons, PAbsent, PPresent, PExn, PExnOf, Patterns, no_patterns, pattern', Expr, Int, Boolean, Str, Unit', Exn, ExnOf, Tuple, Nil, Empty, Present, Cons, Var, Own, Ref, Lam, Rec, App, Let, If, Seq, Match, Try, Raise, Prim, Marshal, Unmarshal, Packed, Val, Bracket, Exprs, no_exprs, expr, Arms, no_arms, arm, PValue, KInt, KBool, KStr, KUnit, KExn, KTuple, KList, KAbsent, KPresent, KFun, PValues, no_pvalues, pvalue}
+use Rattle.ac_types.specs.Sigs.{Typed_name, Sig_type, Signature, Atom, Number, MyName, Range, One, Between, UpTo, From, Constraint, Ranges, Exact, Resolve, StaticLink, HereAlready, Uri}
 use Rattle.ac_terms.specs.Defs.{Field, Def, AModule, AnImport, AMark, Packet}
 use Rattle.ac_terms.specs.Primitives.{has_text, is_exception, Rule, primitives}
 use Rattle.ac_terms.specs.Spelling.{type_count, pattern_count, term_count, arm_count, value_count, packet_bytes}
@@ -19,12 +20,12 @@ is_lower w = is_word w && (is_between 97 122 (slice_index w 0) || slice_index w 
 abbrev pub is_upper : Bytes → Bool
 is_upper w = is_word w && is_between 65 90 (slice_index w 0)
 
--- a name has 32 bytes, a string at most 1,048,576
+-- a name has 32 bytes
 abbrev pub is_name : Bytes → Bool
 is_name n = nat_eq (length n) 32
 
 abbrev pub is_string : Bytes → Bool
-is_string s = nat_le (length s) 1048576
+is_string s = nat_le (length s) longest_string
 
 -- numbers of two bytes, of four bytes, and signed ones of eight
 abbrev pub is_two : ℕ → Bool
@@ -44,13 +45,17 @@ is_width n = nat_le 2 n && nat_le n 16
 -- a type; an own abstract type stands in a signature alone
 abbrev mutual
   pub fits_type : Bool → Typ → Bool
+  fits_type own TInt = true
+  fits_type own TBool = true
+  fits_type own TStr = true
+  fits_type own TUnit = true
+  fits_type own TExn = true
   fits_type own (TTuple Ts) = is_width (type_count Ts) && fit_types own Ts
   fits_type own (TList T) = fits_type own T
   fits_type own (TOpt T) = fits_type own T
   fits_type own (TFun T U) = fits_type own T && fits_type own U
   fits_type own (TAbs n t) = is_name n && is_lower t
   fits_type own (TMine t) = own && is_lower t
-  fits_type own T = true
 
   pub fit_types : Bool → Typs → Bool
   fit_types own no_types = true
@@ -58,15 +63,19 @@ abbrev mutual
 
 abbrev mutual
   pub fits_pattern : Pattern → Bool
+  fits_pattern PWild = true
   fits_pattern (PVar T) = fits_type false T
   fits_pattern (PInt n) = is_integer n
+  fits_pattern (PBool b) = true
   fits_pattern (PStr s) = is_string s
+  fits_pattern PUnit = true
   fits_pattern (PTuple ps) = is_width (pattern_count ps) && fit_patterns ps
+  fits_pattern PNil = true
   fits_pattern (PCons p q) = fits_pattern p && fits_pattern q
+  fits_pattern PAbsent = true
   fits_pattern (PPresent p) = fits_pattern p
   fits_pattern (PExn k) = is_exception k None
   fits_pattern (PExnOf k p) = has_text k && fits_pattern p
-  fits_pattern p = true
 
   pub fit_patterns : Patterns → Bool
   fit_patterns no_patterns = true
@@ -81,9 +90,35 @@ takes ((r ∷ rs) ∷ rest) (suc k) n = takes rest k n
 
 -- a function travels as a lambda or a recursive lambda
 abbrev pub is_lambda : Expr → Bool
+is_lambda (Int n) = false
+is_lambda (Boolean b) = false
+is_lambda (Str s) = false
+is_lambda Unit' = false
+is_lambda (Exn k) = false
+is_lambda (ExnOf k e) = false
+is_lambda (Tuple es) = false
+is_lambda (Nil T) = false
+is_lambda (Empty T) = false
+is_lambda (Present e) = false
+is_lambda (Cons a b) = false
+is_lambda (Var i) = false
+is_lambda (Own f) = false
+is_lambda (Ref j x) = false
 is_lambda (Lam T e) = true
 is_lambda (Rec T U e) = true
-is_lambda e = false
+is_lambda (App f a) = false
+is_lambda (Let T e b) = false
+is_lambda (If c a b) = false
+is_lambda (Seq es) = false
+is_lambda (Match e arms) = false
+is_lambda (Try e arms) = false
+is_lambda (Raise T e) = false
+is_lambda (Prim k es) = false
+is_lambda (Marshal T m e) = false
+is_lambda (Unmarshal T e) = false
+is_lambda (Packed T v) = false
+is_lambda (Val T v) = false
+is_lambda (Bracket c T e) = false
 
 abbrev pub fits_home : Home → Bool
 fits_home Main = true
@@ -161,8 +196,9 @@ fits_constraint (Ranges rs star) = list_all fits_range rs && nat_le (length rs) 
 fits_constraint (Exact n) = is_name n
 
 abbrev pub fits_resolve : Resolve → Bool
+fits_resolve StaticLink = true
+fits_resolve HereAlready = true
 fits_resolve (Uri u) = nat_le (length u) 1024
-fits_resolve r = true
 
 abbrev pub fits_typed : Bool → Typed_name → Bool
 fits_typed own x = is_lower x.name && fits_type own x.ty
@@ -184,13 +220,15 @@ fits_def (AnImport i) =
 fits_def (AMark t) = is_string t
 
 abbrev pub is_module_or_import : Def → Bool
+is_module_or_import (AModule m) = true
+is_module_or_import (AnImport i) = true
 is_module_or_import (AMark t) = false
-is_module_or_import d = true
 
 -- the terms of a definition's fields nest at most 500
 abbrev pub def_nesting : Def → List ℕ
 def_nesting (AModule m) = map (λ (f : Field). nesting f.term) m.fields
-def_nesting d = []
+def_nesting (AnImport i) = []
+def_nesting (AMark t) = []
 
 abbrev pub nests_little : Def → Bool
 nests_little d = list_all (λ n. nat_le n 500) (def_nesting d)
@@ -206,8 +244,8 @@ fits_packet p =
     fits_type false p.ty && is_small p.ty &&
     fits_value p.value && nat_le (value_nesting p.value) 500 && has_small_types (value_parts p.value)
 
--- the bytes of a packet within the bounds, at most 1,048,576
+-- the bytes of a packet within the bounds, and no more than a packet may have
 pub record Spells (bytes : Bytes) (p : Packet) : Type 0 where
   pub fits : IsTrue (fits_packet p)
   pub spelled : bytes ≡ packet_bytes p
-  pub short : length bytes ≤ 1048576
+  pub short : length bytes ≤ longest_packet

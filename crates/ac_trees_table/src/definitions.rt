@@ -1,13 +1,13 @@
 // Definitions and whole programs.
 
 use crate::expressions::write_tree;
-use crate::page::Page;
+use crate::page::TreePage;
 use crate::types::write_type;
 use crate::versions::{write_version, write_wants};
 use ac_syntax::{SAbbrev, SDef, SDefKind, SField, SName, SSig, SSpec, SType, Surface};
 use ac_types::{Many, Resolve, Version};
 
-fn abbreviation(page: &mut Page, item: &SAbbrev) {
+fn abbreviation(page: &mut TreePage, item: &SAbbrev) {
     page.put(b" (type");
     page.name(&item.name);
     write_type(page, &item.ty);
@@ -15,13 +15,13 @@ fn abbreviation(page: &mut Page, item: &SAbbrev) {
 }
 
 // The front of a value, whose parenthesis is left open.
-fn value(page: &mut Page, name: &SName, ty: &SType) {
+fn value(page: &mut TreePage, name: &SName, ty: &SType) {
     page.put(b" (val");
     page.name(name);
     write_type(page, ty);
 }
 
-fn spec(page: &mut Page, spec: &SSpec) {
+fn spec(page: &mut TreePage, spec: &SSpec) {
     match spec {
         SSpec::Abstract(name) => {
             page.put(b" (type");
@@ -36,7 +36,7 @@ fn spec(page: &mut Page, spec: &SSpec) {
     }
 }
 
-fn signature(page: &mut Page, sig: &SSig) {
+fn signature(page: &mut TreePage, sig: &SSig) {
     page.open(b"sig", sig.at);
     for item in sig.specs.as_slice() {
         spec(page, item);
@@ -44,7 +44,7 @@ fn signature(page: &mut Page, sig: &SSig) {
     page.close();
 }
 
-fn field(page: &mut Page, field: &SField) {
+fn field(page: &mut TreePage, field: &SField) {
     match field {
         SField::Abbrev(item) => abbreviation(page, item),
         SField::Val(name, ty, tree) => {
@@ -55,7 +55,7 @@ fn field(page: &mut Page, field: &SField) {
     }
 }
 
-fn resolve(page: &mut Page, resolve: &Resolve) {
+fn resolve(page: &mut TreePage, resolve: &Resolve) {
     match resolve {
         Resolve::StaticLink => page.put(b" Static_Link"),
         Resolve::HereAlready => page.put(b" Here_Already"),
@@ -63,7 +63,7 @@ fn resolve(page: &mut Page, resolve: &Resolve) {
     }
 }
 
-fn module(page: &mut Page, version: &Option<Version>, fields: &[SField]) {
+fn module(page: &mut TreePage, version: &Option<Version>, fields: &[SField]) {
     if let Some(version) = version {
         write_version(page, version);
     }
@@ -72,7 +72,7 @@ fn module(page: &mut Page, version: &Option<Version>, fields: &[SField]) {
     }
 }
 
-fn like(page: &mut Page, like: &Option<Many<SAbbrev>>) {
+fn like(page: &mut TreePage, like: &Option<Many<SAbbrev>>) {
     if let Some(items) = like {
         page.put(b" (like");
         for item in items.as_slice() {
@@ -82,7 +82,7 @@ fn like(page: &mut Page, like: &Option<Many<SAbbrev>>) {
     }
 }
 
-fn by(page: &mut Page, by: &[Resolve]) {
+fn by(page: &mut TreePage, by: &[Resolve]) {
     page.put(b" (by");
     for item in by {
         resolve(page, item);
@@ -90,12 +90,12 @@ fn by(page: &mut Page, by: &[Resolve]) {
     page.close();
 }
 
-fn head(page: &mut Page, name: &SName, sig: &SSig) {
+fn head(page: &mut TreePage, name: &SName, sig: &SSig) {
     page.name(name);
     signature(page, sig);
 }
 
-fn definition(page: &mut Page, def: &SDef) {
+fn definition(page: &mut TreePage, def: &SDef) {
     match &def.kind {
         SDefKind::Module {
             name,
@@ -129,7 +129,7 @@ fn definition(page: &mut Page, def: &SDef) {
 }
 
 /// Adds the definitions, and then the expression.
-pub fn write_program(page: &mut Page, program: &Surface) {
+pub fn write_program(page: &mut TreePage, program: &Surface) {
     for def in program.defs.as_slice() {
         definition(page, def);
     }

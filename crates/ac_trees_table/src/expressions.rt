@@ -1,10 +1,10 @@
 // Expressions: the form, the names and types that stand in front, the parts, the type that stands behind.
 
-use crate::exceptions::exception;
-use crate::page::Page;
+use crate::page::TreePage;
 use crate::patterns::write_pattern;
 use crate::types::write_type;
 use ac_syntax::{SArm, SExpr, SExprKind, SFun};
+use ac_types::exceptions::exception_name;
 
 const PRIMITIVES: [&[u8]; 10] = [
     b"+", b"-", b"*", b"/", b"mod", b"neg", b"=", b"<", b"^", b"not",
@@ -29,13 +29,13 @@ fn is_leaf(kind: &SExprKind) -> bool {
     )
 }
 
-fn leaf(page: &mut Page, kind: &SExprKind, at: u32) {
+fn leaf(page: &mut TreePage, kind: &SExprKind, at: u32) {
     match kind {
         SExprKind::Int(number) => page.integer(*number, at),
         SExprKind::Bool(truth) => page.truth(*truth, at),
         SExprKind::Str(text) => page.string(text, at),
         SExprKind::Unit => page.leaf(b"()", at),
-        SExprKind::Exn(number, _) => page.leaf(exception(*number), at),
+        SExprKind::Exn(number, _) => page.leaf(exception_name(*number), at),
         SExprKind::Var(word) => page.leaf(word.text().as_slice(), at),
         _ => {}
     }
@@ -43,7 +43,7 @@ fn leaf(page: &mut Page, kind: &SExprKind, at: u32) {
 
 fn form(kind: &SExprKind) -> &'static [u8] {
     match kind {
-        SExprKind::Exn(number, _) => exception(*number),
+        SExprKind::Exn(number, _) => exception_name(*number),
         SExprKind::Op(number, _) => primitive(*number),
         SExprKind::Tuple(_) => b"tuple",
         SExprKind::Nil(_) => b"[]",
@@ -76,7 +76,7 @@ fn word(kind: &SExprKind) -> &'static [u8] {
 }
 
 // What stands in front of the parts.
-fn front(page: &mut Page, kind: &SExprKind) {
+fn front(page: &mut TreePage, kind: &SExprKind) {
     match kind {
         SExprKind::Nil(ty) | SExprKind::Absent(ty) => write_type(page, ty),
         SExprKind::Of(owner, name) => {
@@ -93,7 +93,7 @@ fn front(page: &mut Page, kind: &SExprKind) {
 }
 
 // A function but for its body.
-fn head(page: &mut Page, fun: &SFun) {
+fn head(page: &mut TreePage, fun: &SFun) {
     page.name(&fun.name);
     page.name(&fun.arg);
     write_type(page, &fun.ty);
@@ -101,7 +101,7 @@ fn head(page: &mut Page, fun: &SFun) {
 }
 
 // What stands behind the parts.
-fn back(page: &mut Page, kind: &SExprKind) {
+fn back(page: &mut TreePage, kind: &SExprKind) {
     match kind {
         SExprKind::Raise(_, ty) | SExprKind::Marshal(_, _, ty) | SExprKind::Unmarshal(_, ty) => {
             write_type(page, ty);
@@ -112,7 +112,7 @@ fn back(page: &mut Page, kind: &SExprKind) {
 
 /// Adds an expression.
 #[cycle(expressions)]
-pub fn write_tree(page: &mut Page, tree: &SExpr) {
+pub fn write_tree(page: &mut TreePage, tree: &SExpr) {
     if is_leaf(&tree.kind) {
         leaf(page, &tree.kind, tree.at);
     } else {
@@ -125,7 +125,7 @@ pub fn write_tree(page: &mut Page, tree: &SExpr) {
 }
 
 #[cycle(expressions)]
-fn write_parts(page: &mut Page, kind: &SExprKind) {
+fn write_parts(page: &mut TreePage, kind: &SExprKind) {
     match kind {
         SExprKind::Exn(_, Some(part))
         | SExprKind::Present(part)
@@ -163,14 +163,14 @@ fn write_parts(page: &mut Page, kind: &SExprKind) {
 }
 
 #[cycle(expressions)]
-fn write_trees(page: &mut Page, trees: &[SExpr]) {
+fn write_trees(page: &mut TreePage, trees: &[SExpr]) {
     for tree in trees {
         write_tree(page, tree);
     }
 }
 
 #[cycle(expressions)]
-fn write_arms(page: &mut Page, arms: &[SArm]) {
+fn write_arms(page: &mut TreePage, arms: &[SArm]) {
     for arm in arms {
         write_pattern(page, &arm.pat);
         write_tree(page, &arm.body);

@@ -7,7 +7,6 @@
 #![tactic(auto)]
 
 mod definitions;
-mod exceptions;
 mod expressions;
 mod page;
 mod patterns;
@@ -19,17 +18,17 @@ use ac_parser::{parse_module, parse_program};
 use ac_syntax::{ParseFault, Surface};
 use ac_types::{Memory, Text};
 use definitions::write_program;
-use page::Page;
+use page::TreePage;
 use pieces::expanded;
 use std::alloc::Global;
-use std::io;
+use std::io::{self, Write};
 
-fn write_place(page: &mut Page, cause: &[u8], at: u32) {
+fn write_place(page: &mut TreePage, cause: &[u8], at: u32) {
     page.put(cause);
     page.number(i64::from(at));
 }
 
-fn write_fault(page: &mut Page, fault: ParseFault) {
+fn write_fault(page: &mut TreePage, fault: ParseFault) {
     match fault {
         ParseFault::TooLong { len } => {
             page.put(b" too_long ");
@@ -42,7 +41,7 @@ fn write_fault(page: &mut Page, fault: ParseFault) {
     }
 }
 
-fn write_answer(page: &mut Page, answer: &Result<Surface, ParseFault>) {
+fn write_answer(page: &mut TreePage, answer: &Result<Surface, ParseFault>) {
     match answer {
         Ok(program) => write_program(page, program),
         Err(fault) => write_fault(page, *fault),
@@ -50,7 +49,7 @@ fn write_answer(page: &mut Page, answer: &Result<Surface, ParseFault>) {
 }
 
 // Whether there is a tree, for a text whose tree would be too long to read.
-fn write_outcome(page: &mut Page, answer: &Result<Surface, ParseFault>) {
+fn write_outcome(page: &mut TreePage, answer: &Result<Surface, ParseFault>) {
     match answer {
         Ok(_) => page.put(b" a tree"),
         Err(fault) => write_fault(page, *fault),
@@ -71,9 +70,9 @@ fn long_module(alloc: Global, written: &str) -> Result<Surface, ParseFault> {
     }
 }
 
-fn answer_to(alloc: Global, line: &str) -> Page {
+fn answer_to(alloc: Global, line: &str) -> TreePage {
     let (word, text) = line.split_once(' ').unwrap_or((line, ""));
-    let mut page = Page::new(alloc, word == "places");
+    let mut page = TreePage::new(alloc, word == "places");
     match word {
         "program" | "places" => {
             write_answer(&mut page, &parse_program(alloc, text.as_bytes()));
@@ -90,8 +89,10 @@ fn main(rt: HostRuntime) -> io::Result<()> {
     for line in rt.lines(rt.alloc()) {
         let line = line?;
         let page = answer_to(rt.alloc(), line.as_str());
-        let answer = page.text();
-        println!(rt; "{line} =>{answer}")?;
+        rt.stdout().write_all(line.as_bytes())?;
+        rt.stdout().write_all(b" =>")?;
+        rt.stdout().write_all(page.bytes())?;
+        println!(rt)?;
     }
     Ok(())
 }

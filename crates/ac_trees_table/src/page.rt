@@ -1,42 +1,34 @@
-// A text that grows, of nodes in parentheses behind their forms.
+// A page of nodes in parentheses behind their forms.
 
+use ac_page::Page;
 use ac_syntax::SName;
 use ac_types::Text;
 use std::alloc::Global;
 
-/// A text that grows. Where memory runs out it is no longer whole.
+/// A page of trees.
 #[derive(Drop)]
-pub struct Page {
-    alloc: Global,
-    text: Text,
-    whole: bool,
+pub struct TreePage {
+    page: Page,
     with_places: bool,
 }
 
-impl Page {
+impl TreePage {
     /// An empty page, on which nodes and names are to have their places or not.
-    pub fn new(alloc: Global, with_places: bool) -> Page {
-        Page {
-            alloc,
-            text: Text::new(alloc),
-            whole: true,
+    pub fn new(alloc: Global, with_places: bool) -> TreePage {
+        TreePage {
+            page: Page::new(alloc),
             with_places,
         }
     }
 
     /// Adds these bytes.
     pub fn put(&mut self, bytes: &[u8]) {
-        if self.text.extend(bytes).is_err() {
-            self.whole = false;
-        }
+        self.page.put(bytes);
     }
 
     /// Adds a number's digits, behind a `-` where it is negative.
     pub fn number(&mut self, number: i64) {
-        match format!(in self.alloc; "{number}") {
-            Ok(digits) => self.put(digits.as_bytes()),
-            Err(_) => self.whole = false,
-        }
+        self.page.integer(number);
     }
 
     /// Adds a place behind an `@`, where places are shown.
@@ -112,19 +104,23 @@ impl Page {
         }
     }
 
+    // A byte as `\x` and two digits to the base 16.
     fn hexadecimal(&mut self, byte: u8) {
-        match format!(in self.alloc; "\\x{byte:02x}") {
-            Ok(digits) => self.put(digits.as_bytes()),
-            Err(_) => self.whole = false,
-        }
+        self.page.put(b"\\x");
+        self.page.put(&[digit(byte / 16), digit(byte % 16)]);
     }
 
-    /// The text, where it is whole.
-    pub fn text(&self) -> &str {
-        if self.whole {
-            std::str::from_utf8(self.text.as_slice()).unwrap_or(" no text")
-        } else {
-            " out of memory"
-        }
+    /// The bytes, where they are whole.
+    pub fn bytes(&self) -> &[u8] {
+        self.page.bytes().unwrap_or(b" out of memory")
+    }
+}
+
+// A digit to the base 16.
+fn digit(value: u8) -> u8 {
+    if value < 10 {
+        b'0' + value
+    } else {
+        b'a'.wrapping_add(value.wrapping_sub(10))
     }
 }

@@ -1,11 +1,11 @@
 // Patterns.
 
-use crate::exceptions::exception;
-use crate::page::Page;
+use crate::page::TreePage;
 use crate::types::write_type;
 use ac_syntax::{SPat, SPatKind};
+use ac_types::exceptions::exception_name;
 
-fn leaf(page: &mut Page, kind: &SPatKind, at: u32) {
+fn leaf(page: &mut TreePage, kind: &SPatKind, at: u32) {
     match kind {
         SPatKind::Wild => page.leaf(b"_", at),
         SPatKind::Int(number) => page.integer(*number, at),
@@ -14,7 +14,7 @@ fn leaf(page: &mut Page, kind: &SPatKind, at: u32) {
         SPatKind::Unit => page.leaf(b"()", at),
         SPatKind::Nil => page.leaf(b"[]", at),
         SPatKind::Absent => page.leaf(b"None", at),
-        SPatKind::Exn(number, None) => page.leaf(exception(*number), at),
+        SPatKind::Exn(number, None) => page.leaf(exception_name(*number), at),
         SPatKind::Var(name, ty) => {
             page.open(b"var", at);
             page.name(name);
@@ -27,7 +27,7 @@ fn leaf(page: &mut Page, kind: &SPatKind, at: u32) {
 
 /// Adds a pattern.
 #[cycle(patterns)]
-pub fn write_pattern(page: &mut Page, pattern: &SPat) {
+pub fn write_pattern(page: &mut TreePage, pattern: &SPat) {
     match &pattern.kind {
         SPatKind::Tuple(parts) => {
             page.open(b"tuple", pattern.at);
@@ -46,7 +46,7 @@ pub fn write_pattern(page: &mut Page, pattern: &SPat) {
             page.close();
         }
         SPatKind::Exn(number, Some(item)) => {
-            page.open(exception(*number), pattern.at);
+            page.open(exception_name(*number), pattern.at);
             write_pattern(page, item);
             page.close();
         }
@@ -55,7 +55,7 @@ pub fn write_pattern(page: &mut Page, pattern: &SPat) {
 }
 
 #[cycle(patterns)]
-fn write_patterns(page: &mut Page, patterns: &[SPat]) {
+fn write_patterns(page: &mut TreePage, patterns: &[SPat]) {
     for pattern in patterns {
         write_pattern(page, pattern);
     }

@@ -1,9 +1,9 @@
 // Types.
 
-use crate::page::Page;
+use crate::page::TreePage;
 use ac_syntax::{SType, STypeKind};
 
-fn leaf(page: &mut Page, kind: &STypeKind, at: u32) {
+fn leaf(page: &mut TreePage, kind: &STypeKind, at: u32) {
     match kind {
         STypeKind::Int => page.leaf(b"int", at),
         STypeKind::Bool => page.leaf(b"bool", at),
@@ -23,7 +23,7 @@ fn leaf(page: &mut Page, kind: &STypeKind, at: u32) {
 
 /// Adds a type.
 #[cycle(types)]
-pub fn write_type(page: &mut Page, ty: &SType) {
+pub fn write_type(page: &mut TreePage, ty: &SType) {
     match &ty.kind {
         STypeKind::Tuple(parts) => {
             page.open(b"*", ty.at);
@@ -51,7 +51,7 @@ pub fn write_type(page: &mut Page, ty: &SType) {
 }
 
 #[cycle(types)]
-fn write_types(page: &mut Page, types: &[SType]) {
+fn write_types(page: &mut TreePage, types: &[SType]) {
     for ty in types {
         write_type(page, ty);
     }

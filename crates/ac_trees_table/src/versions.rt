@@ -1,15 +1,15 @@
 // Versions, and what an import asks for.
 
-use crate::page::Page;
+use crate::page::TreePage;
 use ac_syntax::SWants;
 use ac_types::{Atom, Constraint, Range, Version};
 
-fn spaced(page: &mut Page, number: u32) {
+fn spaced(page: &mut TreePage, number: u32) {
     page.put(b" ");
     page.number(i64::from(number));
 }
 
-fn atom(page: &mut Page, atom: Atom) {
+fn atom(page: &mut TreePage, atom: Atom) {
     match atom {
         Atom::Number(number) => spaced(page, number),
         Atom::MyName => page.put(b" myname"),
@@ -17,7 +17,7 @@ fn atom(page: &mut Page, atom: Atom) {
 }
 
 /// Adds a module's version.
-pub fn write_version(page: &mut Page, version: &Version) {
+pub fn write_version(page: &mut TreePage, version: &Version) {
     page.put(b" (version");
     for part in version.atoms.as_slice() {
         atom(page, *part);
@@ -25,7 +25,7 @@ pub fn write_version(page: &mut Page, version: &Version) {
     page.close();
 }
 
-fn range(page: &mut Page, range: Range) {
+fn range(page: &mut TreePage, range: Range) {
     match range {
         Range::One(number) => spaced(page, number),
         Range::Between(least, most) => {
@@ -44,7 +44,7 @@ fn range(page: &mut Page, range: Range) {
     }
 }
 
-fn ranges(page: &mut Page, ranges: &[Range], star: bool) {
+fn ranges(page: &mut TreePage, ranges: &[Range], star: bool) {
     page.put(b" (version");
     for part in ranges {
         range(page, *part);
@@ -56,7 +56,7 @@ fn ranges(page: &mut Page, ranges: &[Range], star: bool) {
 }
 
 /// Adds what an import asks for.
-pub fn write_wants(page: &mut Page, wants: &SWants) {
+pub fn write_wants(page: &mut TreePage, wants: &SWants) {
     match wants {
         SWants::Ranges(Constraint::Ranges { atoms, star }) => ranges(page, atoms.as_slice(), *star),
         SWants::Ranges(Constraint::Exact(_)) => page.put(b" (exact)"),

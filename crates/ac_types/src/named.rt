@@ -1,7 +1,9 @@
 // What a list has under a name.
 
 ghost use Rattle.std.specs.Prelude.{◌≡◌, map, option_map};
+ghost use Rattle.std.specs.List.{find};
 ghost use Rattle.std.specs.Option.{option_copied};
+ghost use Rattle.ac_types.specs.Types.{same_bytes};
 ghost use Rattle.ac_types.specs.Sigs.{under, type_under};
 ghost use Rattle.ac_types.specs.ReadTypes.{typ_of, typed_of, sig_type_of};
 
@@ -21,9 +23,10 @@ pub fn type_named<'a>(types: &'a [TyField], name: &Word) -> Option<&'a Ty>
     None
 }
 
-/// What a signature says of its type of that name, `None` exactly where it has none. It takes no memory.
+/// A signature's first type of that name, `None` exactly where it has none. It takes no memory.
 pub fn spec_named<'a>(types: &'a [SigType], name: &Word) -> Option<&'a SigType>
-    ensures { option_map (λ s. (sig_type_of s).manifest) (option_copied result) ≡ type_under name.now (map sig_type_of types.now) }
+    ensures first { option_copied result ≡ find (λ s. same_bytes s.name name.now) types.now }
+    ensures manifest { option_map (λ s. (sig_type_of s).manifest) (option_copied result) ≡ type_under name.now (map sig_type_of types.now) }
 {
     for x in types {
         if x.name.text().as_slice() == name.text().as_slice() {
