@@ -15,7 +15,7 @@ use Rattle.ac_rules.specs.Views.{Coloured}
 use Rattle.ac_rules.specs.Typing.{type_of, variables, joined, seen}
 use Rattle.ac_check.specs.Checking.{scope_of, arm_type, newest_first}
 use Rattle.ac_check.specs.declared.scope.Place.{Place}
-use Rattle.ac_check.proofs.KeptLaws.{K, kept_is, lam_some, rec_no_result, rec_some, rec_big, rec_small, let_other, let_same}
+use Rattle.ac_check.proofs.KeptLaws.{K, kept_is, lam_some, lam_none, rec_none, rec_no_result, rec_some, rec_big, rec_small, let_other, let_same}
 
 -- the same answer, of an equal type
 pub carry : (r : Result (Option Ty) Memory) (x y : Option Typ) → x ≡ y → IfOk r (λ o. option_map typ_of o ≡ x) → IfOk r (λ o. option_map typ_of o ≡ y)
@@ -33,6 +33,12 @@ module _ (E : Environment) (p : Place) (v : List Typ) where
   function_some T A e o G h q g =
       ap (λ (x : Option Typ). K (option_map (TFun A) x)) (q ∙ ap (λ (H : List Typ). typed H e) g)
       ∙ sym (lam_some (written T) (λ X. typed (X ∷ v) e) A (sym h))
+
+  pub function_none : (T : Typ) (e : Expr) → None ≡ K (written T) → None ≡ typed v (Lam T e)
+  function_none T e h = sym (lam_none (written T) (λ X. typed (X ∷ v) e) (sym h))
+
+  pub recursive_none : (T U : Typ) (e : Expr) → None ≡ K (written T) → None ≡ typed v (Rec T U e)
+  recursive_none T U e h = sym (rec_none (λ A B. typed (A ∷ TFun A B ∷ v) e) (written T) (written U) (sym h))
 
   pub recursive_no_result : (T U : Typ) (e : Expr) → None ≡ K (written U) → None ≡ typed v (Rec T U e)
   recursive_no_result T U e h = sym (rec_no_result (λ A B. typed (A ∷ TFun A B ∷ v) e) (written T) (written U) (sym h))

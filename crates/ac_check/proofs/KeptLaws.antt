@@ -145,6 +145,14 @@ kept_some_is (Some T) A e = ap Some (sym (kept_is T A e))
 pub lam_some : (s : Option Typ) (f : Typ → Option Typ) (A : Typ) → K s ≡ Some A → option_and_then (λ X. K (option_map (TFun X) (f X))) s ≡ K (option_map (TFun A) (f A))
 lam_some s f A e = ap (option_and_then (λ X. K (option_map (TFun X) (f X)))) (kept_some_is s A e)
 
+pub lam_none : (s : Option Typ) (f : Typ → Option Typ) → K s ≡ None → option_and_then (λ X. K (option_map (TFun X) (f X))) s ≡ None
+lam_none None f e = refl
+lam_none (Some A) f e = by (f A)
+  where
+    by : (o : Option Typ) → K (option_map (TFun A) o) ≡ None
+    by None = refl
+    by (Some B) = no_kept_fun A B e
+
 -- the same for a recursive function, whose result's type is written too
 abbrev pub rec : (Typ → Typ → Option Typ) → Option Typ → Option Typ → Option Typ
 rec f s r = option_and_then (λ A. option_and_then (λ B. K (given (has (f A B) B) (Some (TFun A B)))) r) s
@@ -160,6 +168,11 @@ pub rec_no_result : (f : Typ → Typ → Option Typ) (s r : Option Typ) → K r 
 rec_no_result f None r e = refl
 rec_no_result f (Some A) None e = refl
 rec_no_result f (Some A) (Some B) e = no_given (has (f A B) B) A B (to_none A B e)
+
+pub rec_none : (f : Typ → Typ → Option Typ) (s r : Option Typ) → K s ≡ None → rec f s r ≡ None
+rec_none f None r e = refl
+rec_none f (Some A) None e = refl
+rec_none f (Some A) (Some B) e = no_given (has (f A B) B) A B (no_kept_fun A B e)
 
 pub rec_some : (f : Typ → Typ → Option Typ) (s r : Option Typ) (A B : Typ) → K s ≡ Some A → K r ≡ Some B → rec f s r ≡ K (given (has (f A B) B) (Some (TFun A B)))
 rec_some f s r A B p q = ap₂ (rec f) (kept_some_is s A p) (kept_some_is r B q)

@@ -24,7 +24,7 @@ use Rattle.ac_check.proofs.Collected.{ahead, collected, item_none, item_some, it
 use Rattle.ac_check.proofs.TermLaws.{form_laws, types_collected, arms_collected, plain_item, plain_arm}
 use Rattle.ac_check.proofs.ArmLaws.{arm_none, arm_some, arms_all}
 use Rattle.ac_check.proofs.ScopeLaws.{types_in-One, types_in-More}
-use Rattle.ac_check.proofs.FormLaws.{carry, function_some, recursive_no_result, recursive_big, recursive_some, binding_other, binding_some, body_some}
+use Rattle.ac_check.proofs.FormLaws.{carry, function_none, function_some, recursive_none, recursive_no_result, recursive_big, recursive_some, binding_other, binding_some, body_some}
 use Rattle.ac_check.proofs.TypedForms.{tuple_form, nil_form, empty_form, var_form, present_form, cons_form, app_form, lam_form, rec_form, let_form, if_form, seq_form, match_form, try_form, raise_form, prim_form, plain_as, from_ok, same_type, same_answer}
 use Rattle.ac_check.proofs.typing.+typing.Goals as goal
 
@@ -101,12 +101,22 @@ arm_type-returns t c =
     (types_in-More c.args.vars c.as_slice.result ∙ ap (λ (ts : List Ty). newest_first ts ++ types_in c.args.vars.now) c.as_slice.ensures))
     c.typed.ensures
 
+pub function-returns-in_default : goal.function-returns-in_default
+function-returns-in_default t c =
+    function_none (entries_of c.args.place.now) c.args.place.now (types_in c.args.vars.now) (typ_of c.args.ty.now) (expr_of c.args.body.now)
+    (ap (option_map typ_of) (sym c.in_default.is) ∙ c.in_ok-from.ensures)
+
 pub function-returns : goal.function-returns
 function-returns t c =
     carry c.function_type.result _ _
     (function_some (entries_of c.args.place.now) c.args.place.now (types_in c.args.vars.now) (typ_of c.args.ty.now) (typ_of c.in-Some.from) (expr_of c.args.body.now) (option_map typ_of c.in_ok-to.to) _
     (ap (option_map typ_of) (sym c.in-Some.is) ∙ c.in_ok-from.ensures) c.in_ok-to.ensures (types_in-One c.args.vars _))
     c.function_type.ensures
+
+pub recursive-returns-in_default : goal.recursive-returns-in_default
+recursive-returns-in_default t c =
+    recursive_none (entries_of c.args.place.now) c.args.place.now (types_in c.args.vars.now) (typ_of c.args.from.now) (typ_of c.args.to.now) (expr_of c.args.body.now)
+    (ap (option_map typ_of) (sym c.in_default.is) ∙ c.in_ok-from.ensures)
 
 pub recursive-returns-in_default-2 : goal.recursive-returns-in_default-2
 recursive-returns-in_default-2 t c =

@@ -1,0 +1,77 @@
+-- The pieces of spellings that have no type in them: numbers, words, strings, lists, homes, versions, constraints and resolvespecs.
+use Rattle.std.specs.Prelude.{ℕ, suc, ℤ, ◌+◌, Bool, true, false, List, [], ◌∷◌, ◌++◌, length, flat_map, Option, Some, None}
+use Rattle.std.specs.Int.{w16, w32, w64, to_be_bytes, cast_unsigned}
+use Rattle.ac_types.specs.Types.{Bytes}
+use Rattle.ac_types.specs.Sigs.{Atom, Number, MyName, Range, One, Between, UpTo, From, Constraint, Ranges, Exact, Resolve, StaticLink, HereAlready, Uri}
+use Rattle.ac_terms.specs.Terms.{Home, Main, In, Patterns, no_patterns, pattern', Exprs, no_exprs, expr, Arms, no_arms, arm, PValues, no_pvalues, pvalue}
+
+-- numbers are big-endian; a word has a byte for its length, a string four
+abbrev pub two : ℕ → Bytes
+two n = to_be_bytes w16 n
+
+abbrev pub four : ℕ → Bytes
+four n = to_be_bytes w32 n
+
+abbrev pub eight : ℤ → Bytes
+eight z = to_be_bytes w64 (cast_unsigned w64 z)
+
+abbrev pub truth : Bool → Bytes
+truth true = 1 ∷ []
+truth false = 0 ∷ []
+
+abbrev pub word : Bytes → Bytes
+word w = length w ∷ w
+
+abbrev pub str : Bytes → Bytes
+str s = four (length s) ++ s
+
+-- a count and the items
+abbrev pub listed : {A : Type 0} → (ℕ → Bytes) → (A → Bytes) → List A → Bytes
+listed count item xs = count (length xs) ++ flat_map item xs
+
+abbrev pub byte : ℕ → Bytes
+byte n = n ∷ []
+
+abbrev pub home_bytes : Home → Bytes
+home_bytes Main = two 0
+home_bytes (In k) = two (k + 1)
+
+abbrev pub exn_bytes : ℕ → Option Bytes → Bytes
+exn_bytes k None = k ∷ []
+exn_bytes k (Some s) = k ∷ str s
+
+-- how many stand in a list
+abbrev pub pattern_count : Patterns → ℕ
+pattern_count no_patterns = 0
+pattern_count (pattern' p ps) = suc (pattern_count ps)
+
+abbrev pub term_count : Exprs → ℕ
+term_count no_exprs = 0
+term_count (expr e es) = suc (term_count es)
+
+abbrev pub arm_count : Arms → ℕ
+arm_count no_arms = 0
+arm_count (arm p e rest) = suc (arm_count rest)
+
+abbrev pub value_count : PValues → ℕ
+value_count no_pvalues = 0
+value_count (pvalue v vs) = suc (value_count vs)
+
+abbrev pub atom_bytes : Atom → Bytes
+atom_bytes (Number n) = 0x01 ∷ four n
+atom_bytes MyName = 0x02 ∷ []
+
+abbrev pub range_bytes : Range → Bytes
+range_bytes (One n) = 0x01 ∷ four n
+range_bytes (Between n m) = 0x02 ∷ four n ++ four m
+range_bytes (UpTo n) = 0x03 ∷ four n
+range_bytes (From n) = 0x04 ∷ four n
+
+abbrev pub constraint_bytes : Constraint → Bytes
+constraint_bytes (Ranges rs star) = 0x01 ∷ listed byte range_bytes rs ++ truth star
+constraint_bytes (Exact n) = 0x02 ∷ n
+
+abbrev pub resolve_bytes : Resolve → Bytes
+resolve_bytes StaticLink = 0x01 ∷ []
+resolve_bytes HereAlready = 0x02 ∷ []
+resolve_bytes (Uri u) = 0x03 ∷ str u
