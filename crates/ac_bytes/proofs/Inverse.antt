@@ -9,7 +9,7 @@ use Rattle.std.proofs.lemmas.List.{append-nil, length-take-le, take-append-drop,
 use Rattle.byteorder.specs.Endian.{big_from}
 use Rattle.byteorder.specs.Numbers.{big_from-cons, big_from-lt, big_number-reads_back, length-bytes_high_first}
 use Rattle.ac_types.specs.Types.{Bytes}
-use Rattle.ac_bytes.specs.Cursors.{Unread, Takes}
+use Rattle.ac_bytes.specs.Cursors.{Unread, TakesBytes}
 use Rattle.ac_bytes.specs.Numbers.{AreBytes, number, big_endian, eight}
 
 -- the number of bytes is the one that byteorder reads from them
@@ -78,7 +78,7 @@ pub front_taken : (k : ℕ) (bs front rest : Bytes) → k ≤ length bs → fron
 front_taken k bs front rest long f r = (ap length f ∙ length-take-le k bs long, sym (ap (λ x. x ++ rest) f ∙ ap (λ y. take k bs ++ y) r ∙ take-append-drop k bs))
 
 -- bytes that were put are the only ones, of so many, that are taken again
-pub front_taken_again : (bs cs rest : Bytes) (old new : Unread) → length cs ≡ length bs → old.left ≡ bs ++ rest → Takes old cs new → (cs ≡ bs) × (new.left ≡ rest)
+pub front_taken_again : (bs cs rest : Bytes) (old new : Unread) → length cs ≡ length bs → old.left ≡ bs ++ rest → TakesBytes old cs new → (cs ≡ bs) × (new.left ≡ rest)
 front_taken_again bs cs rest old new len put taken =
     let both : cs ++ new.left ≡ bs ++ rest = sym taken.0 ∙ put in (
       sym (take_at cs new.left (length bs) len) ∙ ap (take (length bs)) both ∙ take_at bs rest (length bs) refl,
@@ -86,7 +86,7 @@ front_taken_again bs cs rest old new len put taken =
     )
 
 -- and so a number
-pub taken_again : (k n m : ℕ) (rest : Bytes) (old new : Unread) → n < 256 ^ k → m < 256 ^ k → old.left ≡ big_endian k n ++ rest → Takes old (big_endian k m) new → (m ≡ n) × (new.left ≡ rest)
+pub taken_again : (k n m : ℕ) (rest : Bytes) (old new : Unread) → n < 256 ^ k → m < 256 ^ k → old.left ≡ big_endian k n ++ rest → TakesBytes old (big_endian k m) new → (m ≡ n) × (new.left ≡ rest)
 taken_again k n m rest old new fits small put taken =
     let len = length-bytes_high_first k m ∙ sym (length-bytes_high_first k n) in
     let p = front_taken_again (big_endian k n) (big_endian k m) rest old new len put taken in
@@ -97,7 +97,7 @@ eight_below : (z : ℤ) → FitsSigned w64 z → cast_unsigned w64 z < 256 ^ 8
 eight_below (pos n) fits = let h : n < 2 ^ 63 = fits.sfits in omega arith
 eight_below (negsuc n) fits = let h : n < 2 ^ 63 = fits.sfits in omega arith
 
-pub signed_taken_again : (z y : ℤ) (rest : Bytes) (old new : Unread) → FitsSigned w64 z → FitsSigned w64 y → old.left ≡ eight z ++ rest → Takes old (eight y) new → (y ≡ z) × (new.left ≡ rest)
+pub signed_taken_again : (z y : ℤ) (rest : Bytes) (old new : Unread) → FitsSigned w64 z → FitsSigned w64 y → old.left ≡ eight z ++ rest → TakesBytes old (eight y) new → (y ≡ z) × (new.left ≡ rest)
 signed_taken_again z y rest old new fits small put taken =
     let p = taken_again 8 (cast_unsigned w64 z) (cast_unsigned w64 y) rest old new (eight_below z fits) (eight_below y small) put taken in
     (sym (to_z-of_z w64 y small) ∙ ap (cast_signed w64) p.0 ∙ to_z-of_z w64 z fits, p.1)

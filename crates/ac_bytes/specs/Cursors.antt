@@ -8,5 +8,5 @@ pub record Unread : Type 0 where
   pub taken : ℕ
 
 -- these bytes stood in front and were taken
-abbrev pub Takes : Unread → Bytes → Unread → Type 0
-Takes old bytes new = (old.left ≡ bytes ++ new.left) × (new.taken ≡ old.taken + length bytes)
+abbrev pub TakesBytes : Unread → Bytes → Unread → Type 0
+TakesBytes old bytes new = (old.left ≡ bytes ++ new.left) × (new.taken ≡ old.taken + length bytes)

@@ -1,7 +1,7 @@
 // Reading from the front of bytes.
 
 ghost use Rattle.std.specs.Prelude.{◌≡◌, ◌<◌, ◌≤◌, ◌↔◌, ◌⊎◌, ◌++◌, ◌∷◌, [], length, take, IsTrue, MatchOption};
-ghost use Rattle.ac_bytes.specs.Cursors.{Takes};
+ghost use Rattle.ac_bytes.specs.Cursors.{TakesBytes};
 ghost use Rattle.ac_bytes.specs.Numbers.{number, two, four, eight};
 
 use crate::numbers::{i64_in_front, name_in_front, u16_in_front, u32_in_front};
@@ -42,7 +42,7 @@ impl<'a> Cursor<'a> {
     /// The next byte, `None` exactly where none is left.
     pub fn take_u8(&mut self) -> Option<u8>
         ensures { MatchOption result ((length self.old.left < 1) × (self.new ≡ self.old))
-            (λ n. Takes self.old (n ∷ []) self.new) }
+            (λ n. TakesBytes self.old (n ∷ []) self.new) }
     {
         let (first, rest) = self.left.split_first()?;
         let n = *first;
@@ -54,7 +54,7 @@ impl<'a> Cursor<'a> {
     /// The number in the next two bytes, `None` exactly where fewer are left.
     pub fn take_u16(&mut self) -> Option<u16>
         ensures { MatchOption result ((length self.old.left < 2) × (self.new ≡ self.old))
-            (λ n. Takes self.old (two n) self.new) }
+            (λ n. TakesBytes self.old (two n) self.new) }
     {
         let (n, rest) = u16_in_front(self.left)?;
         self.left = rest;
@@ -65,7 +65,7 @@ impl<'a> Cursor<'a> {
     /// The number in the next four bytes, `None` exactly where fewer are left.
     pub fn take_u32(&mut self) -> Option<u32>
         ensures { MatchOption result ((length self.old.left < 4) × (self.new ≡ self.old))
-            (λ n. Takes self.old (four n) self.new) }
+            (λ n. TakesBytes self.old (four n) self.new) }
     {
         let (n, rest) = u32_in_front(self.left)?;
         self.left = rest;
@@ -76,7 +76,7 @@ impl<'a> Cursor<'a> {
     /// The signed number in the next eight bytes, `None` exactly where fewer are left.
     pub fn take_i64(&mut self) -> Option<i64>
         ensures { MatchOption result ((length self.old.left < 8) × (self.new ≡ self.old))
-            (λ z. Takes self.old (eight z) self.new) }
+            (λ z. TakesBytes self.old (eight z) self.new) }
     {
         let (z, rest) = i64_in_front(self.left)?;
         self.left = rest;
@@ -87,7 +87,7 @@ impl<'a> Cursor<'a> {
     /// The name in the next 32 bytes, `None` exactly where fewer are left.
     pub fn take_name(&mut self) -> Option<Name>
         ensures { MatchOption result ((length self.old.left < 32) × (self.new ≡ self.old))
-            (λ name. (length name.0 ≡ 32) × Takes self.old name.0 self.new) }
+            (λ name. (length name.0 ≡ 32) × TakesBytes self.old name.0 self.new) }
     {
         let (name, rest) = name_in_front(self.left)?;
         self.left = rest;
@@ -98,7 +98,7 @@ impl<'a> Cursor<'a> {
     /// The next bytes, that many, `None` exactly where fewer are left.
     pub fn take_bytes(&mut self, count: u32) -> Option<&'a [u8]>
         ensures { MatchOption result ((length self.old.left < count) × (self.new ≡ self.old))
-            (λ bytes. (length bytes.now ≡ count) × Takes self.old bytes.now self.new) }
+            (λ bytes. (length bytes.now ≡ count) × TakesBytes self.old bytes.now self.new) }
     {
         let count = count as usize;
         if self.left.len() < count {
@@ -110,11 +110,13 @@ impl<'a> Cursor<'a> {
         Some(bytes)
     }
 
-    /// The number in the next four bytes, `None` exactly where fewer are left or where it is above `max`.
+    /// The number in the next four bytes, `None` exactly where fewer are left or where it is above
+    /// `max`.
     pub fn counted(&mut self, max: u32) -> Option<u32>
         ensures { MatchOption result
-            (((length self.old.left < 4) ⊎ (max < number (take 4 self.old.left))) × (self.new ≡ self.old))
-            (λ n. (n ≤ max) × Takes self.old (four n) self.new) }
+            (((length self.old.left < 4) ⊎ (max < number (take 4 self.old.left))) ×
+            (self.new ≡ self.old))
+            (λ n. (n ≤ max) × TakesBytes self.old (four n) self.new) }
     {
         let (n, rest) = u32_in_front(self.left)?;
         if n > max {

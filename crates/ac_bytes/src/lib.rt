@@ -1,4 +1,5 @@
-//! Numbers in bytes, the highest byte first: taken from the front of bytes, and put at the end of a text.
+//! Numbers in bytes, the highest byte first: taken from the front of bytes, and put at the end of a
+//! text.
 #![tactic(auto)]
 
 mod cursor;

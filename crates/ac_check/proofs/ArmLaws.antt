@@ -5,7 +5,7 @@ use Rattle.ac_types.specs.First.{given}
 use Rattle.ac_types.specs.Types.{Typ, TUnit, Typs, no_types, typs, same}
 use Rattle.ac_types.specs.ReadTypes.{typ_of}
 use Rattle.ac_types.specs.declared.ty.Ty.{Ty}
-use Rattle.ac_terms.specs.Typing.{also, last_of}
+use Rattle.ac_terms.specs.TermTyping.{also, last_of}
 use Rattle.ac_rules.specs.Typing.{are_all}
 use Rattle.ac_check.specs.Checking.{arms_after, arms_from, typs_of}
 use Rattle.ac_check.proofs.PairLaws.{from_item, from_end}

@@ -10,18 +10,18 @@ use Rattle.ac_types.specs.declared.ty.Ty.{Ty}
 use Rattle.ac_terms.specs.Terms.{Expr, Pattern, Lam, Rec, Let}
 use Rattle.ac_terms.specs.Defs.{Environment}
 use Rattle.ac_terms.specs.Read.{home_of}
-use Rattle.ac_terms.specs.Typing.{has}
+use Rattle.ac_terms.specs.TermTyping.{has}
 use Rattle.ac_rules.specs.Views.{Coloured}
 use Rattle.ac_rules.specs.Typing.{type_of, variables, joined, seen}
 use Rattle.ac_check.specs.Checking.{scope_of, arm_type, newest_first}
-use Rattle.ac_check.specs.declared.scope.Place.{Place}
+use Rattle.ac_check.specs.declared.scope.Site.{Site}
 use Rattle.ac_check.proofs.KeptLaws.{K, kept_is, lam_some, lam_none, rec_none, rec_no_result, rec_some, rec_big, rec_small, let_other, let_same}
 
 -- the same answer, of an equal type
 pub carry : (r : Result (Option Ty) Memory) (x y : Option Typ) → x ≡ y → IfOk r (λ o. option_map typ_of o ≡ x) → IfOk r (λ o. option_map typ_of o ≡ y)
 carry r x y e h = subst (λ (z : Option Typ). IfOk r (λ o. option_map typ_of o ≡ z)) e h
 
-module _ (E : Environment) (p : Place) (v : List Typ) where
+module _ (E : Environment) (p : Site) (v : List Typ) where
   -- the type of a term whose variables have these types, and a type that is written
   abbrev pub typed : List Typ → Expr → Option Typ
   typed G e = type_of Coloured false E (scope_of p G) e

@@ -7,7 +7,7 @@ use Rattle.ac_types.specs.First.{given}
 use Rattle.ac_types.specs.Types.{Typ, TTuple, TList, TOpt, TFun, Typs, no_types, typ, same, parts, parts_of_all, height, height_of_all, is_small}
 use Rattle.ac_types.proofs.FirstLaws.{none≢some, some_eq, given_some}
 use Rattle.ac_types.proofs.Same.{same_eq, same_refl}
-use Rattle.ac_terms.specs.Typing.{has}
+use Rattle.ac_terms.specs.TermTyping.{has}
 use Rattle.ac_rules.specs.Views.{Coloured}
 use Rattle.ac_rules.specs.Typing.{kept_in, a_list, an_option, list_item, option_item}
 use Rattle.ac_check.specs.Checking.{kept_all}

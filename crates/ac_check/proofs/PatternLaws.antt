@@ -8,7 +8,7 @@ use Rattle.ac_types.specs.ReadTypes.{typ_of}
 use Rattle.ac_types.specs.declared.ty.Ty.{Ty}
 use Rattle.ac_terms.specs.Terms.{Home, Pattern, PTuple, PNil, PCons, PAbsent, PPresent, PExn, PExnOf, Patterns, patterns}
 use Rattle.ac_terms.specs.Read.{pattern_of, pattern_layer}
-use Rattle.ac_terms.specs.Primitives.{has_text, is_exception}
+use Rattle.ac_terms.specs.PrimitiveTypes.{has_text, is_exception}
 use Rattle.ac_terms.specs.Defs.{Environment}
 use Rattle.ac_terms.specs.declared.pat.Pat.{Pat, out-Pat, map-Pat, fold_out-Pat}
 use Rattle.ac_terms.specs.declared.pat.Pat.TheViews.{the_lemmas}

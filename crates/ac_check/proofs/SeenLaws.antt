@@ -8,7 +8,7 @@ use Rattle.ac_types.specs.ReadTypes.{typ_of}
 use Rattle.ac_types.specs.declared.ty.Ty.{Ty}
 use Rattle.ac_types.proofs.SizeLaws.{type_laws}
 use Rattle.ac_terms.specs.Defs.{Environment}
-use Rattle.ac_terms.specs.Typing.{also}
+use Rattle.ac_terms.specs.TermTyping.{also}
 use Rattle.ac_rules.specs.Views.{is_known, are_known}
 use Rattle.ac_rules.specs.Typing.{list_item, option_item, tuple_parts}
 use Rattle.ac_check.specs.Checking.{typs_of, are_known_in, kept_all, ends_of}

@@ -5,7 +5,7 @@ use Rattle.ac_types.proofs.SizeLaws.{type_laws}
 use Rattle.ac_types.specs.Types.{Typ}
 use Rattle.ac_terms.specs.Terms.{Expr, Match, Try, exprs, arms}
 use Rattle.ac_terms.specs.Read.{expr_of, pattern_of, value_layer, expr_layer, arm_layer}
-use Rattle.ac_terms.specs.Typing.{also}
+use Rattle.ac_terms.specs.TermTyping.{also}
 use Rattle.ac_terms.specs.Defs.{Environment}
 use Rattle.ac_terms.specs.declared.term.Term.{Term}
 use Rattle.ac_terms.specs.declared.term.PVal.{PVal}

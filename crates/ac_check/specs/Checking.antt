@@ -16,7 +16,7 @@ use Rattle.ac_check.specs.declared.fault.CheckFault.{CheckFault}
 use Rattle.ac_check.specs.declared.fault.CheckFault.TheVariants as fault
 use Rattle.ac_check.specs.declared.types.Base.{Base}
 use Rattle.ac_check.specs.declared.types.Base.TheVariants as base
-use Rattle.ac_check.specs.declared.scope.Place.{Place}
+use Rattle.ac_check.specs.declared.scope.Site.{Site}
 use Rattle.ac_check.specs.declared.scope.Variables.{Variables, fold-Variables}
 use Rattle.ac_check.specs.declared.scope.Variables.TheOpen.{Variables-F}
 
@@ -49,11 +49,11 @@ variables_step (Variables-F.More outer types) = newest_first types.now ++ outer.
 unfoldable pub types_in : Variables → List Typ
 types_in = fold-Variables (List Typ) variables_step
 
--- the scope of a term at a place
-abbrev pub scope_of : Place → List Typ → Scope
+-- the scope of a term at a site
+abbrev pub scope_of : Site → List Typ → Scope
 scope_of p vars = record { home = home_of p.home; own = p.own; refs = p.refs; vars = vars }
 
-abbrev pub entries_of : Place → Environment
+abbrev pub entries_of : Site → Environment
 entries_of p = environment_of p.env.now
 
 abbrev pub arm_of : Arm → Pattern × Expr

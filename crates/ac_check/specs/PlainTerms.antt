@@ -1,6 +1,6 @@
 -- Plain terms: those without own fields, references, marshal, unmarshal and captured values.
 use Rattle.std.specs.Prelude.{Bool, true, false, ◌&&◌, IsTrue}
-use Rattle.ac_terms.specs.Terms.{Expr, ExnOf, Tuple, Present, Cons, Own, Ref, Lam, Rec, App, Let, If, Seq, Match, Try, Raise, Prim, Marshal, Unmarshal, Packed, Val, Bracket, Exprs, no_exprs, expr, Arms, no_arms, arm}
+use Rattle.ac_terms.specs.Terms.{Expr, ExnOf, Tuple, Present, Cons, Own, Ref, Lam, Rec, App, Let, If, Seq, Match, Try, Raise, Prim, Marshal, Unmarshal, Val, Evaluated, Bracket, Exprs, no_exprs, expr, Arms, no_arms, arm}
 
 abbrev mutual
   pub is_plain : Expr → Bool
@@ -22,8 +22,8 @@ abbrev mutual
   is_plain (Prim k es) = are_plain es
   is_plain (Marshal T m e) = false
   is_plain (Unmarshal T e) = false
-  is_plain (Packed T v) = false
   is_plain (Val T v) = false
+  is_plain (Evaluated T v) = false
   is_plain (Bracket c T e) = false
   is_plain e = true
 

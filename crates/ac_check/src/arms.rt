@@ -2,7 +2,7 @@
 
 ghost use Rattle.std.specs.Prelude.{◌≡◌, Option, Some, option_map, option_and_then};
 ghost use Rattle.ac_types.specs.ReadTypes.{typ_of};
-ghost use Rattle.ac_terms.specs.Typing.{both_same, has, also, last_of};
+ghost use Rattle.ac_terms.specs.TermTyping.{both_same, has, also, last_of};
 ghost use Rattle.ac_types.specs.First.{given};
 ghost use Rattle.ac_types.specs.Types.{TBool, Typs};
 ghost use Rattle.ac_check.specs.Checking.{arms_after, arms_from, typs_of};
@@ -46,7 +46,8 @@ pub fn is_test(test: Option<Ty>) -> bool
 
 /// The type of a choice, where its test is a bool and its sides have these types.
 pub fn if_type(is_test: bool, so: Option<Ty>, otherwise: Option<Ty>) -> Option<Ty>
-    ensures { option_map typ_of result ≡ given is_test (both_same (option_map typ_of so) (option_map typ_of otherwise)) }
+    ensures { option_map typ_of result ≡ given is_test
+        (both_same (option_map typ_of so) (option_map typ_of otherwise)) }
 {
     let side = both_same(so, otherwise);
     if is_test {
@@ -60,7 +61,8 @@ pub fn if_type(is_test: bool, so: Option<Ty>, otherwise: Option<Ty>) -> Option<T
 /// The type of the arms up to one, from that of the arms before it and its own.
 #[tactic(auto, using(crate::proofs::ArmLaws::go_laws))]
 pub fn go_on(before: Option<Ty>, found: Ty) -> Option<Ty>
-    ensures { (o : Option Typs) → arms_after (option_map typ_of before) (also (Some (typ_of found)) o) ≡ arms_from (option_map typ_of result) o }
+    ensures { (o : Option Typs) → arms_after (option_map typ_of before)
+        (also (Some (typ_of found)) o) ≡ arms_from (option_map typ_of result) o }
 {
     match before {
         None => Some(found),

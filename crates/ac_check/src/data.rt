@@ -4,12 +4,12 @@ ghost use Rattle.std.specs.Prelude.{◌≡◌, ◌<◌, ◌^◌, IfOk, false, le
 ghost use Rattle.ac_types.specs.Types.{TTuple, TOpt, TList, same};
 ghost use Rattle.ac_types.specs.ReadTypes.{typ_of};
 ghost use Rattle.ac_terms.specs.Read.{home_of};
-ghost use Rattle.ac_terms.specs.Typing.{both_same};
+ghost use Rattle.ac_terms.specs.TermTyping.{both_same};
 ghost use Rattle.ac_rules.specs.Views.{Coloured};
 ghost use Rattle.ac_rules.specs.Typing.{kept_in, seen, a_list, an_option};
 ghost use Rattle.ac_check.specs.Checking.{typs_of, entries_of};
 
-use crate::scope::Place;
+use crate::scope::Site;
 use crate::seen::seen_type;
 use crate::types::{kept, list_item, option_item, same_types};
 use ac_types::{Box, Many, Memory, Ty};
@@ -18,7 +18,8 @@ use std::alloc::Global;
 /// The type of a tuple whose parts have these types.
 #[tactic(auto, using(ac_types::proofs::SizeLaws::type_laws))]
 pub fn tuple_type(parts: Option<Many<Ty>>) -> Option<Ty>
-    ensures { option_map typ_of result ≡ kept_in Coloured (option_map TTuple (option_map typs_of parts)) }
+    ensures { option_map typ_of result ≡ kept_in Coloured
+        (option_map TTuple (option_map typs_of parts)) }
 {
     let parts = parts?;
     kept(Ty::Tuple(parts))
@@ -27,7 +28,8 @@ pub fn tuple_type(parts: Option<Many<Ty>>) -> Option<Ty>
 /// The type of `Some` of what has this type.
 #[tactic(auto, using(ac_types::proofs::SizeLaws::type_laws))]
 pub fn present_type(alloc: Global, inner: Option<Ty>) -> Result<Option<Ty>, Memory>
-    ensures { IfOk result (λ o. option_map typ_of o ≡ kept_in Coloured (option_map TOpt (option_map typ_of inner))) }
+    ensures { IfOk result (λ o. option_map typ_of o ≡ kept_in Coloured
+        (option_map TOpt (option_map typ_of inner))) }
 {
     let Some(inner) = inner else {
         return Ok(None);
@@ -39,7 +41,8 @@ pub fn present_type(alloc: Global, inner: Option<Ty>) -> Result<Option<Ty>, Memo
 /// The type of a list of what has this type.
 #[tactic(auto, using(ac_types::proofs::SizeLaws::type_laws))]
 pub fn list_type(alloc: Global, item: Option<Ty>) -> Result<Option<Ty>, Memory>
-    ensures { IfOk result (λ o. option_map typ_of o ≡ kept_in Coloured (option_map TList (option_map typ_of item))) }
+    ensures { IfOk result (λ o. option_map typ_of o ≡ kept_in Coloured
+        (option_map TList (option_map typ_of item))) }
 {
     let Some(item) = item else {
         return Ok(None);
@@ -50,7 +53,8 @@ pub fn list_type(alloc: Global, item: Option<Ty>) -> Result<Option<Ty>, Memory>
 
 /// The type of a list whose first element and whose rest have these types.
 pub fn cons_type(head: Option<Ty>, tail: Option<Ty>) -> Option<Ty>
-    ensures { option_map typ_of result ≡ both_same (option_map TList (option_map typ_of head)) (option_map typ_of tail) }
+    ensures { option_map typ_of result ≡ both_same (option_map TList (option_map typ_of head))
+        (option_map typ_of tail) }
 {
     let Some(head) = head else {
         drop(tail);
@@ -81,11 +85,13 @@ fn is_list_of(ty: &Ty, item: &Ty) -> bool
 }
 
 /// The type of `[]` that is written with this type.
-pub fn nil_type<'a>(alloc: Global, ty: &'a Ty, place: &'a Place<'a>) -> Result<Option<Ty>, Memory>
-    requires { length place.now.env.now.entries < 2 ^ 32 }
-    ensures { IfOk result (λ o. option_map typ_of o ≡ kept_in Coloured (option_and_then a_list (seen Coloured false (entries_of place.now) (home_of place.now.home) (typ_of ty.now)))) }
+pub fn nil_type<'a>(alloc: Global, ty: &'a Ty, site: &'a Site<'a>) -> Result<Option<Ty>, Memory>
+    requires { length site.now.env.now.entries < 2 ^ 32 }
+    ensures { IfOk result (λ o. option_map typ_of o ≡ kept_in Coloured
+        (option_and_then a_list (seen Coloured false (entries_of site.now) (home_of site.now.home)
+        (typ_of ty.now)))) }
 {
-    let Some(seen) = seen_type(alloc, ty, place)? else {
+    let Some(seen) = seen_type(alloc, ty, site)? else {
         return Ok(None);
     };
     if list_item(&seen).is_some() {
@@ -97,11 +103,13 @@ pub fn nil_type<'a>(alloc: Global, ty: &'a Ty, place: &'a Place<'a>) -> Result<O
 }
 
 /// The type of `None` that is written with this type.
-pub fn empty_type<'a>(alloc: Global, ty: &'a Ty, place: &'a Place<'a>) -> Result<Option<Ty>, Memory>
-    requires { length place.now.env.now.entries < 2 ^ 32 }
-    ensures { IfOk result (λ o. option_map typ_of o ≡ kept_in Coloured (option_and_then an_option (seen Coloured false (entries_of place.now) (home_of place.now.home) (typ_of ty.now)))) }
+pub fn empty_type<'a>(alloc: Global, ty: &'a Ty, site: &'a Site<'a>) -> Result<Option<Ty>, Memory>
+    requires { length site.now.env.now.entries < 2 ^ 32 }
+    ensures { IfOk result (λ o. option_map typ_of o ≡ kept_in Coloured
+        (option_and_then an_option (seen Coloured false (entries_of site.now)
+        (home_of site.now.home) (typ_of ty.now)))) }
 {
-    let Some(seen) = seen_type(alloc, ty, place)? else {
+    let Some(seen) = seen_type(alloc, ty, site)? else {
         return Ok(None);
     };
     if option_item(&seen).is_some() {

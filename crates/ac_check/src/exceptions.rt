@@ -4,14 +4,14 @@ ghost use Rattle.std.specs.Prelude.{◌≡◌, ◌&&◌, ◌<◌, ◌^◌, IfOk,
 ghost use Rattle.ac_types.specs.First.{given};
 ghost use Rattle.ac_types.specs.Types.{TExn, TStr};
 ghost use Rattle.ac_types.specs.ReadTypes.{typ_of};
-ghost use Rattle.ac_terms.specs.Primitives.{has_text, is_exception};
+ghost use Rattle.ac_terms.specs.PrimitiveTypes.{has_text, is_exception};
 ghost use Rattle.ac_terms.specs.Read.{home_of};
-ghost use Rattle.ac_terms.specs.Typing.{has};
+ghost use Rattle.ac_terms.specs.TermTyping.{has};
 ghost use Rattle.ac_rules.specs.Views.{Coloured};
 ghost use Rattle.ac_rules.specs.Typing.{kept_in, seen};
 ghost use Rattle.ac_check.specs.Checking.{entries_of};
 
-use crate::scope::Place;
+use crate::scope::Site;
 use crate::seen::seen_type;
 use crate::types::{Base, is_base};
 use ac_types::{Memory, Ty};
@@ -44,7 +44,8 @@ pub fn exception_type(number: u8) -> Option<Ty>
 /// The type of an exception whose text has this type.
 #[tactic(auto, using(ac_types::proofs::SizeLaws::type_laws))]
 pub fn text_exception_type(number: u8, text: Option<Ty>) -> Option<Ty>
-    ensures { option_map typ_of result ≡ given (has_text number && has (option_map typ_of text) TStr) (Some TExn) }
+    ensures { option_map typ_of result ≡ given
+        (has_text number && has (option_map typ_of text) TStr) (Some TExn) }
 {
     let text = text?;
     let is_text = is_base(&text, Base::Str);
@@ -61,10 +62,12 @@ pub fn raise_type<'a>(
     alloc: Global,
     ty: &'a Ty,
     inner: Option<Ty>,
-    place: &'a Place<'a>,
+    site: &'a Site<'a>,
 ) -> Result<Option<Ty>, Memory>
-    requires { length place.now.env.now.entries < 2 ^ 32 }
-    ensures { IfOk result (λ o. option_map typ_of o ≡ given (has (option_map typ_of inner) TExn) (kept_in Coloured (seen Coloured false (entries_of place.now) (home_of place.now.home) (typ_of ty.now)))) }
+    requires { length site.now.env.now.entries < 2 ^ 32 }
+    ensures { IfOk result (λ o. option_map typ_of o ≡ given (has (option_map typ_of inner) TExn)
+        (kept_in Coloured (seen Coloured false (entries_of site.now) (home_of site.now.home)
+        (typ_of ty.now)))) }
 {
     let Some(inner) = inner else {
         return Ok(None);
@@ -72,7 +75,7 @@ pub fn raise_type<'a>(
     let is_raised = is_base(&inner, Base::Exn);
     drop(inner);
     if is_raised {
-        seen_type(alloc, ty, place)
+        seen_type(alloc, ty, site)
     } else {
         Ok(None)
     }

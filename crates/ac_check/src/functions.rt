@@ -4,7 +4,7 @@ ghost use Rattle.std.specs.Prelude.{◌≡◌, IfOk, Some, option_map};
 ghost use Rattle.ac_types.specs.First.{given};
 ghost use Rattle.ac_types.specs.Types.{TFun};
 ghost use Rattle.ac_types.specs.ReadTypes.{typ_of};
-ghost use Rattle.ac_terms.specs.Typing.{has};
+ghost use Rattle.ac_terms.specs.TermTyping.{has};
 ghost use Rattle.ac_rules.specs.Views.{Coloured};
 ghost use Rattle.ac_rules.specs.Typing.{kept_in, applied};
 ghost use Rattle.ac_check.specs.Checking.{ends_of, read_ends};
@@ -16,7 +16,8 @@ use std::alloc::Global;
 /// The type of a function whose argument and result have these types.
 #[tactic(auto, using(ac_types::proofs::SizeLaws::type_laws))]
 pub fn function_type(alloc: Global, from: Ty, to: Option<Ty>) -> Result<Option<Ty>, Memory>
-    ensures { IfOk result (λ o. option_map typ_of o ≡ kept_in Coloured (option_map (TFun (typ_of from)) (option_map typ_of to))) }
+    ensures { IfOk result (λ o. option_map typ_of o ≡ kept_in Coloured
+        (option_map (TFun (typ_of from)) (option_map typ_of to))) }
 {
     let Some(to) = to else {
         drop(from);
@@ -29,7 +30,8 @@ pub fn function_type(alloc: Global, from: Ty, to: Option<Ty>) -> Result<Option<T
 /// The type of an application, where the function and its argument have these types.
 #[tactic(auto, using(ac_types::proofs::SizeLaws::type_laws))]
 pub fn applied(function: Option<Ty>, argument: Option<Ty>) -> Option<Ty>
-    ensures { option_map typ_of result ≡ applied (option_map typ_of function) (option_map typ_of argument) }
+    ensures { option_map typ_of result ≡ applied (option_map typ_of function)
+        (option_map typ_of argument) }
 {
     let Some(function) = function else {
         drop(argument);
@@ -61,7 +63,8 @@ pub fn applied(function: Option<Ty>, argument: Option<Ty>) -> Option<Ty>
 
 /// The type of a recursive function of this type, whose body has the type `found`.
 pub fn recursive_type(own: Ty, to: &Ty, found: Option<Ty>) -> Option<Ty>
-    ensures { option_map typ_of result ≡ given (has (option_map typ_of found) (typ_of to.now)) (Some (typ_of own)) }
+    ensures { option_map typ_of result ≡ given (has (option_map typ_of found) (typ_of to.now))
+        (Some (typ_of own)) }
 {
     let Some(found) = found else {
         drop(own);

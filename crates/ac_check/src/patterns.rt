@@ -10,7 +10,7 @@ ghost use Rattle.ac_rules.specs.Typing.{variables, variables_of_all, joined};
 ghost use Rattle.ac_check.specs.Checking.{newest_first, typs_of, entries_of};
 
 use crate::exceptions::{has_text, is_bare};
-use crate::scope::Place;
+use crate::scope::Site;
 use crate::seen::is_seen_as;
 use crate::types::{Base, is_base, list_item, option_item, tuple_parts};
 use ac_terms::Pat;
@@ -27,7 +27,8 @@ fn given(passes: bool, before: Many<Ty>) -> Option<Many<Ty>>
 /// The list with a copy of a type at its end.
 #[tactic(auto, using(crate::proofs::PatternLaws::pattern_laws))]
 fn with_copy(alloc: Global, before: Many<Ty>, ty: &Ty) -> Result<Option<Many<Ty>>, Memory>
-    ensures { IfOk result (λ o. option_map newest_first o ≡ Some (typ_of ty.now ∷ newest_first before)) }
+    ensures { IfOk result (λ o. option_map newest_first o ≡ Some
+        (typ_of ty.now ∷ newest_first before)) }
 {
     let mut before = before;
     before.push(ty.copy(alloc)?)?;
@@ -42,16 +43,18 @@ pub fn variables<'a>(
     alloc: Global,
     pat: &'a Pat,
     ty: &'a Ty,
-    place: &'a Place<'a>,
+    site: &'a Site<'a>,
     before: Many<Ty>,
 ) -> Result<Option<Many<Ty>>, Memory>
-    requires { length place.now.env.now.entries < 2 ^ 32 }
-    ensures { IfOk result (λ o. option_map newest_first o ≡ joined (Some (newest_first before)) (variables Coloured false (entries_of place.now) (home_of place.now.home) (pattern_of pat.now) (typ_of ty.now))) }
+    requires { length site.now.env.now.entries < 2 ^ 32 }
+    ensures { IfOk result (λ o. option_map newest_first o ≡ joined (Some (newest_first before))
+        (variables Coloured false (entries_of site.now) (home_of site.now.home) (pattern_of pat.now)
+        (typ_of ty.now))) }
 {
     match pat {
         Pat::Wild => Ok(Some(before)),
         Pat::Var(written) => {
-            if !is_seen_as(written, ty, place) {
+            if !is_seen_as(written, ty, site) {
                 return Ok(None);
             }
             with_copy(alloc, before, ty)
@@ -62,22 +65,22 @@ pub fn variables<'a>(
         Pat::Unit => Ok(given(is_base(ty, Base::Unit), before)),
         Pat::Tuple(parts) => match tuple_parts(ty) {
             None => Ok(None),
-            Some(types) => all_variables(alloc, parts.as_slice(), types.as_slice(), place, before),
+            Some(types) => all_variables(alloc, parts.as_slice(), types.as_slice(), site, before),
         },
         Pat::Nil => Ok(given(list_item(ty).is_some(), before)),
         Pat::Cons(head, tail) => {
             let Some(item) = list_item(ty) else {
                 return Ok(None);
             };
-            let Some(found) = variables(alloc, head, item, place, before)? else {
+            let Some(found) = variables(alloc, head, item, site, before)? else {
                 return Ok(None);
             };
-            variables(alloc, tail, ty, place, found)
+            variables(alloc, tail, ty, site, found)
         }
         Pat::Absent => Ok(given(option_item(ty).is_some(), before)),
         Pat::Present(inner) => match option_item(ty) {
             None => Ok(None),
-            Some(item) => variables(alloc, inner, item, place, before),
+            Some(item) => variables(alloc, inner, item, site, before),
         },
         Pat::Exn(number, None) => { Ok(given(is_base(ty, Base::Exn) && is_bare(*number), before)) }
         Pat::Exn(number, Some(inner)) => {
@@ -85,7 +88,7 @@ pub fn variables<'a>(
                 return Ok(None);
             }
             let text = Ty::Str;
-            let found = variables(alloc, inner, &text, place, before);
+            let found = variables(alloc, inner, &text, site, before);
             drop(text);
             found
         }
@@ -98,18 +101,20 @@ fn all_variables<'a>(
     alloc: Global,
     pats: &'a [Pat],
     tys: &'a [Ty],
-    place: &'a Place<'a>,
+    site: &'a Site<'a>,
     before: Many<Ty>,
 ) -> Result<Option<Many<Ty>>, Memory>
-    requires { length place.now.env.now.entries < 2 ^ 32 }
-    ensures { IfOk result (λ o. option_map newest_first o ≡ joined (Some (newest_first before)) (variables_of_all Coloured false (entries_of place.now) (home_of place.now.home) (patterns (map pattern_of pats.now)) (typs_of tys.now))) }
+    requires { length site.now.env.now.entries < 2 ^ 32 }
+    ensures { IfOk result (λ o. option_map newest_first o ≡ joined (Some (newest_first before))
+        (variables_of_all Coloured false (entries_of site.now) (home_of site.now.home)
+        (patterns (map pattern_of pats.now)) (typs_of tys.now))) }
 {
     if pats.len() != tys.len() {
         return Ok(None);
     }
     let mut found = before;
     for i in 0..pats.len() {
-        let Some(more) = variables(alloc, &pats[i], &tys[i], place, found)? else {
+        let Some(more) = variables(alloc, &pats[i], &tys[i], site, found)? else {
             return Ok(None);
         };
         found = more;

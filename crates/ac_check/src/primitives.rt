@@ -3,7 +3,7 @@
 ghost use Rattle.std.specs.Prelude.{◌≡◌, [], ◌∷◌, length, map, option_map, option_and_then, MatchOption};
 ghost use Rattle.ac_types.specs.Types.{TInt, TStr, TTuple, no_types, typ, typs, same_all};
 ghost use Rattle.ac_types.specs.ReadTypes.{typ_of};
-ghost use Rattle.ac_terms.specs.Primitives.{primitive_type, by_rules, takes_one, takes_two, comparison};
+ghost use Rattle.ac_terms.specs.PrimitiveTypes.{primitive_type, by_rules, takes_one, takes_two, comparison};
 ghost use Rattle.ac_check.specs.Checking.{base_typ, typs_of};
 
 use crate::types::{Base, is_base, tuple_parts};
@@ -27,7 +27,8 @@ fn are(args: &[Ty], bases: &[Base]) -> bool
 /// What a primitive of one argument gives.
 #[tactic(auto, using(ac_types::proofs::SizeLaws::type_laws))]
 fn of_one(args: &[Ty], base: Base, to: Ty) -> Option<Ty>
-    ensures { option_map typ_of result ≡ by_rules (takes_one (base_typ base) (typ_of to) ∷ []) (typs_of args.now) }
+    ensures { option_map typ_of result ≡ by_rules (takes_one (base_typ base) (typ_of to) ∷ [])
+        (typs_of args.now) }
 {
     if are(args, &[base]) {
         Some(to)
@@ -40,7 +41,8 @@ fn of_one(args: &[Ty], base: Base, to: Ty) -> Option<Ty>
 /// What a primitive of two arguments of one type gives.
 #[tactic(auto, using(ac_types::proofs::SizeLaws::type_laws))]
 fn of_two(args: &[Ty], base: Base, to: Ty) -> Option<Ty>
-    ensures { option_map typ_of result ≡ by_rules (takes_two (base_typ base) (typ_of to) ∷ []) (typs_of args.now) }
+    ensures { option_map typ_of result ≡ by_rules (takes_two (base_typ base) (typ_of to) ∷ [])
+        (typs_of args.now) }
 {
     if are(args, &[base, base]) {
         Some(to)
@@ -79,7 +81,8 @@ fn only(args: &[Ty]) -> Option<&Ty>
 /// The type of a part of a text.
 #[tactic(auto, using(ac_types::proofs::SizeLaws::type_laws))]
 fn slice_type(args: &[Ty]) -> Option<Ty>
-    ensures { option_map typ_of result ≡ by_rules (takes_one (TTuple (typ TStr (typ TInt (typ TInt no_types)))) TStr ∷ []) (typs_of args.now) }
+    ensures { option_map typ_of result ≡ by_rules
+        (takes_one (TTuple (typ TStr (typ TInt (typ TInt no_types)))) TStr ∷ []) (typs_of args.now) }
 {
     let Some(arg) = only(args) else {
         return None;
@@ -121,7 +124,8 @@ fn primitive_type(number: u8, args: &[Ty]) -> Option<Ty>
 
 /// The type of a primitive's result, where its arguments have these types.
 pub fn result_type(number: u8, args: Option<Many<Ty>>) -> Option<Ty>
-    ensures { option_map typ_of result ≡ option_and_then (primitive_type number) (option_map typs_of args) }
+    ensures { option_map typ_of result ≡ option_and_then (primitive_type number)
+        (option_map typs_of args) }
 {
     match args {
         None => None,

@@ -15,7 +15,7 @@ use std::alloc::Global;
 /// Where a term stands: the entries, its home, and how many of the home's fields and how many
 /// entries it may refer to.
 #[derive(Clone, Copy)]
-pub struct Place<'a> {
+pub struct Site<'a> {
     pub env: &'a Env,
     pub home: Home,
     pub own: u32,
@@ -71,7 +71,8 @@ pub fn variable_type<'a>(
     vars: &'a Variables<'a>,
     i: u16,
 ) -> Result<Option<Ty>, Memory>
-    ensures { IfOk result (λ o. option_map typ_of o ≡ kept_in Coloured (slice_get (types_in vars.now) i)) }
+    ensures { IfOk result (λ o. option_map typ_of o ≡ kept_in Coloured
+        (slice_get (types_in vars.now) i)) }
 {
     match find(vars, i as usize) {
         None => Ok(None),

@@ -6,14 +6,14 @@ ghost use Rattle.ac_types.specs.Types.{TAbs, same, all_with_each, same_all};
 ghost use Rattle.ac_types.specs.Sigs.{is_abstract, type_under};
 ghost use Rattle.ac_types.specs.ReadTypes.{typ_of, sig_type_of};
 ghost use Rattle.ac_terms.specs.Read.{environment_of, entry_of, home_of};
-ghost use Rattle.ac_terms.specs.Typing.{has};
+ghost use Rattle.ac_terms.specs.TermTyping.{has};
 ghost use Rattle.ac_rules.specs.Views.{Coloured, declares, is_known, are_known, has_name, opened_at_home, view};
 ghost use Rattle.ac_rules.specs.Typing.{kept_in, seen};
 ghost use Rattle.ac_check.specs.Checking.{typs_of, entries_of, are_known_in, kept_all};
 
 use crate::data::{list_type, present_type, tuple_type};
 use crate::functions::{ends, function_type};
-use crate::scope::Place;
+use crate::scope::Site;
 use crate::types::{Base, is_base, list_item, option_item, same_types, small_copy, tuple_parts};
 use ac_rules::rep;
 use ac_terms::{Def, Entry, Env, Home};
@@ -105,12 +105,14 @@ fn has_name(env: &Env, home: Home, name: &Name) -> bool
 
 /// What an abstract type of the place's own home stands for, where it stands for another type.
 #[tactic(auto, using(ac_types::proofs::SizeLaws::type_laws))]
-fn opened<'a>(place: &'a Place<'a>, name: &'a Name, word: &'a Word) -> Option<&'a Ty>
-    requires { length place.now.env.now.entries < 2 ^ 32 }
-    ensures { unwrap_or (option_map typ_of (option_copied result)) (TAbs name.now.0 word.now) ≡ opened_at_home (entries_of place.now) (home_of place.now.home) name.now.0 word.now }
+fn opened<'a>(site: &'a Site<'a>, name: &'a Name, word: &'a Word) -> Option<&'a Ty>
+    requires { length site.now.env.now.entries < 2 ^ 32 }
+    ensures { unwrap_or (option_map typ_of (option_copied result))
+        (TAbs name.now.0 word.now) ≡ opened_at_home (entries_of site.now) (home_of site.now.home)
+        name.now.0 word.now }
 {
-    if has_name(place.env, place.home, name) {
-        rep(place.env, name, word)
+    if has_name(site.env, site.home, name) {
+        rep(site.env, name, word)
     } else {
         None
     }
@@ -119,30 +121,29 @@ fn opened<'a>(place: &'a Place<'a>, name: &'a Name, word: &'a Word) -> Option<&'
 /// Whether a type as the place's home sees it is another.
 #[cycle(compare)]
 #[tactic(auto, using(crate::proofs::SeenLaws::compare_laws))]
-fn is_viewed_as<'a>(written: &'a Ty, ty: &'a Ty, place: &'a Place<'a>) -> bool
-    requires { length place.now.env.now.entries < 2 ^ 32 }
-    ensures { result ≡ same (view Coloured (entries_of place.now) (home_of place.now.home) (typ_of written.now)) (typ_of ty.now) }
+fn is_viewed_as<'a>(written: &'a Ty, ty: &'a Ty, site: &'a Site<'a>) -> bool
+    requires { length site.now.env.now.entries < 2 ^ 32 }
+    ensures { result ≡ same (view Coloured (entries_of site.now) (home_of site.now.home)
+        (typ_of written.now)) (typ_of ty.now) }
 {
     match written {
         Ty::Tuple(parts) => match tuple_parts(ty) {
             None => false,
-            Some(others) => are_viewed_as(parts.as_slice(), others.as_slice(), place),
+            Some(others) => are_viewed_as(parts.as_slice(), others.as_slice(), site),
         },
         Ty::List(item) => match list_item(ty) {
             None => false,
-            Some(other) => is_viewed_as(item, other, place),
+            Some(other) => is_viewed_as(item, other, site),
         },
         Ty::Opt(item) => match option_item(ty) {
             None => false,
-            Some(other) => is_viewed_as(item, other, place),
+            Some(other) => is_viewed_as(item, other, site),
         },
         Ty::Fun(from, to) => match ends(ty) {
             None => false,
-            Some((start, end)) => {
-                is_viewed_as(from, start, place) && is_viewed_as(to, end, place)
-            }
+            Some((start, end)) => { is_viewed_as(from, start, site) && is_viewed_as(to, end, site) }
         },
-        Ty::Abs(name, word) => match opened(place, name, word) {
+        Ty::Abs(name, word) => match opened(site, name, word) {
             None => same_types(written, ty),
             Some(found) => same_types(found, ty),
         },
@@ -157,15 +158,17 @@ fn is_viewed_as<'a>(written: &'a Ty, ty: &'a Ty, place: &'a Place<'a>) -> bool
 
 #[cycle(compare)]
 #[tactic(auto, using(crate::proofs::SeenLaws::compare_laws))]
-fn are_viewed_as<'a>(written: &'a [Ty], tys: &'a [Ty], place: &'a Place<'a>) -> bool
-    requires { length place.now.env.now.entries < 2 ^ 32 }
-    ensures { result ≡ same_all (all_with_each (opened_at_home (entries_of place.now) (home_of place.now.home)) (typs_of written.now)) (typs_of tys.now) }
+fn are_viewed_as<'a>(written: &'a [Ty], tys: &'a [Ty], site: &'a Site<'a>) -> bool
+    requires { length site.now.env.now.entries < 2 ^ 32 }
+    ensures { result ≡ same_all (all_with_each
+        (opened_at_home (entries_of site.now) (home_of site.now.home)) (typs_of written.now))
+        (typs_of tys.now) }
 {
     if written.len() != tys.len() {
         return false;
     }
     for i in 0..written.len() {
-        if !is_viewed_as(&written[i], &tys[i], place) {
+        if !is_viewed_as(&written[i], &tys[i], site) {
             return false;
         }
     }
@@ -173,41 +176,43 @@ fn are_viewed_as<'a>(written: &'a [Ty], tys: &'a [Ty], place: &'a Place<'a>) -> 
 }
 
 /// Whether a type that is written is this one for the place's home, and its names are known.
-pub fn is_seen_as<'a>(written: &'a Ty, ty: &'a Ty, place: &'a Place<'a>) -> bool
-    requires { length place.now.env.now.entries < 2 ^ 32 }
-    ensures { result ≡ has (seen Coloured false (entries_of place.now) (home_of place.now.home) (typ_of written.now)) (typ_of ty.now) }
+pub fn is_seen_as<'a>(written: &'a Ty, ty: &'a Ty, site: &'a Site<'a>) -> bool
+    requires { length site.now.env.now.entries < 2 ^ 32 }
+    ensures { result ≡ has (seen Coloured false (entries_of site.now) (home_of site.now.home)
+        (typ_of written.now)) (typ_of ty.now) }
 {
-    are_known(written, place.env) && is_viewed_as(written, ty, place)
+    are_known(written, site.env) && is_viewed_as(written, ty, site)
 }
 
 /// A type as the place's home sees it, where that is small.
 #[cycle(view)]
 #[tactic(auto, using(crate::proofs::SeenLaws::view_laws))]
-fn viewed<'a>(alloc: Global, ty: &'a Ty, place: &'a Place<'a>) -> Result<Option<Ty>, Memory>
-    requires { length place.now.env.now.entries < 2 ^ 32 }
-    ensures { IfOk result (λ o. option_map typ_of o ≡ kept_in Coloured (Some (view Coloured (entries_of place.now) (home_of place.now.home) (typ_of ty.now)))) }
+fn viewed<'a>(alloc: Global, ty: &'a Ty, site: &'a Site<'a>) -> Result<Option<Ty>, Memory>
+    requires { length site.now.env.now.entries < 2 ^ 32 }
+    ensures { IfOk result (λ o. option_map typ_of o ≡ kept_in Coloured
+        (Some (view Coloured (entries_of site.now) (home_of site.now.home) (typ_of ty.now)))) }
 {
     match ty {
         Ty::Tuple(parts) => {
-            let parts = all_viewed(alloc, parts.as_slice(), place)?;
+            let parts = all_viewed(alloc, parts.as_slice(), site)?;
             Ok(tuple_type(parts))
         }
         Ty::List(item) => {
-            let item = viewed(alloc, item, place)?;
+            let item = viewed(alloc, item, site)?;
             list_type(alloc, item)
         }
         Ty::Opt(item) => {
-            let item = viewed(alloc, item, place)?;
+            let item = viewed(alloc, item, site)?;
             present_type(alloc, item)
         }
         Ty::Fun(from, to) => {
-            let Some(from) = viewed(alloc, from, place)? else {
+            let Some(from) = viewed(alloc, from, site)? else {
                 return Ok(None);
             };
-            let to = viewed(alloc, to, place)?;
+            let to = viewed(alloc, to, site)?;
             function_type(alloc, from, to)
         }
-        Ty::Abs(name, word) => match opened(place, name, word) {
+        Ty::Abs(name, word) => match opened(site, name, word) {
             None => small_copy(alloc, ty),
             Some(found) => small_copy(alloc, found),
         },
@@ -225,14 +230,16 @@ fn viewed<'a>(alloc: Global, ty: &'a Ty, place: &'a Place<'a>) -> Result<Option<
 fn all_viewed<'a>(
     alloc: Global,
     tys: &'a [Ty],
-    place: &'a Place<'a>,
+    site: &'a Site<'a>,
 ) -> Result<Option<Many<Ty>>, Memory>
-    requires { length place.now.env.now.entries < 2 ^ 32 }
-    ensures { IfOk result (λ o. option_map typs_of o ≡ kept_all (all_with_each (opened_at_home (entries_of place.now) (home_of place.now.home)) (typs_of tys.now))) }
+    requires { length site.now.env.now.entries < 2 ^ 32 }
+    ensures { IfOk result (λ o. option_map typs_of o ≡ kept_all
+        (all_with_each (opened_at_home (entries_of site.now) (home_of site.now.home))
+        (typs_of tys.now))) }
 {
     let mut found = Many::new(alloc);
     for ty in tys {
-        let Some(seen) = viewed(alloc, ty, place)? else {
+        let Some(seen) = viewed(alloc, ty, site)? else {
             return Ok(None);
         };
         found.push(seen)?;
@@ -241,12 +248,13 @@ fn all_viewed<'a>(
 }
 
 /// A type that is written, as the place's home sees it, where its names are known and it is small.
-pub fn seen_type<'a>(alloc: Global, ty: &'a Ty, place: &'a Place<'a>) -> Result<Option<Ty>, Memory>
-    requires { length place.now.env.now.entries < 2 ^ 32 }
-    ensures { IfOk result (λ o. option_map typ_of o ≡ kept_in Coloured (seen Coloured false (entries_of place.now) (home_of place.now.home) (typ_of ty.now))) }
+pub fn seen_type<'a>(alloc: Global, ty: &'a Ty, site: &'a Site<'a>) -> Result<Option<Ty>, Memory>
+    requires { length site.now.env.now.entries < 2 ^ 32 }
+    ensures { IfOk result (λ o. option_map typ_of o ≡ kept_in Coloured
+        (seen Coloured false (entries_of site.now) (home_of site.now.home) (typ_of ty.now))) }
 {
-    if are_known(ty, place.env) {
-        viewed(alloc, ty, place)
+    if are_known(ty, site.env) {
+        viewed(alloc, ty, site)
     } else {
         Ok(None)
     }

@@ -4,7 +4,7 @@ ghost use Rattle.std.specs.Prelude.{◌≡◌, ◌<◌, ◌^◌, IfOk, IsTrue, S
 ghost use Rattle.ac_types.specs.ReadTypes.{typ_of};
 ghost use Rattle.ac_terms.specs.Terms.{Lam, Rec, exprs, arms};
 ghost use Rattle.ac_terms.specs.Read.{environment_of, home_of, expr_of, pattern_of};
-ghost use Rattle.ac_terms.specs.Typing.{has, last_of};
+ghost use Rattle.ac_terms.specs.TermTyping.{has, last_of};
 ghost use Rattle.ac_types.specs.First.{given};
 ghost use Rattle.ac_types.specs.Types.{TExn};
 ghost use Rattle.ac_rules.specs.Views.{Coloured};
@@ -19,7 +19,7 @@ use crate::fault::CheckFault;
 use crate::functions::{applied, function_type, recursive_type};
 use crate::patterns::variables;
 use crate::primitives::result_type;
-use crate::scope::{Place, Variables, variable_type};
+use crate::scope::{Site, Variables, variable_type};
 use crate::seen::{is_seen_as, seen_type};
 use ac_terms::{Arm, Env, Home, Term};
 use ac_types::{Many, Memory, Ty, both};
@@ -38,16 +38,18 @@ pub fn type_of(
 ) -> Result<Ty, CheckFault>
     requires entries { length env.now.entries < 2 ^ 32 }
     requires plain { IsPlainTerm (expr_of t.now) }
-    ensures { Answers result (type_of Coloured false (environment_of env.now) (record { home = home_of home; own = own; refs = refs; vars = map typ_of ctx.now }) (expr_of t.now)) }
+    ensures { Answers result (type_of Coloured false (environment_of env.now)
+        (record { home = home_of home; own = own; refs = refs; vars = map typ_of ctx.now })
+        (expr_of t.now)) }
 {
-    let place = Place {
+    let site = Site {
         env,
         home,
         own,
         refs,
     };
     let vars = Variables::Given(ctx.as_slice());
-    match typed(alloc, t, &place, &vars) {
+    match typed(alloc, t, &site, &vars) {
         Ok(Some(ty)) => Ok(ty),
         Ok(None) => Err(CheckFault::IllTyped),
         Err(_) => Err(CheckFault::Memory),
@@ -60,12 +62,13 @@ pub fn type_of(
 fn typed<'a>(
     alloc: Global,
     t: &'a Term,
-    place: &'a Place<'a>,
+    site: &'a Site<'a>,
     vars: &'a Variables<'a>,
 ) -> Result<Option<Ty>, Memory>
-    requires entries { length place.now.env.now.entries < 2 ^ 32 }
+    requires entries { length site.now.env.now.entries < 2 ^ 32 }
     requires plain { IsPlainTerm (expr_of t.now) }
-    ensures { IfOk result (λ o. option_map typ_of o ≡ type_of Coloured false (entries_of place.now) (scope_of place.now (types_in vars.now)) (expr_of t.now)) }
+    ensures { IfOk result (λ o. option_map typ_of o ≡ type_of Coloured false (entries_of site.now)
+        (scope_of site.now (types_in vars.now)) (expr_of t.now)) }
 {
     match t {
         Term::Int(_) => Ok(Some(Ty::Int)),
@@ -74,80 +77,80 @@ fn typed<'a>(
         Term::Unit => Ok(Some(Ty::Unit)),
         Term::ExnVal(number, None) => Ok(exception_type(*number)),
         Term::ExnVal(number, Some(text)) => {
-            let text = typed(alloc, text, place, vars)?;
+            let text = typed(alloc, text, site, vars)?;
             Ok(text_exception_type(*number, text))
         }
         Term::Tuple(parts) => {
-            let parts = types_of(alloc, parts.as_slice(), place, vars)?;
+            let parts = types_of(alloc, parts.as_slice(), site, vars)?;
             Ok(tuple_type(parts))
         }
-        Term::Nil(ty) => nil_type(alloc, ty, place),
-        Term::Empty(ty) => empty_type(alloc, ty, place),
+        Term::Nil(ty) => nil_type(alloc, ty, site),
+        Term::Empty(ty) => empty_type(alloc, ty, site),
         Term::Present(inner) => {
-            let inner = typed(alloc, inner, place, vars)?;
+            let inner = typed(alloc, inner, site, vars)?;
             present_type(alloc, inner)
         }
         Term::Cons(head, tail) => {
             let (head, tail) = both(
-                typed(alloc, head, place, vars),
-                typed(alloc, tail, place, vars),
+                typed(alloc, head, site, vars),
+                typed(alloc, tail, site, vars),
             )?;
             Ok(cons_type(head, tail))
         }
         Term::Var(i) => variable_type(alloc, vars, *i),
-        Term::Lam(ty, body) => function(alloc, body, ty, place, vars),
-        Term::Rec(from, to, body) => recursive(alloc, body, from, to, place, vars),
+        Term::Lam(ty, body) => function(alloc, body, ty, site, vars),
+        Term::Rec(from, to, body) => recursive(alloc, body, from, to, site, vars),
         Term::App(f, a) => {
-            let (f, a) = both(typed(alloc, f, place, vars), typed(alloc, a, place, vars))?;
+            let (f, a) = both(typed(alloc, f, site, vars), typed(alloc, a, site, vars))?;
             Ok(applied(f, a))
         }
         Term::Let(ty, bound, body) => {
-            let Some(found) = typed(alloc, bound, place, vars)? else {
+            let Some(found) = typed(alloc, bound, site, vars)? else {
                 return Ok(None);
             };
-            if !is_seen_as(ty, &found, &*place) {
+            if !is_seen_as(ty, &found, &*site) {
                 drop(found);
                 return Ok(None);
             }
-            let end = typed(alloc, &*body, &*place, &Variables::One(&*vars, &found));
+            let end = typed(alloc, &*body, &*site, &Variables::One(&*vars, &found));
             drop(found);
             end
         }
         Term::If(test, so, otherwise) => {
-            let found = typed(alloc, test, place, vars)?;
+            let found = typed(alloc, test, site, vars)?;
             let test = is_test(found);
             let (so, otherwise) = both(
-                typed(alloc, so, place, vars),
-                typed(alloc, otherwise, place, vars),
+                typed(alloc, so, site, vars),
+                typed(alloc, otherwise, site, vars),
             )?;
             Ok(if_type(test, so, otherwise))
         }
         Term::Seq(parts) => {
-            let parts = types_of(alloc, parts.as_slice(), place, vars)?;
+            let parts = types_of(alloc, parts.as_slice(), site, vars)?;
             Ok(sequence_type(parts))
         }
         Term::Match(of, cases) => {
-            let Some(ty) = typed(alloc, of, place, vars)? else {
+            let Some(ty) = typed(alloc, of, site, vars)? else {
                 return Ok(None);
             };
-            let end = arms_type(alloc, cases.as_slice(), &ty, &*place, &*vars);
+            let end = arms_type(alloc, cases.as_slice(), &ty, &*site, &*vars);
             drop(ty);
             end
         }
         Term::Try(of, cases) => {
             let exn = Ty::Exn;
-            let of = typed(alloc, of, place, vars);
-            let found = arms_type(alloc, cases.as_slice(), &exn, &*place, &*vars);
+            let of = typed(alloc, of, site, vars);
+            let found = arms_type(alloc, cases.as_slice(), &exn, &*site, &*vars);
             drop(exn);
             let (of, found) = both(of, found)?;
             Ok(both_same(of, found))
         }
         Term::Raise(ty, inner) => {
-            let inner = typed(alloc, inner, place, vars)?;
-            raise_type(alloc, ty, inner, place)
+            let inner = typed(alloc, inner, site, vars)?;
+            raise_type(alloc, ty, inner, site)
         }
         Term::Prim(number, args) => {
-            let args = types_of(alloc, args.as_slice(), place, vars)?;
+            let args = types_of(alloc, args.as_slice(), site, vars)?;
             Ok(result_type(*number, args))
         }
         Term::Own(_) => Ok(None),
@@ -164,17 +167,18 @@ fn function<'a>(
     alloc: Global,
     body: &'a Term,
     ty: &'a Ty,
-    place: &'a Place<'a>,
+    site: &'a Site<'a>,
     vars: &'a Variables<'a>,
 ) -> Result<Option<Ty>, Memory>
-    requires entries { length place.now.env.now.entries < 2 ^ 32 }
+    requires entries { length site.now.env.now.entries < 2 ^ 32 }
     requires plain { IsPlainTerm (expr_of body.now) }
-    ensures { IfOk result (λ o. option_map typ_of o ≡ type_of Coloured false (entries_of place.now) (scope_of place.now (types_in vars.now)) (Lam (typ_of ty.now) (expr_of body.now))) }
+    ensures { IfOk result (λ o. option_map typ_of o ≡ type_of Coloured false (entries_of site.now)
+        (scope_of site.now (types_in vars.now)) (Lam (typ_of ty.now) (expr_of body.now))) }
 {
-    let Some(from) = seen_type(alloc, ty, place)? else {
+    let Some(from) = seen_type(alloc, ty, site)? else {
         return Ok(None);
     };
-    let to = typed(alloc, &*body, &*place, &Variables::One(&*vars, &from))?;
+    let to = typed(alloc, &*body, &*site, &Variables::One(&*vars, &from))?;
     function_type(alloc, from, to)
 }
 
@@ -185,17 +189,19 @@ fn recursive<'a>(
     body: &'a Term,
     from: &'a Ty,
     to: &'a Ty,
-    place: &'a Place<'a>,
+    site: &'a Site<'a>,
     vars: &'a Variables<'a>,
 ) -> Result<Option<Ty>, Memory>
-    requires entries { length place.now.env.now.entries < 2 ^ 32 }
+    requires entries { length site.now.env.now.entries < 2 ^ 32 }
     requires plain { IsPlainTerm (expr_of body.now) }
-    ensures { IfOk result (λ o. option_map typ_of o ≡ type_of Coloured false (entries_of place.now) (scope_of place.now (types_in vars.now)) (Rec (typ_of from.now) (typ_of to.now) (expr_of body.now))) }
+    ensures { IfOk result (λ o. option_map typ_of o ≡ type_of Coloured false (entries_of site.now)
+        (scope_of site.now (types_in vars.now))
+        (Rec (typ_of from.now) (typ_of to.now) (expr_of body.now))) }
 {
-    let Some(from) = seen_type(alloc, from, place)? else {
+    let Some(from) = seen_type(alloc, from, site)? else {
         return Ok(None);
     };
-    let Some(to) = seen_type(alloc, to, place)? else {
+    let Some(to) = seen_type(alloc, to, site)? else {
         drop(from);
         return Ok(None);
     };
@@ -207,7 +213,7 @@ fn recursive<'a>(
         return Ok(None);
     };
     let outer = Variables::One(&*vars, &own);
-    let found = typed(alloc, &*body, &*place, &Variables::One(&outer, &from))?;
+    let found = typed(alloc, &*body, &*site, &Variables::One(&outer, &from))?;
     drop(from);
     let end = recursive_type(own, &to, found);
     drop(to);
@@ -219,16 +225,17 @@ fn recursive<'a>(
 fn types_of<'a>(
     alloc: Global,
     terms: &'a [Term],
-    place: &'a Place<'a>,
+    site: &'a Site<'a>,
     vars: &'a Variables<'a>,
 ) -> Result<Option<Many<Ty>>, Memory>
-    requires entries { length place.now.env.now.entries < 2 ^ 32 }
+    requires entries { length site.now.env.now.entries < 2 ^ 32 }
     requires plain { IsTrue (are_plain (exprs (map expr_of terms.now))) }
-    ensures { IfOk result (λ o. option_map typs_of o ≡ types_of Coloured false (entries_of place.now) (scope_of place.now (types_in vars.now)) (exprs (map expr_of terms.now))) }
+    ensures { IfOk result (λ o. option_map typs_of o ≡ types_of Coloured false (entries_of site.now)
+        (scope_of site.now (types_in vars.now)) (exprs (map expr_of terms.now))) }
 {
     let mut found = Many::new(alloc);
     for t in terms {
-        let Some(ty) = typed(alloc, t, place, vars)? else {
+        let Some(ty) = typed(alloc, t, site, vars)? else {
             return Ok(None);
         };
         found.push(ty)?;
@@ -242,16 +249,18 @@ fn arms_type<'a>(
     alloc: Global,
     cases: &'a [Arm],
     ty: &'a Ty,
-    place: &'a Place<'a>,
+    site: &'a Site<'a>,
     vars: &'a Variables<'a>,
 ) -> Result<Option<Ty>, Memory>
-    requires entries { length place.now.env.now.entries < 2 ^ 32 }
+    requires entries { length site.now.env.now.entries < 2 ^ 32 }
     requires plain { IsTrue (arms_plain (arms (map arm_of cases.now))) }
-    ensures { IfOk result (λ o. option_map typ_of o ≡ option_and_then one_of (arm_types Coloured false (entries_of place.now) (scope_of place.now (types_in vars.now)) (typ_of ty.now) (arms (map arm_of cases.now)))) }
+    ensures { IfOk result (λ o. option_map typ_of o ≡ option_and_then one_of
+        (arm_types Coloured false (entries_of site.now) (scope_of site.now (types_in vars.now))
+        (typ_of ty.now) (arms (map arm_of cases.now)))) }
 {
     let mut first = None;
     for arm in cases {
-        let Some(found) = arm_type(alloc, arm, ty, place, vars)? else {
+        let Some(found) = arm_type(alloc, arm, ty, site, vars)? else {
             drop(first);
             return Ok(None);
         };
@@ -269,20 +278,22 @@ fn arm_type<'a>(
     alloc: Global,
     arm: &'a Arm,
     ty: &'a Ty,
-    place: &'a Place<'a>,
+    site: &'a Site<'a>,
     vars: &'a Variables<'a>,
 ) -> Result<Option<Ty>, Memory>
-    requires entries { length place.now.env.now.entries < 2 ^ 32 }
+    requires entries { length site.now.env.now.entries < 2 ^ 32 }
     requires plain { IsPlainTerm (expr_of arm.now.body) }
-    ensures { IfOk result (λ o. option_map typ_of o ≡ arm_type (entries_of place.now) (scope_of place.now (types_in vars.now)) (typ_of ty.now) (pattern_of arm.now.pat) (expr_of arm.now.body)) }
+    ensures { IfOk result (λ o. option_map typ_of o ≡ arm_type (entries_of site.now)
+        (scope_of site.now (types_in vars.now)) (typ_of ty.now) (pattern_of arm.now.pat)
+        (expr_of arm.now.body)) }
 {
-    let Some(bound) = variables(alloc, &arm.pat, ty, place, Many::new(alloc))? else {
+    let Some(bound) = variables(alloc, &arm.pat, ty, site, Many::new(alloc))? else {
         return Ok(None);
     };
     typed(
         alloc,
         &arm.body,
-        &*place,
+        &*site,
         &Variables::More(&*vars, bound.as_slice()),
     )
 }

@@ -109,13 +109,13 @@ fn write_home(listing: &mut Page, home: Home) {
 fn write_block(listing: &mut Page, number: usize, block: &Block) {
     write_numbered(listing, b"block ", number);
     write_home(listing, block.home);
-    let mut place = 0usize;
+    let mut address = 0usize;
     for instr in block.instrs.as_slice() {
-        listing.number(place as u64);
+        listing.number(address as u64);
         listing.put(b" ");
         write_instruction(listing, instr);
         listing.put(b"\n");
-        place = place.saturating_add(1);
+        address = address.saturating_add(1);
     }
 }
 

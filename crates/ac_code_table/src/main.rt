@@ -1,8 +1,8 @@
 //! Prints for each line of its input, a program, the blocks of its code.
 //!
-//! A block is a line `block N main`, and then a line for each instruction: its place, its name and its
-//! operands. A primitive is told by its name. Types and patterns stand in parentheses but for leaves; a
-//! variable of a pattern is its type.
+//! A block is a line `block N main`, and then a line for each instruction: its address, its name
+//! and its operands. A primitive is told by its name. Types and patterns stand in parentheses but
+//! for leaves; a variable of a pattern is its type.
 #![tactic(auto)]
 
 ghost use Rattle.std.specs.Prelude.{◌≡◌, []};

@@ -2,7 +2,7 @@
 use Rattle.std.proofs.Common.{◌≡◌, ◌⊎◌, inl, inr, ℕ, refl, sym, ap, ◌∙◌, subst, Bool, true, false, cond, [], ◌∷◌, Option, Some, None}
 use Rattle.ac_types.specs.First.{or_else}
 use Rattle.ac_types.specs.Types.{Typ, TInt, TBool, TStr, TUnit, TExn, TTuple, TList, TOpt, TFun, TAbs, TMine}
-use Rattle.ac_terms.specs.Terms.{Home, Main, Expr, Int, Boolean, Str, Unit', Exn, ExnOf, Tuple, Nil, Empty, Present, Cons, Var, Own, Ref, Lam, Rec, App, Let, If, Seq, Match, Try, Raise, Prim, Marshal, Unmarshal, Packed, Val, Bracket, Exprs, no_exprs, expr, Value, VStr, VTuple, VCons, VPresent, VProxy, value}
+use Rattle.ac_terms.specs.Terms.{Home, Main, Expr, Int, Boolean, Str, Unit', Exn, ExnOf, Tuple, Nil, Empty, Present, Cons, Var, Own, Ref, Lam, Rec, App, Let, If, Seq, Match, Try, Raise, Prim, Marshal, Unmarshal, Val, Evaluated, Bracket, Exprs, no_exprs, expr, Value, VStr, VTuple, VCons, VPresent, VProxy, value}
 use Rattle.ac_terms.specs.Defs.{Environment}
 use Rattle.ac_rules.specs.Views.{Mode}
 use Rattle.ac_rules.specs.Typing.{is_function}
@@ -10,14 +10,14 @@ use Rattle.ac_meaning.specs.Worlds.{Exception, World, match_failure}
 use Rattle.ac_meaning.specs.Acts.{Act, Is, Goes, Turns, Applies, Raises, Wrong, or_raises, within, part, parts, At}
 use Rattle.ac_meaning.specs.Substitution.{inst}
 use Rattle.ac_meaning.specs.Matching.{chosen}
-use Rattle.ac_meaning.specs.Primitives.{spelled, primitive, answered, exception_of, exception_value, thrown}
+use Rattle.ac_meaning.specs.PrimitiveSteps.{spelled, primitive, answered, exception_of, exception_value, thrown}
 use Rattle.ac_meaning.specs.Brackets.{is_function_value, bracket_step}
 use Rattle.ac_meaning.specs.References.{own_field, referred}
 use Rattle.ac_meaning.specs.Packing.{marshal_step, unmarshal_step}
 use Rattle.ac_meaning.specs.Reduction.{apply, branch, look, look_all, look_main}
 use Rattle.ac_meaning.specs.Redexes.{Redex, redex, redex_all, stands, crosses}
 use Rattle.ac_meaning.specs.Typed.{Typed, ValueTyped}
-use Rattle.ac_meaning.specs.States.{IsTyped}
+use Rattle.ac_meaning.specs.TypedStates.{IsTyped}
 use Rattle.ac_meaning.proofs.Admitted.{arrives}
 use Rattle.ac_meaning.proofs.Kept.{ActOk, kept}
 use Rattle.ac_colours.proofs.SealsLaw.{AtRest, none_else, rest, rest_becomes, rest_or_raises, rest_bracket, rest_apply, rest_branch, rest_thrown, rest_answer, rest_marshal, rest_unmarshal}
@@ -118,7 +118,7 @@ module _ (mode : Mode) (z : World) where
     next (Empty T) c = tt
     next (Lam T e) c = tt
     next (Rec T U e) c = tt
-    next (Val T v) c = tt
+    next (Evaluated T v) c = tt
     next (ExnOf k e) c = last_next (ExnOf k) (exception_of k) (redex c e) (look mode z c e) (next e c) (ended_text k)
     next (Tuple es) c = last_next Tuple (λ vs. Is (VTuple vs)) (redex_all c es) (look_all mode z c es) (next_all es c) (λ vs. tt)
     next (Present e) c = last_next Present (λ v. Is (VPresent v)) (redex c e) (look mode z c e) (next e c) (λ v. tt)
@@ -157,7 +157,7 @@ module _ (mode : Mode) (z : World) where
     next (Ref j x) c = stand_next c (Ref j x) _ refl (rest_becomes (referred z.environment j x) (stands c (Ref j x)))
     next (Bracket b T e) c = part_next (Bracket b T) (bracket_step mode z.environment b c T) (redex b e) (crosses c (Bracket b T e) (is_function T)) (look mode z b e) (next e b) (λ v q. bracket_next b c T e v (ap (part (Bracket b T) (bracket_step mode z.environment b c T)) q))
     next (Var i) c = tt
-    next (Packed T v) c = tt
+    next (Val T v) c = tt
 
     next_all : (es : Exprs) (c : Home) → NextIn (look_all mode z c es) (redex_all c es)
     next_all no_exprs c = tt

@@ -12,7 +12,7 @@ use Rattle.ac_rules.specs.Typing.{tuple_parts, list_item, option_item}
 use Rattle.ac_rules.specs.Plain.{where_there, in_front, packed, all_packed, all_travel, plain}
 use Rattle.ac_rules.specs.Coherent.{IsCoherent}
 use Rattle.ac_terms.proofs.AllLaws.{all_left, all_right}
-use Rattle.ac_rules.specs.Growth.{Extends}
+use Rattle.ac_rules.specs.Growth.{Widening}
 use Rattle.ac_meaning.specs.Typed.{seen, ValueTyped, ValuesTyped}
 use Rattle.ac_rules.proofs.KnownTypes.{head_known, opened_known}
 use Rattle.ac_rules.proofs.Growth.{head_same, opened_same, bare_same}
@@ -37,7 +37,7 @@ abbrev mutual
   AreData (value v vs) = IsData v × AreData vs
 
 -- in larger definitions it is packed as before
-module _ (E F : Environment) (g : Extends E F) where
+module _ (E F : Environment) (g : Widening E F) where
   known_head : (T X : Typ) → head E T ≡ X → are_known E T ≡ true → are_known E X ≡ true
   known_head T X q k = subst (λ Y. are_known E Y ≡ true) q (head_known E g.before T k)
 
@@ -126,7 +126,7 @@ module _ (E : Environment) (coherent : IsCoherent E) where
         let p : AllFlat (typ h.0 h.1) = subst AllFlat h.2 f in
         (data_of v c h.0 (or_left (has_function (view Plain E Home.Main h.0)) (have_function (all_seen E Plain Home.Main h.1)) p) h.3, all_data_of vs c h.1 (or_right (has_function (view Plain E Home.Main h.0)) (have_function (all_seen E Plain Home.Main h.1)) p) h.4)
 
-pub told_same : (E F : Environment) → Extends E F → (b c : Home) (n t : Bytes) (v : Value) (T : Typ) → ValueTyped Coloured E (VSeal b n t v) c T → told F (seal b n t v) ≡ told E (seal b n t v)
+pub told_same : (E F : Environment) → Widening E F → (b c : Home) (n t : Bytes) (v : Value) (T : Typ) → ValueTyped Coloured E (VSeal b n t v) c T → told F (seal b n t v) ≡ told E (seal b n t v)
 told_same E F g b c n t v T h = ap (λ X. at F (has_function X)) (bare_same E F g (TAbs n t) h.1) ∙ by (has_function (bare E (TAbs n t))) refl
   where
     say : Option PValue → List Birth

@@ -1,8 +1,8 @@
 //! Runs the programs that its input names, and prints what each printed and how it ended.
 //!
-//! A line of input is the name of a file, a space and a budget of applications. Behind the line stands what
-//! the program printed, a `|` at its front and behind each of its line feeds, and then how the program ended,
-//! with the status of `acute`.
+//! A line of input is the name of a file, a space and a budget of applications. Behind the line
+//! stands what the program printed, a `|` at its front and behind each of its line feeds, and then
+//! how the program ended, with the status of `acute`.
 #![tactic(auto)]
 
 ghost use Rattle.std.specs.Prelude.{◌≡◌, []};

@@ -1,4 +1,5 @@
-//! Says of each program that its words name whether `acute` accepts it, and where and why it doesn't.
+//! Says of each program that its words name whether `acute` accepts it, and where and why it
+//! doesn't.
 #![tactic(auto)]
 
 ghost use Rattle.std.specs.Prelude.{◌≡◌, []};

@@ -1,11 +1,13 @@
-// The parts of an expression, in the order of evaluation, each with its term and with the types of its variables.
+// The parts of an expression, in the order of evaluation, each with its term and with the types of
+// its variables.
 
 use ac_syntax::{SArm, SExpr, SExprKind};
 use ac_terms::{Arm, Pat, Term};
 use ac_types::{Many, Memory, Ty};
 use std::alloc::Global;
 
-/// An expression, the term that it elaborates to, and the types of the variables in scope, the newest first.
+/// An expression, the term that it elaborates to, and the types of the variables in scope, the
+/// newest first.
 #[derive(Drop)]
 pub struct Part<'a> {
     pub tree: &'a SExpr,

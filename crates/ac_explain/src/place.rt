@@ -52,7 +52,8 @@ fn write_room(page: &mut Page, byte: u8) {
     }
 }
 
-/// Adds the line of a text around the place of a byte, and a caret below that byte. Of a long line a piece is shown.
+/// Adds the line of a text around the place of a byte, and a caret below that byte. Of a long line
+/// a piece is shown.
 pub fn write_line(page: &mut Page, text: &[u8], at: usize) {
     let (front, rest) = text.split_at(at.min(text.len()));
     let start = front.len() - shown_behind(front);

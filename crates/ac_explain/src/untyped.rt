@@ -62,7 +62,8 @@ fn way_on<'a>(alloc: Global, whole: &Part<'a>) -> Result<Way<'a>, Memory> {
     Ok(Way::Here(found))
 }
 
-/// The first part, in the order of evaluation, that has no type though all its parts have, of a program without one.
+/// The first part, in the order of evaluation, that has no type though all its parts have, of a
+/// program without one.
 pub fn first_untyped<'a>(
     alloc: Global,
     tree: &'a SExpr,

@@ -5,10 +5,10 @@ use Rattle.ac_types.proofs.FirstLaws.{some_eq}
 use Rattle.ac_types.specs.Types.{Bytes}
 use Rattle.ac_syntax.specs.Signs.{Sign, Int, Str, Lower, Upper, Fixed, Other, here}
 use Rattle.ac_syntax.specs.Trees.{NameAt, TypeTree, PatTree, Tree, ExInt, ExStr, ExUnit, ExTuple, ExNil, ExAbsent, ExVar, ExOf, ExSeq, ExMatch, ExTry, Trees, tree, trees, ArmTrees, arm_tree, arm_trees, height, highest, highest_arm}
-use Rattle.ac_syntax.specs.Types.{IsType}
+use Rattle.ac_syntax.specs.TypeForms.{IsType}
 use Rattle.ac_syntax.specs.Patterns.{exception, IsPattern}
 use Rattle.ac_syntax.specs.Expressions.{Expr, Part, Atom, Ending, Closed, Swallow, Parses, alone, sequence, number, string, true_, false_, unit, exn, var, of_module, parens, tuple, nil, none, match_with, try_with, ParsesParts, last_part, more_parts, ParsesItems, last_item, more_items, ParsesArms, last_arm, more_arms, front, looseness, Stops, IsTree}
-use Rattle.ac_syntax.specs.Parsing.{SymbolAt, NoSymbol}
+use Rattle.ac_syntax.specs.PartParsing.{SymbolAt, NoSymbol}
 use Rattle.ac_syntax.specs.declared.sign.Symbol.{Symbol}
 use Rattle.ac_syntax.specs.declared.sign.Symbol.TheVariants.{Open, Close, OpenSquare, CloseSquare, Comma, Semicolon, Dot, Arrow, Bar, End, True, False, Match, Try, NoneWord, NotFound, DivisionByZero, MatchFailure, EndOfFile, Star, Slash, Mod, Plus, Minus, Caret, Cons, Equals, Less, And, Or}
 use Rattle.ac_syntax.proofs.Exceptions.{nothing_there}
@@ -16,8 +16,8 @@ use Rattle.ac_syntax.proofs.UniqueTypes.{tail_eq}
 use Rattle.ac_syntax.proofs.Fronts.{begins_not, front_positive, part_stops, semicolon_goes_on}
 use Rattle.ac_syntax.proofs.UniquePatterns.{same_pattern}
 use Rattle.ac_syntax.proofs.UniqueExpressions.{unique, at_same}
-use Rattle.ac_expressions.specs.Parsing.{Nothing, Before, Behind, last, more, Made, IsAscribed}
-use Rattle.ac_expressions.specs.Forms.{NoTree, base_expr, LeafAt, NoLeaf, IsLastPart, IsParts, sequence_tree, IsItems, tuple_tree, IsArm, IsArms, IsChoice}
+use Rattle.ac_expressions.specs.ExpressionParsing.{Nothing, Before, Behind, last, more, Made, IsAscribed}
+use Rattle.ac_expressions.specs.inner.Forms.{NoTree, base_expr, FormLeafAt, NoFormLeaf, IsLastPart, IsParts, sequence_tree, IsItems, tuple_tree, IsArm, IsArms, IsChoice}
 use Rattle.ac_expressions.proofs.Levels.{one_tree, closed_atom}
 use Rattle.ac_expressions.proofs.Readers.{One, ManyRead, SoFar, start, next, ended, before, before_none, symbol_none, one_before, one_then, before_apart, next_read, next_none, all_read, chain_none}
 use Rattle.ac_expressions.proofs.Words.{expr_at}
@@ -529,43 +529,43 @@ module _ (D at : ℕ) (ts : List Sign) (no_close : NoSymbol Close ts) (no_square
 
 -- leaves
 
-pub leaf_tree : (D : ℕ) (ts r : List Sign) (e : Tree) → 0 < D → LeafAt ts e r → IsTree D Atom ts e r
+pub leaf_tree : (D : ℕ) (ts r : List Sign) (e : Tree) → 0 < D → FormLeafAt ts e r → IsTree D Atom ts e r
 leaf_tree D ts r e h at = record { ending = Closed; parses = at.parses; stops = front_positive r; low = omega (arith, at.leaf) }
 
-pub leaf_none : (D : ℕ) (ts : List Sign) → NoLeaf ts → NoTree D Atom ts
+pub leaf_none : (D : ℕ) (ts : List Sign) → NoFormLeaf ts → NoTree D Atom ts
 leaf_none D ts none' e s o = none' e s (closed_atom o.parses)
 
-leaf_at : {ts us r : List Sign} {e f : Tree} → ts ≡ us → e ≡ f → LeafAt us f r → LeafAt ts e r
-leaf_at {ts} {us} {r} {e} {f} is same at = subst (λ (l : List Sign). LeafAt l e r) (sym is) (subst (λ (x : Tree). LeafAt us x r) (sym same) at)
+leaf_at : {ts us r : List Sign} {e f : Tree} → ts ≡ us → e ≡ f → FormLeafAt us f r → FormLeafAt ts e r
+leaf_at {ts} {us} {r} {e} {f} is same at = subst (λ (l : List Sign). FormLeafAt l e r) (sym is) (subst (λ (x : Tree). FormLeafAt us x r) (sym same) at)
 
-pub int_leaf : (n a : ℕ) (ts r : List Sign) (e : Tree) → ts ≡ Int a n ∷ r → e ≡ ExInt a (pos n) → LeafAt ts e r
+pub int_leaf : (n a : ℕ) (ts r : List Sign) (e : Tree) → ts ≡ Int a n ∷ r → e ≡ ExInt a (pos n) → FormLeafAt ts e r
 int_leaf n a ts r e is same = leaf_at is same (record { parses = number; leaf = refl })
 
-pub str_leaf : (text : Bytes) (a : ℕ) (ts r : List Sign) (e : Tree) → ts ≡ Str a text ∷ r → e ≡ ExStr a text → LeafAt ts e r
+pub str_leaf : (text : Bytes) (a : ℕ) (ts r : List Sign) (e : Tree) → ts ≡ Str a text ∷ r → e ≡ ExStr a text → FormLeafAt ts e r
 str_leaf text a ts r e is same = leaf_at is same (record { parses = string; leaf = refl })
 
-pub var_leaf : (w : Bytes) (a : ℕ) (ts r : List Sign) (e : Tree) → ts ≡ Lower a w ∷ r → e ≡ ExVar a w → LeafAt ts e r
+pub var_leaf : (w : Bytes) (a : ℕ) (ts r : List Sign) (e : Tree) → ts ≡ Lower a w ∷ r → e ≡ ExVar a w → FormLeafAt ts e r
 var_leaf w a ts r e is same = leaf_at is same (record { parses = var; leaf = refl })
 
-pub field_leaf : (w : Bytes) (a : ℕ) (x : NameAt) (ts us r : List Sign) (e : Tree) → SymbolAt Dot ts us → us ≡ Lower x.at x.word ∷ r → e ≡ ExOf a (record { at = a; word = w }) x → LeafAt (Upper a w ∷ ts) e r
+pub field_leaf : (w : Bytes) (a : ℕ) (x : NameAt) (ts us r : List Sign) (e : Tree) → SymbolAt Dot ts us → us ≡ Lower x.at x.word ∷ r → e ≡ ExOf a (record { at = a; word = w }) x → FormLeafAt (Upper a w ∷ ts) e r
 field_leaf w a x ts us r e dot name same = leaf_at (ap (λ (l : List Sign). Upper a w ∷ l) (dot.is ∙ ap (λ (l : List Sign). Fixed dot.at Dot ∷ l) name)) same (record { parses = of_module; leaf = refl })
 
 field_forth : {a : ℕ} {w : Bytes} {ts s : List Sign} {e : Tree} → ((x : NameAt) (q : ℕ) (r : List Sign) → ts ≡ Fixed q Dot ∷ Lower x.at x.word ∷ r → ⊥) → Parses Atom Closed (Upper a w ∷ ts) e s → ⊥
 field_forth none' (of_module {q = q} {c = c} {x = x}) = none' (record { at = c; word = x }) q _ refl
 
-pub undotted_none : (w : Bytes) (a : ℕ) (ts : List Sign) → NoSymbol Dot ts → NoLeaf (Upper a w ∷ ts)
+pub undotted_none : (w : Bytes) (a : ℕ) (ts : List Sign) → NoSymbol Dot ts → NoFormLeaf (Upper a w ∷ ts)
 undotted_none w a ts none' e s p = field_forth (λ x q r is. none' _ (record { at = q; is = is })) p
 
-pub unnamed_none : (w : Bytes) (a : ℕ) (ts us : List Sign) → SymbolAt Dot ts us → ((x : NameAt) (r : List Sign) → us ≡ Lower x.at x.word ∷ r → ⊥) → NoLeaf (Upper a w ∷ ts)
+pub unnamed_none : (w : Bytes) (a : ℕ) (ts us : List Sign) → SymbolAt Dot ts us → ((x : NameAt) (r : List Sign) → us ≡ Lower x.at x.word ∷ r → ⊥) → NoFormLeaf (Upper a w ∷ ts)
 unnamed_none w a ts us dot none' e s p = field_forth (λ x q r is. none' x r (tail_eq (sym dot.is ∙ is))) p
 
-pub upper_leaf : (w : Bytes) (a : ℕ) (ts us r : List Sign) (e : Tree) → ts ≡ Upper a w ∷ us → LeafAt (Upper a w ∷ us) e r → LeafAt ts e r
+pub upper_leaf : (w : Bytes) (a : ℕ) (ts us r : List Sign) (e : Tree) → ts ≡ Upper a w ∷ us → FormLeafAt (Upper a w ∷ us) e r → FormLeafAt ts e r
 upper_leaf w a ts us r e is at = leaf_at is refl at
 
-pub upper_none : (w : Bytes) (a : ℕ) (ts us : List Sign) → ts ≡ Upper a w ∷ us → NoLeaf (Upper a w ∷ us) → NoLeaf ts
-upper_none w a ts us is none' = subst (λ (l : List Sign). NoLeaf l) (sym is) none'
+pub upper_none : (w : Bytes) (a : ℕ) (ts us : List Sign) → ts ≡ Upper a w ∷ us → NoFormLeaf (Upper a w ∷ us) → NoFormLeaf ts
+upper_none w a ts us is none' = subst (λ (l : List Sign). NoFormLeaf l) (sym is) none'
 
-base_at : (a : ℕ) (t : Symbol) (r : List Sign) (e : Tree) → base_expr t a ≡ Some e → LeafAt (Fixed a t ∷ r) e r
+base_at : (a : ℕ) (t : Symbol) (r : List Sign) (e : Tree) → base_expr t a ≡ Some e → FormLeafAt (Fixed a t ∷ r) e r
 base_at a True r e is = leaf_at refl (some_eq (sym is)) (record { parses = true_; leaf = refl })
 base_at a False r e is = leaf_at refl (some_eq (sym is)) (record { parses = false_; leaf = refl })
 base_at a NotFound r e is = leaf_at refl (some_eq (sym is)) (record { parses = exn refl; leaf = refl })
@@ -574,7 +574,7 @@ base_at a MatchFailure r e is = leaf_at refl (some_eq (sym is)) (record { parses
 base_at a EndOfFile r e is = leaf_at refl (some_eq (sym is)) (record { parses = exn refl; leaf = refl })
 base_at a t r e is = nothing_there is
 
-pub base_leaf : (a : ℕ) (t : Symbol) (ts r : List Sign) (e f : Tree) → ts ≡ Fixed a t ∷ r → base_expr t a ≡ Some e → f ≡ e → LeafAt ts f r
+pub base_leaf : (a : ℕ) (t : Symbol) (ts r : List Sign) (e f : Tree) → ts ≡ Fixed a t ∷ r → base_expr t a ≡ Some e → f ≡ e → FormLeafAt ts f r
 base_leaf a t ts r e f is made same = leaf_at is same (base_at a t r e made)
 
 exception_base : (a k : ℕ) (t : Symbol) → exception t ≡ Some k → base_expr t a ≡ None → ⊥
@@ -596,5 +596,5 @@ base_forth {a} is e no_open no_match no_try (none T) = no_open _ (record { at = 
 base_forth {a} is e no_open no_match no_try (match_with p q) = no_match _ (record { at = a; is = is })
 base_forth {a} is e no_open no_match no_try (try_with p q) = no_try _ (record { at = a; is = is })
 
-pub no_base_leaf : (a : ℕ) (t : Symbol) (ts r : List Sign) → ts ≡ Fixed a t ∷ r → base_expr t a ≡ None → NoSymbol Open ts → NoSymbol Match ts → NoSymbol Try ts → NoLeaf ts
+pub no_base_leaf : (a : ℕ) (t : Symbol) (ts r : List Sign) → ts ≡ Fixed a t ∷ r → base_expr t a ≡ None → NoSymbol Open ts → NoSymbol Match ts → NoSymbol Try ts → NoFormLeaf ts
 no_base_leaf a t ts r is made no_open no_match no_try e s p = base_forth is made no_open no_match no_try (at_same (sym is) p)

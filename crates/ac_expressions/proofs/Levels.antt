@@ -4,7 +4,7 @@ use Rattle.std.specs.Prelude.{pos, neg_ℤ}
 use Rattle.ac_syntax.specs.Signs.{Sign, Int, Str, Lower, Upper, Fixed, Other, here}
 use Rattle.ac_syntax.specs.Trees.{Tree, ExInt, ExBool, ExStr, ExUnit, ExExn, ExExnOf, ExTuple, ExNil, ExAbsent, ExPresent, ExCons, ExVar, ExOf, ExFun, ExRec, ExApp, ExLet, ExLetRec, ExIf, ExSeq, ExMatch, ExTry, ExRaise, ExAnd, ExOr, ExOp, ExMarshal, ExUnmarshal, no_trees, tree, height}
 use Rattle.ac_syntax.specs.Expressions.{Operator, Prim, Consing, Both, Either, operator_of, ToLeft, ToRight, Once, side_of, joined, is_bare, Level, Binary, After, Unary, App, Args, Atom, Ending, Closed, Parses, binary, unary, stop, left, right, once, minus, negative, not_, app, some, exn_with_string, applied, no_argument, argument, number, string, true_, false_, unit, exn, var, of_module, parens, tuple, nil, none, match_with, try_with, begins_atom, symbol_front, sign_front, front, IsTree}
-use Rattle.ac_syntax.specs.Parsing.{SymbolAt, NoSymbol}
+use Rattle.ac_syntax.specs.PartParsing.{SymbolAt, NoSymbol}
 use Rattle.ac_syntax.specs.declared.sign.Symbol.{Symbol}
 use Rattle.ac_syntax.specs.declared.sign.Symbol.TheVariants.{Semicolon, Minus, Not, SomeWord, Star, Slash, Mod, Plus, Caret, Cons, Equals, Less, And, Or}
 use Rattle.ac_syntax.proofs.Exceptions.{nothing_there, same_value}
@@ -12,8 +12,8 @@ use Rattle.ac_syntax.proofs.Fronts.{begins_not, with_string_rank, front_positive
 use Rattle.ac_syntax.proofs.UniqueExpressions.{unique, at_same}
 use Rattle.ac_expressions.specs.declared.front.Prefix.{Prefix}
 use Rattle.ac_expressions.specs.declared.front.Prefix.TheVariants as prefix
-use Rattle.ac_expressions.specs.Parsing.{LoneNumber, NoLoneNumber, IsPrefix, PrefixAt, NoPrefix}
-use Rattle.ac_expressions.specs.Forms.{Same, NoTree, prefixed, OperatorAt, NoOperator}
+use Rattle.ac_expressions.specs.ExpressionParsing.{LoneNumber, NoLoneNumber, IsPrefix, PrefixAt, NoPrefix}
+use Rattle.ac_expressions.specs.inner.Forms.{Same, NoTree, prefixed, OperatorAt, NoOperator}
 use Rattle.ac_expressions.proofs.Readers.{One}
 
 -- heights

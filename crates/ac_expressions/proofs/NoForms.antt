@@ -4,11 +4,11 @@ use Rattle.ac_syntax.specs.Signs.{Sign}
 use Rattle.ac_syntax.specs.Trees.{NameAt, TypeTree, PatTree, Tree}
 use Rattle.ac_syntax.specs.Patterns.{IsPattern}
 use Rattle.ac_syntax.specs.Expressions.{after_bar, Expr, Part, Atom, IsTree}
-use Rattle.ac_syntax.specs.Parsing.{SymbolAt, NoSymbol}
+use Rattle.ac_syntax.specs.PartParsing.{SymbolAt, NoSymbol}
 use Rattle.ac_syntax.specs.declared.sign.Symbol.{Symbol}
 use Rattle.ac_syntax.specs.declared.sign.Symbol.TheVariants.{Arrow, As, Colon, Else, Equals, In, Then, With}
-use Rattle.ac_expressions.specs.Parsing.{Nothing, Before, Behind, IsTyped, IsArgument, IsHead, IsLastType}
-use Rattle.ac_expressions.specs.Forms.{NoTree, IsArm, IsArms, IsChoice, IsLet, IsLetRec, IsFun, IsRec, IsIf, IsMarshal, IsUnmarshal, IsRaise}
+use Rattle.ac_expressions.specs.ExpressionParsing.{Nothing, Before, Behind, IsTypedBinder, IsArgument, IsHead, IsLastType}
+use Rattle.ac_expressions.specs.inner.Forms.{NoTree, IsArm, IsArms, IsChoice, IsLet, IsLetRec, IsFun, IsRec, IsIf, IsMarshal, IsUnmarshal, IsRaise}
 use Rattle.ac_expressions.proofs.Readers.{first_none, later_none, no_symbol, behind_none, before, before_none, symbol_none, one_before, one_typed, one_argument, one_head}
 use Rattle.ac_expressions.proofs.Levels.{one_tree}
 use Rattle.ac_expressions.proofs.Atoms.{one_pattern}
@@ -30,7 +30,7 @@ module _ (D : ℕ) (ts : List Sign) where
   pub choice_no_arms : (e : Tree) (m us : List Sign) → Before With (IsTree D Expr) ts e m → us ≡ after_bar m → Nothing (IsArms D) us → Nothing (IsChoice D) ts
   choice_no_arms e m us p is none = later_none (one_before With (one_tree D Expr)) p (λ arms rest w. none arms rest (subst (λ (l : List Sign). IsArms D l arms rest) (sym is) w))
 
-  module _ (x : NameAt × TypeTree) (m : List Sign) (at : IsTyped Equals ts x m) where
+  module _ (x : NameAt × TypeTree) (m : List Sign) (at : IsTypedBinder Equals ts x m) where
     pub let_no_bound : Nothing (Before In (IsTree D Expr)) m → Nothing (IsLet D) ts
     let_no_bound none = later_none (one_typed Equals) at (first_none none)
 

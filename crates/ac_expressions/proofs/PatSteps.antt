@@ -6,7 +6,7 @@ use Rattle.ac_types.specs.Types.{Bytes}
 use Rattle.ac_syntax.specs.Signs.{Sign, Int, Str, Lower, Upper, Fixed, Other, here}
 use Rattle.ac_syntax.specs.Trees.{NameAt, TypeTree, PatTree, PatWild, PatVar, PatInt, PatBool, PatStr, PatUnit, PatTuple, PatNil, PatCons, PatAbsent, PatPresent, PatExn, PatExnOf, PatTrees, no_pat_trees, pat_tree, pat_trees, pat_height, highest_pat}
 use Rattle.ac_syntax.specs.Patterns.{exception, exception_with_string, PatLevel, Pattern, Prefixed, Single, ParsesPat, ParsesPats, no_cons, cons, some, exn_with_string, single, wild, var, number, negative, string, true_, false_, unit, nil, none, exn, parens, tuple, last_pat, more_pats, pat_front, PatStops, IsPatTree}
-use Rattle.ac_syntax.specs.Parsing.{SymbolAt, NoSymbol}
+use Rattle.ac_syntax.specs.PartParsing.{SymbolAt, NoSymbol}
 use Rattle.ac_syntax.specs.declared.sign.Symbol.{Symbol}
 use Rattle.ac_syntax.specs.declared.sign.Symbol.TheVariants.{Open, Close, OpenSquare, CloseSquare, Comma, Minus, Cons, Wild, True, False, SomeWord, NoneWord, Failure, InvalidArgument, NotFound, DivisionByZero, MatchFailure, EndOfFile, SysError, MarshalFailure, UnmarshalFailure, ResolveFailure}
 use Rattle.ac_syntax.proofs.Exceptions.{apart, nothing_there, same_value}
@@ -14,7 +14,7 @@ use Rattle.ac_syntax.proofs.UniqueTypes.{tail_eq}
 use Rattle.ac_syntax.proofs.UniquePatterns.{symbol_begins_single, begins_single, single_begins, unique_pat}
 use Rattle.ac_expressions.specs.declared.front.Prefix.{Prefix}
 use Rattle.ac_expressions.specs.declared.front.Prefix.TheVariants as prefix
-use Rattle.ac_expressions.specs.Parsing.{Nothing, Before, last, more, IsTyped, NumberAt, NoNumber, is_lower, IsPrefix, PrefixAt, NoPrefix, NoPat, prefixed_pat, base_pat, PatLeafAt, NoPatLeaf, IsPats, PatTupleOf}
+use Rattle.ac_expressions.specs.ExpressionParsing.{Nothing, Before, last, more, IsTypedBinder, NumberAt, NoNumber, is_lower, IsPrefix, PrefixAt, NoPrefix, NoPat, prefixed_pat, base_pat, PatLeafAt, NoPatLeaf, IsPats, PatTupleOf}
 use Rattle.ac_expressions.proofs.Readers.{One, ManyRead, AllRead, before, before_none, symbol_none, one_before, before_apart, next_read, next_none, all_read, chain_none}
 
 -- heights
@@ -274,11 +274,11 @@ unit_pat D at ts r p h c is = record {
   low = omega (arith, ap pat_height is);
 }
 
-pub var_pat : (D at : ℕ) (ts r : List Sign) (x : NameAt × TypeTree) (p : PatTree) → 0 < D → IsTyped Close ts x r → p ≡ PatVar at x.0 x.1 → IsPatTree D Single (Fixed at Open ∷ ts) p r
+pub var_pat : (D at : ℕ) (ts r : List Sign) (x : NameAt × TypeTree) (p : PatTree) → 0 < D → IsTypedBinder Close ts x r → p ≡ PatVar at x.0 x.1 → IsPatTree D Single (Fixed at Open ∷ ts) p r
 var_pat D at ts r x p h t is = record {
   parses =
       let inner = t.second.then in
-      let ty = subst (λ (l : List Sign). Rattle.ac_syntax.specs.Types.IsType t.second.middle x.1 l) inner.at.is inner.first in
+      let ty = subst (λ (l : List Sign). Rattle.ac_syntax.specs.TypeForms.IsType t.second.middle x.1 l) inner.at.is inner.first in
       pat_at (ap (λ (l : List Sign). Fixed at Open ∷ l) (t.first ∙ ap (λ (l : List Sign). Lower x.0.at x.0.word ∷ l) t.second.at.is))
       (subst (λ (q : PatTree). ParsesPat Single (Fixed at Open ∷ Lower x.0.at x.0.word ∷ Fixed t.second.at.at Rattle.ac_syntax.specs.declared.sign.Symbol.TheVariants.Colon ∷ t.second.middle) q r) (sym is) (var ty));
   stops = front_positive r;
@@ -290,7 +290,7 @@ name_begins_none (no_cons p) = name_begins_none p
 name_begins_none (cons p q) = name_begins_none p
 name_begins_none (single p) = single_not p refl
 
-var_forth : {at : ℕ} {ts s : List Sign} {p : PatTree} → Nothing (IsTyped Close) ts → is_lower ts ≡ true → ParsesPat Single (Fixed at Open ∷ ts) p s → ⊥
+var_forth : {at : ℕ} {ts s : List Sign} {p : PatTree} → Nothing (IsTypedBinder Close) ts → is_lower ts ≡ true → ParsesPat Single (Fixed at Open ∷ ts) p s → ⊥
 var_forth none' lower unit = apart lower
 var_forth none' lower (exn e) = nothing_there e
 var_forth none' lower (var {b = b} {c = c} {d = d} {x = x} {T = T} t) =
@@ -310,7 +310,7 @@ var_forth none' lower (tuple {ts = Upper a x ∷ ts} p q) = apart lower
 var_forth none' lower (tuple {ts = Fixed a x ∷ ts} p q) = apart lower
 var_forth none' lower (tuple {ts = Other a ∷ ts} p q) = apart lower
 
-pub var_none : (D at : ℕ) (ts : List Sign) → Nothing (IsTyped Close) ts → is_lower ts ≡ true → NoPat D Single (Fixed at Open ∷ ts)
+pub var_none : (D at : ℕ) (ts : List Sign) → Nothing (IsTypedBinder Close) ts → is_lower ts ≡ true → NoPat D Single (Fixed at Open ∷ ts)
 var_none D at ts none' lower p r o = var_forth none' lower o.parses
 
 module _ (D at : ℕ) (ts : List Sign) (no_close : NoSymbol Close ts) (no_name : is_lower ts ≡ false) where

@@ -5,14 +5,14 @@ use mathlib.Core.Path.{ap₂}
 use Rattle.ac_types.specs.Types.{Bytes}
 use Rattle.ac_syntax.specs.Signs.{Sign, Lower, Fixed, here}
 use Rattle.ac_syntax.specs.Trees.{NameAt, TypeTree}
-use Rattle.ac_syntax.specs.Types.{IsType}
-use Rattle.ac_syntax.specs.Parsing.{SymbolAt, NoSymbol}
+use Rattle.ac_syntax.specs.TypeForms.{IsType}
+use Rattle.ac_syntax.specs.PartParsing.{SymbolAt, NoSymbol}
 use Rattle.ac_syntax.specs.declared.sign.Symbol.{Symbol}
 use Rattle.ac_syntax.specs.declared.sign.Symbol.TheVariants.{Open, Close, Colon, Equals}
 use Rattle.ac_syntax.specs.Expressions.{front}
 use Rattle.ac_syntax.proofs.Exceptions.{apart}
 use Rattle.ac_syntax.proofs.UniqueTypes.{tail_eq, same_type}
-use Rattle.ac_expressions.specs.Parsing.{Nothing, Then, Behind, Before, Chain, last, more, IsName, IsAscribed, IsTyped, IsArgument, IsHead, IsLastType}
+use Rattle.ac_expressions.specs.ExpressionParsing.{Nothing, Then, Behind, Before, Chain, last, more, IsName, IsAscribed, IsTypedBinder, IsArgument, IsHead, IsLastType}
 
 -- at most one thing of a kind begins signs
 abbrev pub One : {A : Type 0} → (List Sign → A → List Sign → Type 0) → Type 0
@@ -98,7 +98,7 @@ one_type ts r s x y p q = let d = same_type p q in (d.tree, d.rest)
 one_ascribed : (t : Symbol) → One (IsAscribed t)
 one_ascribed t = one_behind Colon (one_before t one_type)
 
-pub one_typed : (t : Symbol) → One (IsTyped t)
+pub one_typed : (t : Symbol) → One (IsTypedBinder t)
 one_typed t = one_then one_name (one_ascribed t)
 
 pub one_argument : One IsArgument

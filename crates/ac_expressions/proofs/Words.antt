@@ -3,16 +3,16 @@ use Rattle.std.proofs.Common.{◌≡◌, ◌<◌, ◌≤◌, ◌-◌, ℕ, List,
 use Rattle.ac_types.specs.Types.{Bytes}
 use Rattle.ac_syntax.specs.Signs.{Sign, Lower, Fixed}
 use Rattle.ac_syntax.specs.Trees.{NameAt, TypeTree, Tree, height}
-use Rattle.ac_syntax.specs.Types.{IsType}
+use Rattle.ac_syntax.specs.TypeForms.{IsType}
 use Rattle.ac_syntax.specs.Expressions.{Expr, Part, Binary, Atom, Ending, Closed, Swallow, Parses, let_in, let_rec, fun, rec, if_else, marshal, unmarshal, raise, operators, Stops, IsTree}
-use Rattle.ac_syntax.specs.Parsing.{SymbolAt, NoSymbol}
+use Rattle.ac_syntax.specs.PartParsing.{SymbolAt, NoSymbol}
 use Rattle.ac_syntax.specs.declared.sign.Symbol.{Symbol}
 use Rattle.ac_syntax.specs.declared.sign.Symbol.TheVariants.{Open, Close, Colon, Equals, Fun, If, Let, Marshal, Raise, Rec, Unmarshal}
 use Rattle.ac_syntax.proofs.Fronts.{begins_not, front_positive}
 use Rattle.ac_syntax.proofs.UniqueExpressions.{at_same}
 use Rattle.ac_expressions.specs.declared.keywords.Keyword.TheVariants as keyword
-use Rattle.ac_expressions.specs.Parsing.{Nothing, Before, Made, IsTyped, IsArgument, IsHead}
-use Rattle.ac_expressions.specs.Forms.{NoTree, NoKeyword, IsLet, let_tree, IsLetRec, let_rec_tree, IsFun, fun_tree, IsRec, rec_tree, IsIf, if_tree, IsMarshal, marshal_tree, IsUnmarshal, unmarshal_tree, IsRaise, raise_tree}
+use Rattle.ac_expressions.specs.ExpressionParsing.{Nothing, Before, Made, IsTypedBinder, IsArgument, IsHead}
+use Rattle.ac_expressions.specs.inner.Forms.{NoTree, NoKeyword, IsLet, let_tree, IsLetRec, let_rec_tree, IsFun, fun_tree, IsRec, rec_tree, IsIf, if_tree, IsMarshal, marshal_tree, IsUnmarshal, unmarshal_tree, IsRaise, raise_tree}
 use Rattle.ac_expressions.proofs.Levels.{closed_atom, closed_binary}
 
 -- operators
@@ -37,7 +37,7 @@ operators_none D ts no_word none e s o =
 
 -- names with their types
 
-typed_at : {t : Symbol} {ts s : List Sign} {x : Bytes} {q c d : ℕ} {T : TypeTree} → IsType ts T (Fixed d t ∷ s) → IsTyped t (Lower q x ∷ Fixed c Colon ∷ ts) (record { at = q; word = x }, T) s
+typed_at : {t : Symbol} {ts s : List Sign} {x : Bytes} {q c d : ℕ} {T : TypeTree} → IsType ts T (Fixed d t ∷ s) → IsTypedBinder t (Lower q x ∷ Fixed c Colon ∷ ts) (record { at = q; word = x }, T) s
 typed_at {ts = ts} {c = c} {d = d} T = record { middle = Fixed c Colon ∷ ts; first = refl; second = record { middle = ts; at = record { at = c; is = refl }; then = record { middle = _; first = T; at = record { at = d; is = refl } } } }
 
 record Typed (t : Symbol) (ts : List Sign) (x : NameAt × TypeTree) (s : List Sign) : Type 0 where
@@ -47,7 +47,7 @@ record Typed (t : Symbol) (ts : List Sign) (x : NameAt × TypeTree) (s : List Si
   is : ts ≡ Lower x.0.at x.0.word ∷ Fixed colon Colon ∷ inner
   ty : IsType inner x.1 (Fixed end t ∷ s)
 
-typed_of : {t : Symbol} {ts s : List Sign} {x : NameAt × TypeTree} → IsTyped t ts x s → Typed t ts x s
+typed_of : {t : Symbol} {ts s : List Sign} {x : NameAt × TypeTree} → IsTypedBinder t ts x s → Typed t ts x s
 typed_of {x = x} w = record {
   colon = w.second.at.at;
   end = w.second.then.at.at;

@@ -1,2 +1,2 @@
-pub mod Parsing
-pub mod Forms
+pub mod ExpressionParsing
+pub mod inner

@@ -3,9 +3,9 @@
 ghost use Rattle.std.specs.Prelude.{◌≡◌, ◌<◌, length, IfOk, IfErr};
 ghost use Rattle.ac_syntax.specs.ReadSigns.{read_signs};
 ghost use Rattle.ac_syntax.specs.ReadTrees.{type_of};
-ghost use Rattle.ac_syntax.specs.Types.{IsType};
-ghost use Rattle.ac_syntax.specs.Parsing.{OnSyntax};
-ghost use Rattle.ac_expressions.specs.Parsing.{Nothing, Behind, Before, IsAscribed, IsTyped, IsArgument, IsHead, IsLastType, binder_of, head_of};
+ghost use Rattle.ac_syntax.specs.TypeForms.{IsType};
+ghost use Rattle.ac_syntax.specs.PartParsing.{OnSyntax};
+ghost use Rattle.ac_expressions.specs.ExpressionParsing.{Nothing, Behind, Before, IsAscribed, IsTypedBinder, IsArgument, IsHead, IsLastType, binder_of, head_of};
 
 use crate::front::{ends_part, expect, name};
 use ac_syntax::{HIGHEST_TYPE, SName, SType, Sign, Stop, Symbol, refused_at, whole_type};
@@ -73,9 +73,11 @@ fn type_before<'s, 't>(
     symbol: Symbol,
     signs: &'s [Sign<'t>],
 ) -> Result<(SType, &'s [Sign<'t>]), Stop>
-    ensures found { IfOk result (λ x. Before symbol IsType (read_signs signs.now) (type_of x.0) (read_signs x.1.now)) }
+    ensures found { IfOk result (λ x. Before symbol IsType (read_signs signs.now) (type_of x.0)
+        (read_signs x.1.now)) }
     ensures shorter { IfOk result (λ x. length x.1.now < length signs.now) }
-    ensures none { IfErr result (λ e. OnSyntax e (Nothing (Before symbol IsType) (read_signs signs.now))) }
+    ensures none { IfErr result (λ e. OnSyntax e
+        (Nothing (Before symbol IsType) (read_signs signs.now))) }
 {
     let (ty, behind) = whole_type(alloc, HIGHEST_TYPE, signs)?;
     let rest = expect(symbol, behind)?;
@@ -88,9 +90,11 @@ pub fn ascribed<'s, 't>(
     symbol: Symbol,
     signs: &'s [Sign<'t>],
 ) -> Result<(SType, &'s [Sign<'t>]), Stop>
-    ensures found { IfOk result (λ x. IsAscribed symbol (read_signs signs.now) (type_of x.0) (read_signs x.1.now)) }
+    ensures found { IfOk result (λ x. IsAscribed symbol (read_signs signs.now) (type_of x.0)
+        (read_signs x.1.now)) }
     ensures shorter { IfOk result (λ x. length x.1.now < length signs.now) }
-    ensures none { IfErr result (λ e. OnSyntax e (Nothing (IsAscribed symbol) (read_signs signs.now))) }
+    ensures none { IfErr result (λ e. OnSyntax e
+        (Nothing (IsAscribed symbol) (read_signs signs.now))) }
 {
     let behind = expect(Symbol::Colon, signs)?;
     type_before(alloc, symbol, behind)
@@ -102,9 +106,11 @@ pub fn typed<'s, 't>(
     symbol: Symbol,
     signs: &'s [Sign<'t>],
 ) -> Result<(Binder, &'s [Sign<'t>]), Stop>
-    ensures found { IfOk result (λ x. IsTyped symbol (read_signs signs.now) (binder_of x.0) (read_signs x.1.now)) }
+    ensures found { IfOk result (λ x. IsTypedBinder symbol (read_signs signs.now) (binder_of x.0)
+        (read_signs x.1.now)) }
     ensures shorter { IfOk result (λ x. length x.1.now < length signs.now) }
-    ensures none { IfErr result (λ e. OnSyntax e (Nothing (IsTyped symbol) (read_signs signs.now))) }
+    ensures none { IfErr result (λ e. OnSyntax e
+        (Nothing (IsTypedBinder symbol) (read_signs signs.now))) }
 {
     let (name, behind) = name(alloc, signs)?;
     let (ty, rest) = ascribed(alloc, symbol, behind)?;
@@ -116,7 +122,8 @@ pub fn argument<'s, 't>(
     alloc: Global,
     signs: &'s [Sign<'t>],
 ) -> Result<(Binder, &'s [Sign<'t>]), Stop>
-    ensures found { IfOk result (λ x. IsArgument (read_signs signs.now) (binder_of x.0) (read_signs x.1.now)) }
+    ensures found { IfOk result (λ x. IsArgument (read_signs signs.now) (binder_of x.0)
+        (read_signs x.1.now)) }
     ensures shorter { IfOk result (λ x. length x.1.now < length signs.now) }
     ensures none { IfErr result (λ e. OnSyntax e (Nothing IsArgument (read_signs signs.now))) }
 {
@@ -129,7 +136,8 @@ pub fn function_head<'s, 't>(
     alloc: Global,
     signs: &'s [Sign<'t>],
 ) -> Result<(Head, &'s [Sign<'t>]), Stop>
-    ensures found { IfOk result (λ x. IsHead (read_signs signs.now) (head_of x.0) (read_signs x.1.now)) }
+    ensures found { IfOk result (λ x. IsHead (read_signs signs.now) (head_of x.0)
+        (read_signs x.1.now)) }
     ensures shorter { IfOk result (λ x. length x.1.now < length signs.now) }
     ensures none { IfErr result (λ e. OnSyntax e (Nothing IsHead (read_signs signs.now))) }
 {
@@ -146,7 +154,8 @@ pub fn function_head<'s, 't>(
 
 /// A type behind which a part ends.
 fn last_type<'s, 't>(alloc: Global, signs: &'s [Sign<'t>]) -> Result<(SType, &'s [Sign<'t>]), Stop>
-    ensures found { IfOk result (λ x. IsLastType (read_signs signs.now) (type_of x.0) (read_signs x.1.now)) }
+    ensures found { IfOk result (λ x. IsLastType (read_signs signs.now) (type_of x.0)
+        (read_signs x.1.now)) }
     ensures shorter { IfOk result (λ x. length x.1.now < length signs.now) }
     ensures none { IfErr result (λ e. OnSyntax e (Nothing IsLastType (read_signs signs.now))) }
 {
@@ -164,9 +173,11 @@ pub fn type_behind<'s, 't>(
     symbol: Symbol,
     signs: &'s [Sign<'t>],
 ) -> Result<(SType, &'s [Sign<'t>]), Stop>
-    ensures found { IfOk result (λ x. Behind symbol IsLastType (read_signs signs.now) (type_of x.0) (read_signs x.1.now)) }
+    ensures found { IfOk result (λ x. Behind symbol IsLastType (read_signs signs.now) (type_of x.0)
+        (read_signs x.1.now)) }
     ensures shorter { IfOk result (λ x. length x.1.now < length signs.now) }
-    ensures none { IfErr result (λ e. OnSyntax e (Nothing (Behind symbol IsLastType) (read_signs signs.now))) }
+    ensures none { IfErr result (λ e. OnSyntax e
+        (Nothing (Behind symbol IsLastType) (read_signs signs.now))) }
 {
     let behind = expect(symbol, signs)?;
     last_type(alloc, behind)

@@ -4,8 +4,8 @@ ghost use Rattle.std.specs.Prelude.{◌≡◌, ◌<◌, ◌-◌, ◌^◌, ◌∷
 ghost use Rattle.ac_syntax.specs.Trees.{ExInt, ExUnit, ExNil, ExAbsent, ExApp, ExOp, ExSeq, ExTuple, ExMatch, ExTry, tree, no_trees, trees, arm_trees, height, highest, highest_arm};
 ghost use Rattle.ac_syntax.specs.Expressions.{operator_of, joined};
 ghost use Rattle.ac_syntax.specs.ReadTrees.{type_of, expr_of, arm_of};
-ghost use Rattle.ac_expressions.specs.Parsing.{binder_of, head_of};
-ghost use Rattle.ac_expressions.specs.Forms.{measured, prefixed, operator_read, let_tree, let_rec_tree, fun_tree, rec_tree, if_tree, marshal_tree, unmarshal_tree, raise_tree};
+ghost use Rattle.ac_expressions.specs.ExpressionParsing.{binder_of, head_of};
+ghost use Rattle.ac_expressions.specs.inner.Forms.{measured, prefixed, operator_read, let_tree, let_rec_tree, fun_tree, rec_tree, if_tree, marshal_tree, unmarshal_tree, raise_tree};
 
 use crate::binders::{Binder, Head};
 use crate::front::Prefix;
@@ -70,7 +70,8 @@ pub fn join(
     requires low { max left.height right.height < 2 ^ 32 - 1 }
     requires left { measured left }
     requires right { measured right }
-    ensures tree { IfOk result (λ x. expr_of x.tree ≡ joined at (operator_read operator) (expr_of left.tree) (expr_of right.tree)) }
+    ensures tree { IfOk result (λ x. expr_of x.tree ≡ joined at (operator_read operator)
+        (expr_of left.tree) (expr_of right.tree)) }
     ensures height { IfOk result (λ x. measured x) }
 {
     let height = left.height.max(right.height) + 1;
@@ -118,7 +119,8 @@ pub fn application(
     requires low { max function.height argument.height < 2 ^ 32 - 1 }
     requires function { measured function }
     requires argument { measured argument }
-    ensures tree { IfOk result (λ x. expr_of x.tree ≡ ExApp at (expr_of function.tree) (expr_of argument.tree)) }
+    ensures tree { IfOk result (λ x. expr_of x.tree ≡ ExApp at (expr_of function.tree)
+        (expr_of argument.tree)) }
     ensures height { IfOk result (λ x. measured x) }
 {
     let height = function.height.max(argument.height) + 1;
@@ -165,7 +167,8 @@ pub fn let_in(
     requires low { max bound.height body.height < 2 ^ 32 - 1 }
     requires bound { measured bound }
     requires body { measured body }
-    ensures tree { IfOk result (λ x. expr_of x.tree ≡ let_tree at (binder_of binder, (expr_of bound.tree, expr_of body.tree))) }
+    ensures tree { IfOk result (λ x. expr_of x.tree ≡ let_tree at
+        (binder_of binder, (expr_of bound.tree, expr_of body.tree))) }
     ensures height { IfOk result (λ x. measured x) }
 {
     let height = bound.height.max(body.height) + 1;
@@ -189,7 +192,8 @@ pub fn let_rec(
     requires low { max bound.height body.height < 2 ^ 32 - 1 }
     requires bound { measured bound }
     requires body { measured body }
-    ensures tree { IfOk result (λ x. expr_of x.tree ≡ let_rec_tree at (head_of head, (expr_of bound.tree, expr_of body.tree))) }
+    ensures tree { IfOk result (λ x. expr_of x.tree ≡ let_rec_tree at
+        (head_of head, (expr_of bound.tree, expr_of body.tree))) }
     ensures height { IfOk result (λ x. measured x) }
 {
     let height = bound.height.max(body.height) + 1;
@@ -214,7 +218,8 @@ pub fn let_rec(
 pub fn fun(alloc: Global, at: u32, binder: Binder, body: Parsed) -> Result<Parsed, Memory>
     requires low { body.height < 2 ^ 32 - 1 }
     requires body { measured body }
-    ensures tree { IfOk result (λ x. expr_of x.tree ≡ fun_tree at (binder_of binder, expr_of body.tree)) }
+    ensures tree { IfOk result (λ x. expr_of x.tree ≡ fun_tree at
+        (binder_of binder, expr_of body.tree)) }
     ensures height { IfOk result (λ x. measured x) }
 {
     let height = body.height + 1;
@@ -262,7 +267,8 @@ pub fn if_else(
     requires test { measured test }
     requires so { measured so }
     requires otherwise { measured otherwise }
-    ensures tree { IfOk result (λ x. expr_of x.tree ≡ if_tree at (expr_of test.tree, (expr_of so.tree, expr_of otherwise.tree))) }
+    ensures tree { IfOk result (λ x. expr_of x.tree ≡ if_tree at
+        (expr_of test.tree, (expr_of so.tree, expr_of otherwise.tree))) }
     ensures height { IfOk result (λ x. measured x) }
 {
     let height = test.height.max(so.height.max(otherwise.height)) + 1;
@@ -286,7 +292,8 @@ pub fn marshal(
     requires low { max mark.height value.height < 2 ^ 32 - 1 }
     requires mark { measured mark }
     requires value { measured value }
-    ensures tree { IfOk result (λ x. expr_of x.tree ≡ marshal_tree at (expr_of mark.tree, (expr_of value.tree, type_of ty))) }
+    ensures tree { IfOk result (λ x. expr_of x.tree ≡ marshal_tree at
+        (expr_of mark.tree, (expr_of value.tree, type_of ty))) }
     ensures height { IfOk result (λ x. measured x) }
 {
     let height = mark.height.max(value.height) + 1;
@@ -302,7 +309,8 @@ pub fn marshal(
 pub fn unmarshal(alloc: Global, at: u32, text: Parsed, ty: SType) -> Result<Parsed, Memory>
     requires low { text.height < 2 ^ 32 - 1 }
     requires text { measured text }
-    ensures tree { IfOk result (λ x. expr_of x.tree ≡ unmarshal_tree at (expr_of text.tree, type_of ty)) }
+    ensures tree { IfOk result (λ x. expr_of x.tree ≡ unmarshal_tree at
+        (expr_of text.tree, type_of ty)) }
     ensures height { IfOk result (λ x. measured x) }
 {
     let height = text.height + 1;
@@ -317,7 +325,8 @@ pub fn unmarshal(alloc: Global, at: u32, text: Parsed, ty: SType) -> Result<Pars
 pub fn raise(alloc: Global, at: u32, exception: Parsed, ty: SType) -> Result<Parsed, Memory>
     requires low { exception.height < 2 ^ 32 - 1 }
     requires exception { measured exception }
-    ensures tree { IfOk result (λ x. expr_of x.tree ≡ raise_tree at (expr_of exception.tree, type_of ty)) }
+    ensures tree { IfOk result (λ x. expr_of x.tree ≡ raise_tree at
+        (expr_of exception.tree, type_of ty)) }
     ensures height { IfOk result (λ x. measured x) }
 {
     let height = exception.height + 1;
@@ -332,7 +341,8 @@ pub fn raise(alloc: Global, at: u32, exception: Parsed, ty: SType) -> Result<Par
 pub fn operation(alloc: Global, at: u32, number: u8, operand: Parsed) -> Result<Parsed, Memory>
     requires low { operand.height < 2 ^ 32 - 1 }
     requires operand { measured operand }
-    ensures tree { IfOk result (λ x. expr_of x.tree ≡ ExOp at number (tree (expr_of operand.tree) no_trees)) }
+    ensures tree { IfOk result (λ x. expr_of x.tree ≡ ExOp at number
+        (tree (expr_of operand.tree) no_trees)) }
     ensures height { IfOk result (λ x. measured x) }
 {
     let height = operand.height + 1;
@@ -387,7 +397,8 @@ pub fn match_with(alloc: Global, at: u32, choice: Choice) -> Result<Parsed, Memo
     requires low { max choice.of.height choice.height < 2 ^ 32 - 1 }
     requires of_tree { measured choice.of }
     requires arms { choice.height ≡ highest_arm (arm_trees (map arm_of choice.arms)) }
-    ensures tree { IfOk result (λ x. expr_of x.tree ≡ ExMatch at (expr_of choice.of.tree) (arm_trees (map arm_of choice.arms))) }
+    ensures tree { IfOk result (λ x. expr_of x.tree ≡ ExMatch at (expr_of choice.of.tree)
+        (arm_trees (map arm_of choice.arms))) }
     ensures height { IfOk result (λ x. measured x) }
 {
     let height = choice.of.height.max(choice.height) + 1;
@@ -403,7 +414,8 @@ pub fn try_with(alloc: Global, at: u32, choice: Choice) -> Result<Parsed, Memory
     requires low { max choice.of.height choice.height < 2 ^ 32 - 1 }
     requires of_tree { measured choice.of }
     requires arms { choice.height ≡ highest_arm (arm_trees (map arm_of choice.arms)) }
-    ensures tree { IfOk result (λ x. expr_of x.tree ≡ ExTry at (expr_of choice.of.tree) (arm_trees (map arm_of choice.arms))) }
+    ensures tree { IfOk result (λ x. expr_of x.tree ≡ ExTry at (expr_of choice.of.tree)
+        (arm_trees (map arm_of choice.arms))) }
     ensures height { IfOk result (λ x. measured x) }
 {
     let height = choice.of.height.max(choice.height) + 1;

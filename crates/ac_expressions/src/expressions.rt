@@ -1,5 +1,6 @@
-// Expressions, by recursive descent. Each parser takes the front of the signs and gives what is left.
-// An expression may have the height `depth` at most: what would be higher is refused on the way down.
+// Expressions, by recursive descent. Each parser takes the front of the signs and gives what is
+// left. An expression may have the height `depth` at most: what would be higher is refused on the
+// way down.
 
 ghost use Rattle.std.specs.Prelude.{◌≡◌, ◌<◌, ◌≤◌, ◌-◌, ◌^◌, ◌∷◌, true, suc, length, map, IfOk, IfErr, IfSome, MatchOption};
 ghost use Rattle.ac_syntax.specs.Signs.{Fixed};
@@ -7,9 +8,9 @@ ghost use Rattle.ac_syntax.specs.Trees.{ExApp, arm_trees, height, highest_arm};
 ghost use Rattle.ac_syntax.specs.Expressions.{Expr, Part, Binary, After, Unary, App, Atom, front, ToLeft, ToRight, Once, joined, side_of, IsTree, IsExpr};
 ghost use Rattle.ac_syntax.specs.ReadSigns.{read_signs};
 ghost use Rattle.ac_syntax.specs.ReadTrees.{expr_of, arm_of};
-ghost use Rattle.ac_syntax.specs.Parsing.{OnSyntax};
-ghost use Rattle.ac_expressions.specs.Parsing.{NoExpr, Nothing, Before, Made, NoPrefix};
-ghost use Rattle.ac_expressions.specs.Forms.{keyword_symbol, NoTree, measured, operator_read, OperatorAt, NoOperator, IsLastOperand, IsLet, let_tree, IsLetRec, let_rec_tree, IsFun, fun_tree, IsRec, rec_tree, IsIf, if_tree, IsMarshal, marshal_tree, IsUnmarshal, unmarshal_tree, IsRaise, raise_tree, IsParts, sequence_tree, IsItems, tuple_tree, IsArm, IsArms, IsChoice};
+ghost use Rattle.ac_syntax.specs.PartParsing.{OnSyntax};
+ghost use Rattle.ac_expressions.specs.ExpressionParsing.{NoExpr, Nothing, Before, Made, NoPrefix};
+ghost use Rattle.ac_expressions.specs.inner.Forms.{keyword_symbol, NoTree, measured, operator_read, OperatorAt, NoOperator, IsLastOperand, IsLet, let_tree, IsLetRec, let_rec_tree, IsFun, fun_tree, IsRec, rec_tree, IsIf, if_tree, IsMarshal, marshal_tree, IsUnmarshal, unmarshal_tree, IsRaise, raise_tree, IsParts, sequence_tree, IsItems, tuple_tree, IsArm, IsArms, IsChoice};
 
 use crate::binders::{argument, ascribed, function_head, type_behind, typed};
 use crate::build::{self, Choice, Operator, Parsed, operator_of};
@@ -27,7 +28,8 @@ const HIGHEST: u32 = 500;
 
 /// An operator of this level at the front.
 fn operator<'s, 't>(level: u32, signs: &'s [Sign<'t>]) -> Option<(Operator, &'s [Sign<'t>])>
-    ensures found { MatchOption result (NoOperator level (read_signs signs.now)) (λ x. OperatorAt level (operator_read x.0) (read_signs signs.now) (read_signs x.1.now)) }
+    ensures found { MatchOption result (NoOperator level (read_signs signs.now))
+        (λ x. OperatorAt level (operator_read x.0) (read_signs signs.now) (read_signs x.1.now)) }
     ensures shorter { IfSome result (λ x. length x.1.now < length signs.now) }
 {
     let (first, rest) = next(signs)?;
@@ -50,11 +52,13 @@ fn before<'s, 't>(
     depth: u32,
     signs: &'s [Sign<'t>],
 ) -> Result<(Parsed, &'s [Sign<'t>]), Stop>
-    ensures tree { IfOk result (λ x. Before symbol (IsTree depth Expr) (read_signs signs.now) (expr_of x.0.tree) (read_signs x.1.now)) }
+    ensures tree { IfOk result (λ x. Before symbol (IsTree depth Expr) (read_signs signs.now)
+        (expr_of x.0.tree) (read_signs x.1.now)) }
     ensures height { IfOk result (λ x. measured x.0) }
     ensures low { IfOk result (λ x. x.0.height ≤ depth) }
     ensures shorter { IfOk result (λ x. length x.1.now < length signs.now) }
-    ensures none { IfErr result (λ e. OnSyntax e (Nothing (Before symbol (IsTree depth Expr)) (read_signs signs.now))) }
+    ensures none { IfErr result (λ e. OnSyntax e
+        (Nothing (Before symbol (IsTree depth Expr)) (read_signs signs.now))) }
 {
     let (tree, behind) = expr(alloc, depth, signs)?;
     let rest = expect(symbol, behind)?;
@@ -68,7 +72,8 @@ fn arm<'s, 't>(
     depth: u32,
     signs: &'s [Sign<'t>],
 ) -> Result<((SArm, u32), &'s [Sign<'t>]), Stop>
-    ensures tree { IfOk result (λ x. IsArm depth (read_signs signs.now) (arm_of x.0.0) (read_signs x.1.now)) }
+    ensures tree { IfOk result (λ x. IsArm depth (read_signs signs.now) (arm_of x.0.0)
+        (read_signs x.1.now)) }
     ensures height { IfOk result (λ x. x.0.1 ≡ height (arm_of x.0.0).1) }
     ensures shorter { IfOk result (λ x. length x.1.now < length signs.now) }
     ensures none { IfErr result (λ e. OnSyntax e (Nothing (IsArm depth) (read_signs signs.now))) }
@@ -89,7 +94,8 @@ fn arms<'s, 't>(
     depth: u32,
     signs: &'s [Sign<'t>],
 ) -> Result<((Many<SArm>, u32), &'s [Sign<'t>]), Stop>
-    ensures tree { IfOk result (λ x. IsArms depth (read_signs signs.now) (map arm_of x.0.0) (read_signs x.1.now)) }
+    ensures tree { IfOk result (λ x. IsArms depth (read_signs signs.now) (map arm_of x.0.0)
+        (read_signs x.1.now)) }
     ensures height { IfOk result (λ x. x.0.1 ≡ highest_arm (arm_trees (map arm_of x.0.0))) }
     ensures low { IfOk result (λ x. x.0.1 ≤ depth) }
     ensures shorter { IfOk result (λ x. length x.1.now < length signs.now) }
@@ -115,7 +121,8 @@ fn choice<'s, 't>(
     depth: u32,
     signs: &'s [Sign<'t>],
 ) -> Result<(Choice, &'s [Sign<'t>]), Stop>
-    ensures tree { IfOk result (λ x. IsChoice depth (read_signs signs.now) (expr_of x.0.of.tree, map arm_of x.0.arms) (read_signs x.1.now)) }
+    ensures tree { IfOk result (λ x. IsChoice depth (read_signs signs.now)
+        (expr_of x.0.of.tree, map arm_of x.0.arms) (read_signs x.1.now)) }
     ensures of_height { IfOk result (λ x. measured x.0.of) }
     ensures height { IfOk result (λ x. x.0.height ≡ highest_arm (arm_trees (map arm_of x.0.arms))) }
     ensures low { IfOk result (λ x. x.0.height ≤ depth) }
@@ -139,7 +146,8 @@ fn tuple<'s, 't>(
     requires low { first.height < 2 ^ 32 - 1 }
     requires small { depth < 2 ^ 32 - 1 }
     requires first { measured first }
-    ensures tree { IfOk result (λ x. Made (IsItems depth) (tuple_tree at (expr_of first.tree)) (read_signs signs.now) (expr_of x.0.tree) (read_signs x.1.now)) }
+    ensures tree { IfOk result (λ x. Made (IsItems depth) (tuple_tree at (expr_of first.tree))
+        (read_signs signs.now) (expr_of x.0.tree) (read_signs x.1.now)) }
     ensures height { IfOk result (λ x. measured x.0) }
     ensures shorter { IfOk result (λ x. length x.1.now < length signs.now) }
     ensures none { IfErr result (λ e. OnSyntax e (Nothing (IsItems depth) (read_signs signs.now))) }
@@ -166,10 +174,12 @@ fn opened<'s, 't>(
     signs: &'s [Sign<'t>],
 ) -> Result<(Parsed, &'s [Sign<'t>]), Stop>
     requires { 0 < depth }
-    ensures tree { IfOk result (λ x. IsTree depth Atom (Fixed at Symbol.Open ∷ read_signs signs.now) (expr_of x.0.tree) (read_signs x.1.now)) }
+    ensures tree { IfOk result (λ x. IsTree depth Atom (Fixed at Symbol.Open ∷ read_signs signs.now)
+        (expr_of x.0.tree) (read_signs x.1.now)) }
     ensures height { IfOk result (λ x. measured x.0) }
     ensures shorter { IfOk result (λ x. length x.1.now < length signs.now) }
-    ensures none { IfErr result (λ e. OnSyntax e (NoTree depth Atom (Fixed at Symbol.Open ∷ read_signs signs.now))) }
+    ensures none { IfErr result (λ e. OnSyntax e
+        (NoTree depth Atom (Fixed at Symbol.Open ∷ read_signs signs.now))) }
 {
     if let Some(rest) = after(Symbol::Close, signs) {
         return Ok((build::unit(alloc, at)?, rest));
@@ -201,7 +211,8 @@ fn atom<'s, 't>(
     depth: u32,
     signs: &'s [Sign<'t>],
 ) -> Result<(Parsed, &'s [Sign<'t>]), Stop>
-    ensures tree { IfOk result (λ x. IsTree depth Atom (read_signs signs.now) (expr_of x.0.tree) (read_signs x.1.now)) }
+    ensures tree { IfOk result (λ x. IsTree depth Atom (read_signs signs.now) (expr_of x.0.tree)
+        (read_signs x.1.now)) }
     ensures height { IfOk result (λ x. measured x.0) }
     ensures shorter { IfOk result (λ x. length x.1.now < length signs.now) }
     ensures none { IfErr result (λ e. OnSyntax e (NoTree depth Atom (read_signs signs.now))) }
@@ -233,7 +244,8 @@ fn app<'s, 't>(
     depth: u32,
     signs: &'s [Sign<'t>],
 ) -> Result<(Parsed, &'s [Sign<'t>]), Stop>
-    ensures tree { IfOk result (λ x. IsTree depth App (read_signs signs.now) (expr_of x.0.tree) (read_signs x.1.now)) }
+    ensures tree { IfOk result (λ x. IsTree depth App (read_signs signs.now) (expr_of x.0.tree)
+        (read_signs x.1.now)) }
     ensures height { IfOk result (λ x. measured x.0) }
     ensures shorter { IfOk result (λ x. length x.1.now < length signs.now) }
     ensures none { IfErr result (λ e. OnSyntax e (NoTree depth App (read_signs signs.now))) }
@@ -259,7 +271,8 @@ fn applied<'s, 't>(
     signs: &'s [Sign<'t>],
 ) -> Result<(Parsed, &'s [Sign<'t>]), Stop>
     requires { NoPrefix (read_signs signs.now) }
-    ensures tree { IfOk result (λ x. IsTree depth App (read_signs signs.now) (expr_of x.0.tree) (read_signs x.1.now)) }
+    ensures tree { IfOk result (λ x. IsTree depth App (read_signs signs.now) (expr_of x.0.tree)
+        (read_signs x.1.now)) }
     ensures height { IfOk result (λ x. measured x.0) }
     ensures shorter { IfOk result (λ x. length x.1.now < length signs.now) }
     ensures none { IfErr result (λ e. OnSyntax e (NoTree depth App (read_signs signs.now))) }
@@ -289,7 +302,8 @@ fn next_argument<'s, 't>(
     requires low { function.height < 2 ^ 32 - 1 }
     requires small { depth < 2 ^ 32 - 1 }
     requires function { measured function }
-    ensures tree { IfOk result (λ x. Made (IsTree depth Atom) (ExApp at (expr_of function.tree)) (read_signs signs.now) (expr_of x.0.tree) (read_signs x.1.now)) }
+    ensures tree { IfOk result (λ x. Made (IsTree depth Atom) (ExApp at (expr_of function.tree))
+        (read_signs signs.now) (expr_of x.0.tree) (read_signs x.1.now)) }
     ensures height { IfOk result (λ x. measured x.0) }
     ensures shorter { IfOk result (λ x. length x.1.now < length signs.now) }
     ensures none { IfErr result (λ e. OnSyntax e (NoTree depth Atom (read_signs signs.now))) }
@@ -307,10 +321,12 @@ fn minus<'s, 't>(
     signs: &'s [Sign<'t>],
 ) -> Result<(Parsed, &'s [Sign<'t>]), Stop>
     requires { 0 < depth }
-    ensures tree { IfOk result (λ x. IsTree depth Unary (Fixed at Symbol.Minus ∷ read_signs signs.now) (expr_of x.0.tree) (read_signs x.1.now)) }
+    ensures tree { IfOk result (λ x. IsTree depth Unary
+        (Fixed at Symbol.Minus ∷ read_signs signs.now) (expr_of x.0.tree) (read_signs x.1.now)) }
     ensures height { IfOk result (λ x. measured x.0) }
     ensures shorter { IfOk result (λ x. length x.1.now < length signs.now) }
-    ensures none { IfErr result (λ e. OnSyntax e (NoTree depth Unary (Fixed at Symbol.Minus ∷ read_signs signs.now))) }
+    ensures none { IfErr result (λ e. OnSyntax e
+        (NoTree depth Unary (Fixed at Symbol.Minus ∷ read_signs signs.now))) }
 {
     if let Some((n, rest)) = lone_number(signs) {
         return Ok((build::number(alloc, at, negated(n)?)?, rest));
@@ -326,7 +342,8 @@ fn unary<'s, 't>(
     depth: u32,
     signs: &'s [Sign<'t>],
 ) -> Result<(Parsed, &'s [Sign<'t>]), Stop>
-    ensures tree { IfOk result (λ x. IsTree depth Unary (read_signs signs.now) (expr_of x.0.tree) (read_signs x.1.now)) }
+    ensures tree { IfOk result (λ x. IsTree depth Unary (read_signs signs.now) (expr_of x.0.tree)
+        (read_signs x.1.now)) }
     ensures height { IfOk result (λ x. measured x.0) }
     ensures shorter { IfOk result (λ x. length x.1.now < length signs.now) }
     ensures none { IfErr result (λ e. OnSyntax e (NoTree depth Unary (read_signs signs.now))) }
@@ -363,10 +380,13 @@ fn right_side<'s, 't>(
     requires low { left.height < 2 ^ 32 - 1 }
     requires small { depth < 2 ^ 32 - 1 }
     requires left { measured left }
-    ensures tree { IfOk result (λ x. Made (IsTree depth (Binary level)) (joined at (operator_read operator) (expr_of left.tree)) (read_signs signs.now) (expr_of x.0.tree) (read_signs x.1.now)) }
+    ensures tree { IfOk result (λ x. Made (IsTree depth (Binary level))
+        (joined at (operator_read operator) (expr_of left.tree)) (read_signs signs.now)
+        (expr_of x.0.tree) (read_signs x.1.now)) }
     ensures height { IfOk result (λ x. measured x.0) }
     ensures shorter { IfOk result (λ x. length x.1.now < length signs.now) }
-    ensures none { IfErr result (λ e. OnSyntax e (NoTree depth (Binary level) (read_signs signs.now))) }
+    ensures none { IfErr result (λ e. OnSyntax e
+        (NoTree depth (Binary level) (read_signs signs.now))) }
 {
     let (right, rest) = binary(alloc, level, depth, signs)?;
     Ok((build::join(alloc, at, operator, left, right)?, rest))
@@ -382,10 +402,12 @@ fn to_left<'s, 't>(
 ) -> Result<(Parsed, &'s [Sign<'t>]), Stop>
     requires level { (0 < level) × (level ≤ 6) }
     requires side { side_of level ≡ ToLeft }
-    ensures tree { IfOk result (λ x. IsTree depth (Binary level) (read_signs signs.now) (expr_of x.0.tree) (read_signs x.1.now)) }
+    ensures tree { IfOk result (λ x. IsTree depth (Binary level) (read_signs signs.now)
+        (expr_of x.0.tree) (read_signs x.1.now)) }
     ensures height { IfOk result (λ x. measured x.0) }
     ensures shorter { IfOk result (λ x. length x.1.now < length signs.now) }
-    ensures none { IfErr result (λ e. OnSyntax e (NoTree depth (Binary level) (read_signs signs.now))) }
+    ensures none { IfErr result (λ e. OnSyntax e
+        (NoTree depth (Binary level) (read_signs signs.now))) }
 {
     let at = here(signs);
     let (mut left, mut rest) = binary(alloc, level - 1, depth, signs)?;
@@ -415,10 +437,12 @@ fn to_right<'s, 't>(
     requires low { first.height ≤ depth }
     requires first { measured first }
     requires stops { level < front (read_signs signs.now) }
-    ensures tree { IfOk result (λ x. IsTree depth (After level at (expr_of first.tree)) (read_signs signs.now) (expr_of x.0.tree) (read_signs x.1.now)) }
+    ensures tree { IfOk result (λ x. IsTree depth (After level at (expr_of first.tree))
+        (read_signs signs.now) (expr_of x.0.tree) (read_signs x.1.now)) }
     ensures height { IfOk result (λ x. measured x.0) }
     ensures within { IfOk result (λ x. length x.1.now ≤ length signs.now) }
-    ensures none { IfErr result (λ e. OnSyntax e (NoTree depth (After level at (expr_of first.tree)) (read_signs signs.now))) }
+    ensures none { IfErr result (λ e. OnSyntax e
+        (NoTree depth (After level at (expr_of first.tree)) (read_signs signs.now))) }
 {
     let Some((operator, behind)) = operator(level, signs) else {
         return Ok((first, signs));
@@ -429,7 +453,8 @@ fn to_right<'s, 't>(
     right_side(alloc, level, depth - 1, at, operator, first, behind)
 }
 
-/// A left side and its operator with the right side that stands here, behind which no further operator of this level stands.
+/// A left side and its operator with the right side that stands here, behind which no further
+/// operator of this level stands.
 #[cycle(expressions)]
 fn compared<'s, 't>(
     alloc: Global,
@@ -444,10 +469,13 @@ fn compared<'s, 't>(
     requires low { left.height < 2 ^ 32 - 1 }
     requires small { depth < 2 ^ 32 - 1 }
     requires left { measured left }
-    ensures tree { IfOk result (λ x. Made (IsLastOperand level depth) (joined at (operator_read operator) (expr_of left.tree)) (read_signs signs.now) (expr_of x.0.tree) (read_signs x.1.now)) }
+    ensures tree { IfOk result (λ x. Made (IsLastOperand level depth)
+        (joined at (operator_read operator) (expr_of left.tree)) (read_signs signs.now)
+        (expr_of x.0.tree) (read_signs x.1.now)) }
     ensures height { IfOk result (λ x. measured x.0) }
     ensures shorter { IfOk result (λ x. length x.1.now < length signs.now) }
-    ensures none { IfErr result (λ e. OnSyntax e (Nothing (IsLastOperand level depth) (read_signs signs.now))) }
+    ensures none { IfErr result (λ e. OnSyntax e
+        (Nothing (IsLastOperand level depth) (read_signs signs.now))) }
 {
     let (joined, rest) = right_side(alloc, level - 1, depth, at, operator, left, signs)?;
     match self::operator(level, rest) {
@@ -471,10 +499,12 @@ fn once<'s, 't>(
     requires low { first.height ≤ depth }
     requires first { measured first }
     requires stops { level < front (read_signs signs.now) }
-    ensures tree { IfOk result (λ x. IsTree depth (After level at (expr_of first.tree)) (read_signs signs.now) (expr_of x.0.tree) (read_signs x.1.now)) }
+    ensures tree { IfOk result (λ x. IsTree depth (After level at (expr_of first.tree))
+        (read_signs signs.now) (expr_of x.0.tree) (read_signs x.1.now)) }
     ensures height { IfOk result (λ x. measured x.0) }
     ensures within { IfOk result (λ x. length x.1.now ≤ length signs.now) }
-    ensures none { IfErr result (λ e. OnSyntax e (NoTree depth (After level at (expr_of first.tree)) (read_signs signs.now))) }
+    ensures none { IfErr result (λ e. OnSyntax e
+        (NoTree depth (After level at (expr_of first.tree)) (read_signs signs.now))) }
 {
     let Some((operator, behind)) = operator(level, signs) else {
         return Ok((first, signs));
@@ -494,10 +524,12 @@ fn binary<'s, 't>(
     signs: &'s [Sign<'t>],
 ) -> Result<(Parsed, &'s [Sign<'t>]), Stop>
     requires { level ≤ 6 }
-    ensures tree { IfOk result (λ x. IsTree depth (Binary level) (read_signs signs.now) (expr_of x.0.tree) (read_signs x.1.now)) }
+    ensures tree { IfOk result (λ x. IsTree depth (Binary level) (read_signs signs.now)
+        (expr_of x.0.tree) (read_signs x.1.now)) }
     ensures height { IfOk result (λ x. measured x.0) }
     ensures shorter { IfOk result (λ x. length x.1.now < length signs.now) }
-    ensures none { IfErr result (λ e. OnSyntax e (NoTree depth (Binary level) (read_signs signs.now))) }
+    ensures none { IfErr result (λ e. OnSyntax e
+        (NoTree depth (Binary level) (read_signs signs.now))) }
 {
     if level == 0 {
         return unary(alloc, depth, signs);
@@ -523,7 +555,8 @@ fn let_in<'s, 't>(
     signs: &'s [Sign<'t>],
 ) -> Result<(Parsed, &'s [Sign<'t>]), Stop>
     requires { depth < 2 ^ 32 - 1 }
-    ensures tree { IfOk result (λ x. Made (IsLet depth) (let_tree at) (read_signs signs.now) (expr_of x.0.tree) (read_signs x.1.now)) }
+    ensures tree { IfOk result (λ x. Made (IsLet depth) (let_tree at) (read_signs signs.now)
+        (expr_of x.0.tree) (read_signs x.1.now)) }
     ensures height { IfOk result (λ x. measured x.0) }
     ensures shorter { IfOk result (λ x. length x.1.now < length signs.now) }
     ensures none { IfErr result (λ e. OnSyntax e (Nothing (IsLet depth) (read_signs signs.now))) }
@@ -543,7 +576,8 @@ fn let_rec<'s, 't>(
     signs: &'s [Sign<'t>],
 ) -> Result<(Parsed, &'s [Sign<'t>]), Stop>
     requires { depth < 2 ^ 32 - 1 }
-    ensures tree { IfOk result (λ x. Made (IsLetRec depth) (let_rec_tree at) (read_signs signs.now) (expr_of x.0.tree) (read_signs x.1.now)) }
+    ensures tree { IfOk result (λ x. Made (IsLetRec depth) (let_rec_tree at) (read_signs signs.now)
+        (expr_of x.0.tree) (read_signs x.1.now)) }
     ensures height { IfOk result (λ x. measured x.0) }
     ensures shorter { IfOk result (λ x. length x.1.now < length signs.now) }
     ensures none { IfErr result (λ e. OnSyntax e (Nothing (IsLetRec depth) (read_signs signs.now))) }
@@ -563,7 +597,8 @@ fn fun<'s, 't>(
     signs: &'s [Sign<'t>],
 ) -> Result<(Parsed, &'s [Sign<'t>]), Stop>
     requires { depth < 2 ^ 32 - 1 }
-    ensures tree { IfOk result (λ x. Made (IsFun depth) (fun_tree at) (read_signs signs.now) (expr_of x.0.tree) (read_signs x.1.now)) }
+    ensures tree { IfOk result (λ x. Made (IsFun depth) (fun_tree at) (read_signs signs.now)
+        (expr_of x.0.tree) (read_signs x.1.now)) }
     ensures height { IfOk result (λ x. measured x.0) }
     ensures shorter { IfOk result (λ x. length x.1.now < length signs.now) }
     ensures none { IfErr result (λ e. OnSyntax e (Nothing (IsFun depth) (read_signs signs.now))) }
@@ -583,7 +618,8 @@ fn rec<'s, 't>(
     signs: &'s [Sign<'t>],
 ) -> Result<(Parsed, &'s [Sign<'t>]), Stop>
     requires { depth < 2 ^ 32 - 1 }
-    ensures tree { IfOk result (λ x. Made (IsRec depth) (rec_tree at) (read_signs signs.now) (expr_of x.0.tree) (read_signs x.1.now)) }
+    ensures tree { IfOk result (λ x. Made (IsRec depth) (rec_tree at) (read_signs signs.now)
+        (expr_of x.0.tree) (read_signs x.1.now)) }
     ensures height { IfOk result (λ x. measured x.0) }
     ensures shorter { IfOk result (λ x. length x.1.now < length signs.now) }
     ensures none { IfErr result (λ e. OnSyntax e (Nothing (IsRec depth) (read_signs signs.now))) }
@@ -602,7 +638,8 @@ fn if_else<'s, 't>(
     signs: &'s [Sign<'t>],
 ) -> Result<(Parsed, &'s [Sign<'t>]), Stop>
     requires { depth < 2 ^ 32 - 1 }
-    ensures tree { IfOk result (λ x. Made (IsIf depth) (if_tree at) (read_signs signs.now) (expr_of x.0.tree) (read_signs x.1.now)) }
+    ensures tree { IfOk result (λ x. Made (IsIf depth) (if_tree at) (read_signs signs.now)
+        (expr_of x.0.tree) (read_signs x.1.now)) }
     ensures height { IfOk result (λ x. measured x.0) }
     ensures shorter { IfOk result (λ x. length x.1.now < length signs.now) }
     ensures none { IfErr result (λ e. OnSyntax e (Nothing (IsIf depth) (read_signs signs.now))) }
@@ -622,7 +659,8 @@ fn marshal<'s, 't>(
     signs: &'s [Sign<'t>],
 ) -> Result<(Parsed, &'s [Sign<'t>]), Stop>
     requires { depth < 2 ^ 32 - 1 }
-    ensures tree { IfOk result (λ x. Made (IsMarshal depth) (marshal_tree at) (read_signs signs.now) (expr_of x.0.tree) (read_signs x.1.now)) }
+    ensures tree { IfOk result (λ x. Made (IsMarshal depth) (marshal_tree at) (read_signs signs.now)
+        (expr_of x.0.tree) (read_signs x.1.now)) }
     ensures height { IfOk result (λ x. measured x.0) }
     ensures shorter { IfOk result (λ x. length x.1.now < length signs.now) }
     ensures none { IfErr result (λ e. OnSyntax e (Nothing (IsMarshal depth) (read_signs signs.now))) }
@@ -642,10 +680,12 @@ fn unmarshal<'s, 't>(
     signs: &'s [Sign<'t>],
 ) -> Result<(Parsed, &'s [Sign<'t>]), Stop>
     requires { depth < 2 ^ 32 - 1 }
-    ensures tree { IfOk result (λ x. Made (IsUnmarshal depth) (unmarshal_tree at) (read_signs signs.now) (expr_of x.0.tree) (read_signs x.1.now)) }
+    ensures tree { IfOk result (λ x. Made (IsUnmarshal depth) (unmarshal_tree at)
+        (read_signs signs.now) (expr_of x.0.tree) (read_signs x.1.now)) }
     ensures height { IfOk result (λ x. measured x.0) }
     ensures shorter { IfOk result (λ x. length x.1.now < length signs.now) }
-    ensures none { IfErr result (λ e. OnSyntax e (Nothing (IsUnmarshal depth) (read_signs signs.now))) }
+    ensures none { IfErr result (λ e. OnSyntax e
+        (Nothing (IsUnmarshal depth) (read_signs signs.now))) }
 {
     let (text, behind) = atom(alloc, depth, signs)?;
     let (ty, rest) = type_behind(alloc, Symbol::As, behind)?;
@@ -661,7 +701,8 @@ fn raise<'s, 't>(
     signs: &'s [Sign<'t>],
 ) -> Result<(Parsed, &'s [Sign<'t>]), Stop>
     requires { depth < 2 ^ 32 - 1 }
-    ensures tree { IfOk result (λ x. Made (IsRaise depth) (raise_tree at) (read_signs signs.now) (expr_of x.0.tree) (read_signs x.1.now)) }
+    ensures tree { IfOk result (λ x. Made (IsRaise depth) (raise_tree at) (read_signs signs.now)
+        (expr_of x.0.tree) (read_signs x.1.now)) }
     ensures height { IfOk result (λ x. measured x.0) }
     ensures shorter { IfOk result (λ x. length x.1.now < length signs.now) }
     ensures none { IfErr result (λ e. OnSyntax e (Nothing (IsRaise depth) (read_signs signs.now))) }
@@ -681,10 +722,13 @@ fn keyword_part<'s, 't>(
     signs: &'s [Sign<'t>],
 ) -> Result<(Parsed, &'s [Sign<'t>]), Stop>
     requires { 0 < depth }
-    ensures tree { IfOk result (λ x. IsTree depth Part (Fixed at (keyword_symbol keyword) ∷ read_signs signs.now) (expr_of x.0.tree) (read_signs x.1.now)) }
+    ensures tree { IfOk result (λ x. IsTree depth Part
+        (Fixed at (keyword_symbol keyword) ∷ read_signs signs.now) (expr_of x.0.tree)
+        (read_signs x.1.now)) }
     ensures height { IfOk result (λ x. measured x.0) }
     ensures shorter { IfOk result (λ x. length x.1.now < length signs.now) }
-    ensures none { IfErr result (λ e. OnSyntax e (NoTree depth Part (Fixed at (keyword_symbol keyword) ∷ read_signs signs.now))) }
+    ensures none { IfErr result (λ e. OnSyntax e
+        (NoTree depth Part (Fixed at (keyword_symbol keyword) ∷ read_signs signs.now))) }
 {
     let depth = depth - 1;
     match keyword {
@@ -708,7 +752,8 @@ fn part<'s, 't>(
     depth: u32,
     signs: &'s [Sign<'t>],
 ) -> Result<(Parsed, &'s [Sign<'t>]), Stop>
-    ensures tree { IfOk result (λ x. IsTree depth Part (read_signs signs.now) (expr_of x.0.tree) (read_signs x.1.now)) }
+    ensures tree { IfOk result (λ x. IsTree depth Part (read_signs signs.now) (expr_of x.0.tree)
+        (read_signs x.1.now)) }
     ensures height { IfOk result (λ x. measured x.0) }
     ensures shorter { IfOk result (λ x. length x.1.now < length signs.now) }
     ensures none { IfErr result (λ e. OnSyntax e (NoTree depth Part (read_signs signs.now))) }
@@ -734,7 +779,8 @@ fn sequence<'s, 't>(
     requires low { first.height < 2 ^ 32 - 1 }
     requires small { depth < 2 ^ 32 - 1 }
     requires first { measured first }
-    ensures tree { IfOk result (λ x. Made (IsParts depth) (sequence_tree at (expr_of first.tree)) (read_signs signs.now) (expr_of x.0.tree) (read_signs x.1.now)) }
+    ensures tree { IfOk result (λ x. Made (IsParts depth) (sequence_tree at (expr_of first.tree))
+        (read_signs signs.now) (expr_of x.0.tree) (read_signs x.1.now)) }
     ensures height { IfOk result (λ x. measured x.0) }
     ensures shorter { IfOk result (λ x. length x.1.now < length signs.now) }
     ensures none { IfErr result (λ e. OnSyntax e (Nothing (IsParts depth) (read_signs signs.now))) }
@@ -758,7 +804,8 @@ fn expr<'s, 't>(
     depth: u32,
     signs: &'s [Sign<'t>],
 ) -> Result<(Parsed, &'s [Sign<'t>]), Stop>
-    ensures tree { IfOk result (λ x. IsTree depth Expr (read_signs signs.now) (expr_of x.0.tree) (read_signs x.1.now)) }
+    ensures tree { IfOk result (λ x. IsTree depth Expr (read_signs signs.now) (expr_of x.0.tree)
+        (read_signs x.1.now)) }
     ensures height { IfOk result (λ x. measured x.0) }
     ensures shorter { IfOk result (λ x. length x.1.now < length signs.now) }
     ensures none { IfErr result (λ e. OnSyntax e (NoTree depth Expr (read_signs signs.now))) }
@@ -773,13 +820,15 @@ fn expr<'s, 't>(
     sequence(alloc, depth - 1, here(signs), first, behind)
 }
 
-/// The expression at the front, taken as long as it can be, and what is left. It has a height of at most 500.
+/// The expression at the front, taken as long as it can be, and what is left. It has a height of at
+/// most 500.
 /// `Syntax` where no expression stands there.
 pub fn expression<'s, 't>(
     alloc: Global,
     signs: &'s [Sign<'t>],
 ) -> Result<(SExpr, &'s [Sign<'t>]), Stop>
-    ensures tree { IfOk result (λ x. IsExpr (read_signs signs.now) (expr_of x.0) (read_signs x.1.now)) }
+    ensures tree { IfOk result (λ x. IsExpr (read_signs signs.now) (expr_of x.0)
+        (read_signs x.1.now)) }
     ensures shorter { IfOk result (λ x. length x.1.now < length signs.now) }
     ensures none { IfErr result (λ e. OnSyntax e (NoExpr (read_signs signs.now))) }
 {

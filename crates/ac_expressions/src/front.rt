@@ -4,8 +4,8 @@ ghost use Rattle.std.specs.Prelude.{◌≡◌, ◌<◌, length, IfOk, IfErr, IfS
 ghost use Rattle.ac_syntax.specs.Expressions.{begins_atom, symbol_begins_atom, front, symbol_front};
 ghost use Rattle.ac_syntax.specs.ReadSigns.{read_signs};
 ghost use Rattle.ac_syntax.specs.ReadTrees.{name_of};
-ghost use Rattle.ac_syntax.specs.Parsing.{OnSyntax, SymbolAt, NoSymbol};
-ghost use Rattle.ac_expressions.specs.Parsing.{Nothing, IsName, NumberAt, NoNumber, LoneNumber, NoLoneNumber, is_lower, IsPrefix, PrefixAt, NoPrefix};
+ghost use Rattle.ac_syntax.specs.PartParsing.{OnSyntax, SymbolAt, NoSymbol};
+ghost use Rattle.ac_expressions.specs.ExpressionParsing.{Nothing, IsName, NumberAt, NoNumber, LoneNumber, NoLoneNumber, is_lower, IsPrefix, PrefixAt, NoPrefix};
 
 use ac_syntax::{SName, Sign, SignKind, Stop, Symbol, after, next, next_name, refused_at};
 use ac_types::Memory;
@@ -23,7 +23,8 @@ pub enum Prefix {
 
 /// What stands behind this symbol, which must stand here.
 pub fn expect<'s, 't>(symbol: Symbol, signs: &'s [Sign<'t>]) -> Result<&'s [Sign<'t>], Stop>
-    ensures found { IfOk result (λ rest. SymbolAt symbol (read_signs signs.now) (read_signs rest.now)) }
+    ensures found { IfOk result (λ rest. SymbolAt symbol (read_signs signs.now)
+        (read_signs rest.now)) }
     ensures shorter { IfOk result (λ rest. length rest.now < length signs.now) }
     ensures none { IfErr result (λ e. OnSyntax e (NoSymbol symbol (read_signs signs.now))) }
 {
@@ -35,7 +36,8 @@ pub fn expect<'s, 't>(symbol: Symbol, signs: &'s [Sign<'t>]) -> Result<&'s [Sign
 
 /// A lower name, which must stand here.
 pub fn name<'s, 't>(alloc: Global, signs: &'s [Sign<'t>]) -> Result<(SName, &'s [Sign<'t>]), Stop>
-    ensures found { IfOk result (λ x. IsName (read_signs signs.now) (name_of x.0) (read_signs x.1.now)) }
+    ensures found { IfOk result (λ x. IsName (read_signs signs.now) (name_of x.0)
+        (read_signs x.1.now)) }
     ensures shorter { IfOk result (λ x. length x.1.now < length signs.now) }
     ensures none { IfErr result (λ e. OnSyntax e (Nothing IsName (read_signs signs.now))) }
 {
@@ -130,7 +132,8 @@ pub fn ends_part(signs: &[Sign<'_>]) -> bool
 
 /// A number at the front.
 pub fn next_number<'s, 't>(signs: &'s [Sign<'t>]) -> Option<(u64, &'s [Sign<'t>])>
-    ensures found { MatchOption result (NoNumber (read_signs signs.now)) (λ x. NumberAt x.0 (read_signs signs.now) (read_signs x.1.now)) }
+    ensures found { MatchOption result (NoNumber (read_signs signs.now))
+        (λ x. NumberAt x.0 (read_signs signs.now) (read_signs x.1.now)) }
     ensures shorter { IfSome result (λ x. length x.1.now < length signs.now) }
 {
     let (first, rest) = next(signs)?;
@@ -142,7 +145,8 @@ pub fn next_number<'s, 't>(signs: &'s [Sign<'t>]) -> Option<(u64, &'s [Sign<'t>]
 
 /// A number at the front, behind which no atom begins.
 pub fn lone_number<'s, 't>(signs: &'s [Sign<'t>]) -> Option<(u64, &'s [Sign<'t>])>
-    ensures found { MatchOption result (NoLoneNumber (read_signs signs.now)) (λ x. LoneNumber x.0 (read_signs signs.now) (read_signs x.1.now)) }
+    ensures found { MatchOption result (NoLoneNumber (read_signs signs.now))
+        (λ x. LoneNumber x.0 (read_signs signs.now) (read_signs x.1.now)) }
     ensures shorter { IfSome result (λ x. length x.1.now < length signs.now) }
 {
     let (n, rest) = next_number(signs)?;
@@ -187,7 +191,8 @@ fn prefix_of(symbol: Symbol) -> Option<Prefix>
 
 /// A word that takes one argument at the front, with its place.
 pub fn next_prefix<'s, 't>(signs: &'s [Sign<'t>]) -> Option<(Prefix, u32, &'s [Sign<'t>])>
-    ensures found { MatchOption result (NoPrefix (read_signs signs.now)) (λ x. PrefixAt x.0 x.1 (read_signs signs.now) (read_signs x.2.now)) }
+    ensures found { MatchOption result (NoPrefix (read_signs signs.now))
+        (λ x. PrefixAt x.0 x.1 (read_signs signs.now) (read_signs x.2.now)) }
     ensures shorter { IfSome result (λ x. length x.2.now < length signs.now) }
 {
     let (first, rest) = next(signs)?;

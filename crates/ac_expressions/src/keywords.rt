@@ -3,8 +3,8 @@
 ghost use Rattle.std.specs.Prelude.{◌≡◌, ◌<◌, ◌≤◌, length, IfSome, MatchOption};
 ghost use Rattle.ac_syntax.specs.Expressions.{after_bar};
 ghost use Rattle.ac_syntax.specs.ReadSigns.{read_signs};
-ghost use Rattle.ac_syntax.specs.Parsing.{SymbolAt};
-ghost use Rattle.ac_expressions.specs.Forms.{keyword_symbol, NoKeyword};
+ghost use Rattle.ac_syntax.specs.PartParsing.{SymbolAt};
+ghost use Rattle.ac_expressions.specs.inner.Forms.{keyword_symbol, NoKeyword};
 
 use ac_syntax::{Sign, SignKind, Symbol, after, next};
 
@@ -21,7 +21,8 @@ pub enum Keyword {
 }
 
 fn keyword_of(symbol: Symbol) -> Option<Keyword>
-    ensures { MatchOption result ((k : Keyword) → symbol ≡ keyword_symbol k → ⊥) (λ k. symbol ≡ keyword_symbol k) }
+    ensures { MatchOption result ((k : Keyword) → symbol ≡ keyword_symbol k →
+        ⊥) (λ k. symbol ≡ keyword_symbol k) }
 {
     match symbol {
         Symbol::Let => Some(Keyword::Let),
@@ -37,7 +38,8 @@ fn keyword_of(symbol: Symbol) -> Option<Keyword>
 
 /// A word at the front that begins a part.
 pub fn next_keyword<'s, 't>(signs: &'s [Sign<'t>]) -> Option<(Keyword, &'s [Sign<'t>])>
-    ensures found { MatchOption result (NoKeyword (read_signs signs.now)) (λ x. SymbolAt (keyword_symbol x.0) (read_signs signs.now) (read_signs x.1.now)) }
+    ensures found { MatchOption result (NoKeyword (read_signs signs.now))
+        (λ x. SymbolAt (keyword_symbol x.0) (read_signs signs.now) (read_signs x.1.now)) }
     ensures shorter { IfSome result (λ x. length x.1.now < length signs.now) }
 {
     let (first, rest) = next(signs)?;

@@ -4,8 +4,8 @@ ghost use Rattle.std.specs.Prelude.{◌≡◌, ◌<◌, ℕ, ◌∷◌, length, 
 ghost use Rattle.ac_syntax.specs.Signs.{Upper};
 ghost use Rattle.ac_syntax.specs.ReadSigns.{read_signs};
 ghost use Rattle.ac_syntax.specs.ReadTrees.{expr_of, expr_kind_of};
-ghost use Rattle.ac_syntax.specs.Parsing.{OnSyntax, NoSymbol};
-ghost use Rattle.ac_expressions.specs.Forms.{base_expr, LeafAt, NoLeaf};
+ghost use Rattle.ac_syntax.specs.PartParsing.{OnSyntax, NoSymbol};
+ghost use Rattle.ac_expressions.specs.inner.Forms.{base_expr, FormLeafAt, NoFormLeaf};
 
 use crate::front::{constant, expect, name};
 use ac_syntax::{SExpr, SExprKind, SName, Sign, SignKind, Stop, Symbol, next, refused_at};
@@ -15,7 +15,8 @@ use std::alloc::Global;
 
 #[tactic(auto, using(crate::proofs::ExprLaws::expr_laws))]
 fn base_kind(symbol: Symbol) -> Option<SExprKind>
-    ensures { (at : ℕ) → MatchOption result (base_expr symbol at ≡ None) (λ kind. base_expr symbol at ≡ Some (expr_kind_of kind at)) }
+    ensures { (at : ℕ) → MatchOption result (base_expr symbol at ≡ None)
+        (λ kind. base_expr symbol at ≡ Some (expr_kind_of kind at)) }
 {
     match symbol {
         Symbol::True => Some(SExprKind::Bool(true)),
@@ -35,9 +36,11 @@ fn field<'s, 't>(
     word: &Word,
     signs: &'s [Sign<'t>],
 ) -> Result<(SExpr, &'s [Sign<'t>]), Stop>
-    ensures found { IfOk result (λ x. LeafAt (Upper at word.now ∷ read_signs signs.now) (expr_of x.0) (read_signs x.1.now)) }
+    ensures found { IfOk result (λ x. FormLeafAt (Upper at word.now ∷ read_signs signs.now)
+        (expr_of x.0) (read_signs x.1.now)) }
     ensures shorter { IfOk result (λ x. length x.1.now < length signs.now) }
-    ensures none { IfErr result (λ e. OnSyntax e (NoLeaf (Upper at word.now ∷ read_signs signs.now))) }
+    ensures none { IfErr result (λ e. OnSyntax e
+        (NoFormLeaf (Upper at word.now ∷ read_signs signs.now))) }
 {
     let behind = expect(Symbol::Dot, signs)?;
     let (field, rest) = name(alloc, behind)?;
@@ -48,9 +51,12 @@ fn field<'s, 't>(
 
 /// An atom that is a leaf and begins with no `(`, `match` or `try`.
 pub fn leaf<'s, 't>(alloc: Global, signs: &'s [Sign<'t>]) -> Result<(SExpr, &'s [Sign<'t>]), Stop>
-    ensures found { IfOk result (λ x. LeafAt (read_signs signs.now) (expr_of x.0) (read_signs x.1.now)) }
+    ensures found { IfOk result (λ x. FormLeafAt (read_signs signs.now) (expr_of x.0)
+        (read_signs x.1.now)) }
     ensures shorter { IfOk result (λ x. length x.1.now < length signs.now) }
-    ensures none { IfErr result (λ e. OnSyntax e (NoSymbol Symbol.Open (read_signs signs.now) → NoSymbol Symbol.Match (read_signs signs.now) → NoSymbol Symbol.Try (read_signs signs.now) → NoLeaf (read_signs signs.now))) }
+    ensures none { IfErr result (λ e. OnSyntax e (NoSymbol Symbol.Open (read_signs signs.now) →
+        NoSymbol Symbol.Match (read_signs signs.now) → NoSymbol Symbol.Try (read_signs signs.now) →
+        NoFormLeaf (read_signs signs.now))) }
 {
     let Some((first, rest)) = next(signs) else {
         return Err(refused_at(signs));

@@ -7,8 +7,8 @@ ghost use Rattle.ac_syntax.specs.Trees.{PatVar, PatInt, PatNil, PatCons, PatTupl
 ghost use Rattle.ac_syntax.specs.Patterns.{Pattern, Prefixed, Single, IsPatTree, IsPattern};
 ghost use Rattle.ac_syntax.specs.ReadSigns.{read_signs};
 ghost use Rattle.ac_syntax.specs.ReadTrees.{pat_of, pat_kind_of};
-ghost use Rattle.ac_syntax.specs.Parsing.{OnSyntax, NoSymbol};
-ghost use Rattle.ac_expressions.specs.Parsing.{NoPattern, Nothing, IsTyped, NoPat, prefixed_pat, base_pat, PatLeafAt, NoPatLeaf, IsPats, PatTupleOf, pat_measured, binder_of};
+ghost use Rattle.ac_syntax.specs.PartParsing.{OnSyntax, NoSymbol};
+ghost use Rattle.ac_expressions.specs.ExpressionParsing.{NoPattern, Nothing, IsTypedBinder, NoPat, prefixed_pat, base_pat, PatLeafAt, NoPatLeaf, IsPats, PatTupleOf, pat_measured, binder_of};
 
 use crate::binders::{Binder, typed};
 use crate::front::{Prefix, begins_name, constant, expect, negated, next_number, next_prefix};
@@ -49,7 +49,8 @@ fn cons(alloc: Global, at: u32, head: ParsedPat, tail: ParsedPat) -> Result<Pars
     requires low { max head.height tail.height < 2 ^ 32 - 1 }
     requires head { pat_measured head }
     requires tail { pat_measured tail }
-    ensures tree { IfOk result (λ x. pat_of x.tree ≡ PatCons at (pat_of head.tree) (pat_of tail.tree)) }
+    ensures tree { IfOk result (λ x. pat_of x.tree ≡ PatCons at (pat_of head.tree)
+        (pat_of tail.tree)) }
     ensures height { IfOk result (λ x. pat_measured x) }
 {
     let height = head.height.max(tail.height) + 1;
@@ -102,7 +103,8 @@ fn variable(at: u32, binder: Binder) -> ParsedPat
 
 #[tactic(auto, using(crate::proofs::PatLaws::pat_laws))]
 fn base_kind(symbol: Symbol) -> Option<SPatKind>
-    ensures { (at : ℕ) → MatchOption result (base_pat symbol at ≡ None) (λ kind. base_pat symbol at ≡ Some (pat_kind_of kind at)) }
+    ensures { (at : ℕ) → MatchOption result (base_pat symbol at ≡ None)
+        (λ kind. base_pat symbol at ≡ Some (pat_kind_of kind at)) }
 {
     match symbol {
         Symbol::Wild => Some(SPatKind::Wild),
@@ -119,9 +121,11 @@ fn base_kind(symbol: Symbol) -> Option<SPatKind>
 
 /// A number behind its `-`.
 fn negative<'s, 't>(at: u32, signs: &'s [Sign<'t>]) -> Result<(SPat, &'s [Sign<'t>]), Stop>
-    ensures found { IfOk result (λ x. PatLeafAt (Fixed at Symbol.Minus ∷ read_signs signs.now) (pat_of x.0) (read_signs x.1.now)) }
+    ensures found { IfOk result (λ x. PatLeafAt (Fixed at Symbol.Minus ∷ read_signs signs.now)
+        (pat_of x.0) (read_signs x.1.now)) }
     ensures shorter { IfOk result (λ x. length x.1.now < length signs.now) }
-    ensures none { IfErr result (λ e. OnSyntax e (NoPatLeaf (Fixed at Symbol.Minus ∷ read_signs signs.now))) }
+    ensures none { IfErr result (λ e. OnSyntax e
+        (NoPatLeaf (Fixed at Symbol.Minus ∷ read_signs signs.now))) }
 {
     let Some((n, rest)) = next_number(signs) else {
         return Err(refused_at(signs));
@@ -132,9 +136,11 @@ fn negative<'s, 't>(at: u32, signs: &'s [Sign<'t>]) -> Result<(SPat, &'s [Sign<'
 
 /// The empty list: what stands behind a `[`.
 fn nil<'s, 't>(at: u32, signs: &'s [Sign<'t>]) -> Result<(SPat, &'s [Sign<'t>]), Stop>
-    ensures found { IfOk result (λ x. PatLeafAt (Fixed at Symbol.OpenSquare ∷ read_signs signs.now) (pat_of x.0) (read_signs x.1.now)) }
+    ensures found { IfOk result (λ x. PatLeafAt (Fixed at Symbol.OpenSquare ∷ read_signs signs.now)
+        (pat_of x.0) (read_signs x.1.now)) }
     ensures shorter { IfOk result (λ x. length x.1.now < length signs.now) }
-    ensures none { IfErr result (λ e. OnSyntax e (NoPatLeaf (Fixed at Symbol.OpenSquare ∷ read_signs signs.now))) }
+    ensures none { IfErr result (λ e. OnSyntax e
+        (NoPatLeaf (Fixed at Symbol.OpenSquare ∷ read_signs signs.now))) }
 {
     let rest = expect(Symbol::CloseSquare, signs)?;
     let kind = SPatKind::Nil;
@@ -143,9 +149,12 @@ fn nil<'s, 't>(at: u32, signs: &'s [Sign<'t>]) -> Result<(SPat, &'s [Sign<'t>]),
 
 /// A pattern that is one sign.
 fn one_sign<'s, 't>(alloc: Global, signs: &'s [Sign<'t>]) -> Result<(SPat, &'s [Sign<'t>]), Stop>
-    ensures found { IfOk result (λ x. PatLeafAt (read_signs signs.now) (pat_of x.0) (read_signs x.1.now)) }
+    ensures found { IfOk result (λ x. PatLeafAt (read_signs signs.now) (pat_of x.0)
+        (read_signs x.1.now)) }
     ensures shorter { IfOk result (λ x. length x.1.now < length signs.now) }
-    ensures none { IfErr result (λ e. OnSyntax e (NoSymbol Symbol.Open (read_signs signs.now) → NoSymbol Symbol.Minus (read_signs signs.now) → NoSymbol Symbol.OpenSquare (read_signs signs.now) → NoPatLeaf (read_signs signs.now))) }
+    ensures none { IfErr result (λ e. OnSyntax e (NoSymbol Symbol.Open (read_signs signs.now) →
+        NoSymbol Symbol.Minus (read_signs signs.now) →
+        NoSymbol Symbol.OpenSquare (read_signs signs.now) → NoPatLeaf (read_signs signs.now))) }
 {
     let Some((first, rest)) = next(signs) else {
         return Err(refused_at(signs));
@@ -170,9 +179,11 @@ fn one_sign<'s, 't>(alloc: Global, signs: &'s [Sign<'t>]) -> Result<(SPat, &'s [
 
 /// A pattern that is a leaf and begins with no `(`.
 fn leaf<'s, 't>(alloc: Global, signs: &'s [Sign<'t>]) -> Result<(SPat, &'s [Sign<'t>]), Stop>
-    ensures found { IfOk result (λ x. PatLeafAt (read_signs signs.now) (pat_of x.0) (read_signs x.1.now)) }
+    ensures found { IfOk result (λ x. PatLeafAt (read_signs signs.now) (pat_of x.0)
+        (read_signs x.1.now)) }
     ensures shorter { IfOk result (λ x. length x.1.now < length signs.now) }
-    ensures none { IfErr result (λ e. OnSyntax e (NoSymbol Symbol.Open (read_signs signs.now) → NoPatLeaf (read_signs signs.now))) }
+    ensures none { IfErr result (λ e. OnSyntax e (NoSymbol Symbol.Open (read_signs signs.now) →
+        NoPatLeaf (read_signs signs.now))) }
 {
     let at = here(signs);
     if let Some(behind) = after(Symbol::Minus, signs) {
@@ -195,10 +206,12 @@ fn tuple<'s, 't>(
 ) -> Result<(ParsedPat, &'s [Sign<'t>]), Stop>
     requires low { first.height < depth }
     requires first { pat_measured first }
-    ensures tree { IfOk result (λ x. PatTupleOf (depth - 1) at (pat_of first.tree) (read_signs signs.now) (pat_of x.0.tree) (read_signs x.1.now)) }
+    ensures tree { IfOk result (λ x. PatTupleOf (depth - 1) at (pat_of first.tree)
+        (read_signs signs.now) (pat_of x.0.tree) (read_signs x.1.now)) }
     ensures height { IfOk result (λ x. pat_measured x.0) }
     ensures shorter { IfOk result (λ x. length x.1.now < length signs.now) }
-    ensures none { IfErr result (λ e. OnSyntax e (Nothing (IsPats (depth - 1)) (read_signs signs.now))) }
+    ensures none { IfErr result (λ e. OnSyntax e
+        (Nothing (IsPats (depth - 1)) (read_signs signs.now))) }
 {
     let (second, mut rest) = whole(alloc, depth - 1, signs)?;
     let mut height = first.height.max(second.height);
@@ -227,10 +240,12 @@ fn opened<'s, 't>(
     signs: &'s [Sign<'t>],
 ) -> Result<(ParsedPat, &'s [Sign<'t>]), Stop>
     requires { 0 < depth }
-    ensures tree { IfOk result (λ x. IsPatTree depth Single (Fixed at Symbol.Open ∷ read_signs signs.now) (pat_of x.0.tree) (read_signs x.1.now)) }
+    ensures tree { IfOk result (λ x. IsPatTree depth Single
+        (Fixed at Symbol.Open ∷ read_signs signs.now) (pat_of x.0.tree) (read_signs x.1.now)) }
     ensures height { IfOk result (λ x. pat_measured x.0) }
     ensures shorter { IfOk result (λ x. length x.1.now < length signs.now) }
-    ensures none { IfErr result (λ e. OnSyntax e (NoPat depth Single (Fixed at Symbol.Open ∷ read_signs signs.now))) }
+    ensures none { IfErr result (λ e. OnSyntax e
+        (NoPat depth Single (Fixed at Symbol.Open ∷ read_signs signs.now))) }
 {
     if let Some(rest) = after(Symbol::Close, signs) {
         let kind = SPatKind::Unit;
@@ -259,7 +274,8 @@ fn single<'s, 't>(
     depth: u32,
     signs: &'s [Sign<'t>],
 ) -> Result<(ParsedPat, &'s [Sign<'t>]), Stop>
-    ensures tree { IfOk result (λ x. IsPatTree depth Single (read_signs signs.now) (pat_of x.0.tree) (read_signs x.1.now)) }
+    ensures tree { IfOk result (λ x. IsPatTree depth Single (read_signs signs.now) (pat_of x.0.tree)
+        (read_signs x.1.now)) }
     ensures height { IfOk result (λ x. pat_measured x.0) }
     ensures shorter { IfOk result (λ x. length x.1.now < length signs.now) }
     ensures none { IfErr result (λ e. OnSyntax e (NoPat depth Single (read_signs signs.now))) }
@@ -281,7 +297,8 @@ fn prefixed<'s, 't>(
     depth: u32,
     signs: &'s [Sign<'t>],
 ) -> Result<(ParsedPat, &'s [Sign<'t>]), Stop>
-    ensures tree { IfOk result (λ x. IsPatTree depth Prefixed (read_signs signs.now) (pat_of x.0.tree) (read_signs x.1.now)) }
+    ensures tree { IfOk result (λ x. IsPatTree depth Prefixed (read_signs signs.now)
+        (pat_of x.0.tree) (read_signs x.1.now)) }
     ensures height { IfOk result (λ x. pat_measured x.0) }
     ensures shorter { IfOk result (λ x. length x.1.now < length signs.now) }
     ensures none { IfErr result (λ e. OnSyntax e (NoPat depth Prefixed (read_signs signs.now))) }
@@ -303,7 +320,8 @@ fn whole<'s, 't>(
     depth: u32,
     signs: &'s [Sign<'t>],
 ) -> Result<(ParsedPat, &'s [Sign<'t>]), Stop>
-    ensures tree { IfOk result (λ x. IsPatTree depth Pattern (read_signs signs.now) (pat_of x.0.tree) (read_signs x.1.now)) }
+    ensures tree { IfOk result (λ x. IsPatTree depth Pattern (read_signs signs.now)
+        (pat_of x.0.tree) (read_signs x.1.now)) }
     ensures height { IfOk result (λ x. pat_measured x.0) }
     ensures shorter { IfOk result (λ x. length x.1.now < length signs.now) }
     ensures none { IfErr result (λ e. OnSyntax e (NoPat depth Pattern (read_signs signs.now))) }
@@ -324,17 +342,20 @@ pub fn parsed_pattern<'s, 't>(
     alloc: Global,
     signs: &'s [Sign<'t>],
 ) -> Result<(ParsedPat, &'s [Sign<'t>]), Stop>
-    ensures tree { IfOk result (λ x. IsPattern (read_signs signs.now) (pat_of x.0.tree) (read_signs x.1.now)) }
+    ensures tree { IfOk result (λ x. IsPattern (read_signs signs.now) (pat_of x.0.tree)
+        (read_signs x.1.now)) }
     ensures shorter { IfOk result (λ x. length x.1.now < length signs.now) }
     ensures none { IfErr result (λ e. OnSyntax e (NoPattern (read_signs signs.now))) }
 {
     whole(alloc, HIGHEST_PATTERN, signs)
 }
 
-/// The pattern at the front, taken as long as it can be, and what is left. It has a height of at most 500.
+/// The pattern at the front, taken as long as it can be, and what is left. It has a height of at
+/// most 500.
 /// `Syntax` where no pattern stands there.
 pub fn pattern<'s, 't>(alloc: Global, signs: &'s [Sign<'t>]) -> Result<(SPat, &'s [Sign<'t>]), Stop>
-    ensures tree { IfOk result (λ x. IsPattern (read_signs signs.now) (pat_of x.0) (read_signs x.1.now)) }
+    ensures tree { IfOk result (λ x. IsPattern (read_signs signs.now) (pat_of x.0)
+        (read_signs x.1.now)) }
     ensures shorter { IfOk result (λ x. length x.1.now < length signs.now) }
     ensures none { IfErr result (λ e. OnSyntax e (NoPattern (read_signs signs.now))) }
 {

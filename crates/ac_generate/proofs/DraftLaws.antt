@@ -2,13 +2,13 @@
 use Rattle.std.proofs.Common.{◌≡◌, ℕ, ℤ, suc, ◌+◌, Bool, List, [], ◌∷◌, ◌++◌, length, replicate, Option, None, Some, refl, sym, ap, ap₂, ◌∙◌, arith, length-append, append_assoc}
 use Rattle.std.proofs.lemmas.List.{append-nil}
 use Rattle.ac_types.specs.Types.{Bytes, Typ, TFun}
-use Rattle.ac_terms.specs.Terms.{Home, Expr, Int, Boolean, Str, Unit', Exn, ExnOf, Tuple, Nil, Empty, Present, Cons, Var, Own, Ref, Lam, Rec, App, Let, Seq, Raise, Prim, Marshal, Unmarshal, Packed, Exprs, no_exprs, expr, PValue, KInt, KBool, KStr, KUnit, KExn, KTuple, KList, KAbsent, KPresent, KFun, PValues, no_pvalues, pvalue}
+use Rattle.ac_terms.specs.Terms.{Home, Expr, Int, Boolean, Str, Unit', Exn, ExnOf, Tuple, Nil, Empty, Present, Cons, Var, Own, Ref, Lam, Rec, App, Let, Seq, Raise, Prim, Marshal, Unmarshal, Val, Exprs, no_exprs, expr, PValue, KInt, KBool, KStr, KUnit, KExn, KTuple, KList, KAbsent, KPresent, KFun, PValues, no_pvalues, pvalue}
 use Rattle.ac_terms.specs.Spelling.{term_count, value_count}
 use Rattle.ac_code.specs.Code as instr
 use Rattle.ac_code.specs.Code.{Instr, Block}
 use Rattle.ac_generate.specs.Sizes.{lambdas, value_lambdas, push_text, size}
 use Rattle.ac_generate.specs.Generate.{code, all_code, rest_code, value_code, all_value_code, blocks, all_blocks, value_blocks, all_value_blocks, lambda_block}
-use Rattle.ac_generate.specs.Drafts.{Draft, place, count, put, put_all, begun, ended, wrote, wrote_all, wrote_seq, wrote_rest, wrote_value, wrote_values}
+use Rattle.ac_generate.specs.inner.Drafts.{Draft, address, count, put, put_all, begun, ended, wrote, wrote_all, wrote_seq, wrote_rest, wrote_value, wrote_values}
 use Rattle.ac_generate.proofs.SizeLaws.{code_size, block_count, value_block_count}
 
 -- with more instructions and blocks
@@ -31,16 +31,16 @@ unfolding put_all
 put_all_more js is bs d = ap (λ (ks : List Instr). record { first = d.first; instrs = ks; blocks = d.blocks ++ bs }) (append_assoc d.instrs is js)
 
 -- what is written where is and bs stand already
-pub further : (f : ℕ → ℕ → List Instr) (g : ℕ → List Block) (is : List Instr) (bs : List Block) (d : Draft) (p n : ℕ) → place d + length is ≡ p → count d + length bs ≡ n →
-    more (f (place (more is bs d)) (count (more is bs d))) (g (count (more is bs d))) (more is bs d) ≡ more (is ++ f p n) (bs ++ g n) d
+pub further : (f : ℕ → ℕ → List Instr) (g : ℕ → List Block) (is : List Instr) (bs : List Block) (d : Draft) (p n : ℕ) → address d + length is ≡ p → count d + length bs ≡ n →
+    more (f (address (more is bs d)) (count (more is bs d))) (g (count (more is bs d))) (more is bs d) ≡ more (is ++ f p n) (bs ++ g n) d
 further f g is bs d p n e h =
-    let e' : place (more is bs d) ≡ p = length-append d.instrs is ∙ e in
+    let e' : address (more is bs d) ≡ p = length-append d.instrs is ∙ e in
     let h' : count (more is bs d) ≡ n = omega (arith, length-append d.blocks bs, h) in
     ap₂ (λ (q m : ℕ). more (f q m) (g m) (more is bs d)) e' h'
     ∙ ap₂ (λ (x : List Instr) (y : List Block). record { first = d.first; instrs = x; blocks = y }) (append_assoc d.instrs is (f p n)) (append_assoc d.blocks bs (g n))
 
 module _ (c : Home) (G : List Typ) where
-  pub wrote_more : (e : Expr) (is : List Instr) (bs : List Block) (d : Draft) (p n : ℕ) → place d + length is ≡ p → count d + length bs ≡ n → wrote c G e (more is bs d) ≡ more (is ++ code e p n) (bs ++ blocks c G e n) d
+  pub wrote_more : (e : Expr) (is : List Instr) (bs : List Block) (d : Draft) (p n : ℕ) → address d + length is ≡ p → count d + length bs ≡ n → wrote c G e (more is bs d) ≡ more (is ++ code e p n) (bs ++ blocks c G e n) d
   unfolding wrote
   wrote_more e is bs d p n h k = further (code e) (blocks c G e) is bs d p n h k
 
@@ -109,7 +109,7 @@ module _ (c : Home) (G : List Typ) where
   unfolding wrote
   wrote_Unmarshal T e d = sym (put_more _ _ _ d)
 
-  pub wrote_Packed : (T : Typ) (v : PValue) (d : Draft) → wrote c G (Packed T v) d ≡ wrote_value v d
+  pub wrote_Packed : (T : Typ) (v : PValue) (d : Draft) → wrote c G (Val T v) d ≡ wrote_value v d
   unfolding wrote wrote_value
   wrote_Packed T v d = refl
 
@@ -120,10 +120,10 @@ module _ (c : Home) (G : List Typ) where
   -- two parts, and then an instruction
   paired : (a b : Expr) (i : Instr) (d : Draft) →
       put i (wrote c G b (wrote c G a d))
-      ≡ more (code a (place d) (count d) ++ (code b (place d + size a) (count d + lambdas a) ++ i ∷ [])) (blocks c G a (count d) ++ blocks c G b (count d + lambdas a)) d
+      ≡ more (code a (address d) (count d) ++ (code b (address d + size a) (count d + lambdas a) ++ i ∷ [])) (blocks c G a (count d) ++ blocks c G b (count d + lambdas a)) d
   unfolding wrote
   paired a b i d =
-      let p = place d in
+      let p = address d in
       let n = count d in
       ap (put i) (wrote_more b (code a p n) (blocks c G a n) d (p + size a) (n + lambdas a) (ap (λ k. p + k) (code_size a p n)) (ap (λ k. n + k) (block_count c G a n)))
       ∙ put_more i _ _ d
@@ -147,7 +147,7 @@ nothing_more d = ap₂ (λ (x : List Instr) (y : List Block). record { first = d
 pub wrote_Let : (c : Home) (G : List Typ) (T : Typ) (e b : Expr) (d : Draft) → wrote c G (Let T e b) d ≡ put (instr.Unbind 1) (wrote c (T ∷ G) b (put instr.Bind (wrote c G e d)))
 unfolding wrote
 wrote_Let c G T e b d =
-    let p = place d in
+    let p = address d in
     let n = count d in
     let ce = code e p n in
     let be = blocks c G e n in
@@ -187,7 +187,7 @@ wrote_none c G d = nothing_more d
 
 pub wrote_next : (c : Home) (G : List Typ) (e : Expr) (es : Exprs) (d : Draft) → wrote_all c G (expr e es) d ≡ wrote_all c G es (wrote c G e d)
 unfolding wrote_all wrote
-wrote_next c G e es d = sym (further (all_code es) (all_blocks c G es) _ _ d _ _ (ap (λ k. place d + k) (code_size e (place d) (count d))) (ap (λ k. count d + k) (block_count c G e (count d))))
+wrote_next c G e es d = sym (further (all_code es) (all_blocks c G es) _ _ d _ _ (ap (λ k. address d + k) (code_size e (address d) (count d))) (ap (λ k. count d + k) (block_count c G e (count d))))
 
 pub wrote_no_parts : (c : Home) (G : List Typ) (d : Draft) → wrote_seq c G no_exprs d ≡ d
 unfolding wrote_seq
@@ -195,7 +195,7 @@ wrote_no_parts c G d = nothing_more d
 
 pub wrote_first : (c : Home) (G : List Typ) (e : Expr) (es : Exprs) (d : Draft) → wrote_seq c G (expr e es) d ≡ wrote_rest c G es (wrote c G e d)
 unfolding wrote_seq wrote_rest wrote
-wrote_first c G e es d = sym (further (rest_code es) (all_blocks c G es) _ _ d _ _ (ap (λ k. place d + k) (code_size e (place d) (count d))) (ap (λ k. count d + k) (block_count c G e (count d))))
+wrote_first c G e es d = sym (further (rest_code es) (all_blocks c G es) _ _ d _ _ (ap (λ k. address d + k) (code_size e (address d) (count d))) (ap (λ k. count d + k) (block_count c G e (count d))))
 
 pub wrote_no_rest : (c : Home) (G : List Typ) (d : Draft) → wrote_rest c G no_exprs d ≡ d
 unfolding wrote_rest
@@ -204,7 +204,7 @@ wrote_no_rest c G d = nothing_more d
 pub wrote_later : (c : Home) (G : List Typ) (e : Expr) (es : Exprs) (d : Draft) → wrote_rest c G (expr e es) d ≡ wrote_rest c G es (wrote c G e (put instr.Drop d))
 unfolding wrote_rest
 wrote_later c G e es d =
-    let p = place d in
+    let p = address d in
     let n = count d in
     sym (
     ap (λ x. wrote_rest c G es (wrote c G e x)) (leaf instr.Drop d)
@@ -280,7 +280,7 @@ pub wrote_next_value : (v : PValue) (vs : PValues) (d : Draft) → wrote_values 
 unfolding wrote_values wrote_value
 wrote_next_value v vs d =
     let n = count d in
-    sym (further (λ p. all_value_code vs) (all_value_blocks vs) (value_code v n) (value_blocks v n) d (place d + length (value_code v n)) (n + value_lambdas v) refl (ap (λ k. n + k) (value_block_count v n)))
+    sym (further (λ p. all_value_code vs) (all_value_blocks vs) (value_code v n) (value_blocks v n) d (address d + length (value_code v n)) (n + value_lambdas v) refl (ap (λ k. n + k) (value_block_count v n)))
 
 -- the equations of the forms
 pub ruleset draft_laws = (wrote_Int, wrote_Boolean, wrote_Str, wrote_Unit, wrote_Exn, wrote_ExnOf, wrote_Tuple, wrote_Nil, wrote_Empty, wrote_Present, wrote_Cons, wrote_Var, wrote_Own, wrote_Ref, wrote_Lam, wrote_Rec, wrote_App, wrote_Let, wrote_Seq, wrote_Raise, wrote_Prim, wrote_Marshal, wrote_Unmarshal, wrote_Packed)

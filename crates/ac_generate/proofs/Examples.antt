@@ -1,12 +1,12 @@
 -- The code of small programs, which the check computes.
 use Rattle.std.proofs.Common.{◌≡◌, refl, pos, List, [], ◌∷◌, None, Some, codes}
 use Rattle.ac_types.specs.Types.{TInt, TBool, TStr, TUnit, TFun}
-use Rattle.ac_terms.specs.Terms.{Main, In, Pattern, PTuple, PInt, PWild, PVar, PExnOf, pattern', no_patterns, Expr, Int, Str, Unit', Tuple, Var, Ref, Lam, Rec, App, Let, Match, Try, Prim, Packed, expr, no_exprs, arm, no_arms, PValue, KInt, KTuple, KList, KExn, KFun, pvalue, no_pvalues}
-use Rattle.ac_terms.specs.Defs.{Field, Module, AModule, Here, Environment}
+use Rattle.ac_terms.specs.Terms.{Main, In, Pattern, PTuple, PInt, PWild, PVar, PExnOf, pattern', no_patterns, Expr, Int, Str, Unit', Tuple, Var, Ref, Lam, Rec, App, Let, Match, Try, Prim, Val, expr, no_exprs, arm, no_arms, PValue, KInt, KTuple, KList, KExn, KFun, pvalue, no_pvalues}
+use Rattle.ac_terms.specs.Defs.{Field, Module, AModule, Own', Environment}
 use Rattle.ac_code.specs.Code as instr
 use Rattle.ac_code.specs.Code.{Instr, Block}
 use Rattle.ac_generate.specs.Generate.{lambda_block}
-use Rattle.ac_generate.specs.Programs.{own_block, program_code, packed_blocks}
+use Rattle.ac_generate.specs.Generated.{own_block, program_code, packed_blocks}
 
 abbrev add : Expr → Expr → Expr
 add a b = Prim 0 (expr a (expr b no_exprs))
@@ -85,7 +85,7 @@ abbrev module_c : Module
 module_c = record { name = codes "C"; version = []; sig = record { types = []; vals = [] }; types = []; fields = fields }
 
 abbrev only_c : Environment
-only_c = record { def = AModule module_c; name = None; seen = Here; link = None } ∷ []
+only_c = record { def = AModule module_c; name = None; seen = Own'; link = None } ∷ []
 
 ex_fields : program_code only_c (print_int (Ref 0 (codes "n"))) ≡ record {
   blocks =
@@ -99,7 +99,7 @@ ex_fields = refl
 
 -- ([1; 2], Failure "a", fun (x : int) -> g x, at home in entry 3, where g was captured)
 abbrev caught : Expr
-caught = Lam TInt (App (Packed (TFun TInt TBool) (KFun (In 1) endless)) (Var 0))
+caught = Lam TInt (App (Val (TFun TInt TBool) (KFun (In 1) endless)) (Var 0))
 
 abbrev packed : PValue
 packed = KTuple (pvalue (KList (pvalue (KInt (pos 1)) (pvalue (KInt (pos 2)) no_pvalues))) (pvalue (KExn 0 (Some (codes "a"))) (pvalue (KFun (In 3) caught) no_pvalues)))

@@ -19,11 +19,11 @@ use Rattle.ac_terms.specs.declared.term.Arm.{Arm}
 use Rattle.ac_terms.specs.declared.term.PVal.TheOpen.{Term-F, PVal-F}
 use Rattle.ac_terms.specs.declared.term.PVal.TheFolds.{map-PVal, fold_out-PVal, fold_out-Arm}
 use Rattle.ac_terms.specs.declared.term.PVal.TheViews.{out-PVal}
-use Rattle.ac_terms.specs.Terms.{Pattern, PWild, PVar, PInt, PBool, PStr, PUnit, PTuple, PNil, PCons, PAbsent, PPresent, PExn, PExnOf, patterns, Expr, Int, Boolean, Str, Unit', Exn, ExnOf, Nil, Empty, Present, Cons, Var, Own, Ref, Lam, Rec, App, Let, If, Match, Try, Raise, Prim, Marshal, Unmarshal, Packed, arms, PValue, KInt, KBool, KStr, KUnit, KExn, KTuple, KList, KAbsent, KPresent, KFun, pvalues}
+use Rattle.ac_terms.specs.Terms.{Pattern, PWild, PVar, PInt, PBool, PStr, PUnit, PTuple, PNil, PCons, PAbsent, PPresent, PExn, PExnOf, patterns, Expr, Int, Boolean, Str, Unit', Exn, ExnOf, Nil, Empty, Present, Cons, Var, Own, Ref, Lam, Rec, App, Let, If, Match, Try, Raise, Prim, Marshal, Unmarshal, Val, arms, PValue, KInt, KBool, KStr, KUnit, KExn, KTuple, KList, KAbsent, KPresent, KFun, pvalues}
 use Rattle.ac_terms.specs.Read.{pattern_of, pattern_layer, home_of, bytes_of, expr_of, value_of, value_layer, expr_layer, arm_layer}
 use Rattle.ac_terms.proofs.ReadLaws.{read_arm, read_parts, expr_out, expr_of-Tuple, expr_of-Seq, expr_of-Prim}
-use Rattle.ac_generate.specs.Arms.{arm_of}
-use Rattle.ac_generate.specs.Scopes.{types_of, types_step}
+use Rattle.ac_generate.specs.inner.Arms.{arm_of}
+use Rattle.ac_generate.specs.inner.CodeScopes.{types_of, types_step}
 use Rattle.ac_generate.specs.declared.scope.Scope.{Scope, out-Scope, map-Scope, fold_out-Scope}
 use Rattle.ac_generate.specs.declared.scope.Scope.TheOpen.{Scope-F}
 use Rattle.ac_generate.specs.declared.scope.Scope.TheVariants as scope
@@ -155,7 +155,7 @@ expr_of-Marshal t m e = expr_out (term.Marshal t m e) ∙ ap layer (term.outs-Ma
 pub expr_of-Unmarshal : (t : Ty) (e : Term) → expr_of (term.Unmarshal t e) ≡ Unmarshal (typ_of t) (expr_of e)
 expr_of-Unmarshal t e = expr_out (term.Unmarshal t e) ∙ ap layer (term.outs-Unmarshal t e)
 
-pub expr_of-Val : (t : Ty) (v : PVal) → expr_of (term.Val t v) ≡ Packed (typ_of t) (value_of v)
+pub expr_of-Val : (t : Ty) (v : PVal) → expr_of (term.Val t v) ≡ Val (typ_of t) (value_of v)
 expr_of-Val t v = expr_out (term.Val t v) ∙ ap layer (term.outs-Val t v)
 
 pub ruleset term_forms = (expr_of-Int, expr_of-Bool, expr_of-Str, expr_of-Unit, expr_of-Exn, expr_of-ExnOf, expr_of-Tuple, expr_of-Nil, expr_of-Empty, expr_of-Present, expr_of-Cons, expr_of-Var, expr_of-Own, expr_of-Ref, expr_of-Lam, expr_of-Rec, expr_of-App, expr_of-Let, expr_of-If, expr_of-Seq, expr_of-Match, expr_of-Try, expr_of-Raise, expr_of-Prim, expr_of-Marshal, expr_of-Unmarshal, expr_of-Val)

@@ -2,7 +2,7 @@
 use Rattle.std.proofs.Common.{◌≡◌, ℕ, suc, ◌+◌, List, [], ◌∷◌, ◌++◌, length, refl, ap₂, ◌∙◌, arith, length-append}
 use Rattle.std.proofs.lemmas.List.{length-replicate}
 use Rattle.ac_types.specs.Types.{Typ, TFun}
-use Rattle.ac_terms.specs.Terms.{Home, Expr, ExnOf, Tuple, Present, Cons, Lam, Rec, App, Let, If, Seq, Match, Try, Raise, Prim, Marshal, Unmarshal, Packed, Exprs, no_exprs, expr, Arms, no_arms, arm, PValue, KExn, KTuple, KList, KPresent, KFun, PValues, no_pvalues, pvalue}
+use Rattle.ac_terms.specs.Terms.{Home, Expr, ExnOf, Tuple, Present, Cons, Lam, Rec, App, Let, If, Seq, Match, Try, Raise, Prim, Marshal, Unmarshal, Val, Exprs, no_exprs, expr, Arms, no_arms, arm, PValue, KExn, KTuple, KList, KPresent, KFun, PValues, no_pvalues, pvalue}
 use Rattle.ac_terms.specs.Spelling.{value_count}
 use Rattle.ac_code.specs.Code as instr
 use Rattle.ac_generate.specs.Sizes.{lambdas, all_lambdas, arm_lambdas, value_lambdas, all_value_lambdas, size, all_size, seq_size, rest_size, arm_size, value_size, all_value_size}
@@ -33,7 +33,7 @@ mutual
   code_size (Prim k es) p n = both _ _ _ _ (all_code_size es p n) refl
   code_size (Marshal T m e) p n = both _ _ _ _ (code_size m p n) (both _ _ _ _ (code_size e _ _) refl)
   code_size (Unmarshal T e) p n = both _ _ _ _ (code_size e p n) refl
-  code_size (Packed T v) p n = value_code_size v n
+  code_size (Val T v) p n = value_code_size v n
   code_size e p n = refl
 
   pub all_code_size : (es : Exprs) (p n : ℕ) → length (all_code es p n) ≡ all_size es
@@ -82,7 +82,7 @@ mutual
   block_count c G (Prim k es) n = all_block_count c G es n
   block_count c G (Marshal T m e) n = both _ _ _ _ (block_count c G m n) (block_count c G e _)
   block_count c G (Unmarshal T e) n = block_count c G e n
-  block_count c G (Packed T v) n = value_block_count v n
+  block_count c G (Val T v) n = value_block_count v n
   block_count c G e n = refl
 
   pub all_block_count : (c : Home) (G : List Typ) (es : Exprs) (n : ℕ) → length (all_blocks c G es n) ≡ all_lambdas es

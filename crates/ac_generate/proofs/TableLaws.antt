@@ -21,9 +21,9 @@ use Rattle.ac_code.specs.declared.instr.CodeId.{CodeId}
 use Rattle.ac_code.specs.Code.{Instr, Block, Code}
 use Rattle.ac_code.specs.Table.{Table, appended, cut, placed, with_fields}
 use Rattle.ac_code.specs.ReadCode.{instr_of, block_of, code_of, number_of}
-use Rattle.ac_generate.specs.Drafts.{Draft, draft_of, wrote, wrote_value}
+use Rattle.ac_generate.specs.inner.Drafts.{Draft, draft_of, wrote, wrote_value}
 use Rattle.ac_generate.specs.Generate.{code, blocks, value_code, value_blocks}
-use Rattle.ac_generate.specs.Programs.{own_block, ending, with_blocks, generated, number, value_number, fields_generated, field_numbers, entry_generated, KeepsBlocks}
+use Rattle.ac_generate.specs.Generated.{own_block, ending, with_blocks, generated, number, value_number, fields_generated, field_numbers, entry_generated, KeepsBlocks}
 use Rattle.ac_generate.proofs.SizeLaws.{block_count, value_block_count}
 
 -- some blocks, and one more

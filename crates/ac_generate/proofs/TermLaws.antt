@@ -17,10 +17,10 @@ use Rattle.ac_terms.specs.Read.{expr_of, value_of, expr_layer}
 use Rattle.ac_terms.proofs.ReadLaws.{read_parts, expr_out}
 use Rattle.ac_terms.proofs.TermReading.{expr_of-injective}
 use Rattle.ac_terms.specs.Spelling.{term_count, value_count}
-use Rattle.ac_generate.specs.Drafts.{Draft, wrote_value}
+use Rattle.ac_generate.specs.inner.Drafts.{Draft, wrote_value}
 use Rattle.ac_generate.proofs.FormLaws.{typ_of-Fun, term_forms, value_forms, scope_forms, expr_of-Lam, expr_of-Rec}
 use Rattle.ac_generate.proofs.DraftLaws as draft
-use Rattle.ac_generate.proofs.JumpLaws.{wrote_no_arms, wrote_more_arms, arm_place, after_arm, wrote_one_arm}
+use Rattle.ac_generate.proofs.JumpLaws.{wrote_no_arms, wrote_more_arms, arm_address, after_arm, wrote_one_arm}
 
 pub count_terms : (ts : List Term) → term_count (exprs (map expr_of ts)) ≡ length ts
 count_terms [] = refl
@@ -49,6 +49,6 @@ pub ruleset term_laws = (term_forms, typ_of-Fun, scope_forms, draft.draft_laws, 
 
 pub ruleset all_laws = (draft.list_laws, common_steps)
 
-pub ruleset arm_laws = (wrote_no_arms, wrote_more_arms, arm_place, after_arm, scope_forms, common_steps)
+pub ruleset arm_laws = (wrote_no_arms, wrote_more_arms, arm_address, after_arm, scope_forms, common_steps)
 
 pub ruleset value_laws = (term_forms, value_forms, typ_of-Fun, scope_forms, draft.value_laws, count_values, common_steps)

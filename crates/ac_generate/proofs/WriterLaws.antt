@@ -3,7 +3,7 @@ use Rattle.std.proofs.Common.{◌≡◌, ℕ, zero, suc, List, [], ◌∷◌, �
 use Rattle.std.proofs.lemmas.Grind.{common_steps}
 use Rattle.std.proofs.lemmas.List.{append-nil, append_assoc, map-append, map-set, set_past, reverse-append, reverse-reverse, replicate-append-replicate}
 use Rattle.ac_code.specs.Code as instr
-use Rattle.ac_generate.specs.Drafts.{Draft, put, put_all}
+use Rattle.ac_generate.specs.inner.Drafts.{Draft, put, put_all}
 use Rattle.ac_generate.specs.Sizes.{unbind}
 use Rattle.ac_generate.proofs.FormLaws.{typ_of-Fun, pattern_forms, scope_forms}
 

@@ -8,9 +8,9 @@ use Rattle.ac_terms.specs.Parts.{pattern_types}
 use Rattle.ac_code.specs.Code as instr
 use Rattle.ac_code.specs.Code.{Instr}
 use Rattle.ac_generate.specs.Sizes.{bound, unbind}
-use Rattle.ac_generate.specs.Drafts.{Draft, place, count, put, put_all, set_at, jumps_at, begun, ended, wrote, wrote_rest, wrote_arm, wrote_arms, end_of, ends, wrote_value}
+use Rattle.ac_generate.specs.inner.Drafts.{Draft, address, count, put, put_all, set_at, jumps_at, begun, ended, wrote, wrote_rest, wrote_arm, wrote_arms, end_of, ends, wrote_value}
 use Rattle.ac_generate.proofs.DraftLaws.{wrote_Rec, wrote_KLam, wrote_KRec, wrote_later}
-use Rattle.ac_generate.proofs.JumpLaws.{open_jump, wrote_If, wrote_Match, wrote_Try, wrote_one_arm, arm_place}
+use Rattle.ac_generate.proofs.JumpLaws.{open_jump, wrote_If, wrote_Match, wrote_Try, wrote_one_arm, arm_address}
 
 pub on_ok : {A E P Q : Type 0} (r : Result A E) → (P → Q) → OnOk r P → OnOk r Q
 on_ok (Ok a) f h = f h
@@ -40,24 +40,24 @@ packed_rec_written h T U e t H' G' d b w x new before k is eH eG eb hb hw hk hx 
     framed h (T ∷ TFun T U ∷ []) e d b w x new before k instr.RecConstant [] (Rec T U e) H' G' t eH eG is eb hb hw hk hx hn
     ∙ sym (wrote_KRec h T U e d) ∙ ap (λ (l : Expr). wrote_value (KFun h l) d) (sym is)
 
-pub if_written : (c : Home) (G : List Typ) (t a b e : Expr) (d d1 d2 d3 d4 d6 d7 new : Draft) (k1 k2 second end : ℕ) → e ≡ If t a b → d1 ≡ wrote c G t d → k1 ≡ place d1 → d2 ≡ put open_jump d1 → d3 ≡ wrote c G a d2 → k2 ≡ place d3 → d4 ≡ put open_jump d3 → second ≡ place d4 → d6 ≡ wrote c G b d4 → end ≡ place d6 →
+pub if_written : (c : Home) (G : List Typ) (t a b e : Expr) (d d1 d2 d3 d4 d6 d7 new : Draft) (k1 k2 second end : ℕ) → e ≡ If t a b → d1 ≡ wrote c G t d → k1 ≡ address d1 → d2 ≡ put open_jump d1 → d3 ≡ wrote c G a d2 → k2 ≡ address d3 → d4 ≡ put open_jump d3 → second ≡ address d4 → d6 ≡ wrote c G b d4 → end ≡ address d6 →
     d7 ≡ set_at k1 (instr.JumpIfNot second) d6 → new ≡ set_at k2 (instr.Jump end) d7 → new ≡ wrote c G e d
 if_written c G t a b e d d1 d2 d3 d4 d6 d7 new k1 k2 second end is h1 q1 h2 h3 q2 h4 qs h6 qe h7 hn =
     hn ∙ ap₂ (λ (k n : ℕ). set_at k (instr.Jump n) d7) q2 qe
-    ∙ ap (set_at (place d3) (instr.Jump (place d6))) (h7 ∙ ap₂ (λ (k n : ℕ). set_at k (instr.JumpIfNot n) d6) q1 qs)
+    ∙ ap (set_at (address d3) (instr.Jump (address d6))) (h7 ∙ ap₂ (λ (k n : ℕ). set_at k (instr.JumpIfNot n) d6) q1 qs)
     ∙ wrote_If c G t a b d d1 d3 d4 d6 h1 (h3 ∙ ap (wrote c G a) h2) h4 h6 ∙ ap (λ (x : Expr). wrote c G x d) (sym is)
 
-pub match_written : (c : Home) (G : List Typ) (a e : Expr) (cases : Arms) (d d1 d2 d3 new : Draft) (places : List ℕ) → e ≡ Match a cases → d1 ≡ wrote c G a d → d2 ≡ wrote_arms c G cases d1 → places ≡ ends cases (place d1) → d3 ≡ put instr.NoMatch d2 → new ≡ jumps_at places (place d3) d3 → new ≡ wrote c G e d
-match_written c G a e cases d d1 d2 d3 new places is h1 h2 hp h3 hn =
-    hn ∙ ap (λ (ks : List ℕ). jumps_at ks (place d3) d3) hp ∙ wrote_Match c G a cases d d1 d3 h1 (h3 ∙ ap (put instr.NoMatch) h2) ∙ ap (λ (x : Expr). wrote c G x d) (sym is)
+pub match_written : (c : Home) (G : List Typ) (a e : Expr) (cases : Arms) (d d1 d2 d3 new : Draft) (addresses : List ℕ) → e ≡ Match a cases → d1 ≡ wrote c G a d → d2 ≡ wrote_arms c G cases d1 → addresses ≡ ends cases (address d1) → d3 ≡ put instr.NoMatch d2 → new ≡ jumps_at addresses (address d3) d3 → new ≡ wrote c G e d
+match_written c G a e cases d d1 d2 d3 new addresses is h1 h2 hp h3 hn =
+    hn ∙ ap (λ (ks : List ℕ). jumps_at ks (address d3) d3) hp ∙ wrote_Match c G a cases d d1 d3 h1 (h3 ∙ ap (put instr.NoMatch) h2) ∙ ap (λ (x : Expr). wrote c G x d) (sym is)
 
-pub try_written : (c : Home) (G : List Typ) (a e : Expr) (cases : Arms) (d d1 d2 d3 d4 d5 d6 d7 d8 new : Draft) (k1 k2 handler end : ℕ) (places : List ℕ) → e ≡ Try a cases → k1 ≡ place d → d1 ≡ put open_jump d → d2 ≡ wrote c G a d1 → d3 ≡ put instr.EndTry d2 → k2 ≡ place d3 → d4 ≡ put open_jump d3 → handler ≡ place d4 →
-    d5 ≡ wrote_arms c G cases d4 → places ≡ ends cases (place d4) → d6 ≡ put instr.Raise d5 → end ≡ place d6 → d7 ≡ jumps_at places (place d6) d6 → d8 ≡ set_at k2 (instr.Jump end) d7 → new ≡ set_at k1 (instr.Try handler) d8 → new ≡ wrote c G e d
-try_written c G a e cases d d1 d2 d3 d4 d5 d6 d7 d8 new k1 k2 handler end places is q1 h1 h2 h3 q2 h4 qh h5 hp h6 qe h7 h8 hn =
+pub try_written : (c : Home) (G : List Typ) (a e : Expr) (cases : Arms) (d d1 d2 d3 d4 d5 d6 d7 d8 new : Draft) (k1 k2 handler end : ℕ) (addresses : List ℕ) → e ≡ Try a cases → k1 ≡ address d → d1 ≡ put open_jump d → d2 ≡ wrote c G a d1 → d3 ≡ put instr.EndTry d2 → k2 ≡ address d3 → d4 ≡ put open_jump d3 → handler ≡ address d4 →
+    d5 ≡ wrote_arms c G cases d4 → addresses ≡ ends cases (address d4) → d6 ≡ put instr.Raise d5 → end ≡ address d6 → d7 ≡ jumps_at addresses (address d6) d6 → d8 ≡ set_at k2 (instr.Jump end) d7 → new ≡ set_at k1 (instr.Try handler) d8 → new ≡ wrote c G e d
+try_written c G a e cases d d1 d2 d3 d4 d5 d6 d7 d8 new k1 k2 handler end addresses is q1 h1 h2 h3 q2 h4 qh h5 hp h6 qe h7 h8 hn =
     hn ∙ ap₂ (λ (k n : ℕ). set_at k (instr.Try n) d8) q1 qh
-    ∙ ap (set_at (place d) (instr.Try (place d4))) (
+    ∙ ap (set_at (address d) (instr.Try (address d4))) (
     h8 ∙ ap₂ (λ (k n : ℕ). set_at k (instr.Jump n) d7) q2 qe
-    ∙ ap (set_at (place d3) (instr.Jump (place d6))) (h7 ∙ ap (λ (ks : List ℕ). jumps_at ks (place d6) d6) hp)
+    ∙ ap (set_at (address d3) (instr.Jump (address d6))) (h7 ∙ ap (λ (ks : List ℕ). jumps_at ks (address d6) d6) hp)
     )
     ∙ wrote_Try c G a cases d d3 d4 d6 (h3 ∙ ap (put instr.EndTry) (h2 ∙ ap (wrote c G a) h1)) h4 (h6 ∙ ap (put instr.Raise) h5) ∙ ap (λ (x : Expr). wrote c G x d) (sym is)
 
@@ -65,11 +65,11 @@ module _ (c : Home) (G H' : List Typ) (q : Pattern) (b : Expr) (d d1 d2 d3 : Dra
   body_written : d3 ≡ put_all (unbind (bound q)) (wrote c (reverse (pattern_types q) ++ G) b (put open_jump d))
   body_written = h3 ∙ ap₂ (λ (n : ℕ) (y : Draft). put_all (unbind n) y) en (h2 ∙ ap₂ (λ (K : List Typ) (y : Draft). wrote c K b y) eH h1)
 
-  pub arm_written : (d4 new : Draft) (k next : ℕ) → k ≡ place d → d4 ≡ put open_jump d3 → next ≡ place d4 → new ≡ set_at k (instr.Test q next) d4 → new ≡ wrote_arm c G q b d
+  pub arm_written : (d4 new : Draft) (k next : ℕ) → k ≡ address d → d4 ≡ put open_jump d3 → next ≡ address d4 → new ≡ set_at k (instr.Test q next) d4 → new ≡ wrote_arm c G q b d
   arm_written d4 new k next qk h4 qn hn = hn ∙ ap₂ (λ (m n : ℕ). set_at m (instr.Test q n) d4) qk qn ∙ wrote_one_arm c G q b d d3 d4 body_written h4
 
-  pub arm_ended : (end : ℕ) → end ≡ place d3 → end ≡ end_of q b (place d)
-  arm_ended end he = he ∙ ap place body_written ∙ arm_place c G q b d
+  pub arm_ended : (end : ℕ) → end ≡ address d3 → end ≡ end_of q b (address d)
+  arm_ended end he = he ∙ ap address body_written ∙ arm_address c G q b d
 
 -- one more part of a sequence
 pub part_written : (c : Home) (G : List Typ) (parts : List Term) (i : ℕ) (t : Term) (d dropped new whole : Draft) → i < length parts → t ≡ get_or parts i t → dropped ≡ put instr.Drop d → new ≡ wrote c G (expr_of t) dropped →

@@ -3,12 +3,12 @@ use Rattle.std.specs.Prelude.{ℕ, suc, ◌+◌, List, [], ◌∷◌, ◌++◌, 
 use Rattle.ac_code.specs.Code as instr
 use Rattle.ac_code.specs.Code.{Instr, Block}
 use Rattle.ac_types.specs.Types.{Typ, TFun}
-use Rattle.ac_terms.specs.Terms.{Home, Expr, Int, Boolean, Str, Unit', Exn, ExnOf, Tuple, Nil, Empty, Present, Cons, Var, Own, Ref, Lam, Rec, App, Let, If, Seq, Match, Try, Raise, Prim, Marshal, Unmarshal, Packed, Val, Bracket, Exprs, no_exprs, expr, Arms, no_arms, arm, PValue, KInt, KBool, KStr, KUnit, KExn, KTuple, KList, KAbsent, KPresent, KFun, PValues, no_pvalues, pvalue}
+use Rattle.ac_terms.specs.Terms.{Home, Expr, Int, Boolean, Str, Unit', Exn, ExnOf, Tuple, Nil, Empty, Present, Cons, Var, Own, Ref, Lam, Rec, App, Let, If, Seq, Match, Try, Raise, Prim, Marshal, Unmarshal, Val, Evaluated, Bracket, Exprs, no_exprs, expr, Arms, no_arms, arm, PValue, KInt, KBool, KStr, KUnit, KExn, KTuple, KList, KAbsent, KPresent, KFun, PValues, no_pvalues, pvalue}
 use Rattle.ac_terms.specs.Parts.{pattern_types}
 use Rattle.ac_terms.specs.Spelling.{term_count, value_count}
 use Rattle.ac_generate.specs.Sizes.{lambdas, value_lambdas, bound, unbind, push_text, size, arm_size}
 
--- the code of a term that begins at place p of its block, where n blocks are finished
+-- the code of a term that begins at address p of its block, where n blocks are finished
 abbrev mutual
   pub code : Expr → ℕ → ℕ → List Instr
   code (Int k) p n = instr.PushInt k ∷ []
@@ -47,8 +47,8 @@ abbrev mutual
   code (Prim k es) p n = all_code es p n ++ instr.Prim k ∷ []
   code (Marshal T m e) p n = code m p n ++ (code e (p + size m) (n + lambdas m) ++ instr.Marshal T ∷ [])
   code (Unmarshal T e) p n = code e p n ++ instr.Unmarshal T ∷ []
-  code (Packed T v) p n = value_code v n
-  code (Val T v) p n = []
+  code (Val T v) p n = value_code v n
+  code (Evaluated T v) p n = []
   code (Bracket h T e) p n = []
 
   pub all_code : Exprs → ℕ → ℕ → List Instr
@@ -113,7 +113,7 @@ abbrev mutual
   blocks c G (Prim k es) n = all_blocks c G es n
   blocks c G (Marshal T m e) n = blocks c G m n ++ blocks c G e (n + lambdas m)
   blocks c G (Unmarshal T e) n = blocks c G e n
-  blocks c G (Packed T v) n = value_blocks v n
+  blocks c G (Val T v) n = value_blocks v n
   blocks c G (Int i) n = []
   blocks c G (Boolean b) n = []
   blocks c G (Str s) n = []
@@ -124,7 +124,7 @@ abbrev mutual
   blocks c G (Var i) n = []
   blocks c G (Own f) n = []
   blocks c G (Ref j x) n = []
-  blocks c G (Val T v) n = []
+  blocks c G (Evaluated T v) n = []
   blocks c G (Bracket h T e) n = []
 
   pub all_blocks : Home → List Typ → Exprs → ℕ → List Block

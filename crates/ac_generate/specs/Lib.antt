@@ -1,6 +1,4 @@
 pub mod Sizes
 pub mod Generate
-pub mod Programs
-pub mod Scopes
-pub mod Drafts
-pub mod Arms
+pub mod Generated
+pub mod inner

@@ -2,7 +2,7 @@
 use Rattle.std.specs.Prelude.{ℕ, zero, suc, ◌+◌, List, [], ◌∷◌, length, Option, Some, None}
 use Rattle.ac_code.specs.Code as instr
 use Rattle.ac_code.specs.Code.{Instr}
-use Rattle.ac_terms.specs.Terms.{Pattern, Expr, Int, Boolean, Str, Unit', Exn, ExnOf, Tuple, Nil, Empty, Present, Cons, Var, Own, Ref, Lam, Rec, App, Let, If, Seq, Match, Try, Raise, Prim, Marshal, Unmarshal, Packed, Val, Bracket, Exprs, no_exprs, expr, Arms, no_arms, arm, PValue, KInt, KBool, KStr, KUnit, KExn, KTuple, KList, KAbsent, KPresent, KFun, PValues, no_pvalues, pvalue}
+use Rattle.ac_terms.specs.Terms.{Pattern, Expr, Int, Boolean, Str, Unit', Exn, ExnOf, Tuple, Nil, Empty, Present, Cons, Var, Own, Ref, Lam, Rec, App, Let, If, Seq, Match, Try, Raise, Prim, Marshal, Unmarshal, Val, Evaluated, Bracket, Exprs, no_exprs, expr, Arms, no_arms, arm, PValue, KInt, KBool, KStr, KUnit, KExn, KTuple, KList, KAbsent, KPresent, KFun, PValues, no_pvalues, pvalue}
 use Rattle.ac_terms.specs.Parts.{pattern_types}
 use Rattle.ac_terms.specs.Spelling.{value_count}
 
@@ -25,7 +25,7 @@ abbrev mutual
   lambdas (Prim k es) = all_lambdas es
   lambdas (Marshal T m e) = lambdas m + lambdas e
   lambdas (Unmarshal T e) = lambdas e
-  lambdas (Packed T v) = value_lambdas v
+  lambdas (Val T v) = value_lambdas v
   lambdas (Int i) = 0
   lambdas (Boolean b) = 0
   lambdas (Str s) = 0
@@ -36,7 +36,7 @@ abbrev mutual
   lambdas (Var i) = 0
   lambdas (Own f) = 0
   lambdas (Ref j x) = 0
-  lambdas (Val T v) = 0
+  lambdas (Evaluated T v) = 0
   lambdas (Bracket h T e) = 0
 
   pub all_lambdas : Exprs → ℕ
@@ -109,8 +109,8 @@ abbrev mutual
   size (Prim k es) = all_size es + 1
   size (Marshal T m e) = size m + (size e + 1)
   size (Unmarshal T e) = size e + 1
-  size (Packed T v) = value_size v
-  size (Val T v) = 0
+  size (Val T v) = value_size v
+  size (Evaluated T v) = 0
   size (Bracket h T e) = 0
 
   pub all_size : Exprs → ℕ

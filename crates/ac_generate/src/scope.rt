@@ -6,7 +6,7 @@ ghost use Rattle.ac_types.specs.Types.{TFun};
 ghost use Rattle.ac_terms.specs.Read.{pattern_of};
 ghost use Rattle.ac_terms.specs.Terms.{patterns};
 ghost use Rattle.ac_terms.specs.Parts.{pattern_types, all_pattern_types};
-ghost use Rattle.ac_generate.specs.Scopes.{types_of};
+ghost use Rattle.ac_generate.specs.inner.CodeScopes.{types_of};
 
 use ac_terms::Pat;
 use ac_types::{Box, Many, Memory, Ty};
@@ -37,7 +37,8 @@ pub fn context(alloc: Global, scope: &Scope) -> Result<Many<Ty>, Memory>
 // Appends the types of the variables, the oldest first.
 #[tactic(auto, using(crate::proofs::WriterLaws::scope_laws))]
 fn add_types(alloc: Global, scope: &Scope, types: &mut Vec<Ty>) -> Result<(), Memory>
-    ensures { OnOk result (map typ_of types.new.items ≡ map typ_of types.old.items ++ reverse (types_of scope.now)) }
+    ensures { OnOk result (map typ_of types.new.items ≡ map typ_of types.old.items ++ reverse
+        (types_of scope.now)) }
 {
     match scope {
         Scope::Empty => Ok(()),
@@ -76,7 +77,8 @@ pub fn variables(alloc: Global, pat: &Pat) -> Result<Vec<Ty>, Memory>
 #[cycle(variables)]
 #[tactic(auto, using(crate::proofs::WriterLaws::pattern_laws))]
 fn add_variables(alloc: Global, pat: &Pat, types: &mut Vec<Ty>) -> Result<(), Memory>
-    ensures { OnOk result (map typ_of types.new.items ≡ map typ_of types.old.items ++ pattern_types (pattern_of pat.now)) }
+    ensures { OnOk result (map typ_of types.new.items ≡ map typ_of types.old.items ++ pattern_types
+        (pattern_of pat.now)) }
 {
     match pat {
         Pat::Var(ty) => {
@@ -106,7 +108,8 @@ fn add_variables(alloc: Global, pat: &Pat, types: &mut Vec<Ty>) -> Result<(), Me
 #[cycle(variables)]
 #[tactic(auto, using(crate::proofs::WriterLaws::pattern_laws))]
 fn add_all_variables(alloc: Global, pats: &[Pat], types: &mut Vec<Ty>) -> Result<(), Memory>
-    ensures { OnOk result (map typ_of types.new.items ≡ map typ_of types.old.items ++ all_pattern_types (patterns (map pattern_of pats.now))) }
+    ensures { OnOk result (map typ_of types.new.items ≡ map typ_of
+        types.old.items ++ all_pattern_types (patterns (map pattern_of pats.now))) }
 {
     for pat in pats {
         add_variables(alloc, pat, types)?;

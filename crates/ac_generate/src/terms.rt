@@ -5,9 +5,9 @@ ghost use Rattle.ac_types.specs.Types.{TFun};
 ghost use Rattle.ac_types.specs.ReadTypes.{typ_of};
 ghost use Rattle.ac_terms.specs.Terms.{exprs, arms, pvalues, KFun};
 ghost use Rattle.ac_terms.specs.Read.{home_of, expr_of, value_of};
-ghost use Rattle.ac_generate.specs.Arms.{arm_of};
-ghost use Rattle.ac_generate.specs.Scopes.{types_of};
-ghost use Rattle.ac_generate.specs.Drafts.{draft_of, place, count, begun, ended, wrote, wrote_all, wrote_seq, wrote_arm, wrote_arms, end_of, ends, wrote_value, wrote_values};
+ghost use Rattle.ac_generate.specs.inner.Arms.{arm_of};
+ghost use Rattle.ac_generate.specs.inner.CodeScopes.{types_of};
+ghost use Rattle.ac_generate.specs.inner.Drafts.{draft_of, address, count, begun, ended, wrote, wrote_all, wrote_seq, wrote_arm, wrote_arms, end_of, ends, wrote_value, wrote_values};
 
 use crate::scope::{Scope, function_type, variables};
 use crate::writer::Writer;
@@ -20,7 +20,8 @@ impl Writer {
     #[cycle(term)]
     #[tactic(auto, using(crate::proofs::TermLaws::term_laws))]
     pub fn term(&mut self, home: Home, scope: &Scope, term: &Term) -> Result<(), Memory>
-        ensures { OnOk result (draft_of self.new ≡ wrote (home_of home) (types_of scope.now) (expr_of term.now) (draft_of self.old)) }
+        ensures { OnOk result (draft_of self.new ≡ wrote (home_of home) (types_of scope.now)
+            (expr_of term.now) (draft_of self.old)) }
     {
         match term {
             Term::Int(n) => self.put(Instr::PushInt(*n)),
@@ -77,9 +78,9 @@ impl Writer {
                 let to_second = self.hold()?;
                 self.term(home, scope, so)?;
                 let to_end = self.hold()?;
-                let second = self.place();
+                let second = self.address();
                 self.term(home, scope, otherwise)?;
-                let end = self.place();
+                let end = self.address();
                 self.set(to_second, Instr::JumpIfNot(second));
                 self.set(to_end, Instr::Jump(end));
                 Ok(())
@@ -97,10 +98,10 @@ impl Writer {
                 self.term(home, scope, of)?;
                 self.put(Instr::EndTry)?;
                 let to_end = self.hold()?;
-                let handler = self.place();
+                let handler = self.address();
                 let ends = self.arms(home, scope, cases.as_slice())?;
                 self.put(Instr::Raise)?;
-                let end = self.place();
+                let end = self.address();
                 self.land(ends.as_slice());
                 self.set(to_end, Instr::Jump(end));
                 self.set(to_handler, Instr::Try(handler));
@@ -138,8 +139,13 @@ impl Writer {
         body: &Term,
         lambda: &Term,
     ) -> Result<CodeId, Memory>
-        ensures number { IfOk result (λ id. id.0 ≡ count (wrote (home_of home) (types_of inner.now) (expr_of body.now) (begun (draft_of self.old)))) }
-        ensures ok { OnOk result (draft_of self.new ≡ ended (home_of home) (expr_of lambda.now) (types_of outer.now) (draft_of self.old).instrs (wrote (home_of home) (types_of inner.now) (expr_of body.now) (begun (draft_of self.old)))) }
+        ensures number { IfOk result (λ id. id.0 ≡ count
+            (wrote (home_of home) (types_of inner.now) (expr_of body.now)
+            (begun (draft_of self.old)))) }
+        ensures ok { OnOk result (draft_of self.new ≡ ended (home_of home) (expr_of lambda.now)
+            (types_of outer.now) (draft_of self.old).instrs
+            (wrote (home_of home) (types_of inner.now) (expr_of body.now)
+            (begun (draft_of self.old)))) }
     {
         let before = self.begin();
         self.term(home, inner, body)?;
@@ -158,8 +164,13 @@ impl Writer {
         to: &Ty,
         lambda: &Term,
     ) -> Result<CodeId, Memory>
-        ensures number { IfOk result (λ id. id.0 ≡ count (wrote (home_of home) (typ_of from.now ∷ TFun (typ_of from.now) (typ_of to.now) ∷ types_of scope.now) (expr_of body.now) (begun (draft_of self.old)))) }
-        ensures ok { OnOk result (draft_of self.new ≡ ended (home_of home) (expr_of lambda.now) (types_of scope.now) (draft_of self.old).instrs (wrote (home_of home) (typ_of from.now ∷ TFun (typ_of from.now) (typ_of to.now) ∷ types_of scope.now) (expr_of body.now) (begun (draft_of self.old)))) }
+        ensures number { IfOk result (λ id. id.0 ≡ count
+            (wrote (home_of home) (typ_of from.now ∷ TFun (typ_of from.now)
+            (typ_of to.now) ∷ types_of scope.now) (expr_of body.now) (begun (draft_of self.old)))) }
+        ensures ok { OnOk result (draft_of self.new ≡ ended (home_of home) (expr_of lambda.now)
+            (types_of scope.now) (draft_of self.old).instrs
+            (wrote (home_of home) (typ_of from.now ∷ TFun (typ_of from.now)
+            (typ_of to.now) ∷ types_of scope.now) (expr_of body.now) (begun (draft_of self.old)))) }
     {
         let function = function_type(self.alloc, from, to)?;
         let outer = Scope::Variable(&*scope, &function);
@@ -172,7 +183,8 @@ impl Writer {
     #[cycle(term)]
     #[tactic(auto, using(crate::proofs::TermLaws::all_laws))]
     fn all(&mut self, home: Home, scope: &Scope, terms: &[Term]) -> Result<(), Memory>
-        ensures { OnOk result (draft_of self.new ≡ wrote_all (home_of home) (types_of scope.now) (exprs (map expr_of terms.now)) (draft_of self.old)) }
+        ensures { OnOk result (draft_of self.new ≡ wrote_all (home_of home) (types_of scope.now)
+            (exprs (map expr_of terms.now)) (draft_of self.old)) }
     {
         for term in terms {
             self.term(home, scope, term)?;
@@ -184,7 +196,8 @@ impl Writer {
     #[cycle(term)]
     #[tactic(auto, using(crate::proofs::TermLaws::all_laws))]
     fn parts(&mut self, home: Home, scope: &Scope, parts: &[Term]) -> Result<(), Memory>
-        ensures { OnOk result (draft_of self.new ≡ wrote_seq (home_of home) (types_of scope.now) (exprs (map expr_of parts.now)) (draft_of self.old)) }
+        ensures { OnOk result (draft_of self.new ≡ wrote_seq (home_of home) (types_of scope.now)
+            (exprs (map expr_of parts.now)) (draft_of self.old)) }
     {
         if parts.is_empty() {
             return Ok(());
@@ -197,12 +210,14 @@ impl Writer {
         Ok(())
     }
 
-    // Writes the code of some arms, and gives the places of their jumps to the end.
+    // Writes the code of some arms, and gives the addresses of their jumps to the end.
     #[cycle(term)]
     #[tactic(auto, using(crate::proofs::TermLaws::arm_laws))]
     fn arms(&mut self, home: Home, scope: &Scope, cases: &[Arm]) -> Result<Vec<usize>, Memory>
-        ensures ok { OnOk result (draft_of self.new ≡ wrote_arms (home_of home) (types_of scope.now) (arms (map arm_of cases.now)) (draft_of self.old)) }
-        ensures places { IfOk result (λ v. v.items ≡ ends (arms (map arm_of cases.now)) (place (draft_of self.old))) }
+        ensures ok { OnOk result (draft_of self.new ≡ wrote_arms (home_of home) (types_of scope.now)
+            (arms (map arm_of cases.now)) (draft_of self.old)) }
+        ensures addresses { IfOk result (λ v. v.items ≡ ends (arms (map arm_of cases.now))
+            (address (draft_of self.old))) }
     {
         let mut ends = Vec::new(self.alloc);
         for case in cases {
@@ -212,12 +227,14 @@ impl Writer {
         Ok(ends)
     }
 
-    // Writes the code of an arm, and gives the place of its jump to the end.
+    // Writes the code of an arm, and gives the address of its jump to the end.
     #[cycle(term)]
     #[tactic(auto, using(crate::proofs::TermLaws::arm_laws))]
     fn arm(&mut self, home: Home, scope: &Scope, case: &Arm) -> Result<usize, Memory>
-        ensures ok { OnOk result (draft_of self.new ≡ wrote_arm (home_of home) (types_of scope.now) (arm_of case.now).0 (arm_of case.now).1 (draft_of self.old)) }
-        ensures place { IfOk result (λ at. at ≡ end_of (arm_of case.now).0 (arm_of case.now).1 (place (draft_of self.old))) }
+        ensures ok { OnOk result (draft_of self.new ≡ wrote_arm (home_of home) (types_of scope.now)
+            (arm_of case.now).0 (arm_of case.now).1 (draft_of self.old)) }
+        ensures address { IfOk result (λ at. at ≡ end_of (arm_of case.now).0 (arm_of case.now).1
+            (address (draft_of self.old))) }
     {
         let bound = variables(self.alloc, &case.pat)?;
         let test = self.hold()?;
@@ -236,7 +253,8 @@ impl Writer {
     #[cycle(term)]
     #[tactic(auto, using(crate::proofs::TermLaws::value_laws))]
     pub fn value(&mut self, value: &PVal) -> Result<(), Memory>
-        ensures { OnOk result (draft_of self.new ≡ wrote_value (value_of value.now) (draft_of self.old)) }
+        ensures { OnOk result (draft_of self.new ≡ wrote_value (value_of value.now)
+            (draft_of self.old)) }
     {
         match value {
             PVal::Int(n) => self.put(Instr::PushInt(*n)),
@@ -266,7 +284,8 @@ impl Writer {
     #[cycle(term)]
     #[tactic(auto, using(crate::proofs::TermLaws::value_laws))]
     fn values(&mut self, values: &[PVal]) -> Result<(), Memory>
-        ensures { OnOk result (draft_of self.new ≡ wrote_values (pvalues (map value_of values.now)) (draft_of self.old)) }
+        ensures { OnOk result (draft_of self.new ≡ wrote_values (pvalues (map value_of values.now))
+            (draft_of self.old)) }
     {
         for value in values {
             self.value(value)?;
@@ -278,7 +297,8 @@ impl Writer {
     #[cycle(term)]
     #[tactic(auto, using(crate::proofs::TermLaws::value_laws))]
     fn function(&mut self, home: Home, function: &Term) -> Result<(), Memory>
-        ensures { OnOk result (draft_of self.new ≡ wrote_value (KFun (home_of home) (expr_of function.now)) (draft_of self.old)) }
+        ensures { OnOk result (draft_of self.new ≡ wrote_value
+            (KFun (home_of home) (expr_of function.now)) (draft_of self.old)) }
     {
         let around = Scope::Empty;
         match function {

@@ -8,8 +8,8 @@ ghost use Rattle.ac_code.specs.Code.{PushStr, Ref, Marshal, Unmarshal, Test, Jum
 ghost use Rattle.ac_code.specs.ReadCode.{instr_of, block_of};
 ghost use Rattle.ac_generate.specs.Sizes.{unbind};
 ghost use Rattle.ac_generate.specs.Generate.{lambda_block};
-ghost use Rattle.ac_generate.specs.Scopes.{types_of};
-ghost use Rattle.ac_generate.specs.Drafts.{draft_of, place, count, put, put_all, set_at, jumps_at, begun, ended, wrote_value};
+ghost use Rattle.ac_generate.specs.inner.CodeScopes.{types_of};
+ghost use Rattle.ac_generate.specs.inner.Drafts.{draft_of, address, count, put, put_all, set_at, jumps_at, begun, ended, wrote_value};
 
 use crate::scope::{Scope, context};
 use ac_code::{Block, CodeId, Instr};
@@ -48,8 +48,8 @@ impl Writer {
 
     /// Where the next instruction stands.
     #[tactic(auto, unfolding(crate::specs::Drafts::draft_of))]
-    pub fn place(&self) -> usize
-        ensures { result ≡ place (draft_of self.now) }
+    pub fn address(&self) -> usize
+        ensures { result ≡ address (draft_of self.now) }
     {
         self.instrs.len()
     }
@@ -63,17 +63,17 @@ impl Writer {
         Ok(())
     }
 
-    /// Writes a jump that is still open, and gives its place.
+    /// Writes a jump that is still open, and gives its address.
     pub fn hold(&mut self) -> Result<usize, Memory>
-        ensures place { IfOk result (λ at. at ≡ place (draft_of self.old)) }
+        ensures address { IfOk result (λ at. at ≡ address (draft_of self.old)) }
         ensures ok { OnOk result (draft_of self.new ≡ put (Jump 0) (draft_of self.old)) }
     {
-        let at = self.place();
+        let at = self.address();
         self.put(Instr::Jump(0))?;
         Ok(at)
     }
 
-    /// Puts another instruction at a place that is written.
+    /// Puts another instruction at an address that is written.
     #[tactic(auto, using(crate::proofs::WriterLaws::writer_laws), unfolding(crate::specs::Drafts::draft_of, crate::specs::Drafts::set_at))]
     pub fn set(&mut self, at: usize, instr: Instr)
         ensures { draft_of self.new ≡ set_at at (instr_of instr) (draft_of self.old) }
@@ -83,9 +83,10 @@ impl Writer {
 
     /// Lets open jumps go to the next instruction.
     pub fn land(&mut self, jumps: &[usize])
-        ensures { draft_of self.new ≡ jumps_at jumps.now (place (draft_of self.old)) (draft_of self.old) }
+        ensures { draft_of self.new ≡ jumps_at jumps.now (address (draft_of self.old))
+            (draft_of self.old) }
     {
-        let to = self.place();
+        let to = self.address();
         for at in jumps {
             self.set(*at, Instr::Jump(to));
         }
@@ -104,7 +105,8 @@ impl Writer {
 
     /// Writes a string.
     pub fn text(&mut self, text: &Text) -> Result<(), Memory>
-        ensures { OnOk result (draft_of self.new ≡ put (PushStr (bytes_of text.now)) (draft_of self.old)) }
+        ensures { OnOk result (draft_of self.new ≡ put (PushStr (bytes_of text.now))
+            (draft_of self.old)) }
     {
         let text = text.copy(self.alloc)?;
         self.put(Instr::PushStr(text))
@@ -120,7 +122,8 @@ impl Writer {
 
     /// Writes a marshal at a type.
     pub fn marshal(&mut self, ty: &Ty) -> Result<(), Memory>
-        ensures { OnOk result (draft_of self.new ≡ put (Marshal (typ_of ty.now)) (draft_of self.old)) }
+        ensures { OnOk result (draft_of self.new ≡ put (Marshal (typ_of ty.now))
+            (draft_of self.old)) }
     {
         let ty = ty.copy(self.alloc)?;
         self.put(Instr::Marshal(ty))
@@ -128,18 +131,20 @@ impl Writer {
 
     /// Writes an unmarshal as a type.
     pub fn unmarshal(&mut self, ty: &Ty) -> Result<(), Memory>
-        ensures { OnOk result (draft_of self.new ≡ put (Unmarshal (typ_of ty.now)) (draft_of self.old)) }
+        ensures { OnOk result (draft_of self.new ≡ put (Unmarshal (typ_of ty.now))
+            (draft_of self.old)) }
     {
         let ty = ty.copy(self.alloc)?;
         self.put(Instr::Unmarshal(ty))
     }
 
-    /// Puts the test of a pattern at a place that is written. Where the pattern doesn't fit, the
+    /// Puts the test of a pattern at an address that is written. Where the pattern doesn't fit, the
     /// next instruction follows.
     pub fn test(&mut self, at: usize, pat: &Pat) -> Result<(), Memory>
-        ensures { OnOk result (draft_of self.new ≡ set_at at (Test (pattern_of pat.now) (place (draft_of self.old))) (draft_of self.old)) }
+        ensures { OnOk result (draft_of self.new ≡ set_at at
+            (Test (pattern_of pat.now) (address (draft_of self.old))) (draft_of self.old)) }
     {
-        let next = self.place();
+        let next = self.address();
         let pat = pat.copy(self.alloc)?;
         self.set(at, Instr::Test(pat, next));
         Ok(())
@@ -148,7 +153,8 @@ impl Writer {
     /// Writes the text of an exception, where it has one, and what makes the exception.
     #[tactic(auto, using(crate::proofs::DraftLaws::value_laws))]
     pub fn exception(&mut self, exn: &Exn) -> Result<(), Memory>
-        ensures { OnOk result (draft_of self.new ≡ wrote_value (KExn exn.now.number (option_map bytes_of exn.now.text)) (draft_of self.old)) }
+        ensures { OnOk result (draft_of self.new ≡ wrote_value
+            (KExn exn.now.number (option_map bytes_of exn.now.text)) (draft_of self.old)) }
     {
         if let Some(text) = &exn.text {
             self.text(text)?;
@@ -159,7 +165,8 @@ impl Writer {
     /// Writes what puts some values before a list.
     #[tactic(auto, using(crate::proofs::WriterLaws::again_laws))]
     pub fn conses(&mut self, values: usize) -> Result<(), Memory>
-        ensures { OnOk result (draft_of self.new ≡ put_all (replicate values MakeCons) (draft_of self.old)) }
+        ensures { OnOk result (draft_of self.new ≡ put_all (replicate values MakeCons)
+            (draft_of self.old)) }
     {
         for _ in 0..values {
             self.put(Instr::MakeCons)?;
@@ -186,7 +193,8 @@ impl Writer {
         lambda: &Term,
     ) -> Result<CodeId, Memory>
         ensures number { IfOk result (λ id. id.0 ≡ count (draft_of self.old)) }
-        ensures ok { OnOk result (draft_of self.new ≡ ended (home_of home) (expr_of lambda.now) (types_of scope.now) (map instr_of before.items) (draft_of self.old)) }
+        ensures ok { OnOk result (draft_of self.new ≡ ended (home_of home) (expr_of lambda.now)
+            (types_of scope.now) (map instr_of before.items) (draft_of self.old)) }
     {
         let number = self.number()?;
         let written = mem::replace(&mut self.instrs, before);
@@ -207,7 +215,7 @@ impl Writer {
     }
 }
 
-/// Puts an item at a place of a list, where the list has that place.
+/// Puts an item at an address of a list, where the list has that address.
 #[tactic(auto, using(crate::proofs::WriterLaws::writer_laws))]
 fn put_at<T: Drop>(items: &mut Vec<T>, at: usize, item: T)
     ensures { items.new.items ≡ set items.old.items at item }
@@ -226,7 +234,8 @@ fn lambda_block(
     lambda: &Term,
     body: Vec<Instr>,
 ) -> Result<Block, Memory>
-    ensures { IfOk result (λ b. block_of b ≡ lambda_block (home_of home) (expr_of lambda.now) (types_of scope.now) (map instr_of body.items)) }
+    ensures { IfOk result (λ b. block_of b ≡ lambda_block (home_of home) (expr_of lambda.now)
+        (types_of scope.now) (map instr_of body.items)) }
 {
     let instrs = returning(body)?;
     let context = context(alloc, scope)?;

@@ -4,12 +4,12 @@ use Rattle.std.specs.Prelude.{codes}
 use Rattle.ac_types.specs.Words.{is_reserved}
 use Rattle.ac_lexer.specs.declared.tokens.TokenKind.TheVariants.{Lower, Upper, Int, Str, Fixed}
 use Rattle.ac_lexer.specs.Gaps.{Inside, closed, nested, byte}
-use Rattle.ac_lexer.specs.Spellings.{value, name_kind, is_name, is_symbol, itself, escape, hex, quote, more, Spells, number, symbol, string, is_within_limits}
+use Rattle.ac_lexer.specs.Spellings.{value, name_kind, is_name, is_symbol, itself, escape, hex, quote, more, SpellsToken, number, symbol, string, is_within_limits}
 
 ex_value : value (codes "007") ≡ 7
 ex_value = refl
 
-ex_number : Spells (codes "12") (Int 12)
+ex_number : SpellsToken (codes "12") (Int 12)
 ex_number = number refl
 
 ex_lower : name_kind (codes "x'") ≡ Lower (codes "x'")
@@ -31,7 +31,7 @@ ex_wild = refl
 ex_digit_first : is_name (codes "1x") ≡ false
 ex_digit_first = refl
 
-ex_arrow : Spells (codes "->") (Fixed (record { 0 = codes "->" }))
+ex_arrow : SpellsToken (codes "->") (Fixed (record { 0 = codes "->" }))
 unfolding is_symbol
 ex_arrow = symbol refl
 
@@ -46,7 +46,7 @@ ex_too_large : is_within_limits (Int 9223372036854775808) ≡ false
 ex_too_large = refl
 
 -- `"aJ` and a line feed, as `a`, `\x4a` and `\n`
-ex_string : Spells (34 ∷ codes "a" ++ 92 ∷ codes "x4a" ++ 92 ∷ codes "n" ++ 34 ∷ []) (Str (record { 0 = 97 ∷ 74 ∷ 10 ∷ [] }))
+ex_string : SpellsToken (34 ∷ codes "a" ++ 92 ∷ codes "x4a" ++ 92 ∷ codes "n" ++ 34 ∷ []) (Str (record { 0 = 97 ∷ 74 ∷ 10 ∷ [] }))
 ex_string = string (more (itself refl) (more (hex refl refl) (more (escape refl) quote)))
 
 -- `a(*b*)*)c`, from behind a `(*` on

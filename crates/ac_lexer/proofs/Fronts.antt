@@ -11,7 +11,7 @@ use Rattle.ac_types.specs.Words.{is_start, is_part}
 use Rattle.ac_lexer.specs.declared.tokens.TokenKind.{TokenKind}
 use Rattle.ac_lexer.specs.declared.tokens.TokenKind.TheVariants.{Int, Str, Fixed}
 use Rattle.ac_lexer.specs.Gaps.{opens}
-use Rattle.ac_lexer.specs.Spellings.{is_digit, value, is_name, name_kind, is_symbol, SymbolBegins, Quoted, Spells, number, name, symbol, string, is_within_limits}
+use Rattle.ac_lexer.specs.Spellings.{is_digit, value, is_name, name_kind, is_symbol, SymbolBegins, Quoted, SpellsToken, number, name, symbol, string, is_within_limits}
 use Rattle.ac_lexer.specs.Tokens.{IsLongest, TokenAt, NoToken}
 use Rattle.ac_lexer.proofs.Spelled.{by_digit, by_start, by_quote, by_other, of_symbols, no_empty}
 use Rattle.ac_lexer.proofs.Unique.{same_split, one_kind, same_quoted, quoted_on, quoted_front}
@@ -20,7 +20,7 @@ use Rattle.ac_lexer.proofs.Unique.{same_split, one_kind, same_quoted, quoted_on,
 pub record Longest (text : List ℕ) (kind : TokenKind) (rest : List ℕ) : Type 0 where
   pub front : List ℕ
   pub split : text ≡ front ++ rest
-  pub spelled : Spells front kind
+  pub spelled : SpellsToken front kind
   pub longest : IsLongest text front
 
 pub accepted : {text rest : List ℕ} {kind : TokenKind} → Longest text kind rest → is_within_limits kind ≡ true → opens text ≡ false → TokenAt text kind rest
@@ -31,11 +31,11 @@ rejected {text} {rest} {kind} x w = λ k r t.
     let most = x.longest t.front r k t.split t.spelled in
     let least = t.longest x.front rest kind x.split x.spelled in
     let e = same_split x.front t.front rest r (sym x.split ∙ t.split) (omega arith) in
-    let same = one_kind x.spelled (subst (λ (l : List ℕ). Spells l k) (sym e.0) t.spelled) in
+    let same = one_kind x.spelled (subst (λ (l : List ℕ). SpellsToken l k) (sym e.0) t.spelled) in
     both_ways (is_within_limits k) (sym (ap is_within_limits same) ∙ w) t.within_limits
 
 -- a token begins with the text's first byte
-pub same_first : (text other behind : List ℕ) {k : TokenKind} → text ≡ other ++ behind → Spells other k → slice_index text 0 ≡ slice_index other 0
+pub same_first : (text other behind : List ℕ) {k : TokenKind} → text ≡ other ++ behind → SpellsToken other k → slice_index text 0 ≡ slice_index other 0
 same_first text [] behind e x = absurd (no_empty x)
 same_first text (c ∷ other) behind e x = ap (λ (l : List ℕ). slice_index l 0) e
 
@@ -106,7 +106,7 @@ string_front text content rest q =
       spelled = string f.2;
       longest = λ other behind k e x. string_longest text content rest f.0 q f.1 other behind k e x;
     } where
-      string_longest : (text content rest front : List ℕ) → Quoted text content rest → text ≡ front ++ rest → (other behind : List ℕ) (k : TokenKind) → 34 ∷ text ≡ other ++ behind → Spells other k → length other ≤ length (34 ∷ front)
+      string_longest : (text content rest front : List ℕ) → Quoted text content rest → text ≡ front ++ rest → (other behind : List ℕ) (k : TokenKind) → 34 ∷ text ≡ other ++ behind → SpellsToken other k → length other ≤ length (34 ∷ front)
       string_longest text content rest front q split other behind k e x =
           let b = by_quote x (sym (same_first (34 ∷ text) other behind e x)) in
           let whole_text : 34 ∷ text ≡ 34 ∷ (b.0 ++ behind) = e ∙ ap (λ (l : List ℕ). l ++ behind) b.2 in
@@ -134,7 +134,7 @@ symbol_length bytes h = leb-true (length bytes) 2 (of_symbols (λ s. nat_le (len
 symbol_in : (text other behind : List ℕ) → text ≡ other ++ behind → (take (length other) text ≡ other) × (length other ≤ length text)
 symbol_in text other behind e = (ap (take (length other)) e ∙ take_at other behind (length other) refl, omega (arith, ap length e, length-append other behind))
 
-other_first : (text other behind : List ℕ) {k : TokenKind} → text ≡ other ++ behind → Spells other k → is_digit (slice_index text 0) ≡ false → is_start (slice_index text 0) ≡ false → (slice_index text 0 ≡ 34 → ⊥) → is_symbol other ≡ true
+other_first : (text other behind : List ℕ) {k : TokenKind} → text ≡ other ++ behind → SpellsToken other k → is_digit (slice_index text 0) ≡ false → is_start (slice_index text 0) ≡ false → (slice_index text 0 ≡ 34 → ⊥) → is_symbol other ≡ true
 other_first text other behind e x d s q =
     let same = same_first text other behind e x in
     (by_other x (sym (ap is_digit same) ∙ d) (sym (ap is_start same) ∙ s) (λ f. q (same ∙ f))).0
@@ -159,7 +159,7 @@ symbol_front text count b some d s q = record {
 
 pub no_symbol_front : (text : List ℕ) → SymbolBegins text 0 → is_digit (slice_index text 0) ≡ false → is_start (slice_index text 0) ≡ false → (slice_index text 0 ≡ 34 → ⊥) → NoToken text
 no_symbol_front text b d s q = λ k rest t. nothing_spelled t.front t.spelled (no_more text t.front rest 0 b t.split (other_first text t.front rest t.split t.spelled d s q)) where
-  nothing_spelled : (front : List ℕ) {k : TokenKind} → Spells front k → length front ≤ 0 → ⊥
+  nothing_spelled : (front : List ℕ) {k : TokenKind} → SpellsToken front k → length front ≤ 0 → ⊥
   nothing_spelled [] x l = no_empty x
   nothing_spelled (c ∷ front) x l = absurd (omega arith)
 

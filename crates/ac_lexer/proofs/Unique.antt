@@ -5,7 +5,7 @@ use Rattle.std.proofs.lemmas.Bool.{false≢true, true≢false}
 use Rattle.ac_lexer.specs.declared.tokens.TokenKind.{TokenKind}
 use Rattle.ac_lexer.specs.declared.tokens.Token.{Token}
 use Rattle.ac_lexer.specs.Gaps.{Inside, closed, nested, byte, Gap, separator, comment, is_separator}
-use Rattle.ac_lexer.specs.Spellings.{Piece, itself, escape, hex, Quoted, quote, more, Spells, number, name, symbol, string}
+use Rattle.ac_lexer.specs.Spellings.{Piece, itself, escape, hex, Quoted, quote, more, SpellsToken, number, name, symbol, string}
 use Rattle.ac_lexer.specs.Tokens.{TokenAt, Reads, nothing, gap, token, NothingBegins, Tokens, FailsAt, place}
 use Rattle.ac_lexer.proofs.Spelled.{by_digit, by_start, by_quote, by_separator, no_empty, no_symbol, first_of_number, first_of_name}
 
@@ -59,7 +59,7 @@ quoted_front {rest = rest} (more p x) =
 
 -- the kind and the end of a token
 
-pub one_kind : {bytes : List ℕ} {k j : TokenKind} → Spells bytes k → Spells bytes j → k ≡ j
+pub one_kind : {bytes : List ℕ} {k j : TokenKind} → SpellsToken bytes k → SpellsToken bytes j → k ≡ j
 one_kind {bytes} x (number h) = (by_digit x (first_of_number bytes h)).1
 one_kind {bytes} x (name h) = (by_start x (first_of_name bytes h)).1
 one_kind x (string q) =
@@ -85,7 +85,7 @@ same_token {text} {r} {s} {k} {j} t u =
     let most = t.longest u.front s j u.split u.spelled in
     let least = u.longest t.front r k t.split t.spelled in
     let e = same_split t.front u.front r s (sym t.split ∙ u.split) (omega arith) in
-    (one_kind t.spelled (subst (λ (l : List ℕ). Spells l j) (sym e.0) u.spelled), e.1)
+    (one_kind t.spelled (subst (λ (l : List ℕ). SpellsToken l j) (sym e.0) u.spelled), e.1)
 
 -- the end of a gap
 
@@ -104,7 +104,7 @@ same_gap (separator h) (comment x) = absurd (false≢true h)
 same_gap (comment x) (separator h) = absurd (false≢true h)
 same_gap (comment x) (comment y) = same_inside x y
 
-starts_with_separator : (b : ℕ) (text front rest : List ℕ) (k : TokenKind) → is_separator b ≡ true → b ∷ text ≡ front ++ rest → Spells front k → ⊥
+starts_with_separator : (b : ℕ) (text front rest : List ℕ) (k : TokenKind) → is_separator b ≡ true → b ∷ text ≡ front ++ rest → SpellsToken front k → ⊥
 starts_with_separator b text [] rest k h e x = no_empty x
 starts_with_separator b text (c ∷ front) rest k h e x =
     let same : b ≡ c = cc in
@@ -141,7 +141,7 @@ same_reads {whole} {text} (token {kind = k} t x) n y m =
     let e = same_reads x n f.2 m in
     (ap (λ (l : List Token). record { kind = k; at = place whole text } ∷ l) e.0 ∙ sym f.1, e.1)
 
-no_token_of_nothing : (front rest : List ℕ) (k : TokenKind) → [] ≡ front ++ rest → Spells front k → ⊥
+no_token_of_nothing : (front rest : List ℕ) (k : TokenKind) → [] ≡ front ++ rest → SpellsToken front k → ⊥
 no_token_of_nothing [] rest k e x = no_empty x
 no_token_of_nothing (c ∷ front) rest k e x = cc
 

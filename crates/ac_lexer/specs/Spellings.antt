@@ -72,11 +72,11 @@ pub data Quoted : List ℕ → List ℕ → List ℕ → Type 0 where
   more : {text after content rest : List ℕ} {b : ℕ} → Piece text b after → Quoted after content rest → Quoted text (b ∷ content) rest
 
 -- the bytes spell the token, whatever its size
-pub data Spells : List ℕ → TokenKind → Type 0 where
-  number : {bytes : List ℕ} → is_number bytes ≡ true → Spells bytes (Int (value bytes))
-  name : {bytes : List ℕ} → is_name bytes ≡ true → Spells bytes (name_kind bytes)
-  symbol : {bytes : List ℕ} → is_symbol bytes ≡ true → Spells bytes (Fixed (record { 0 = bytes }))
-  string : {bytes content : List ℕ} → Quoted bytes content [] → Spells (34 ∷ bytes) (Str (record { 0 = content }))
+pub data SpellsToken : List ℕ → TokenKind → Type 0 where
+  number : {bytes : List ℕ} → is_number bytes ≡ true → SpellsToken bytes (Int (value bytes))
+  name : {bytes : List ℕ} → is_name bytes ≡ true → SpellsToken bytes (name_kind bytes)
+  symbol : {bytes : List ℕ} → is_symbol bytes ≡ true → SpellsToken bytes (Fixed (record { 0 = bytes }))
+  string : {bytes content : List ℕ} → Quoted bytes content [] → SpellsToken (34 ∷ bytes) (Str (record { 0 = content }))
 
 -- a number has at most 63 bits, and an identifier at most 255 bytes
 abbrev pub is_within_limits : TokenKind → Bool

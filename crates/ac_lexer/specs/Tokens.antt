@@ -5,17 +5,17 @@ use Rattle.ac_lexer.specs.declared.tokens.TokenKind.{TokenKind}
 use Rattle.ac_lexer.specs.declared.tokens.LexFault.{LexFault}
 use Rattle.ac_lexer.specs.declared.tokens.LexFault.TheVariants.{TooLong, Lexical, Memory}
 use Rattle.ac_lexer.specs.Gaps.{Gap, NoGap, opens}
-use Rattle.ac_lexer.specs.Spellings.{Spells, is_within_limits}
+use Rattle.ac_lexer.specs.Spellings.{SpellsToken, is_within_limits}
 
 -- no longer front of the text spells a token
 abbrev pub IsLongest : List ℕ → List ℕ → Type 0
-IsLongest text front = (other behind : List ℕ) (kind : TokenKind) → text ≡ other ++ behind → Spells other kind → length other ≤ length front
+IsLongest text front = (other behind : List ℕ) (kind : TokenKind) → text ≡ other ++ behind → SpellsToken other kind → length other ≤ length front
 
 -- the text begins with this token, the longest that begins there, and `rest` is behind it; `(*` begins no token
 pub record TokenAt (text : List ℕ) (kind : TokenKind) (rest : List ℕ) : Type 0 where
   pub front : List ℕ
   pub split : text ≡ front ++ rest
-  pub spelled : Spells front kind
+  pub spelled : SpellsToken front kind
   pub longest : IsLongest text front
   pub within_limits : is_within_limits kind ≡ true
   pub no_comment : opens text ≡ false

@@ -17,5 +17,6 @@ pub fn one_place()
 
 /// A text that has tokens fails nowhere.
 pub fn tokens_or_fault()
-    ensures { (text : List ℕ) (tokens : List Token) (at : ℕ) → Tokens text tokens → FailsAt text at → ⊥ }
+    ensures { (text : List ℕ) (tokens : List Token) (at : ℕ) → Tokens text tokens →
+        FailsAt text at → ⊥ }
 {}

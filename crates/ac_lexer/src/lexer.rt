@@ -38,8 +38,10 @@ fn first_token(alloc: Global, text: &[u8]) -> Result<Option<(TokenKind, &[u8])>,
 
 /// The tokens of a text of at most 1,048,576 bytes, with the places of their first bytes.
 pub fn lex(alloc: Global, text: &[u8]) -> Result<Many<Token>, LexFault>
-    ensures tokens { IfOk result (λ tokens. (length text.now ≤ longest_text) × Tokens text.now tokens) }
-    ensures only { IfOk result (λ tokens. (others : List Token) → Tokens text.now others → others ≡ tokens) }
+    ensures tokens { IfOk result (λ tokens. (length text.now ≤ longest_text) ×
+        Tokens text.now tokens) }
+    ensures only { IfOk result (λ tokens. (others : List Token) → Tokens text.now others →
+        others ≡ tokens) }
     ensures fault { IfErr result (IsFault text.now) }
     ensures none { IfErr result (λ fault. OnLexical fault
         ((others : List Token) → Tokens text.now others → ⊥)) }

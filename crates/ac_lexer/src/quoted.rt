@@ -42,7 +42,8 @@ fn hex_value(c: u8) -> Option<u8>
 
 // The byte whose two hexadecimal digits begin the text.
 fn hex(text: &[u8]) -> Option<(u8, &[u8])>
-    ensures piece { MatchOption result ((b : ℕ) (rest : List ℕ) → Piece (92 ∷ 120 ∷ text.now) b rest → ⊥)
+    ensures piece { MatchOption result ((b : ℕ) (rest : List ℕ) →
+        Piece (92 ∷ 120 ∷ text.now) b rest → ⊥)
         (λ x. Piece (92 ∷ 120 ∷ text.now) x.0 x.1.now) }
     ensures shorter { IfSome result (λ x. length x.1.now < length text.now) }
 {
@@ -79,7 +80,8 @@ fn piece(text: &[u8]) -> Option<(u8, &[u8])>
 
 // The bytes of a string up to its last quote, from behind its first one on.
 fn quoted(alloc: Global, text: &[u8]) -> Result<Option<(Text, &[u8])>, Memory>
-    ensures quoted { IfOk result (λ o. MatchOption o ((content rest : List ℕ) → Quoted text.now content rest → ⊥)
+    ensures quoted { IfOk result (λ o. MatchOption o ((content rest : List ℕ) →
+        Quoted text.now content rest → ⊥)
         (λ x. Quoted text.now x.0.0 x.1.now)) }
     ensures shorter { IfOk result (λ o. IfSome o (λ x. length x.1.now < length text.now)) }
 {

@@ -51,7 +51,8 @@ fn count_parts(text: &[u8]) -> usize
 
 // The number that digits write, if it has at most 63 bits.
 fn value(digits: &[u8]) -> Option<u64>
-    ensures { MatchOption result (2 ^ 63 ≤ value digits.now) (λ n. (n ≡ value digits.now) × (value digits.now < 2 ^ 63)) }
+    ensures { MatchOption result (2 ^ 63 ≤ value digits.now) (λ n. (n ≡ value digits.now) ×
+        (value digits.now < 2 ^ 63)) }
 {
     let mut value = 0u64;
     for digit in digits {

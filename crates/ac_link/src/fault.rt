@@ -9,9 +9,11 @@ pub enum LinkFault {
     External,
     /// The module's version doesn't meet the constraint.
     Version,
-    /// The module's signature lacks that spec of the import's; types are counted first, then values, from 0.
+    /// The module's signature lacks that spec of the import's; types are counted first, then
+    /// values, from 0.
     Signature { spec: u32 },
-    /// That abstract type of the import has another representation in the module than its likespec says.
+    /// That abstract type of the import has another representation in the module than its likespec
+    /// says.
     Like { spec: u32 },
     /// The module doesn't have the name that is demanded.
     Name,

@@ -7,7 +7,7 @@ ghost use Rattle.ac_types.specs.First.{first_failing, first_some};
 ghost use Rattle.ac_types.specs.ReadTypes.{atom_of, range_of, sig_type_of, sig_of};
 ghost use Rattle.ac_terms.specs.Read.{name_of_code, module_of_code, import_of_code, environment_of};
 ghost use Rattle.ac_rules.specs.Links.{is_like, unlike, missing_spec, by_version, by_name, link_fault};
-ghost use Rattle.ac_link.specs.Faults.{fault_of};
+ghost use Rattle.ac_link.specs.LinkFaults.{fault_of};
 
 use crate::fault::LinkFault;
 use crate::signature::{missing_type, missing_val};
@@ -18,7 +18,8 @@ use ac_version::fit;
 /// Whether an import may link to entry `j`; if not, the first condition that fails.
 pub fn link_ok(env: &Env, import: &Import, j: u32) -> Result<(), LinkFault>
     requires { length import.now.sig.types + length import.now.sig.vals < 2 ^ 32 }
-    ensures { option_map fault_of (result_err result) ≡ link_fault (environment_of env.now) (import_of_code import.now) j }
+    ensures { option_map fault_of (result_err result) ≡ link_fault (environment_of env.now)
+        (import_of_code import.now) j }
 {
     match link_fault(env, import, j) {
         None => Ok(()),
@@ -29,7 +30,8 @@ pub fn link_ok(env: &Env, import: &Import, j: u32) -> Result<(), LinkFault>
 #[tactic(auto, using(ac_terms::proofs::EnvLaws::env_laws))]
 fn link_fault(env: &Env, import: &Import, j: u32) -> Option<LinkFault>
     requires { length import.now.sig.types + length import.now.sig.vals < 2 ^ 32 }
-    ensures { option_map fault_of result ≡ link_fault (environment_of env.now) (import_of_code import.now) j }
+    ensures { option_map fault_of result ≡ link_fault (environment_of env.now)
+        (import_of_code import.now) j }
 {
     match env.entry(j) {
         None => Some(LinkFault::Kind),
@@ -52,7 +54,9 @@ fn link_fault(env: &Env, import: &Import, j: u32) -> Option<LinkFault>
 /// The first condition that fails between a module and an import by version.
 fn by_version(m: &Module, import: &Import, ranges: &[Range], star: bool) -> Option<LinkFault>
     requires { length import.now.sig.types + length import.now.sig.vals < 2 ^ 32 }
-    ensures { option_map fault_of result ≡ first_some (by_version (module_of_code m.now) (import_of_code import.now) (map range_of ranges.now) star) }
+    ensures { option_map fault_of result ≡ first_some
+        (by_version (module_of_code m.now) (import_of_code import.now) (map range_of ranges.now)
+        star) }
 {
     if !same_words(&m.name, &import.name) {
         return Some(LinkFault::External);
@@ -72,7 +76,9 @@ fn by_version(m: &Module, import: &Import, ranges: &[Range], star: bool) -> Opti
 /// The first condition that fails between a module and an import by exact name.
 fn by_name(m: &Module, import: &Import, kept: &Option<Name>, name: &Name) -> Option<LinkFault>
     requires { length import.now.sig.types + length import.now.sig.vals < 2 ^ 32 }
-    ensures { option_map fault_of result ≡ first_some (by_name (module_of_code m.now) (import_of_code import.now) (option_map name_of_code kept.now) name.now.0) }
+    ensures { option_map fault_of result ≡ first_some
+        (by_name (module_of_code m.now) (import_of_code import.now)
+        (option_map name_of_code kept.now) name.now.0) }
 {
     if !same_words(&m.name, &import.name) {
         return Some(LinkFault::External);
@@ -101,7 +107,8 @@ fn missing_spec(exact: bool, found: &Sig, wanted: &Sig) -> Option<u32>
     }
 }
 
-/// The first abstract type of an import whose representation in the module isn't the likespec's type.
+/// The first abstract type of an import whose representation in the module isn't the likespec's
+/// type.
 fn unlike(m: &Module, import: &Import) -> Option<u32>
     requires { length import.now.sig.types + length import.now.sig.vals < 2 ^ 32 }
     ensures { result ≡ unlike (module_of_code m.now) (import_of_code import.now) }
@@ -113,7 +120,8 @@ fn unlike(m: &Module, import: &Import) -> Option<u32>
 }
 
 fn first_unlike(m: &Module, import: &Import) -> Option<usize>
-    ensures { result ≡ first_failing (is_like (module_of_code m.now) (import_of_code import.now)) (map sig_type_of import.now.sig.types) }
+    ensures { result ≡ first_failing (is_like (module_of_code m.now) (import_of_code import.now))
+        (map sig_type_of import.now.sig.types) }
 {
     import
         .sig
@@ -124,7 +132,8 @@ fn first_unlike(m: &Module, import: &Import) -> Option<usize>
 }
 
 fn is_like(m: &Module, import: &Import, spec: &SigType) -> bool
-    ensures { result ≡ is_like (module_of_code m.now) (import_of_code import.now) (sig_type_of spec.now) }
+    ensures { result ≡ is_like (module_of_code m.now) (import_of_code import.now)
+        (sig_type_of spec.now) }
 {
     if spec.manifest.is_some() {
         return true;

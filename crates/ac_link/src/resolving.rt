@@ -5,7 +5,7 @@ ghost use Rattle.ac_types.specs.Sigs.{HereAlready};
 ghost use Rattle.ac_types.specs.ReadTypes.{constraint_of, resolve_of};
 ghost use Rattle.ac_terms.specs.Read.{import_of_code, environment_of, seen_of};
 ghost use Rattle.ac_rules.specs.Links.{InPacket, is_exact, latest, gives, linked};
-ghost use Rattle.ac_link.specs.Faults.{when_of, comes_from, is_candidate};
+ghost use Rattle.ac_link.specs.LinkFaults.{when_of, comes_from, is_candidate};
 
 use crate::fault::When;
 use crate::link::link_ok;
@@ -31,7 +31,8 @@ pub fn resolve(env: &Env, import: &Import, when: When) -> Option<u32>
 fn gives(env: &Env, import: &Import, when: When, atom: &Resolve) -> Option<u32>
     requires entries { length env.now.entries < 2 ^ 32 }
     requires specs { length import.now.sig.types + length import.now.sig.vals < 2 ^ 32 }
-    ensures { result ≡ gives (environment_of env.now) (import_of_code import.now) (when_of when) (resolve_of atom.now) }
+    ensures { result ≡ gives (environment_of env.now) (import_of_code import.now) (when_of when)
+        (resolve_of atom.now) }
 {
     match atom {
         Resolve::StaticLink => match when {
@@ -50,7 +51,8 @@ fn gives(env: &Env, import: &Import, when: When, atom: &Resolve) -> Option<u32>
 fn here_already(env: &Env, import: &Import) -> Option<u32>
     requires entries { length env.now.entries < 2 ^ 32 }
     requires specs { length import.now.sig.types + length import.now.sig.vals < 2 ^ 32 }
-    ensures { result ≡ gives (environment_of env.now) (import_of_code import.now) InPacket HereAlready }
+    ensures { result ≡ gives (environment_of env.now) (import_of_code import.now) InPacket
+        HereAlready }
 {
     if let Some(own) = latest(env, import, Origin::Own) {
         return Some(own);
@@ -75,7 +77,8 @@ enum Origin<'a> {
 fn latest(env: &Env, import: &Import, origin: Origin) -> Option<u32>
     requires entries { length env.now.entries < 2 ^ 32 }
     requires specs { length import.now.sig.types + length import.now.sig.vals < 2 ^ 32 }
-    ensures { result ≡ latest (comes_from origin.entry) (environment_of env.now) (import_of_code import.now) }
+    ensures { result ≡ latest (comes_from origin.entry) (environment_of env.now)
+        (import_of_code import.now) }
 {
     let mut j = env.entries.len();
     while j > 0 {
@@ -93,7 +96,8 @@ fn is_candidate(env: &Env, import: &Import, origin: Origin, j: usize) -> bool
     requires entries { length env.now.entries < 2 ^ 32 }
     requires below { j < length env.now.entries }
     requires specs { length import.now.sig.types + length import.now.sig.vals < 2 ^ 32 }
-    ensures { result ≡ is_candidate (comes_from origin.entry) (environment_of env.now) (import_of_code import.now) j }
+    ensures { result ≡ is_candidate (comes_from origin.entry) (environment_of env.now)
+        (import_of_code import.now) j }
 {
     match env.entry(j as u32) {
         None => false,

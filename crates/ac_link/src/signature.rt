@@ -9,7 +9,8 @@ use ac_types::{Sig, SigType, Ty, TyField, eq_under, same_types, spec_named, type
 
 /// The first type of an import's signature that a module's lacks.
 pub fn missing_type(exact: bool, found: &Sig, wanted: &Sig) -> Option<usize>
-    ensures { result ≡ first_failing (has_type_spec exact (sig_of found.now)) (map sig_type_of wanted.now.types) }
+    ensures { result ≡ first_failing (has_type_spec exact (sig_of found.now))
+        (map sig_type_of wanted.now.types) }
 {
     wanted
         .types
@@ -20,7 +21,8 @@ pub fn missing_type(exact: bool, found: &Sig, wanted: &Sig) -> Option<usize>
 
 /// The first value of an import's signature that a module's lacks.
 pub fn missing_val(exact: bool, found: &Sig, wanted: &Sig) -> Option<usize>
-    ensures { result ≡ first_failing (has_val_spec exact (sig_of found.now)) (map typed_of wanted.now.vals) }
+    ensures { result ≡ first_failing (has_val_spec exact (sig_of found.now))
+        (map typed_of wanted.now.vals) }
 {
     wanted
         .vals
@@ -29,7 +31,8 @@ pub fn missing_val(exact: bool, found: &Sig, wanted: &Sig) -> Option<usize>
         .position(|spec| !has_val_spec(exact, found, wanted, spec))
 }
 
-/// An abstract type is abstract in the module, or by version manifest; a manifest one is manifest there and equal.
+/// An abstract type is abstract in the module, or by version manifest; a manifest one is manifest
+/// there and equal.
 fn has_type_spec(exact: bool, found: &Sig, wanted: &Sig, spec: &SigType) -> bool
     ensures { result ≡ has_type_spec exact (sig_of found.now) (sig_type_of spec.now) }
 {

@@ -15,8 +15,8 @@ use Rattle.ac_syntax.specs.Trees.{ProgramTree}
 use Rattle.ac_syntax.specs.Programs.{IsProgram, IsModule}
 use Rattle.ac_syntax.specs.declared.fault.ParseFault.{ParseFault}
 use Rattle.ac_syntax.specs.declared.fault.ParseFault.TheVariants as parse
-use Rattle.ac_parser.specs.Texts.{HasTree, IsFault}
-use Rattle.ac_resolve.specs.Programs.{Elaborates, Refuses}
+use Rattle.ac_parser.specs.Texts.{HasTree, IsTextFault}
+use Rattle.ac_resolve.specs.ScopeFaults.{Elaborates, RefusesScopes}
 use Rattle.ac_resolve.specs.declared.fault.ScopeFault.{ScopeFault}
 use Rattle.ac_resolve.specs.declared.fault.ScopeFault.TheVariants as scope
 use Rattle.ac_load.specs.Built.{first_unbuilt}
@@ -32,21 +32,21 @@ source has built = record { has = has; built = built }
 pub shelved : {text : Bytes} {tree : ProgramTree} → HasTree IsModule text tree → first_unbuilt tree ≡ None → IsShelved text
 shelved {tree = tree} has built = record { tree = tree; has = has; built = built }
 
-pub parse_fault : (text : Bytes) (e : ParseFault) → IsFault IsProgram text e → Says (parse_kind e) (IsProgramRefused text (parse_kind e))
+pub parse_fault : (text : Bytes) (e : ParseFault) → IsTextFault IsProgram text e → Says (parse_kind e) (IsProgramRefused text (parse_kind e))
 parse_fault text (parse.TooLong len) f = no_tree f
 parse_fault text (parse.Lexical at) f = no_tree f
 parse_fault text (parse.TooDeep at) f = no_tree f
 parse_fault text (parse.Syntax at) f = no_tree f
 parse_fault text parse.Memory f = tt
 
-pub module_fault : (text : Bytes) (e : ParseFault) → IsFault IsModule text e → Says (parse_kind e) (IsModuleRefused text (parse_kind e))
+pub module_fault : (text : Bytes) (e : ParseFault) → IsTextFault IsModule text e → Says (parse_kind e) (IsModuleRefused text (parse_kind e))
 module_fault text (parse.TooLong len) f = no_module f
 module_fault text (parse.Lexical at) f = no_module f
 module_fault text (parse.TooDeep at) f = no_module f
 module_fault text (parse.Syntax at) f = no_module f
 module_fault text parse.Memory f = tt
 
-pub scope_fault : (text : Bytes) (tree : ProgramTree) (e : ScopeFault) → IsSource text tree → Refuses tree e → Says (scope_kind e) (IsProgramRefused text (scope_kind e))
+pub scope_fault : (text : Bytes) (tree : ProgramTree) (e : ScopeFault) → IsSource text tree → RefusesScopes tree e → Says (scope_kind e) (IsProgramRefused text (scope_kind e))
 scope_fault text tree (scope.Unbound at) s r = unbound s r
 scope_fault text tree (scope.Repeated at) s r = repeated s r
 scope_fault text tree (scope.TooMany count) s r = too_many s r

@@ -4,30 +4,30 @@ use Rattle.std.specs.List.{list_all}
 use Rattle.ac_types.specs.Types.{Bytes, Typ, mentions, mentions_of_all}
 use Rattle.ac_terms.specs.Terms.{Expr}
 use Rattle.ac_terms.specs.Defs.{Environment}
-use Rattle.ac_terms.specs.Parts.{Part, OfType, OfRef, OfHome, Captured, pattern_types, all_pattern_types, term_parts, all_term_parts, arm_parts, part_mentions}
+use Rattle.ac_terms.specs.Parts.{Portion, OfType, OfRef, OfHome, Captured, pattern_types, all_pattern_types, term_parts, all_term_parts, arm_parts, part_mentions}
 use Rattle.ac_rules.specs.Views.{is_known}
 use Rattle.ac_syntax.specs.Trees.{TypeTree, TyTuple, TyList, TyOpt, TyFun, TypeTrees, no_type_trees, type_tree, PatTree, PatVar, PatTuple, PatCons, PatPresent, PatExnOf, PatTrees, no_pat_trees, pat_tree, Tree, ExExnOf, ExTuple, ExNil, ExAbsent, ExPresent, ExCons, ExOf, ExFun, ExRec, ExApp, ExLet, ExLetRec, ExIf, ExSeq, ExMatch, ExTry, ExRaise, ExAnd, ExOr, ExOp, ExMarshal, ExUnmarshal, Trees, no_trees, tree, ArmTrees, no_arm_trees, arm_tree}
 use Rattle.ac_resolve.specs.declared.primitive.Primitive.{Primitive}
 use Rattle.ac_resolve.specs.declared.primitive.Primitive.TheVariants as named
-use Rattle.ac_resolve.specs.Names.{primitive}
+use Rattle.ac_resolve.specs.ScopedNames.{primitive}
 use Rattle.ac_resolve.specs.Elaboration.{type_in, types_in, pattern_in, patterns_in, variables, bind, primitive_at, value_of, applied, elaborated, elaborated_all, elaborated_arms}
 
 -- each type among some parts mentions nothing
-abbrev Silent : List Part → Type 0
+abbrev Silent : List Portion → Type 0
 Silent [] = Unit {0}
 Silent (OfType T ∷ ps) = (mentions T ≡ []) × Silent ps
 Silent (OfRef j x ∷ ps) = Silent ps
 Silent (OfHome c ∷ ps) = Silent ps
 Silent (Captured ∷ ps) = Silent ps
 
-both : (ps qs : List Part) → Silent ps → Silent qs → Silent (ps ++ qs)
+both : (ps qs : List Portion) → Silent ps → Silent qs → Silent (ps ++ qs)
 both [] qs h k = k
 both (OfType T ∷ ps) qs h k = (h.0, both ps qs h.1 k)
 both (OfRef j x ∷ ps) qs h k = both ps qs h k
 both (OfHome c ∷ ps) qs h k = both ps qs h k
 both (Captured ∷ ps) qs h k = both ps qs h k
 
-pub nothing_mentioned : (ps : List Part) → Silent ps → part_mentions ps ≡ []
+pub nothing_mentioned : (ps : List Portion) → Silent ps → part_mentions ps ≡ []
 nothing_mentioned [] h = refl
 nothing_mentioned (OfType T ∷ ps) h = ap (λ (l : List (Bytes × Bytes)). l ++ part_mentions ps) h.0 ∙ nothing_mentioned ps h.1
 nothing_mentioned (OfRef j x ∷ ps) h = nothing_mentioned ps h

@@ -5,9 +5,9 @@ use mathlib.Core.Bool.{true≢false}
 use Rattle.ac_types.specs.Types.{Bytes}
 use Rattle.ac_types.proofs.FirstLaws.{none≢some}
 use Rattle.ac_types.proofs.Same.{both_true, and_true}
-use Rattle.ac_terms.specs.Terms.{Expr, ExnOf, Tuple, Present, Cons, Own, Ref, Lam, Rec, App, Let, If, Seq, Match, Try, Raise, Prim, Marshal, Unmarshal, Packed, Val, Bracket, Exprs, no_exprs, expr, Arms, no_arms, arm}
+use Rattle.ac_terms.specs.Terms.{Expr, ExnOf, Tuple, Present, Cons, Own, Ref, Lam, Rec, App, Let, If, Seq, Match, Try, Raise, Prim, Marshal, Unmarshal, Val, Evaluated, Bracket, Exprs, no_exprs, expr, Arms, no_arms, arm}
 use Rattle.ac_syntax.specs.Trees.{Tree, ExExnOf, ExTuple, ExPresent, ExCons, ExOf, ExFun, ExRec, ExApp, ExLet, ExLetRec, ExIf, ExSeq, ExMatch, ExTry, ExRaise, ExAnd, ExOr, ExOp, ExMarshal, ExUnmarshal, Trees, no_trees, tree, ArmTrees, no_arm_trees, arm_tree}
-use Rattle.ac_resolve.specs.Names.{primitive}
+use Rattle.ac_resolve.specs.ScopedNames.{primitive}
 use Rattle.ac_resolve.specs.declared.primitive.Primitive.{Primitive}
 use Rattle.ac_resolve.specs.Elaboration.{variables, bind, primitive_at, value_of, applied, elaborated, elaborated_all, elaborated_arms}
 use Rattle.ac_check.specs.PlainTerms.{is_plain, are_plain, arms_plain}
@@ -110,8 +110,8 @@ mutual
   plain_source (Prim k es) h = plain_sources es h
   plain_source (Marshal T m e) h = absurd (true≢false (sym h))
   plain_source (Unmarshal T e) h = absurd (true≢false (sym h))
-  plain_source (Packed T v) h = absurd (true≢false (sym h))
   plain_source (Val T v) h = absurd (true≢false (sym h))
+  plain_source (Evaluated T v) h = absurd (true≢false (sym h))
   plain_source (Bracket c T e) h = absurd (true≢false (sym h))
   plain_source _ h = refl
 

@@ -9,7 +9,7 @@ use Rattle.ac_lexer.specs.declared.tokens.Token.{Token}
 use Rattle.ac_lexer.specs.declared.tokens.TokenKind.{TokenKind}
 use Rattle.ac_lexer.specs.declared.tokens.TokenKind.TheVariants as kind
 use Rattle.ac_lexer.specs.Gaps.{Inside, closed, nested, byte, Gap, separator, comment}
-use Rattle.ac_lexer.specs.Spellings.{Piece, itself, escape, hex, Quoted, quote, more, name_kind, Spells, number, name, symbol, string, is_within_limits}
+use Rattle.ac_lexer.specs.Spellings.{Piece, itself, escape, hex, Quoted, quote, more, name_kind, SpellsToken, number, name, symbol, string, is_within_limits}
 use Rattle.ac_lexer.specs.Tokens.{TokenAt, Reads, nothing, gap, token, Tokens, longest_text}
 use Rattle.ac_lexer.proofs.Spelled.{no_empty}
 use Rattle.ac_syntax.specs.Signs.{Sign, Int, Str, fixed, symbol_of, sign_at, signs}
@@ -82,7 +82,7 @@ name_size true b w = omega arith
 name_size false true w = omega arith
 name_size false false w = omega arith
 
-size_spelled : {front : List ℕ} {k : TokenKind} → Spells front k → string_size k ≤ length front
+size_spelled : {front : List ℕ} {k : TokenKind} → SpellsToken front k → string_size k ≤ length front
 size_spelled (number h) = omega arith
 size_spelled (name {bytes} h) = let z : string_size (name_kind bytes) ≤ 0 = name_size (is_reserved bytes) (is_between 65 90 (slice_index bytes 0)) bytes in omega (arith, z)
 size_spelled (symbol h) = omega arith
@@ -99,7 +99,7 @@ kind_fits at (kind.Lower word) w s = tt
 kind_fits at (kind.Upper word) w s = tt
 kind_fits at (kind.Fixed text) w s = fixed_fits at (symbol_of text.0)
 
-some_front : (front : List ℕ) {k : TokenKind} → Spells front k → 0 < length front
+some_front : (front : List ℕ) {k : TokenKind} → SpellsToken front k → 0 < length front
 some_front [] x = absurd (no_empty x)
 some_front (c ∷ front) x = omega arith
 

@@ -9,12 +9,12 @@ use Rattle.ac_terms.specs.Terms.{Expr}
 use Rattle.ac_terms.specs.Spelling.{term_count, arm_count, pattern_count}
 use Rattle.ac_terms.specs.Spelling as spelling
 use Rattle.ac_terms.specs.Bounds.{is_two, is_four, is_width, takes, fits_type, fit_types, fits_pattern, fit_patterns, fits_term, fit_terms, fit_arms}
-use Rattle.ac_terms.specs.Primitives.{primitives}
+use Rattle.ac_terms.specs.PrimitiveTypes.{primitives}
 use Rattle.ac_lexer.specs.Tokens.{longest_text}
 use Rattle.ac_syntax.specs.Trees.{TypeTree, TyTuple, TyList, TyOpt, TyFun, TypeTrees, no_type_trees, type_tree, PatTree, PatVar, PatInt, PatStr, PatTuple, PatCons, PatPresent, PatExn, PatExnOf, PatTrees, no_pat_trees, pat_tree, Tree, ExInt, ExBool, ExStr, ExUnit, ExExn, ExExnOf, ExTuple, ExNil, ExAbsent, ExPresent, ExCons, ExVar, ExOf, ExFun, ExRec, ExApp, ExLet, ExLetRec, ExIf, ExSeq, ExMatch, ExTry, ExRaise, ExAnd, ExOr, ExOp, ExMarshal, ExUnmarshal, Trees, no_trees, tree, ArmTrees, no_arm_trees, arm_tree}
 use Rattle.ac_resolve.specs.Counts.{over, width_limit, arms_limit, scope_limit, large_type, wide_type, wide_types, large_pat, large_pats, too_many, too_many_in_all, too_many_in_arms}
 use Rattle.ac_resolve.specs.Counts as counts
-use Rattle.ac_resolve.specs.Names.{least, binders_to, primitive}
+use Rattle.ac_resolve.specs.ScopedNames.{least, binders_to, primitive}
 use Rattle.ac_resolve.specs.Elaboration.{type_in, types_in, pattern_in, patterns_in, variables, bind, primitive_at, value_of, applied, elaborated, elaborated_all, elaborated_arms}
 use Rattle.ac_resolve.specs.declared.primitive.Primitive.{Primitive}
 use Rattle.ac_resolve.specs.declared.primitive.Primitive.TheVariants as named

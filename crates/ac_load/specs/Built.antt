@@ -4,7 +4,7 @@ use Rattle.std.specs.Option.{option_or}
 use Rattle.ac_syntax.specs.Trees.{Tree, ExExnOf, ExTuple, ExPresent, ExCons, ExOf, ExFun, ExRec, ExApp, ExLet, ExLetRec, ExIf, ExSeq, ExMatch, ExTry, ExRaise, ExAnd, ExOr, ExOp, ExMarshal, ExUnmarshal, Trees, no_trees, tree, ArmTrees, no_arm_trees, arm_tree, DefTree, ModuleDef, ImportDef, MarkDef, ProgramTree}
 use Rattle.ac_resolve.specs.declared.primitive.Primitive.{Primitive}
 use Rattle.ac_resolve.specs.declared.primitive.Primitive.TheVariants.{Send, Receive}
-use Rattle.ac_resolve.specs.Names.{primitive}
+use Rattle.ac_resolve.specs.ScopedNames.{primitive}
 
 -- the place of `IO.send` and `IO.receive`; the other primitives run
 abbrev pub unbuilt_primitive : ℕ → Option Primitive → Option ℕ

@@ -11,7 +11,7 @@ use Rattle.ac_syntax.specs.Programs.{IsProgram, IsModule}
 use Rattle.ac_syntax.specs.declared.fault.ParseFault.{ParseFault}
 use Rattle.ac_syntax.specs.declared.fault.ParseFault.TheVariants as parse
 use Rattle.ac_parser.specs.Texts.{HasTree, Refused}
-use Rattle.ac_resolve.specs.Programs.{Elaborates, Refuses}
+use Rattle.ac_resolve.specs.ScopeFaults.{Elaborates, RefusesScopes}
 use Rattle.ac_resolve.specs.declared.fault.ScopeFault.{ScopeFault}
 use Rattle.ac_resolve.specs.declared.fault.ScopeFault.TheVariants as scope
 use Rattle.ac_load.specs.Built.{first_unbuilt}
@@ -87,9 +87,9 @@ pub data IsModuleRefused (text : Bytes) : Kind → Type 0 where
 pub data IsProgramRefused (text : Bytes) : Kind → Type 0 where
   no_tree : {e : ParseFault} → Refused IsProgram text e → IsProgramRefused text (parse_kind e)
   not_built : {tree : ProgramTree} {at : ℕ} → HasTree IsProgram text tree → first_unbuilt tree ≡ Some at → IsProgramRefused text (Unbuilt at)
-  unbound : {tree : ProgramTree} {at : ℕ} → IsSource text tree → Refuses tree (scope.Unbound at) → IsProgramRefused text (Unbound at)
-  repeated : {tree : ProgramTree} {at : ℕ} → IsSource text tree → Refuses tree (scope.Repeated at) → IsProgramRefused text (Repeated at)
-  too_many : {tree : ProgramTree} {count : ℕ} → IsSource text tree → Refuses tree (scope.TooMany count) → IsProgramRefused text (TooMany count)
+  unbound : {tree : ProgramTree} {at : ℕ} → IsSource text tree → RefusesScopes tree (scope.Unbound at) → IsProgramRefused text (Unbound at)
+  repeated : {tree : ProgramTree} {at : ℕ} → IsSource text tree → RefusesScopes tree (scope.Repeated at) → IsProgramRefused text (Repeated at)
+  too_many : {tree : ProgramTree} {count : ℕ} → IsSource text tree → RefusesScopes tree (scope.TooMany count) → IsProgramRefused text (TooMany count)
   ill_typed : {tree : ProgramTree} {e : Expr} → IsSource text tree → Elaborates tree e → type_of Coloured false [] main_scope e ≡ None → IsProgramRefused text (IllTyped 0)
 
 -- the first part that is refused: the texts of the shelf in order, from part 1 on, and then the program, which is part 0

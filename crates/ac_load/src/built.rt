@@ -89,7 +89,8 @@ fn in_arms(arms: &[SArm]) -> Option<u32>
     None
 }
 
-/// The place of the first form that doesn't run yet, if there is one: a definition's, or an expression's.
+/// The place of the first form that doesn't run yet, if there is one: a definition's, or an
+/// expression's.
 pub fn unbuilt(program: &Surface) -> Option<u32>
     ensures { result ≡ first_unbuilt (surface_of program.now) }
 {

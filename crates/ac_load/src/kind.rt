@@ -23,7 +23,8 @@ pub enum Kind {
     Repeated { at: u32 },
     /// One more than the least limit that a count passes.
     TooMany { count: u32 },
-    /// The number of the first definition without a type; the program's expression counts as the one after the last.
+    /// The number of the first definition without a type; the program's expression counts as the
+    /// one after the last.
     IllTyped { def: u32 },
     Memory,
 }

@@ -22,7 +22,8 @@ use ac_terms::{Env, Home};
 use ac_types::Many;
 use std::alloc::Global;
 
-/// The program of a text beside a shelf of at most 256 texts, or the first part that is refused, and why.
+/// The program of a text beside a shelf of at most 256 texts, or the first part that is refused,
+/// and why.
 pub fn load(alloc: Global, program: &[u8], shelf: &Shelf) -> Result<Loaded, Refusal>
     requires few { length shelf.now.0 ≤ 256 }
     ensures accepted { IfOk result (λ l.

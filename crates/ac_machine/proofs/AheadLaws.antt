@@ -12,8 +12,8 @@ use Rattle.ac_machine.specs.States.{Core, Ask, MState, Run, Paused, Stuck, given
 use Rattle.ac_machine.specs.Machine.{exec, after}
 use Rattle.ac_machine.specs.Resumes.{Wait, Standing, At, Waits, paused_at, awaits, resumed}
 use Rattle.ac_machine.specs.Held.{core, Sound}
-use Rattle.ac_machine.specs.Seen.{Seen, standing, ask_of}
-use Rattle.ac_machine.specs.Steps.{Does, Goes, Stops}
+use Rattle.ac_machine.specs.Seen.{MachineSeen, standing, ask_of}
+use Rattle.ac_machine.specs.inner.Steps.{Does, Goes, StopsThere}
 use Rattle.ac_machine.specs.Runs.{IsPaused, Pauses, Reaches, Stopped, Went}
 use Rattle.ac_machine.proofs.RunLaws.{reaches_next, after_plus}
 
@@ -36,7 +36,7 @@ not_on (Some a) c d e = cc
 -- what comes to a state that goes on goes on
 pub on_only : (m : Engine) (s : Step) (c : Core) → Does m s (Run c) → Goes m (Run c)
 on_only m On c d = d
-on_only m (Pausing p) c d = let g : Stops m p (Run c) = d in absurd (not_on (ask_of m.store p) c (core m) g.is)
+on_only m (Pausing p) c d = let g : StopsThere m p (Run c) = d in absurd (not_on (ask_of m.store p) c (core m) g.is)
 on_only m Wrong c d = let e : Run c ≡ Stuck = d in absurd (cc)
 
 -- a machine that waits takes an answer
@@ -51,7 +51,7 @@ module _ (E : Environment) (K : Code) where
   pub on_there : (old now new : Engine) → Reaches E K (At (Run (core old))) (Run (core now)) → Goes new (exec E K (core now)) → Reaches E K (At (Run (core old))) (Run (core new))
   on_there old now new r g = reaches_next E K (Run (core old)) (core now) (Run (core new)) r g.is
 
-  pub ends_there : (old now new : Engine) (p : Pause) → Reaches E K (At (Run (core old))) (Run (core now)) → Stops new p (exec E K (core now)) → (p ≡ answers.Memory → ⊥) →
+  pub ends_there : (old now new : Engine) (p : Pause) → Reaches E K (At (Run (core old))) (Run (core now)) → StopsThere new p (exec E K (core now)) → (p ≡ answers.Memory → ⊥) →
       (a : Ask) × Reaches E K (At (Run (core old))) (Paused a (core new))
   ends_there old now new p r g h =
       let q = asks new.store p h in
@@ -77,7 +77,7 @@ module _ (E : Environment) (K : Code) where
   unfolding after
   pauses_here t h = subst (Pauses E K) (sym h.2) (0, tt)
 
-  stands_alike : (t : Standing) (new : Seen) (e f : Engine) (p : Pause) → t ≡ At (Run (core e)) → (a : Ask) × Reaches E K (At (Run (core e))) (Paused a (core f)) → Went E K t new p → (p ≡ answers.Memory → ⊥) →
+  stands_alike : (t : Standing) (new : MachineSeen) (e f : Engine) (p : Pause) → t ≡ At (Run (core e)) → (a : Ask) × Reaches E K (At (Run (core e))) (Paused a (core f)) → Went E K t new p → (p ≡ answers.Memory → ⊥) →
       MatchOption (ask_of new.engine.store p) ⊥ (λ a. standing new ≡ paused_at a (core f))
   stands_alike t new e f p s r w h =
       let q = asks new.engine.store p h in
@@ -88,7 +88,7 @@ module _ (E : Environment) (K : Code) where
       rw q.1 (d.stands ∙ ap (paused_at q.0) same)
 
   -- it stands there in the state of the engine
-  pub alike : (old new : Seen) (e f : Engine) (p : Pause) → standing old ≡ At (Run (core e)) → (a : Ask) × Reaches E K (At (Run (core e))) (Paused a (core f)) →
+  pub alike : (old new : MachineSeen) (e f : Engine) (p : Pause) → standing old ≡ At (Run (core e)) → (a : Ask) × Reaches E K (At (Run (core e))) (Paused a (core f)) →
       (old.lost ≡ false → Went E K (standing old) new p) → (old.lost ≡ true → (p ≡ answers.Memory) × (new.lost ≡ true)) → (p ≡ answers.Memory → ⊥) →
       MatchOption (ask_of new.engine.store p) ⊥ (λ a. standing new ≡ paused_at a (core f))
   alike old new e f p s r went lost h = on old.lost went lost where

@@ -1,10 +1,8 @@
 pub mod Fields
-pub mod Going
 pub mod Held
 pub mod Machine
-pub mod Meant
 pub mod Resumes
 pub mod Runs
 pub mod Seen
 pub mod States
-pub mod Steps
+pub mod inner

@@ -13,7 +13,7 @@ use Rattle.ac_machine.specs.Resumes.{Wait, Printing, Sending, Receiving, Marshal
 use Rattle.ac_machine.specs.Held.{core}
 
 -- the machine, how it stands, and whether memory ran out in a call
-pub record Seen : Type 0 where
+pub record MachineSeen : Type 0 where
   pub engine : Engine
   pub stand : code_stand.Stand
   pub lost : Bool
@@ -32,11 +32,11 @@ stands_at code_stand.Stand.Done c = At (Paused AskDone c)
 stands_at (code_stand.Stand.Raised e) c = At (Paused (AskRaised e.number (option_map bytes_of e.text)) c)
 stands_at code_stand.Stand.Spent c = At (Paused AskSpent c)
 
-abbrev pub core_of_machine : Seen → Core
+abbrev pub core_of_machine : MachineSeen → Core
 core_of_machine m = core m.engine
 
 -- what the machine stands at
-abbrev pub standing : Seen → Standing
+abbrev pub standing : MachineSeen → Standing
 standing m = stands_at m.stand (core m.engine)
 
 -- what a pause asks for, whose value is of this store; want of memory asks for nothing

@@ -5,7 +5,7 @@ ghost use Rattle.ac_values.specs.Values.{MMore, stands, values};
 ghost use Rattle.ac_machine.specs.States.{Run};
 ghost use Rattle.ac_machine.specs.Machine.{applies, returns, going_back};
 ghost use Rattle.ac_machine.specs.Held.{core, frame_of, frames_of, Sound};
-ghost use Rattle.ac_machine.specs.Steps.{Does, Grown, entering};
+ghost use Rattle.ac_machine.specs.inner.Steps.{Does, Grown, entering};
 
 use crate::engine::{Engine, Frame, Position, Step};
 use crate::pause::Pause;
@@ -15,7 +15,8 @@ use ac_values::read::closure_in;
 use ac_values::{Node, Value};
 
 impl Engine {
-    /// Calls the closure below the argument on the stack, or stops in front of an application past the budget.
+    /// Calls the closure below the argument on the stack, or stops in front of an application past
+    /// the budget.
     pub fn apply(&mut self) -> Result<Step, Memory>
         requires sound { Sound self.old }
         ensures { IfOk result (λ s. Does self.new s (applies (core self.old))) }
@@ -45,7 +46,9 @@ impl Engine {
         requires sound { Sound self.old }
         requires function { function.0 < length self.old.store }
         requires env { env.0 < length self.old.store }
-        ensures { IfOk result (λ v. Grown self.old self.new v (cond recursive (MMore (stands self.old.store function.0) (stands self.old.store env.0)) (stands self.old.store env.0))) }
+        ensures { IfOk result (λ v. Grown self.old self.new v
+            (cond recursive (MMore (stands self.old.store function.0) (stands self.old.store env.0))
+            (stands self.old.store env.0))) }
     {
         if recursive {
             self.add(Node::EnvCons(function, env))
@@ -58,17 +61,18 @@ impl Engine {
     pub fn enter(&mut self, block: CodeId, env: Value, keeps: bool) -> Result<Step, Memory>
         requires sound { Sound self.old }
         requires env { env.0 < length self.old.store }
-        ensures { IfOk result (λ s. Does self.new s (Run (entering keeps block.0 (stands self.old.store env.0) (core self.old)))) }
+        ensures { IfOk result (λ s. Does self.new s
+            (Run (entering keeps block.0 (stands self.old.store env.0) (core self.old)))) }
     {
         let frame = Frame {
             block: self.at.block,
-            place: self.at.place,
+            address: self.at.address,
             env: self.at.env,
             keeps,
         };
         self.at.frames = self.frames.push(frame, self.at.frames)?;
         self.at.block = block;
-        self.at.place = 0;
+        self.at.address = 0;
         self.at.env = env;
         Ok(Step::On)
     }
@@ -76,7 +80,8 @@ impl Engine {
     /// Goes back to the newest frame; the value of a field is kept.
     pub fn return_back(&mut self) -> Result<Step, Memory>
         requires sound { Sound self.old }
-        ensures { IfOk result (λ s. Does self.new s (returns (core self.old).frames (core self.old))) }
+        ensures { IfOk result (λ s. Does self.new s
+            (returns (core self.old).frames (core self.old))) }
     {
         let Some((frame, rest)) = self.frames.top(self.at.frames) else {
             return Ok(Step::Wrong);
@@ -95,11 +100,13 @@ impl Engine {
     fn go_back(&mut self, frame: Frame, rest: usize) -> Step
         requires sound { Sound self.old }
         requires older { rest < self.old.at.frames }
-        requires frame { get_or self.old.frames self.old.at.frames [] ≡ frame ∷ get_or self.old.frames rest [] }
-        ensures { Does self.new result (Run (going_back (frame_of (values self.old.store) frame) (frames_of (values self.old.store) (get_or self.old.frames rest [])) (core self.old))) }
+        requires frame { get_or self.old.frames self.old.at.frames [] ≡ frame ∷ get_or
+            self.old.frames rest [] }
+        ensures { Does self.new result (Run (going_back (frame_of (values self.old.store) frame)
+            (frames_of (values self.old.store) (get_or self.old.frames rest [])) (core self.old))) }
     {
         self.at.block = frame.block;
-        self.at.place = frame.place;
+        self.at.address = frame.address;
         self.at.env = frame.env;
         self.at.frames = rest;
         Step::On

@@ -6,7 +6,7 @@ ghost use Rattle.ac_values.specs.Values.{values, value_of, stands};
 ghost use Rattle.ac_machine.specs.States.{Run, pushed, beginning};
 ghost use Rattle.ac_machine.specs.Machine.{newest};
 ghost use Rattle.ac_machine.specs.Held.{core, Sound};
-ghost use Rattle.ac_machine.specs.Steps.{stack_at, Does, Grown};
+ghost use Rattle.ac_machine.specs.inner.Steps.{stack_at, Does, Grown};
 ghost use Rattle.ac_machine.specs.declared.engine.Step.TheVariants.{On};
 
 use crate::pause::Pause;
@@ -19,7 +19,7 @@ use std::alloc::Global;
 #[derive(Clone, Copy)]
 pub struct Frame {
     pub block: CodeId,
-    pub place: usize,
+    pub address: usize,
     pub env: Value,
     pub keeps: bool,
 }
@@ -28,7 +28,7 @@ pub struct Frame {
 #[derive(Clone, Copy)]
 pub struct Handler {
     pub block: CodeId,
-    pub place: usize,
+    pub address: usize,
     pub env: Value,
     pub stack: usize,
     pub frames: usize,
@@ -38,7 +38,7 @@ pub struct Handler {
 #[derive(Clone, Copy)]
 pub struct Position {
     pub block: CodeId,
-    pub place: usize,
+    pub address: usize,
     pub env: Value,
     pub stack: usize,
     pub frames: usize,
@@ -54,7 +54,8 @@ pub enum Step {
     Wrong,
 }
 
-/// A machine. Node 0 of the store is the empty environment, and `kept` has the values of fields by the numbers of their blocks.
+/// A machine. Node 0 of the store is the empty environment, and `kept` has the values of fields by
+/// the numbers of their blocks.
 #[derive(Drop)]
 pub struct Engine {
     pub store: Store,
@@ -85,7 +86,7 @@ impl Engine {
             kept: Vec::new(alloc),
             at: Position {
                 block: main,
-                place: 0,
+                address: 0,
                 env: empty,
                 stack: 0,
                 frames: 0,
@@ -101,7 +102,8 @@ impl Engine {
     pub fn add(&mut self, node: Node) -> Result<Value, Memory>
         requires sound { Sound self.old }
         requires parts { Below (length self.old.store) node }
-        ensures { IfOk result (λ v. Grown self.old self.new v (value_of (values self.old.store) node)) }
+        ensures { IfOk result (λ v. Grown self.old self.new v
+            (value_of (values self.old.store) node)) }
     {
         let v = self.store.push(node)?;
         Ok(v)
@@ -111,7 +113,8 @@ impl Engine {
     pub fn push(&mut self, v: Value) -> Result<Step, Memory>
         requires sound { Sound self.old }
         requires within { v.0 < length self.old.store }
-        ensures does { IfOk result (λ s. Does self.new s (Run (pushed (stands self.old.store v.0) (core self.old)))) }
+        ensures does { IfOk result (λ s. Does self.new s
+            (Run (pushed (stands self.old.store v.0) (core self.old)))) }
         ensures on { IfOk result (λ s. s ≡ On) }
     {
         self.at.stack = self.stacks.push(v, self.at.stack)?;
@@ -122,7 +125,8 @@ impl Engine {
     pub fn push_node(&mut self, node: Node) -> Result<Step, Memory>
         requires sound { Sound self.old }
         requires parts { Below (length self.old.store) node }
-        ensures does { IfOk result (λ s. Does self.new s (Run (pushed (value_of (values self.old.store) node) (core self.old)))) }
+        ensures does { IfOk result (λ s. Does self.new s
+            (Run (pushed (value_of (values self.old.store) node) (core self.old)))) }
         ensures on { IfOk result (λ s. s ≡ On) }
     {
         let v = self.add(node)?;
@@ -133,7 +137,10 @@ impl Engine {
     pub fn newest(&self, stack: usize) -> Option<(Value, usize)>
         requires sound { Sound self.now }
         requires within { stack < length self.now.stacks }
-        ensures { MatchOption result (newest (stack_at self.now stack) ≡ None) (λ p. (p.0.0 < length self.now.store) × (p.1 < length self.now.stacks) × (newest (stack_at self.now stack) ≡ Some (stands self.now.store p.0.0, stack_at self.now p.1))) }
+        ensures { MatchOption result (newest (stack_at self.now stack) ≡ None)
+            (λ p. (p.0.0 < length self.now.store) × (p.1 < length self.now.stacks) ×
+            (newest (stack_at self.now stack) ≡ Some
+            (stands self.now.store p.0.0, stack_at self.now p.1))) }
     {
         self.stacks.top(stack)
     }

@@ -10,7 +10,7 @@ ghost use Rattle.ac_machine.specs.States.{Run, keeping};
 ghost use Rattle.ac_machine.specs.Fields.{own_block, ref_block, module_behind, field_number};
 ghost use Rattle.ac_machine.specs.Machine.{pushes_field};
 ghost use Rattle.ac_machine.specs.Held.{core, Sound};
-ghost use Rattle.ac_machine.specs.Steps.{Does, Keeps};
+ghost use Rattle.ac_machine.specs.inner.Steps.{Does, KeepsAll};
 
 use crate::engine::{EMPTY, Engine, Step};
 use ac_code::{CodeId, CodeTable};
@@ -22,7 +22,8 @@ impl Engine {
     /// Pushes the value of the field of that block, where it is kept; else it runs the block.
     pub fn field(&mut self, block: Option<CodeId>) -> Result<Step, Memory>
         requires sound { Sound self.old }
-        ensures { IfOk result (λ s. Does self.new s (pushes_field (option_map number_of block) (core self.old))) }
+        ensures { IfOk result (λ s. Does self.new s
+            (pushes_field (option_map number_of block) (core self.old))) }
     {
         let Some(block) = block else {
             return Ok(Step::Wrong);
@@ -36,7 +37,9 @@ impl Engine {
     // The value that is kept of a block.
     fn kept_at(&self, block: CodeId) -> Option<Value>
         requires sound { Sound self.now }
-        ensures { MatchOption result ((core self.now).kept block.0 ≡ None) (λ v. (v.0 < length self.now.store) × ((core self.now).kept block.0 ≡ Some (stands self.now.store v.0))) }
+        ensures { MatchOption result ((core self.now).kept block.0 ≡ None)
+            (λ v. (v.0 < length self.now.store) ×
+            ((core self.now).kept block.0 ≡ Some (stands self.now.store v.0))) }
     {
         let kept = self.kept.as_slice();
         if block.0 < kept.len() {
@@ -50,22 +53,27 @@ impl Engine {
     pub fn keep(&mut self, block: CodeId, v: Value) -> Result<(), Memory>
         requires sound { Sound self.old }
         requires within { v.0 < length self.old.store }
-        ensures { OnOk result (Keeps self.old self.new (record (core self.old) { kept = keeping block.0 (stands self.old.store v.0) (core self.old).kept })) }
+        ensures { OnOk result (KeepsAll self.old self.new
+            (record (core self.old) {
+              kept = keeping block.0 (stands self.old.store v.0)
+                  (core self.old).kept;
+            })) }
     {
         keep_at(&mut self.kept, block.0, v)?;
         Ok(())
     }
 }
 
-// Another value at a place of a list, which is longer by nothing where it was too short.
-fn keep_at(kept: &mut Vec<Option<Value>>, place: usize, v: Value) -> Result<(), Memory>
-    ensures { OnOk result ((k : ℕ) → get_or kept.new.items k None ≡ cond (nat_eq k place) (Some v) (get_or kept.old.items k None)) }
+// Another value at an index of a list, which is longer by nothing where it was too short.
+fn keep_at(kept: &mut Vec<Option<Value>>, index: usize, v: Value) -> Result<(), Memory>
+    ensures { OnOk result ((k : ℕ) → get_or kept.new.items k None ≡ cond (nat_eq k index) (Some v)
+        (get_or kept.old.items k None)) }
 {
-    for _ in kept.len()..place {
+    for _ in kept.len()..index {
         kept.push(None)?;
     }
-    if place < kept.len() {
-        kept[place] = Some(v);
+    if index < kept.len() {
+        kept[index] = Some(v);
     } else {
         kept.push(Some(v))?;
     }
@@ -84,7 +92,8 @@ pub fn own_block(table: &CodeTable, home: Home, field: u16) -> Option<CodeId>
 
 /// The block of the field x of an entry, or of what that is linked to.
 pub fn ref_block(env: &Env, table: &CodeTable, j: u32, x: &Word) -> Option<CodeId>
-    ensures { option_map number_of result ≡ ref_block (environment_of env.now) (code_of table.now) j x.now }
+    ensures { option_map number_of result ≡ ref_block (environment_of env.now) (code_of table.now) j
+        x.now }
 {
     let module = module_behind(env.entry(j)?, j)?;
     let field = field_number(env.entry(module)?, x)?;
@@ -108,13 +117,13 @@ fn field_number(entry: &Entry, x: &Word) -> Option<usize>
     ensures { result ≡ field_number x.now (fields_of (def_of_code entry.now.def)) }
 {
     match &entry.def {
-        Def::Module(module) => place_of(&module.fields, x),
+        Def::Module(module) => index_of(&module.fields, x),
         Def::Import(_) => None,
         Def::Mark(_) => None,
     }
 }
 
-fn place_of(fields: &Many<Field>, x: &Word) -> Option<usize>
+fn index_of(fields: &Many<Field>, x: &Word) -> Option<usize>
     ensures { result ≡ position (λ f. same_bytes f.name x.now) fields.now }
 {
     fields

@@ -56,7 +56,8 @@ fn is_exn(store: &Store, v: Value, number: u8) -> bool
 pub fn fits(store: &Store, pat: &Pat, v: Value, found: &mut Vec<Value>) -> Result<bool, Memory>
     requires within { v.0 < length store.now }
     requires found { All (λ v. v.0 < length store.now) found.old.items }
-    ensures { IfOk result (λ b. Fitted store.now (bound (pattern_of pat.now) (stands store.now v.0)) found.old.items found.new.items b) }
+    ensures { IfOk result (λ b. Fitted store.now (bound (pattern_of pat.now) (stands store.now v.0))
+        found.old.items found.new.items b) }
 {
     match pat {
         Pat::Wild => Ok(true),
@@ -117,7 +118,9 @@ fn fits_all(
 ) -> Result<bool, Memory>
     requires within { All (λ v. v.0 < length store.now) vs.now }
     requires found { All (λ v. v.0 < length store.now) found.old.items }
-    ensures { IfOk result (λ b. Fitted store.now (all_bound (patterns (map pattern_of pats.now)) (values_at (values store.now) vs.now)) found.old.items found.new.items b) }
+    ensures { IfOk result (λ b. Fitted store.now
+        (all_bound (patterns (map pattern_of pats.now)) (values_at (values store.now) vs.now))
+        found.old.items found.new.items b) }
 {
     if pats.len() != vs.len() {
         return Ok(false);

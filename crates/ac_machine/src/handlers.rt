@@ -7,7 +7,7 @@ ghost use Rattle.ac_values.specs.Values.{stands, values};
 ghost use Rattle.ac_machine.specs.States.{Run};
 ghost use Rattle.ac_machine.specs.Machine.{tries, ends_try, raises, raising, exn_value, exn_in};
 ghost use Rattle.ac_machine.specs.Held.{core, Sound, IsHandler};
-ghost use Rattle.ac_machine.specs.Steps.{Does, Grown, handling};
+ghost use Rattle.ac_machine.specs.inner.Steps.{Does, Grown, handling};
 
 use crate::engine::{Engine, Handler, Step};
 use crate::pause::Pause;
@@ -18,14 +18,14 @@ use ac_values::{Node, Store, Value};
 use std::alloc::Global;
 
 impl Engine {
-    /// Keeps a handler at place `a` of the block that runs.
+    /// Keeps a handler at address `a` of the block that runs.
     pub fn try_block(&mut self, a: usize) -> Result<Step, Memory>
         requires sound { Sound self.old }
         ensures { IfOk result (λ s. Does self.new s (tries a (core self.old))) }
     {
         let handler = Handler {
             block: self.at.block,
-            place: a,
+            address: a,
             env: self.at.env,
             stack: self.at.stack,
             frames: self.at.frames,
@@ -70,7 +70,9 @@ impl Engine {
     /// Raises an exception.
     pub fn raise_exn(&mut self, exn: Exn) -> Result<Step, Memory>
         requires sound { Sound self.old }
-        ensures { IfOk result (λ s. Does self.new s (raising exn.number (option_map bytes_of exn.text) (core self.old) (core self.old).handlers)) }
+        ensures { IfOk result (λ s. Does self.new s
+            (raising exn.number (option_map bytes_of exn.text) (core self.old)
+            (core self.old).handlers)) }
     {
         match self.handlers.top(self.at.handlers) {
             None => Ok(Step::Pausing(Pause::Raised(exn))),
@@ -84,7 +86,8 @@ impl Engine {
     // The value of an exception.
     fn add_exn(&mut self, exn: Exn) -> Result<Value, Memory>
         requires sound { Sound self.old }
-        ensures { IfOk result (λ v. Grown self.old self.new v (exn_value exn.number (option_map bytes_of exn.text))) }
+        ensures { IfOk result (λ v. Grown self.old self.new v
+            (exn_value exn.number (option_map bytes_of exn.text))) }
     {
         let Exn { number, text } = exn;
         match text {
@@ -99,13 +102,15 @@ impl Engine {
     // Goes on at a handler, with an exception.
     fn handle(&mut self, handler: Handler, older: usize, v: Value) -> Result<Step, Memory>
         requires sound { Sound self.old }
-        requires handler { IsHandler (length self.old.store) (length self.old.stacks) (length self.old.frames) handler }
+        requires handler { IsHandler (length self.old.store) (length self.old.stacks)
+            (length self.old.frames) handler }
         requires older { older < length self.old.handlers }
         requires within { v.0 < length self.old.store }
-        ensures { IfOk result (λ s. Does self.new s (Run (handling self.old handler older (stands self.old.store v.0)))) }
+        ensures { IfOk result (λ s. Does self.new s
+            (Run (handling self.old handler older (stands self.old.store v.0)))) }
     {
         self.at.block = handler.block;
-        self.at.place = handler.place;
+        self.at.address = handler.address;
         self.at.env = handler.env;
         self.at.stack = handler.stack;
         self.at.frames = handler.frames;
@@ -116,7 +121,8 @@ impl Engine {
 
 // The number and the text of the exception that a value is.
 fn exn_in<'a>(store: &'a Store, v: Value) -> Option<(u8, Option<&'a Text>)>
-    ensures { MatchOption result (exn_in (stands store.now v.0) ≡ None) (λ p. exn_in (stands store.now v.0) ≡ Some (p.0, option_map bytes_of (option_copied p.1))) }
+    ensures { MatchOption result (exn_in (stands store.now v.0) ≡ None)
+        (λ p. exn_in (stands store.now v.0) ≡ Some (p.0, option_map bytes_of (option_copied p.1))) }
 {
     if let Some(number) = exn_without(store, v) {
         return Some((number, None));
@@ -128,7 +134,8 @@ fn exn_in<'a>(store: &'a Store, v: Value) -> Option<(u8, Option<&'a Text>)>
 
 // An exception with a text of its own.
 fn exn_of(alloc: Global, number: u8, text: Option<&Text>) -> Result<Exn, Memory>
-    ensures { IfOk result (λ e. (e.number ≡ number) × (option_map bytes_of e.text ≡ option_map bytes_of (option_copied text.entry))) }
+    ensures { IfOk result (λ e. (e.number ≡ number) ×
+        (option_map bytes_of e.text ≡ option_map bytes_of (option_copied text.entry))) }
 {
     match text {
         None => Ok(Exn { number, text: None }),

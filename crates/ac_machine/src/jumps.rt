@@ -7,7 +7,7 @@ ghost use Rattle.ac_machine.specs.States.{Run};
 ghost use Rattle.ac_terms.specs.Read.{pattern_of};
 ghost use Rattle.ac_machine.specs.Machine.{jumps, jumps_if_not, tests};
 ghost use Rattle.ac_machine.specs.Held.{core, Sound};
-ghost use Rattle.ac_machine.specs.Steps.{Does, Goes};
+ghost use Rattle.ac_machine.specs.inner.Steps.{Does, Goes};
 
 use crate::engine::{Engine, Step};
 use crate::fits::fits;
@@ -17,16 +17,16 @@ use ac_values::read::bool_in;
 use ac_values::{Node, Value};
 
 impl Engine {
-    /// Goes on at place `a`.
+    /// Goes on at address `a`.
     pub fn jump(&mut self, a: usize) -> Step
         requires sound { Sound self.old }
         ensures { Does self.new result (jumps a (core self.old)) }
     {
-        self.at.place = a;
+        self.at.address = a;
         Step::On
     }
 
-    /// Takes a truth value from the stack, and goes on at place `a` where it is false.
+    /// Takes a truth value from the stack, and goes on at address `a` where it is false.
     pub fn jump_if_not(&mut self, a: usize) -> Step
         requires sound { Sound self.old }
         ensures { Does self.new result (jumps_if_not a (core self.old)) }
@@ -39,14 +39,15 @@ impl Engine {
         };
         self.at.stack = rest;
         if !holds {
-            self.at.place = a;
+            self.at.address = a;
         }
         Step::On
     }
 }
 
 impl Engine {
-    /// Where the newest value fits the pattern, takes it and binds the pattern's variables; else goes on at place `a`.
+    /// Where the newest value fits the pattern, takes it and binds the pattern's variables; else
+    /// goes on at address `a`.
     pub fn test(&mut self, pat: &Pat, a: usize) -> Result<Step, Memory>
         requires sound { Sound self.old }
         ensures { IfOk result (λ s. Does self.new s (tests (pattern_of pat.now) a (core self.old))) }
@@ -56,7 +57,7 @@ impl Engine {
         };
         let mut found = Vec::new(self.alloc);
         if !fits(&self.store, pat, v, &mut found)? {
-            self.at.place = a;
+            self.at.address = a;
             return Ok(Step::On);
         }
         self.at.stack = rest;
@@ -68,7 +69,8 @@ impl Engine {
     fn bind_all(&mut self, found: &[Value]) -> Result<(), Memory>
         requires sound { Sound self.old }
         requires within { All (λ v. v.0 < length self.old.store) found.now }
-        ensures { OnOk result (Goes self.new (Run (record (core self.old) { env = under self.old.store found.now (core self.old).env }))) }
+        ensures { OnOk result (Goes self.new (Run
+            (record (core self.old) { env = under self.old.store found.now (core self.old).env }))) }
     {
         for value in found {
             let value = *value;

@@ -11,7 +11,7 @@ ghost use Rattle.ac_machine.specs.Resumes.{At, awaits, resumed, paused_at, takes
 ghost use Rattle.ac_machine.specs.Held.{core, Sound};
 ghost use Rattle.ac_machine.specs.Seen.{standing, stands_at, ask_of};
 ghost use Rattle.ac_machine.specs.Runs.{Pauses, Went};
-ghost use Rattle.ac_machine.specs.Going.{Advanced};
+ghost use Rattle.ac_machine.specs.inner.Going.{Advanced};
 ghost use Rattle.ac_machine.specs.declared.pause.Pause.TheVariants as answers;
 
 use crate::engine::{EMPTY, Engine, Step};
@@ -33,10 +33,10 @@ pub struct Machine {
 
 impl Model for Machine {
     ghost use Rattle.std.specs.Prelude.{◌≡◌, false};
-    ghost use Rattle.ac_machine.specs.Seen.{Seen};
+    ghost use Rattle.ac_machine.specs.Seen.{MachineSeen};
     ghost use Rattle.ac_machine.specs.Held.{Sound};
 
-    ghost Value = { Seen };
+    ghost Value = { MachineSeen };
 
     ghost view = { λ m. record { engine = m.engine; stand = m.stand; lost = m.lost } };
 
@@ -46,7 +46,8 @@ impl Model for Machine {
 impl Machine {
     /// A machine at the start of a block, which may make so many applications.
     pub fn start(alloc: Global, main: CodeId, steps: u64) -> Result<Machine, Memory>
-        ensures { IfOk result (λ m. (m.lost ≡ false) × (standing m ≡ At (Run (beginning main.0 steps)))) }
+        ensures { IfOk result (λ m. (m.lost ≡ false) ×
+            (standing m ≡ At (Run (beginning main.0 steps)))) }
     {
         let engine = Engine::start(alloc, main, steps)?;
         Ok(Machine {
@@ -72,8 +73,10 @@ impl Machine {
 
     /// Runs to the next pause. A machine that has stopped answers as it did.
     pub fn go(&mut self, env: &Env, table: &CodeTable) -> Pause
-        requires { self.old.lost ≡ false → Pauses (environment_of env.now) (code_of table.now) (standing self.old) }
-        ensures went { self.old.lost ≡ false → Went (environment_of env.now) (code_of table.now) (standing self.old) self.new result }
+        requires { self.old.lost ≡ false → Pauses (environment_of env.now) (code_of table.now)
+            (standing self.old) }
+        ensures went { self.old.lost ≡ false →
+            Went (environment_of env.now) (code_of table.now) (standing self.old) self.new result }
         ensures lost { self.old.lost ≡ true → (result ≡ answers.Memory) × (self.new.lost ≡ true) }
     {
         if self.lost {
@@ -94,7 +97,8 @@ impl Machine {
     /// Answers a print or a send by unit.
     pub fn resume_unit(&mut self) -> Result<(), Memory>
         requires { self.old.lost ≡ false → awaits takes_unit (standing self.old) ≡ true }
-        ensures ok { OnOk result ((self.old.lost ≡ false) × (self.new.lost ≡ false) × (standing self.new ≡ resumed with_unit (standing self.old))) }
+        ensures ok { OnOk result ((self.old.lost ≡ false) × (self.new.lost ≡ false) ×
+            (standing self.new ≡ resumed with_unit (standing self.old))) }
         ensures err { OnErr result (self.new.lost ≡ true) }
     {
         self.resume(Node::Unit)?;
@@ -104,7 +108,8 @@ impl Machine {
     /// Answers a receive or a marshal by a string.
     pub fn resume_text(&mut self, text: Text) -> Result<(), Memory>
         requires { self.old.lost ≡ false → awaits takes_text (standing self.old) ≡ true }
-        ensures ok { OnOk result ((self.old.lost ≡ false) × (self.new.lost ≡ false) × (standing self.new ≡ resumed (with_text text.0) (standing self.old))) }
+        ensures ok { OnOk result ((self.old.lost ≡ false) × (self.new.lost ≡ false) ×
+            (standing self.new ≡ resumed (with_text text.0) (standing self.old))) }
         ensures err { OnErr result (self.new.lost ≡ true) }
     {
         self.resume(Node::Str(text))?;
@@ -114,7 +119,9 @@ impl Machine {
     // Goes on with the value of a node.
     fn resume(&mut self, node: Node) -> Result<(), Memory>
         requires { Below (length self.old.engine.store) node }
-        ensures ok { OnOk result ((self.old.lost ≡ false) × (self.new.lost ≡ false) × (standing self.new ≡ At (Run (pushed (value_of (values self.old.engine.store) node) (core self.old.engine))))) }
+        ensures ok { OnOk result ((self.old.lost ≡ false) × (self.new.lost ≡ false) ×
+            (standing self.new ≡ At (Run (pushed (value_of (values self.old.engine.store) node)
+            (core self.old.engine))))) }
         ensures err { OnErr result (self.new.lost ≡ true) }
     {
         if self.lost {
@@ -135,7 +142,8 @@ impl Machine {
     /// Answers an unmarshal by the value of a block.
     pub fn resume_block(&mut self, block: CodeId) -> Result<(), Memory>
         requires { self.old.lost ≡ false → awaits takes_block (standing self.old) ≡ true }
-        ensures ok { OnOk result ((self.old.lost ≡ false) × (self.new.lost ≡ false) × (standing self.new ≡ resumed (with_block block.0) (standing self.old))) }
+        ensures ok { OnOk result ((self.old.lost ≡ false) × (self.new.lost ≡ false) ×
+            (standing self.new ≡ resumed (with_block block.0) (standing self.old))) }
         ensures err { OnErr result (self.new.lost ≡ true) }
     {
         if self.lost {
@@ -156,7 +164,9 @@ impl Machine {
     /// Answers a send, a receive, a marshal or an unmarshal by raising an exception.
     pub fn resume_raise(&mut self, e: Exn) -> Result<(), Memory>
         requires { self.old.lost ≡ false → awaits takes_raise (standing self.old) ≡ true }
-        ensures ok { OnOk result ((self.old.lost ≡ false) × (self.new.lost ≡ false) × (standing self.new ≡ resumed (with_raise e.number (option_map bytes_of e.text)) (standing self.old))) }
+        ensures ok { OnOk result ((self.old.lost ≡ false) × (self.new.lost ≡ false) ×
+            (standing self.new ≡ resumed (with_raise e.number (option_map bytes_of e.text))
+            (standing self.old))) }
         ensures err { OnErr result (self.new.lost ≡ true) }
     {
         if self.lost {
@@ -183,8 +193,10 @@ fn advance(
     table: &CodeTable,
 ) -> Result<(Pause, Stand), Memory>
     requires sound { Sound engine.old }
-    requires pauses { Pauses (environment_of env.now) (code_of table.now) (stands_at stand.now (core engine.old)) }
-    ensures { IfOk result (λ q. Advanced (environment_of env.now) (code_of table.now) (stands_at stand.now (core engine.old)) engine.new q.0 q.1) }
+    requires pauses { Pauses (environment_of env.now) (code_of table.now)
+        (stands_at stand.now (core engine.old)) }
+    ensures { IfOk result (λ q. Advanced (environment_of env.now) (code_of table.now)
+        (stands_at stand.now (core engine.old)) engine.new q.0 q.1) }
 {
     match stand {
         Stand::Running => {
@@ -206,7 +218,8 @@ fn advance(
 // How a machine stands after a pause.
 fn stand_at(alloc: Global, pause: &Pause) -> Result<Stand, Memory>
     requires { pause.now ≡ answers.Memory → ⊥ }
-    ensures { IfOk result (λ d. (ns : List Node) (c : Core) → MatchOption (ask_of ns pause.now) (Unit {0}) (λ a. stands_at d c ≡ paused_at a c)) }
+    ensures { IfOk result (λ d. (ns : List Node) (c : Core) →
+        MatchOption (ask_of ns pause.now) (Unit {0}) (λ a. stands_at d c ≡ paused_at a c)) }
 {
     match pause {
         Pause::Print(_) => Ok(Stand::Waiting(Wait::Printing)),
@@ -224,7 +237,9 @@ fn stand_at(alloc: Global, pause: &Pause) -> Result<Stand, Memory>
 // Raises an exception; how the machine then stands.
 fn raised(engine: &mut Engine, e: Exn) -> Result<Stand, Memory>
     requires { Sound engine.old }
-    ensures { IfOk result (λ d. Sound engine.new × (stands_at d (core engine.new) ≡ At (with_raise e.number (option_map bytes_of e.text) (core engine.old)))) }
+    ensures { IfOk result (λ d. Sound engine.new ×
+        (stands_at d (core engine.new) ≡ At (with_raise e.number (option_map bytes_of e.text)
+        (core engine.old)))) }
 {
     match engine.raise_exn(e) {
         Ok(Step::On) => Ok(Stand::Running),

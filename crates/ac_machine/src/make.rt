@@ -1,12 +1,12 @@
 // Instructions that push constants and make values.
 
 ghost use Rattle.std.specs.Prelude.{◌≡◌, ◌<◌, length, false, true, IfOk, MatchOption, None, Some, [], ◌-◌};
-ghost use Rattle.ac_terms.specs.Primitives.{has_text};
+ghost use Rattle.ac_terms.specs.PrimitiveTypes.{has_text};
 ghost use Rattle.ac_values.specs.Values.{MNil, MStr, MClosure, MEnd, values, stands};
 ghost use Rattle.ac_machine.specs.States.{Run, pushed};
 ghost use Rattle.ac_machine.specs.Machine.{taken, makes_exn, makes_some, makes_cons, makes_tuple};
 ghost use Rattle.ac_machine.specs.Held.{core, stack_of, Sound};
-ghost use Rattle.ac_machine.specs.Steps.{stack_at, Does};
+ghost use Rattle.ac_machine.specs.inner.Steps.{stack_at, Does};
 
 use crate::engine::{EMPTY, Engine, Step};
 use ac_code::CodeId;
@@ -25,7 +25,8 @@ impl Engine {
     /// Pushes a string.
     pub fn push_text(&mut self, text: &Text) -> Result<Step, Memory>
         requires sound { Sound self.old }
-        ensures { IfOk result (λ s. Does self.new s (Run (pushed (MStr text.now.0) (core self.old)))) }
+        ensures { IfOk result (λ s. Does self.new s
+            (Run (pushed (MStr text.now.0) (core self.old)))) }
     {
         let text = text.copy(self.alloc)?;
         self.push_node(Node::Str(text))
@@ -34,7 +35,8 @@ impl Engine {
     /// Pushes a closure of a block with the environment.
     pub fn push_closure(&mut self, block: CodeId, recursive: bool) -> Result<Step, Memory>
         requires sound { Sound self.old }
-        ensures { IfOk result (λ s. Does self.new s (Run (pushed (MClosure block.0 recursive (core self.old).env) (core self.old)))) }
+        ensures { IfOk result (λ s. Does self.new s
+            (Run (pushed (MClosure block.0 recursive (core self.old).env) (core self.old)))) }
     {
         let env = self.at.env;
         self.push_node(Node::Closure {
@@ -47,7 +49,8 @@ impl Engine {
     /// Pushes a closure of a block with the empty environment.
     pub fn push_constant(&mut self, block: CodeId, recursive: bool) -> Result<Step, Memory>
         requires sound { Sound self.old }
-        ensures { IfOk result (λ s. Does self.new s (Run (pushed (MClosure block.0 recursive MEnd) (core self.old)))) }
+        ensures { IfOk result (λ s. Does self.new s
+            (Run (pushed (MClosure block.0 recursive MEnd) (core self.old)))) }
     {
         self.push_node(Node::Closure {
             block,

@@ -4,9 +4,9 @@ ghost use Rattle.std.specs.Prelude.{◌≡◌, IfOk};
 ghost use Rattle.ac_code.specs.Constants.{meaning, One, Two};
 ghost use Rattle.ac_machine.specs.States.{given};
 ghost use Rattle.ac_machine.specs.Machine.{performs, answers};
-ghost use Rattle.ac_machine.specs.Meant.{answer_of, of_binary, of_unary};
+ghost use Rattle.ac_machine.specs.inner.Meant.{answer_of, of_binary, of_unary};
 ghost use Rattle.ac_machine.specs.Held.{core, Sound};
-ghost use Rattle.ac_machine.specs.Steps.{Does};
+ghost use Rattle.ac_machine.specs.inner.Steps.{Does};
 
 use crate::engine::{Engine, Step};
 use crate::pause::Pause;
@@ -22,7 +22,8 @@ impl Engine {
     /// Takes the arguments of a primitive from the stack and pushes its answer, raises or pauses.
     pub fn primitive(&mut self, number: u8) -> Result<Step, Memory>
         requires sound { Sound self.old }
-        ensures { IfOk result (λ s. Does self.new s (given (meaning number) (λ m. performs m (core self.old)))) }
+        ensures { IfOk result (λ s. Does self.new s
+            (given (meaning number) (λ m. performs m (core self.old)))) }
     {
         match primitive_of(number) {
             None => Ok(Step::Wrong),
@@ -33,7 +34,8 @@ impl Engine {
 
     fn combine(&mut self, operator: Binary) -> Result<Step, Memory>
         requires sound { Sound self.old }
-        ensures { IfOk result (λ s. Does self.new s (performs (Two (of_binary operator)) (core self.old))) }
+        ensures { IfOk result (λ s. Does self.new s
+            (performs (Two (of_binary operator)) (core self.old))) }
     {
         let Some((second, below)) = self.newest(self.at.stack) else {
             return Ok(Step::Wrong);
@@ -54,7 +56,8 @@ impl Engine {
 
     fn turn(&mut self, unary: Unary) -> Result<Step, Memory>
         requires sound { Sound self.old }
-        ensures { IfOk result (λ s. Does self.new s (performs (One (of_unary unary)) (core self.old))) }
+        ensures { IfOk result (λ s. Does self.new s
+            (performs (One (of_unary unary)) (core self.old))) }
     {
         let Some((v, rest)) = self.newest(self.at.stack) else {
             return Ok(Step::Wrong);

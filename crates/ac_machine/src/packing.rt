@@ -5,7 +5,7 @@ ghost use Rattle.ac_types.specs.ReadTypes.{typ_of};
 ghost use Rattle.ac_terms.specs.Read.{home_of};
 ghost use Rattle.ac_machine.specs.Machine.{marshals, unmarshals};
 ghost use Rattle.ac_machine.specs.Held.{core, Sound};
-ghost use Rattle.ac_machine.specs.Steps.{Does};
+ghost use Rattle.ac_machine.specs.inner.Steps.{Does};
 
 use crate::engine::{Engine, Step};
 use crate::pause::Pause;
@@ -17,7 +17,8 @@ impl Engine {
     /// Takes a value and the mark below it, and pauses.
     pub fn marshal(&mut self, ty: &Ty, home: Home) -> Result<Step, Memory>
         requires sound { Sound self.old }
-        ensures { IfOk result (λ s. Does self.new s (marshals (typ_of ty.now) (home_of home) (core self.old))) }
+        ensures { IfOk result (λ s. Does self.new s
+            (marshals (typ_of ty.now) (home_of home) (core self.old))) }
     {
         let Some((value, below)) = self.newest(self.at.stack) else {
             return Ok(Step::Wrong);

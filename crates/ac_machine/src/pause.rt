@@ -13,14 +13,16 @@ pub enum Pause {
     Send(Text),
     /// It asks for the next frame, and waits for `resume_text` or `resume_raise`.
     Receive,
-    /// It asks for the packet of a value of this type in this home, by the mark of this name, and waits for `resume_text` or `resume_raise`.
+    /// It asks for the packet of a value of this type in this home, by the mark of this name, and
+    /// waits for `resume_text` or `resume_raise`.
     Marshal {
         mark: Text,
         value: Value,
         ty: Ty,
         home: Home,
     },
-    /// It asks for the value of this type that the text spells, and waits for `resume_block` or `resume_raise`.
+    /// It asks for the value of this type that the text spells, and waits for `resume_block` or
+    /// `resume_raise`.
     Unmarshal {
         text: Text,
         ty: Ty,

@@ -5,11 +5,11 @@ ghost use Rattle.std.specs.Fmt.{signed_decimal};
 ghost use Rattle.ac_code.specs.Constants.{CInt, CBool, CStr, CUnit, CPart, comes_before, meaning, joined, quotient, remainder, part, invalid_argument};
 ghost use Rattle.ac_values.specs.Values.{stands, values, values_at};
 ghost use Rattle.ac_machine.specs.Machine.{const_in, part_in};
-ghost use Rattle.ac_machine.specs.Meant.{const_of, answer_of, of_binary, of_unary, meant};
+ghost use Rattle.ac_machine.specs.inner.Meant.{const_of, answer_of, of_binary, of_unary, meant};
 
 use ac_types::primitives::{
-    ADD, CONCAT, DIV, EQ, LENGTH, LT, MUL, NEG, NOT, OF_INT, PRINT_INT, PRINT_STRING, RECEIVE, REM, SEND,
-    SUB, SUB_STRING,
+    ADD, CONCAT, DIV, EQ, LENGTH, LT, MUL, NEG, NOT, OF_INT, PRINT_INT, PRINT_STRING, RECEIVE, REM,
+    SEND, SUB, SUB_STRING,
 };
 use ac_types::{Many, Memory, Text};
 use ac_values::read::{int_in, text_in};
@@ -19,7 +19,8 @@ use std::alloc::Global;
 /// The most bytes of a string.
 pub const MOST_BYTES: usize = 1_048_576;
 
-/// A value that primitives act on. The last is the argument of `Str.sub`: a string, a place and a length.
+/// A value that primitives act on. The last is the argument of `Str.sub`: a string, a start and a
+/// length.
 #[derive(Clone, Copy)]
 pub enum Constant<'a> {
     Int(i64),
@@ -106,7 +107,8 @@ pub fn primitive_of(number: u8) -> Option<Primitive>
 /// The constant that a value is.
 pub fn constant_in<'a>(store: &'a Store, v: Value) -> Option<Constant<'a>>
     requires { v.0 < length store.now }
-    ensures { MatchOption result (const_in (stands store.now v.0) ≡ None) (λ d. const_in (stands store.now v.0) ≡ Some (const_of d)) }
+    ensures { MatchOption result (const_in (stands store.now v.0) ≡ None)
+        (λ d. const_in (stands store.now v.0) ≡ Some (const_of d)) }
 {
     match store.node(v) {
         Some(Node::Int(n)) => Some(Constant::Int(*n)),
@@ -121,16 +123,17 @@ pub fn constant_in<'a>(store: &'a Store, v: Value) -> Option<Constant<'a>>
 // A string with two ints.
 #[tactic(auto, using(crate::proofs::PrimitiveLaws::part_three, crate::proofs::PrimitiveLaws::part_other))]
 fn part_in<'a>(store: &'a Store, parts: &Many<Value>) -> Option<Constant<'a>>
-    ensures { MatchOption result (part_in (values_at (values store.now) parts.now) ≡ None) (λ d. part_in (values_at (values store.now) parts.now) ≡ Some (const_of d)) }
+    ensures { MatchOption result (part_in (values_at (values store.now) parts.now) ≡ None)
+        (λ d. part_in (values_at (values store.now) parts.now) ≡ Some (const_of d)) }
 {
     if parts.len() != 3 {
         return None;
     }
     let parts = parts.as_slice();
     let text = text_in(store, parts[0])?;
-    let place = int_in(store, parts[1])?;
+    let start = int_in(store, parts[1])?;
     let count = int_in(store, parts[2])?;
-    Some(Constant::Part(text, place, count))
+    Some(Constant::Part(text, start, count))
 }
 
 /// What a primitive of two arguments answers.
@@ -141,7 +144,8 @@ pub fn combined(
     first: &Constant<'_>,
     second: &Constant<'_>,
 ) -> Result<Answer, Memory>
-    ensures { IfOk result (λ a. answer_of a ≡ of_binary operator (const_of first.now) (const_of second.now)) }
+    ensures { IfOk result (λ a. answer_of a ≡ of_binary operator (const_of first.now)
+        (const_of second.now)) }
 {
     match (*first, *second) {
         (Constant::Int(x), Constant::Int(y)) => Ok(of_ints(operator, x, y)),
@@ -293,30 +297,30 @@ fn of_part(
     alloc: Global,
     unary: Unary,
     text: &[u8],
-    place: i64,
+    start: i64,
     count: i64,
 ) -> Result<Answer, Memory>
-    ensures { IfOk result (λ a. answer_of a ≡ of_unary unary (CPart text.now place count)) }
+    ensures { IfOk result (λ a. answer_of a ≡ of_unary unary (CPart text.now start count)) }
 {
     match unary {
-        Unary::SubString => part(alloc, text, place, count),
+        Unary::SubString => part(alloc, text, start, count),
         _ => Ok(Answer::NoSense),
     }
 }
 
-// So many bytes of a string from a place on.
-fn part(alloc: Global, text: &[u8], place: i64, count: i64) -> Result<Answer, Memory>
-    ensures { IfOk result (λ a. answer_of a ≡ part text.now place count) }
+// So many bytes of a string from a start on.
+fn part(alloc: Global, text: &[u8], start: i64, count: i64) -> Result<Answer, Memory>
+    ensures { IfOk result (λ a. answer_of a ≡ part text.now start count) }
 {
-    if place < 0 || count < 0 {
+    if start < 0 || count < 0 {
         return invalid(alloc, b"sub");
     }
-    let place = place as usize;
+    let start = start as usize;
     let count = count as usize;
-    if count > text.len() || place > text.len() - count {
+    if count > text.len() || start > text.len() - count {
         return invalid(alloc, b"sub");
     }
-    Ok(Answer::Str(Text::from_slice(alloc, &text[place..place + count])?))
+    Ok(Answer::Str(Text::from_slice(alloc, &text[start..start + count])?))
 }
 
 fn decimal(alloc: Global, n: i64) -> Result<Text, Memory>

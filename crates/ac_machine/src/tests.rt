@@ -1,5 +1,6 @@
-// Programs of blocks written by hand, and what the machine does with each up to its end, where memory suffices. An engine
-// in the machine's state goes ahead: once it has come to a pause, so will the machine.
+// Programs of blocks written by hand, and what the machine does with each up to its end, where
+// memory suffices. An engine in the machine's state goes ahead: once it has come to a pause, so
+// will the machine.
 
 ghost use Rattle.std.specs.Prelude.{◌≡◌, false, true, ◌∷◌, [], Some, option_map, MatchBool, MatchOption, OnOk, IfOk};
 ghost use Rattle.ac_terms.specs.Read.{environment_of, bytes_of};
@@ -31,11 +32,14 @@ fn there(pause: &Pause) -> Result<(), Memory>
     }
 }
 
-// Takes an engine to its next pause. An operand that is missing or of the wrong kind counts as an error.
+// Takes an engine to its next pause. An operand that is missing or of the wrong kind counts as an
+// error.
 fn ahead(engine: &mut Engine, env: &Env, table: &CodeTable) -> Result<(), Memory>
     requires { Sound engine.old }
     ensures sound { OnOk result (Sound engine.new) }
-    ensures pauses { OnOk result ((a : Ask) × Reaches (environment_of env.now) (code_of table.now) (At (Run (core engine.old))) (Paused a (core engine.new))) }
+    ensures pauses { OnOk result ((a : Ask) ×
+        Reaches (environment_of env.now) (code_of table.now) (At (Run (core engine.old)))
+        (Paused a (core engine.new))) }
 {
     for _ in 0..1000 {
         match engine.step(env, table) {
@@ -58,7 +62,8 @@ fn gone(
     requires sound { Sound engine.old }
     requires alike { standing machine.old ≡ At (Run (core engine.old)) }
     ensures sound { OnOk result (Sound engine.new) }
-    ensures alike { IfOk result (λ p. MatchOption (ask_of machine.new.engine.store p) ⊥ (λ a. standing machine.new ≡ paused_at a (core engine.new))) }
+    ensures alike { IfOk result (λ p. MatchOption (ask_of machine.new.engine.store p) ⊥
+        (λ a. standing machine.new ≡ paused_at a (core engine.new))) }
 {
     ahead(engine, env, table)?;
     let pause = machine.go(env, table);
@@ -69,8 +74,11 @@ fn gone(
 // Answers by unit.
 fn by_unit(machine: &mut Machine, engine: &mut Engine) -> Result<bool, Memory>
     requires sound { Sound engine.old }
-    requires waits { (w : Wait) × (takes_unit w ≡ true) × (standing machine.old ≡ Waits w (core engine.old)) }
-    ensures { IfOk result (λ on. MatchBool on (Sound engine.new × (standing machine.new ≡ At (Run (core engine.new)))) ((a : Ask) × (c : Core) × (standing machine.new ≡ At (Paused a c)))) }
+    requires waits { (w : Wait) × (takes_unit w ≡ true) ×
+        (standing machine.old ≡ Waits w (core engine.old)) }
+    ensures { IfOk result (λ on. MatchBool on (Sound engine.new ×
+        (standing machine.new ≡ At (Run (core engine.new)))) ((a : Ask) × (c : Core) ×
+        (standing machine.new ≡ At (Paused a c)))) }
 {
     engine.push_node(Node::Unit)?;
     machine.resume_unit()?;
@@ -85,8 +93,11 @@ fn by_text(
     bytes: &[u8],
 ) -> Result<bool, Memory>
     requires sound { Sound engine.old }
-    requires waits { (w : Wait) × (takes_text w ≡ true) × (standing machine.old ≡ Waits w (core engine.old)) }
-    ensures { IfOk result (λ on. MatchBool on (Sound engine.new × (standing machine.new ≡ At (Run (core engine.new)))) ((a : Ask) × (c : Core) × (standing machine.new ≡ At (Paused a c)))) }
+    requires waits { (w : Wait) × (takes_text w ≡ true) ×
+        (standing machine.old ≡ Waits w (core engine.old)) }
+    ensures { IfOk result (λ on. MatchBool on (Sound engine.new ×
+        (standing machine.new ≡ At (Run (core engine.new)))) ((a : Ask) × (c : Core) ×
+        (standing machine.new ≡ At (Paused a c)))) }
 {
     machine.resume_text(Text::from_slice(alloc, bytes)?)?;
     engine.push_node(Node::Str(Text::from_slice(alloc, bytes)?))?;
@@ -96,8 +107,11 @@ fn by_text(
 // Answers by the value of block 1.
 fn by_block(machine: &mut Machine, engine: &mut Engine) -> Result<bool, Memory>
     requires sound { Sound engine.old }
-    requires waits { (w : Wait) × (takes_block w ≡ true) × (standing machine.old ≡ Waits w (core engine.old)) }
-    ensures { IfOk result (λ on. MatchBool on (Sound engine.new × (standing machine.new ≡ At (Run (core engine.new)))) ((a : Ask) × (c : Core) × (standing machine.new ≡ At (Paused a c)))) }
+    requires waits { (w : Wait) × (takes_block w ≡ true) ×
+        (standing machine.old ≡ Waits w (core engine.old)) }
+    ensures { IfOk result (λ on. MatchBool on (Sound engine.new ×
+        (standing machine.new ≡ At (Run (core engine.new)))) ((a : Ask) × (c : Core) ×
+        (standing machine.new ≡ At (Paused a c)))) }
 {
     machine.resume_block(CodeId(1))?;
     engine.enter(CodeId(1), EMPTY, false)?;
@@ -105,7 +119,8 @@ fn by_block(machine: &mut Machine, engine: &mut Engine) -> Result<bool, Memory>
 }
 
 fn refusal(alloc: Global) -> Result<Exn, Memory>
-    ensures { IfOk result (λ e. (e.number ≡ 0) × (option_map bytes_of e.text ≡ Some (110 ∷ 111 ∷ []))) }
+    ensures { IfOk result (λ e. (e.number ≡ 0) ×
+        (option_map bytes_of e.text ≡ Some (110 ∷ 111 ∷ []))) }
 {
     let text = Text::from_slice(alloc, b"no")?;
     Ok(Exn {
@@ -117,8 +132,11 @@ fn refusal(alloc: Global) -> Result<Exn, Memory>
 // Answers by an exception. Whether it goes on.
 fn by_raise(alloc: Global, machine: &mut Machine, engine: &mut Engine) -> Result<bool, Memory>
     requires sound { Sound engine.old }
-    requires waits { (w : Wait) × (takes_raise w ≡ true) × (standing machine.old ≡ Waits w (core engine.old)) }
-    ensures { IfOk result (λ on. MatchBool on (Sound engine.new × (standing machine.new ≡ At (Run (core engine.new)))) ((a : Ask) × (c : Core) × (standing machine.new ≡ At (Paused a c)))) }
+    requires waits { (w : Wait) × (takes_raise w ≡ true) ×
+        (standing machine.old ≡ Waits w (core engine.old)) }
+    ensures { IfOk result (λ on. MatchBool on (Sound engine.new ×
+        (standing machine.new ≡ At (Run (core engine.new)))) ((a : Ask) × (c : Core) ×
+        (standing machine.new ≡ At (Paused a c)))) }
 {
     machine.resume_raise(refusal(alloc)?)?;
     match engine.raise_exn(refusal(alloc)?) {
@@ -137,8 +155,11 @@ fn by_value(
     pause: &Pause,
 ) -> Result<bool, Memory>
     requires sound { Sound engine.old }
-    requires alike { MatchOption (ask_of machine.old.engine.store pause.now) ⊥ (λ a. standing machine.old ≡ paused_at a (core engine.old)) }
-    ensures { IfOk result (λ on. MatchBool on (Sound engine.new × (standing machine.new ≡ At (Run (core engine.new)))) ((a : Ask) × (c : Core) × (standing machine.new ≡ At (Paused a c)))) }
+    requires alike { MatchOption (ask_of machine.old.engine.store pause.now) ⊥
+        (λ a. standing machine.old ≡ paused_at a (core engine.old)) }
+    ensures { IfOk result (λ on. MatchBool on (Sound engine.new ×
+        (standing machine.new ≡ At (Run (core engine.new)))) ((a : Ask) × (c : Core) ×
+        (standing machine.new ≡ At (Paused a c)))) }
 {
     match pause {
         Pause::Print(_) => by_unit(machine, engine),
@@ -161,8 +182,11 @@ fn by_refusal(
     pause: &Pause,
 ) -> Result<bool, Memory>
     requires sound { Sound engine.old }
-    requires alike { MatchOption (ask_of machine.old.engine.store pause.now) ⊥ (λ a. standing machine.old ≡ paused_at a (core engine.old)) }
-    ensures { IfOk result (λ on. MatchBool on (Sound engine.new × (standing machine.new ≡ At (Run (core engine.new)))) ((a : Ask) × (c : Core) × (standing machine.new ≡ At (Paused a c)))) }
+    requires alike { MatchOption (ask_of machine.old.engine.store pause.now) ⊥
+        (λ a. standing machine.old ≡ paused_at a (core engine.old)) }
+    ensures { IfOk result (λ on. MatchBool on (Sound engine.new ×
+        (standing machine.new ≡ At (Run (core engine.new)))) ((a : Ask) × (c : Core) ×
+        (standing machine.new ≡ At (Paused a c)))) }
 {
     match pause {
         Pause::Send(_) => by_raise(alloc, machine, engine),
@@ -217,7 +241,9 @@ fn turn(
 ) -> Result<bool, Memory>
     requires sound { Sound engine.old }
     requires alike { standing machine.old ≡ At (Run (core engine.old)) }
-    ensures { IfOk result (λ on. MatchBool on (Sound engine.new × (standing machine.new ≡ At (Run (core engine.new)))) ((a : Ask) × (c : Core) × (standing machine.new ≡ At (Paused a c)))) }
+    ensures { IfOk result (λ on. MatchBool on (Sound engine.new ×
+        (standing machine.new ≡ At (Run (core engine.new)))) ((a : Ask) × (c : Core) ×
+        (standing machine.new ≡ At (Paused a c)))) }
 {
     let pause = gone(machine, engine, env, table)?;
     note_pause(notes, machine.store(), &pause)?;
@@ -575,7 +601,7 @@ fn calls_budgets_and_fields(rt: HostRuntime) -> Result<(), Fail> {
     Ok(())
 }
 
-// At a handler the place, the stack, the frames and the variables of its `try` are back.
+// At a handler the address, the stack, the frames and the variables of its `try` are back.
 const HANDLER: &str =
     "Constant 1, PushInt 5, Apply, Prim 10, Stop | PushInt 8, Try 6, PushInt 1, Constant 2, PushUnit, Apply, Test Failure:s 13, Var 0, Prim 11, Drop, Prim 10, Drop, Var 1, Return | PushStr why, MakeExn 0, Raise";
 

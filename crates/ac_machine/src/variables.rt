@@ -3,7 +3,7 @@
 ghost use Rattle.std.specs.Prelude.{◌≡◌, IfOk};
 ghost use Rattle.ac_machine.specs.Machine.{loads, binds, unbinds, drops};
 ghost use Rattle.ac_machine.specs.Held.{core, Sound};
-ghost use Rattle.ac_machine.specs.Steps.{Does};
+ghost use Rattle.ac_machine.specs.inner.Steps.{Does};
 
 use crate::engine::{Engine, Step};
 use ac_types::Memory;

@@ -8,7 +8,7 @@ use Rattle.ac_types.specs.Types.{Bytes, Typ, TInt, TStr, TUnit, TList, TFun, TAb
 use Rattle.ac_types.specs.Sigs.{Signature, Number, MyName, Ranges, One, HereAlready}
 use Rattle.ac_types.specs.Words.{is_reserved}
 use Rattle.ac_terms.specs.Terms.{PVar, PTuple, PExnOf, patterns, Expr, Str, Unit', Tuple, Nil, Cons, Var, Own, Ref, Lam, App, Let, Match, Seq, Try, Prim, Marshal, Unmarshal, exprs, arms, KInt, Value, VStr}
-use Rattle.ac_terms.specs.Defs.{Environment, Def, AModule, AnImport, Here}
+use Rattle.ac_terms.specs.Defs.{Environment, Def, AModule, AnImport, Own'}
 use Rattle.ac_terms.specs.Names.{name_by}
 use Rattle.ac_terms.proofs.Samples.{number_module, any_m1, pair_type}
 use Rattle.ac_rules.specs.Views.{Mode, Plain, Coloured}
@@ -26,7 +26,7 @@ use Rattle.ac_meaning.proofs.PackingExamples.{a_mark, receive}
 
 -- an own definition behind others, under its name
 abbrev behind : Environment → Def → Option ℕ → Environment
-behind E d link = E ++ record { def = d; name = name_by sha256 E d; seen = Here; link = link } ∷ []
+behind E d link = E ++ record { def = d; name = name_by sha256 E d; seen = Own'; link = link } ∷ []
 
 -- what was printed, and what was raised
 abbrev said : State Expr Value → Option (Bytes × Option Exception)
@@ -256,7 +256,7 @@ unfolding landing is_reserved sha256 digest_bytes hash_after compress rounds sch
 an_ill_formed_definition = refl
 
 abbrev with_the_name : Environment
-with_the_name = record { def = text_c 2; name = name_by sha256 [] (text_c 1); seen = Here; link = None } ∷ []
+with_the_name = record { def = text_c 2; name = name_by sha256 [] (text_c 1); seen = Own'; link = None } ∷ []
 
 pub a_clash : received with_the_name TInt (Some (record { defs = text_c 1 ∷ []; ty = TInt; value = KInt (pos 5) })) ≡ Sinks (unmarshal_failure (codes "clash"))
 unfolding sha256 digest_bytes hash_after compress rounds schedule first_words

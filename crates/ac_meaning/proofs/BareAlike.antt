@@ -4,7 +4,7 @@ use Rattle.std.specs.Prelude.{option_map, option_and_then, nat_eq}
 use mathlib.Core.Bool.{true≢false}
 use Rattle.ac_types.specs.First.{given}
 use Rattle.ac_types.specs.Types.{Bytes, Typ, TInt, TBool, TStr, TUnit, TExn, TTuple, TList, TOpt, TFun, Typs, mentions}
-use Rattle.ac_terms.specs.Terms.{Home, Pattern, PWild, PVar, PInt, PBool, PStr, PUnit, PTuple, PNil, PCons, PAbsent, PPresent, PExn, PExnOf, Patterns, no_patterns, pattern', Expr, Int, Boolean, Str, Unit', Exn, ExnOf, Tuple, Nil, Empty, Present, Cons, Var, Own, Ref, Lam, Rec, App, Let, If, Seq, Match, Try, Raise, Prim, Marshal, Unmarshal, Packed, Val, Bracket, Exprs, no_exprs, expr, Arms, no_arms, arm, Value, VStr, VExn, VNil, VCons, VAbsent, VPresent, VLam, VRec, VProxy, Values, no_values, value}
+use Rattle.ac_terms.specs.Terms.{Home, Pattern, PWild, PVar, PInt, PBool, PStr, PUnit, PTuple, PNil, PCons, PAbsent, PPresent, PExn, PExnOf, Patterns, no_patterns, pattern', Expr, Int, Boolean, Str, Unit', Exn, ExnOf, Tuple, Nil, Empty, Present, Cons, Var, Own, Ref, Lam, Rec, App, Let, If, Seq, Match, Try, Raise, Prim, Marshal, Unmarshal, Val, Evaluated, Bracket, Exprs, no_exprs, expr, Arms, no_arms, arm, Value, VStr, VExn, VNil, VCons, VAbsent, VPresent, VLam, VRec, VProxy, Values, no_values, value}
 use Rattle.ac_terms.specs.Defs.{Environment}
 use Rattle.ac_rules.specs.Plain.{packed}
 use Rattle.ac_rules.specs.Views.{Mode, is_known}
@@ -15,7 +15,7 @@ use Rattle.ac_rules.specs.Growth.{Grows}
 use Rattle.ac_meaning.specs.Packing.{Packing, Refuses, Packs, Arrival, Unfit, Brings, packing, arrival}
 use Rattle.ac_meaning.specs.Substitution.{Written}
 use Rattle.ac_meaning.specs.Matching.{fit, fit_all}
-use Rattle.ac_meaning.specs.Primitives.{exception_value}
+use Rattle.ac_meaning.specs.PrimitiveSteps.{exception_value}
 use Rattle.ac_meaning.specs.References.{target, route}
 use Rattle.ac_meaning.specs.BareTerms.{Bare, WStr, WLam, WRec, BareValue, bare, bare_all, bare_arms, bare_value, bare_values}
 use Rattle.ac_meaning.specs.BareReduction as b
@@ -275,8 +275,8 @@ module _ (arrives : Arrives) (mode : Mode) where
           and t c G (sees z c A) us y c _ _ l w q (alike t c G (sees z c A) us y l w q) (λ u x k r. marshal_same v u c A (sees z c A) x r))
       alike (Unmarshal A t) c G T us z i e h =
           and t c G TStr us z c _ _ i e h.1 (alike t c G TStr us z i e h.1) (λ v y g p. unmarshal_same v c A y (later arrives mode z y g c i) (known_later arrives mode z y g c i A h.2))
-      alike (Packed A v) c G T us z i e h = absurd h
-      alike (Val A v) c G T us z i e h = refl
+      alike (Val A v) c G T us z i e h = absurd h
+      alike (Evaluated A v) c G T us z i e h = refl
       alike (Bracket x A t) c G T us z i e h = same_after (bare_value x) (bare_value c) (eval mode t apps x [] z) (lean.eval (bare x t) bare_apps x [] z) (λ v. across mode A x c v) (alike t x [] (sees z x A) [] z (i.0, h.3) refl h.2) (λ v z. across_same mode A x c v z)
 
       all_alike : (ts : Exprs) (c : Home) (G : List Typ) (Ts : Typs) (us : Written) (z : World) → Here z c → WrittenTyped mode z.environment us c G → AllTyped mode z.environment ts c G Ts → Same (bare_values c) (eval_all mode ts apps c us z) (lean.eval_all (bare_all c ts) bare_apps c (bare_env c us) z)

@@ -3,7 +3,7 @@ use Rattle.std.proofs.Common.{◌≡◌, refl}
 use Rattle.std.specs.Int.{int_wrap}
 use Rattle.std.specs.Prelude.{ℕ, pos, true, false, [], ◌∷◌, Some, None, codes}
 use Rattle.ac_types.specs.Types.{Typ, TInt, TBool, TStr, TUnit, TExn, TTuple, TList, TOpt, TFun, typs}
-use Rattle.ac_terms.specs.Terms.{Main, In, PExn, Expr, Boolean, Str, Unit', Exn, ExnOf, Tuple, Nil, Empty, Present, Cons, Var, Own, Ref, Lam, App, Try, Raise, Prim, Val, Bracket, exprs, arms, Value, VInt, VBool, VStr, VUnit, VExn, VTuple, VNil, VCons, VAbsent, VPresent, VLam, VProxy, VSeal, no_values, value}
+use Rattle.ac_terms.specs.Terms.{Main, In, PExn, Expr, Boolean, Str, Unit', Exn, ExnOf, Tuple, Nil, Empty, Present, Cons, Var, Own, Ref, Lam, App, Try, Raise, Prim, Evaluated, Bracket, exprs, arms, Value, VInt, VBool, VStr, VUnit, VExn, VTuple, VNil, VCons, VAbsent, VPresent, VLam, VProxy, VSeal, no_values, value}
 use Rattle.ac_rules.specs.Views.{Plain, Coloured}
 use Rattle.ac_rules.proofs.Samples.{c_name, t, c_t, one_entry, made}
 use Rattle.ac_meaning.specs.Worlds.{fresh}
@@ -57,7 +57,7 @@ no_seal_in_plain_mode = refl
 
 -- a name that the outer home opens: the seal is taken off
 abbrev sealed : Expr
-sealed = Val c_t (VSeal (In 0) c_name t (VInt (pos 5)))
+sealed = Evaluated c_t (VSeal (In 0) c_name t (VInt (pos 5)))
 
 pub a_seal_is_taken_off : iter (step Coloured 0) 9 (At (Bracket (In 0) TInt (Bracket Main c_t sealed)) (fresh one_entry [] false)) ≡ Over (Returned (VInt (pos 5)) (made_by one_entry 0))
 a_seal_is_taken_off = refl
@@ -73,7 +73,7 @@ no_int = refl
 pub no_function : over_steps 9 one_entry Coloured (Bracket (In 0) (TFun TInt TInt) (number 5)) 0 ≡ Over Stuck
 no_function = refl
 
-pub no_seal_of_that_name : over_steps 9 two_entries Coloured (Bracket (In 1) c_t (Val d_t (VSeal (In 1) d_name t (VInt (pos 5))))) 0 ≡ Over Stuck
+pub no_seal_of_that_name : over_steps 9 two_entries Coloured (Bracket (In 1) c_t (Evaluated d_t (VSeal (In 1) d_name t (VInt (pos 5))))) 0 ≡ Over Stuck
 no_seal_of_that_name = refl
 
 -- a proxy hands its argument inwards and its result outwards, and counts nothing itself: `C.make 4`

@@ -8,11 +8,11 @@ use Rattle.ac_types.specs.First.{given}
 use Rattle.ac_types.proofs.Same.{both_true, same_eq}
 use Rattle.ac_types.proofs.FirstLaws.{none≢some, some_eq, given_some}
 use Rattle.ac_types.specs.Types.{Bytes, Typ, TInt, TBool, TStr, TUnit, TExn, TTuple, TList, TOpt, TFun, TAbs, TMine, Typs, no_types, typ, same, same_all, agree, mentions, mentions_of_all}
-use Rattle.ac_terms.specs.Terms.{Home, Pattern, PWild, PVar, PInt, PBool, PStr, PUnit, PTuple, PNil, PCons, PAbsent, PPresent, PExn, PExnOf, Patterns, no_patterns, pattern', Expr, Int, Boolean, Str, Unit', Exn, ExnOf, Tuple, Nil, Empty, Present, Cons, Var, Own, Ref, Lam, Rec, App, Let, If, Seq, Match, Try, Raise, Prim, Marshal, Unmarshal, Packed, Val, Bracket, Exprs, no_exprs, expr, Arms, no_arms, arm, PValue, KInt, KBool, KStr, KUnit, KExn, KTuple, KList, KAbsent, KPresent, KFun, PValues, no_pvalues, pvalue, Value, VInt, VBool, VStr, VUnit, VExn, VTuple, VAbsent, VPresent, VLam, VRec, VProxy}
+use Rattle.ac_terms.specs.Terms.{Home, Pattern, PWild, PVar, PInt, PBool, PStr, PUnit, PTuple, PNil, PCons, PAbsent, PPresent, PExn, PExnOf, Patterns, no_patterns, pattern', Expr, Int, Boolean, Str, Unit', Exn, ExnOf, Tuple, Nil, Empty, Present, Cons, Var, Own, Ref, Lam, Rec, App, Let, If, Seq, Match, Try, Raise, Prim, Marshal, Unmarshal, Val, Evaluated, Bracket, Exprs, no_exprs, expr, Arms, no_arms, arm, PValue, KInt, KBool, KStr, KUnit, KExn, KTuple, KList, KAbsent, KPresent, KFun, PValues, no_pvalues, pvalue, Value, VInt, VBool, VStr, VUnit, VExn, VTuple, VAbsent, VPresent, VLam, VRec, VProxy}
 use Rattle.ac_terms.specs.Defs.{Environment, Entry, Def, AModule, AnImport, AMark, signature, names, find_name}
 use Rattle.ac_terms.specs.Bounds.{fits_term, fit_terms, fit_arms, fits_value, fit_values}
-use Rattle.ac_terms.specs.Primitives.{Rule, arithmetic, comparison, by_rules, primitives, primitive_type}
-use Rattle.ac_terms.specs.Typing.{last_of}
+use Rattle.ac_terms.specs.PrimitiveTypes.{Rule, arithmetic, comparison, by_rules, primitives, primitive_type}
+use Rattle.ac_terms.specs.TermTyping.{last_of}
 use Rattle.ac_rules.specs.Views.{Mode, Plain, Coloured, view, type_of_entry, representation, opened, unsealed, head, rounds, has_name, opens, is_known, are_known}
 use Rattle.ac_rules.specs.Typing.{Scope, bind, bind_all, all_of, HasType, type_of, seen, holds, all_hold, each_holds, tuple_parts, list_item, option_item, is_function, is_function_home, is_home, types_of, arm_types, variables, variables_of_all, are_all, one_of, a_list, an_option, value_in}
 use Rattle.ac_rules.specs.Coherent.{IsCoherent}
@@ -302,8 +302,8 @@ module _ (E : Environment) (coherent : IsCoherent E) (known : KnownTypes E) (mod
     typed_from (Unmarshal A e) S T s h =
         let p = rule-Unmarshal Coloured E S A e T h in
         (ap low (sym p.2) ∙ low_seen S.home A p.1, at_type e S.home (lows S.vars) _ _ (lower_str E mode) (typed_from e S TStr s p.0), p.1)
-    typed_from (Packed A v) S T s h = absurd (true≢false (sym s))
     typed_from (Val A v) S T s h = absurd (true≢false (sym s))
+    typed_from (Evaluated A v) S T s h = absurd (true≢false (sym s))
     typed_from (Bracket c A e) S T s h = absurd (true≢false (sym s))
 
     all_typed_from : (es : Exprs) (S : Scope) (Ts : Typs) → are_source es ≡ true → types_of Coloured false E S es ≡ Some Ts → AllTyped mode E es S.home (lows S.vars) (all_low Ts)
@@ -499,11 +499,11 @@ module _ (E : Environment) (coherent : IsCoherent E) (known : KnownTypes E) (mod
     rebuilt_typed (Unmarshal A e) S T s h o =
         let p = rule-Unmarshal Coloured E S A e T h in
         (ap low (sym p.2) ∙ low_seen S.home A p.1, at_type (r S.home e) S.home (lows S.vars) _ _ (lower_str E mode) (rebuilt_typed e S TStr (both_true _ _ s).1 p.0 o), p.1)
-    rebuilt_typed (Packed A v) S T s h o =
+    rebuilt_typed (Val A v) S T s h o =
         let p = rule-Packed Coloured E S A v T h in
         let q : low T ≡ view mode E S.home A = ap low (sym p.2) ∙ low_seen S.home A p.1 in
         (q, subst (λ X. ValueTyped mode E (rebuilt mode E S.home A v) S.home X) (sym q) (rebuilt_ok v S.home A p.1 o (both_true _ _ s).1 p.0), p.1)
-    rebuilt_typed (Val A v) S T s h o = absurd (true≢false (sym s))
+    rebuilt_typed (Evaluated A v) S T s h o = absurd (true≢false (sym s))
     rebuilt_typed (Bracket c A e) S T s h o = absurd (true≢false (sym s))
 
     rebuilt_terms_typed : (es : Exprs) (S : Scope) (Ts : Typs) → fit_terms true es ≡ true → types_of Coloured false E S es ≡ Some Ts → IsHome mode E S.home → AllTyped mode E (rebuilt_terms mode E S.home es) S.home (lows S.vars) (all_low Ts)

@@ -2,20 +2,20 @@
 use Rattle.std.proofs.Common.{◌≡◌, sym, ap, ap₂, ◌∙◌, subst, List, [], ◌∷◌, ◌++◌, Some}
 use Rattle.std.specs.Prelude.{ℕ, option_map, slice_get}
 use Rattle.ac_types.specs.Types.{Typ, TBool, TStr, TExn, TList, TFun, TAbs, Typs}
-use Rattle.ac_terms.specs.Terms.{Home, Pattern, PWild, PVar, PInt, PBool, PStr, PUnit, PTuple, PNil, PCons, PAbsent, PPresent, PExn, PExnOf, Patterns, no_patterns, pattern', Expr, Int, Boolean, Str, Unit', Exn, ExnOf, Tuple, Nil, Empty, Present, Cons, Var, Own, Ref, Lam, Rec, App, Let, If, Seq, Match, Try, Raise, Prim, Marshal, Unmarshal, Packed, Val, Bracket, Exprs, no_exprs, expr, Arms, no_arms, arm, Value, VInt, VBool, VStr, VUnit, VExn, VTuple, VNil, VCons, VAbsent, VPresent, VLam, VRec, VProxy, VSeal, Values, no_values, value}
+use Rattle.ac_terms.specs.Terms.{Home, Pattern, PWild, PVar, PInt, PBool, PStr, PUnit, PTuple, PNil, PCons, PAbsent, PPresent, PExn, PExnOf, Patterns, no_patterns, pattern', Expr, Int, Boolean, Str, Unit', Exn, ExnOf, Tuple, Nil, Empty, Present, Cons, Var, Own, Ref, Lam, Rec, App, Let, If, Seq, Match, Try, Raise, Prim, Marshal, Unmarshal, Val, Evaluated, Bracket, Exprs, no_exprs, expr, Arms, no_arms, arm, Value, VInt, VBool, VStr, VUnit, VExn, VTuple, VNil, VCons, VAbsent, VPresent, VLam, VRec, VProxy, VSeal, Values, no_values, value}
 use Rattle.ac_terms.specs.Defs.{Environment, Field}
 use Rattle.ac_rules.specs.Views.{Mode, Coloured}
 use Rattle.ac_meaning.specs.Substitution.{Written}
-use Rattle.ac_rules.specs.Growth.{Extends}
+use Rattle.ac_rules.specs.Growth.{Widening}
 use Rattle.ac_meaning.specs.Typed.{own_type, seen, Known, IsHome, Fits, AllFit, Typed, AllTyped, ArmsTyped, ValueTyped, ValuesTyped, WrittenTyped}
 use Rattle.ac_meaning.proofs.KnownNames.{known_types}
 use Rattle.ac_rules.proofs.Growth.{known_more, home_more, opens_same, fields_same, view_same, value_more}
 
-module _ (E F : Environment) (g : Extends E F) where
+module _ (E F : Environment) (g : Widening E F) where
   pub own_same : (c : Home) (f : ℕ) (A : Typ) → IsHome Coloured E c → own_type E c f ≡ Some A → own_type F c f ≡ Some A
   own_same c f A h e = ap (λ fs. option_map (λ (x : Field). x.ty) (slice_get fs f)) (fields_same E F g c h) ∙ e
 
-module _ (mode : Mode) (E F : Environment) (g : Extends E F) where
+module _ (mode : Mode) (E F : Environment) (g : Widening E F) where
   -- what is seen
   same : (c : Home) (A : Typ) → IsHome mode E c → Known mode E A → seen mode E c A ≡ seen mode F c A
   same c A h k = sym (view_same E F g mode c A h k)
@@ -85,8 +85,8 @@ module _ (mode : Mode) (E F : Environment) (g : Extends E F) where
     typed_more (Marshal A m e) c G T o h =
         (h.0, typed_more m c G TStr o h.1, subst (λ X. Typed mode F e c G X) (same c A o h.3) (typed_more e c G (seen mode E c A) o h.2), known_more E F g A h.3)
     typed_more (Unmarshal A e) c G T o h = (still c A T o h.2 h.0, typed_more e c G TStr o h.1, known_more E F g A h.2)
-    typed_more (Packed A v) c G T o h = absurd h
-    typed_more (Val A v) c G T o h = (still c A T o h.2 h.0, value_typed_more v c T o h.1, known_more E F g A h.2)
+    typed_more (Val A v) c G T o h = absurd h
+    typed_more (Evaluated A v) c G T o h = (still c A T o h.2 h.0, value_typed_more v c T o h.1, known_more E F g A h.2)
     typed_more (Bracket b A e) c G T o h =
         (still c A T o h.1 h.0, known_more E F g A h.1, subst (λ X. Typed mode F e b [] X) (same b A h.3 h.1) (typed_more e b [] (seen mode E b A) h.3 h.2), home_more E F g b h.3)
 

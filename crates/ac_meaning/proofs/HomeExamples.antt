@@ -4,8 +4,8 @@ use Rattle.std.specs.Int.{int_wrap}
 use Rattle.std.specs.Prelude.{pos, [], ◌∷◌, ◌++◌, Some, None, codes}
 use Rattle.ac_types.specs.Types.{TInt, TFun}
 use Rattle.ac_types.specs.Sigs.{Number, Exact}
-use Rattle.ac_terms.specs.Terms.{Main, In, PVar, PExn, PInt, Expr, Exn, Var, Own, Ref, Lam, App, Let, Match, Try, Raise, Prim, Val, Bracket, arms, VInt, VLam, VProxy, VSeal}
-use Rattle.ac_terms.specs.Defs.{Environment, Module, AModule, AnImport, Here}
+use Rattle.ac_terms.specs.Terms.{Main, In, PVar, PExn, PInt, Expr, Exn, Var, Own, Ref, Lam, App, Let, Match, Try, Raise, Prim, Evaluated, Bracket, arms, VInt, VLam, VProxy, VSeal}
+use Rattle.ac_terms.specs.Defs.{Environment, Module, AModule, AnImport, Own'}
 use Rattle.ac_rules.specs.Views.{Plain, Coloured}
 use Rattle.ac_rules.proofs.Samples.{c_name, t, c_t, one_entry, wanted}
 use Rattle.ac_meaning.specs.Worlds.{exception}
@@ -28,8 +28,8 @@ calling_module = record {
 abbrev three_entries : Environment
 three_entries =
     one_entry ++
-    record { def = AnImport (record wanted { constraint = Exact c_name }); name = Some c_name; seen = Here; link = Some 0 } ∷
-    record { def = AModule calling_module; name = Some (codes "k"); seen = Here; link = None } ∷ []
+    record { def = AnImport (record wanted { constraint = Exact c_name }); name = Some c_name; seen = Own'; link = Some 0 } ∷
+    record { def = AModule calling_module; name = Some (codes "k"); seen = Own'; link = None } ∷ []
 
 -- through an import by exact name there is one bracket, that of the module
 pub one_proxy :
@@ -52,7 +52,7 @@ two_brackets = refl
 
 -- a seal is taken off whose home is neither that of the bracket nor that around it
 pub a_third_home :
-    over_steps 9 three_entries Coloured (Bracket (In 0) TInt (Bracket Main c_t (Val c_t (VSeal (In 1) c_name t (VInt (pos 5)))))) 0 ≡
+    over_steps 9 three_entries Coloured (Bracket (In 0) TInt (Bracket Main c_t (Evaluated c_t (VSeal (In 1) c_name t (VInt (pos 5)))))) 0 ≡
     Over (Returned (VInt (pos 5)) (made_by three_entries 0))
 a_third_home = refl
 

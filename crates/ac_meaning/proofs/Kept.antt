@@ -7,7 +7,7 @@ use Rattle.ac_types.proofs.Same.{and_true, bytes_refl}
 use Rattle.ac_types.proofs.FirstLaws.{none≢some, some_eq}
 use Rattle.ac_types.specs.First.{or_else}
 use Rattle.ac_types.specs.Types.{Bytes, Typ, TInt, TBool, TStr, TUnit, TExn, TTuple, TList, TOpt, TFun, TAbs, TMine, Typs, no_types, typ, mentions, mentions_of_all}
-use Rattle.ac_terms.specs.Terms.{Home, Main, In, Pattern, Expr, Int, Boolean, Str, Unit', Exn, ExnOf, Tuple, Nil, Empty, Present, Cons, Var, Own, Ref, Lam, Rec, App, Let, If, Seq, Match, Try, Raise, Prim, Marshal, Unmarshal, Packed, Val, Bracket, Exprs, no_exprs, expr, Arms, no_arms, arm, Value, VInt, VBool, VStr, VUnit, VExn, VTuple, VNil, VCons, VAbsent, VPresent, VLam, VRec, VProxy, VSeal, Values, value}
+use Rattle.ac_terms.specs.Terms.{Home, Main, In, Pattern, Expr, Int, Boolean, Str, Unit', Exn, ExnOf, Tuple, Nil, Empty, Present, Cons, Var, Own, Ref, Lam, Rec, App, Let, If, Seq, Match, Try, Raise, Prim, Marshal, Unmarshal, Val, Evaluated, Bracket, Exprs, no_exprs, expr, Arms, no_arms, arm, Value, VInt, VBool, VStr, VUnit, VExn, VTuple, VNil, VCons, VAbsent, VPresent, VLam, VRec, VProxy, VSeal, Values, value}
 use Rattle.ac_terms.specs.Defs.{Environment, Field}
 use Rattle.ac_code.specs.Constants.{Const, CInt, CBool, CStr, CUnit, CPart, Answer, Gives, Prints, Sends, Receives, Fails, NoSense, meaning}
 use Rattle.ac_rules.specs.Plain.{packed}
@@ -21,7 +21,7 @@ use Rattle.ac_outside.specs.Frames.{Frame, Whole, Bad, AtEnd, next_frame}
 use Rattle.ac_meaning.specs.Acts.{Act, Is, Goes, Turns, Applies, Raises, Wrong, becomes, or_raises, within, part, Spent, State, At, Over, after}
 use Rattle.ac_meaning.specs.Substitution.{Written, inst}
 use Rattle.ac_meaning.specs.Matching.{fit, chosen}
-use Rattle.ac_meaning.specs.Primitives.{spelled, primitive, answer_at, answered, sending, receiving, exception_of, exception_value, thrown}
+use Rattle.ac_meaning.specs.PrimitiveSteps.{spelled, primitive, answer_at, answered, sending, receiving, exception_of, exception_value, thrown}
 use Rattle.ac_meaning.specs.Brackets.{enclosed, all_enclosed, is_function_value, inside, unsealed, at_name, bracket_step}
 use Rattle.ac_meaning.specs.References.{own_field, referred, Route, Nowhere, Once, Twice, route, routed}
 use Rattle.ac_meaning.specs.Packing.{Packing, Refuses, Packs, packs, packing, Arrival, Unfit, Brings, arrival, brings, marshal_step, unmarshal_step}
@@ -38,7 +38,7 @@ use Rattle.ac_meaning.proofs.LinkTypes.{coherent-Links}
 use Rattle.ac_meaning.proofs.Shapes.{shape, values_shape, no_values_shape, inst_typed, fit_typed}
 use Rattle.ac_meaning.proofs.Sound.{IsLinked, own_home, value_home}
 use Rattle.ac_meaning.proofs.Safe.{AnswerOf, prim_ok, consts_ok}
-use Rattle.ac_meaning.specs.States.{IsTyped}
+use Rattle.ac_meaning.specs.TypedStates.{IsTyped}
 
 -- what is next is no fault, and what it comes to is typed over the definitions then
 abbrev pub ActOk : {S A : Type 0} → Environment → (Environment → S → Type 0) → (Environment → A → Type 0) → Act S A → Type 0
@@ -117,7 +117,7 @@ module _ (arrives : Arrives) (mode : Mode) where
     one_part c A T wrap done a h w k = within_ok E (TermOf c A) (TermOf c T) (ValueOf c A) (ValueOf c T) wrap done Raises a coherent h w k (λ x. tt)
 
     -- a type of a constant is seen as itself
-    const_at : (c : Home) (T U : Typ) (v : Value) → sees c T ≡ U → IsKnown T → ValueTyped mode E v c U → Good c (sees c T) (Goes (Val T v))
+    const_at : (c : Home) (T U : Typ) (v : Value) → sees c T ≡ U → IsKnown T → ValueTyped mode E v c U → Good c (sees c T) (Goes (Evaluated T v))
     const_at c T U v e k h = (refl, subst (λ X. ValueTyped mode E v c X) (sym e) h, k)
 
     text_ok : (c : Home) (k : ℕ) (v : Value) (T : Typ) → T ≡ TExn → ValueTyped mode E v c TStr → Good c T (exception_of k v)
@@ -189,7 +189,7 @@ module _ (arrives : Arrives) (mode : Mode) where
         let a : A ≡ sees c S = cc in
         let r : T ≡ sees c U = cc in
         let both : IsKnown (TFun S U) = all_append (is_known E) (mentions S) (mentions U) h.1 h.2 in
-        let function : Typed mode E (Val (TFun S U) f) b [] (TFun (sees b S) (sees b U)) = (sym (seen_fun E mode b S U), h.3, both) in
+        let function : Typed mode E (Evaluated (TFun S U) f) b [] (TFun (sees b S) (sees b U)) = (sym (seen_fun E mode b S U), h.3, both) in
         let argument : Typed mode E (enclosed c S w) b [] (sees b S) = (refl, h.1, (refl, subst (λ X. ValueTyped mode E w c X) a k, h.1), i) in
         (r, h.2, (sees b S, function, argument), h.4)
     apply_ok v c w A T i h k = let s : is_function_value v ≡ true = shape mode E v c (TFun A T) (TFun A T) refl h in absurd (true≢false (sym s))
@@ -282,7 +282,7 @@ module _ (arrives : Arrives) (mode : Mode) where
         let e : inside n t v ≡ Some (s.0, s.1) = ap (inside n t) s.2 ∙ inside_is s.0 n t s.1 in
         let it : ValueTyped mode E (VSeal s.0 n t s.1) c (TAbs n t) = (refl, s.3, s.4, q, s.5, s.6) in
         let there : ValueTyped mode E v c (sees c (TAbs n t)) = subst (λ X. ValueTyped mode E v c X) (sym (view_shut E mode c n t q)) (subst (λ x. ValueTyped mode E x c (TAbs n t)) (sym s.2) it) in
-        subst (λ o. Good c (sees c (TAbs n t)) (cond (is_some o) (Goes (Val (TAbs n t) v)) Wrong)) (sym e) (refl, there, k)
+        subst (λ o. Good c (sees c (TAbs n t)) (cond (is_some o) (Goes (Evaluated (TAbs n t) v)) Wrong)) (sym e) (refl, there, k)
 
     bracket_ok : (T : Typ) (b c : Home) (v : Value) → AtHome b → IsKnown T → ValueTyped mode E v b (sees b T) → Good c (sees c T) (bracket_step mode E b c T v)
     bracket_ok TInt b c v i k h = let s = shape mode E v b (sees b TInt) TInt (seen_int E mode b) h in subst (λ x. Good c (sees c TInt) (bracket_step mode E b c TInt x)) (sym s.1) (const_at c TInt TInt (VInt s.0) (seen_int E mode c) k refl)
@@ -334,7 +334,7 @@ module _ (arrives : Arrives) (mode : Mode) where
       kept (Empty A) c T i h = h
       kept (Lam A e) c T i h = h
       kept (Rec A B e) c T i h = h
-      kept (Val A v) c T i h = h.1
+      kept (Evaluated A v) c T i h = h.1
       kept (ExnOf k e) c T i h = one_part c TStr T (ExnOf k) (exception_of k) (look mode z c e) (kept e c TStr i h.1) (λ F s g p. (h.0, p)) (λ v p. text_ok c k v T h.0 p)
       kept (Tuple es) c T i h = within_ok E (TermsOf c h.0) (TermOf c T) (ValuesOf c h.0) (ValueOf c T) Tuple (λ vs. Is (VTuple vs)) Raises (look_all mode z c es) coherent (all_kept es c h.0 i h.2) (λ F s g p. (h.0, h.1, p)) (λ vs p. (h.0, h.1, p)) (λ x. tt)
       kept (Present e) c T i h = one_part c h.0 T Present (λ v. Is (VPresent v)) (look mode z c e) (kept e c h.0 i h.2) (λ F s g p. (h.0, h.1, p)) (λ v p. (h.0, h.1, p))
@@ -385,7 +385,7 @@ module _ (arrives : Arrives) (mode : Mode) where
           within_ok E (TermOf b (sees b A)) (TermOf c T) (ValueOf b (sees b A)) (ValueOf c T) (Bracket b A) (bracket_step mode E b c A) Raises (look mode z b e) coherent (kept e b (sees b A) h.3 h.2)
           (λ F s g p. (h.0 ∙ sees_more F c i g A h.1, know_more F g A h.1, at_more F b h.3 g A h.1 s p, home_more E F g.extends b h.3)) (λ v p. subst (λ X. Good c X (bracket_step mode E b c A v)) (sym h.0) (bracket_ok A b c v h.3 h.1 p)) (λ x. tt)
       kept (Var k) c T i h = absurd (none≢some h)
-      kept (Packed A v) c T i h = absurd h
+      kept (Val A v) c T i h = absurd h
 
       pub all_kept : (es : Exprs) (c : Home) (Ts : Typs) → AtHome c → AllTyped mode E es c [] Ts → AllGood c Ts (look_all mode z c es)
       all_kept no_exprs c Ts i h = h

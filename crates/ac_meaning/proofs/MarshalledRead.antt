@@ -4,7 +4,7 @@ use Rattle.std.specs.Prelude.{IsTrue}
 use native.Mathlib.Omega.{arith}
 use Rattle.ac_types.specs.First.{or_else}
 use Rattle.ac_types.specs.Types.{Bytes, Typ, TStr, TExn, TBool, TFun, TList, Typs}
-use Rattle.ac_terms.specs.Terms.{Home, Main, Expr, Int, Boolean, Str, Unit', Exn, ExnOf, Tuple, Nil, Empty, Present, Cons, Var, Own, Ref, Lam, Rec, App, Let, If, Seq, Match, Try, Raise, Prim, Marshal, Unmarshal, Packed, Val, Bracket, Exprs, no_exprs, expr, PValue, Value, VStr}
+use Rattle.ac_terms.specs.Terms.{Home, Main, Expr, Int, Boolean, Str, Unit', Exn, ExnOf, Tuple, Nil, Empty, Present, Cons, Var, Own, Ref, Lam, Rec, App, Let, If, Seq, Match, Try, Raise, Prim, Marshal, Unmarshal, Val, Evaluated, Bracket, Exprs, no_exprs, expr, PValue, Value, VStr}
 use Rattle.ac_terms.specs.Defs.{Environment}
 use Rattle.ac_terms.specs.Spelling.{two}
 use Rattle.ac_terms.specs.Bounds.{fits_term}
@@ -25,7 +25,7 @@ use Rattle.ac_meaning.specs.Packing.{Packing, Refuses, Packs, packs, packing, la
 use Rattle.ac_meaning.specs.Reduction.{look, step}
 use Rattle.ac_meaning.specs.Laws.{IsTypedProgram}
 use Rattle.ac_meaning.specs.Typed.{IsHome, Typed, AllTyped, ValueTyped, seen, Known}
-use Rattle.ac_meaning.specs.States.{IsTyped}
+use Rattle.ac_meaning.specs.TypedStates.{IsTyped}
 use Rattle.ac_meaning.specs.Redexes.{Redex, redex, redex_all, stands, crosses}
 use Rattle.ac_meaning.specs.ReadBack.{IsReadBack, Marshals}
 use Rattle.ac_meaning.proofs.Homes.{lower}
@@ -90,7 +90,7 @@ module _ (mode : Mode) (E : Environment) where
     redex_fine (Empty A) c T i h w = tt
     redex_fine (Lam A e) c T i h w = tt
     redex_fine (Rec A B e) c T i h w = tt
-    redex_fine (Val A v) c T i h w = tt
+    redex_fine (Evaluated A v) c T i h w = tt
     redex_fine (ExnOf k e) c T i h w = redex_fine e c TStr i h.1 w.1
     redex_fine (Tuple es) c T i h w = all_redex_fine es c h.0 i h.2 w.1
     redex_fine (Present e) c T i h w = redex_fine e c h.0 i h.2 w
@@ -114,7 +114,7 @@ module _ (mode : Mode) (E : Environment) where
     redex_fine (Bracket b A e) c T i h w =
         or_fine (redex b e) (crosses c (Bracket b A e) (is_function A)) (redex_fine e b (seen mode E b A) h.3 h.2 w) (crosses_fine c (Bracket b A e) (is_function A) (T, i, h, w))
     redex_fine (Var k) c T i h w = (T, i, h, w)
-    redex_fine (Packed A v) c T i h w = absurd h
+    redex_fine (Val A v) c T i h w = absurd h
 
     all_redex_fine : (es : Exprs) (c : Home) (Ts : Typs) → IsHome mode E c → AllTyped mode E es c [] Ts → AllWithin false es → RedexFine (redex_all c es)
     all_redex_fine no_exprs c Ts i h w = tt

@@ -1,7 +1,7 @@
 -- A typed value is packed alike with brackets and without.
 use Rattle.std.proofs.Common.{◌≡◌, refl, ap, ap₂, Option, Some, None, List}
 use Rattle.ac_types.specs.Types.{Typ, TList, Typs, no_types, typ}
-use Rattle.ac_terms.specs.Terms.{Home, Expr, Int, Boolean, Str, Unit', Exn, ExnOf, Tuple, Nil, Empty, Present, Cons, Var, Own, Ref, Lam, Rec, App, Let, If, Seq, Match, Try, Raise, Prim, Marshal, Unmarshal, Packed, Val, Bracket, Exprs, no_exprs, expr, Arms, no_arms, arm, PValue, KTuple, KPresent, pvalue, Value, VInt, VBool, VStr, VUnit, VExn, VTuple, VNil, VCons, VAbsent, VPresent, VLam, VRec, VProxy, VSeal, Values, no_values, value}
+use Rattle.ac_terms.specs.Terms.{Home, Expr, Int, Boolean, Str, Unit', Exn, ExnOf, Tuple, Nil, Empty, Present, Cons, Var, Own, Ref, Lam, Rec, App, Let, If, Seq, Match, Try, Raise, Prim, Marshal, Unmarshal, Val, Evaluated, Bracket, Exprs, no_exprs, expr, Arms, no_arms, arm, PValue, KTuple, KPresent, pvalue, Value, VInt, VBool, VStr, VUnit, VExn, VTuple, VNil, VCons, VAbsent, VPresent, VLam, VRec, VProxy, VSeal, Values, no_values, value}
 use Rattle.ac_terms.specs.Defs.{Environment}
 use Rattle.ac_rules.specs.Views.{Mode, head}
 use Rattle.ac_rules.specs.Typing.{tuple_parts, list_item, option_item}
@@ -69,8 +69,8 @@ module _ (mode : Mode) (E : Environment) where
     term_alike (Prim k es) c G X w = ap (Prim k) (terms_alike es c G w.0 w.1)
     term_alike (Marshal T m e) c G X w = ap₂ (Marshal T) (term_alike m c G _ w.1) (term_alike e c G _ w.2)
     term_alike (Unmarshal T e) c G X w = ap (Unmarshal T) (term_alike e c G _ w.1)
-    term_alike (Packed T v) c G X w = absurd w
-    term_alike (Val T v) c G X w = ap (Packed T) (packed_alike v c X T w.1)
+    term_alike (Val T v) c G X w = absurd w
+    term_alike (Evaluated T v) c G X w = ap (Val T) (packed_alike v c X T w.1)
     term_alike (Bracket b T e) c G X w = refl
 
     terms_alike : (es : Exprs) (c : Home) (G : List Typ) (Xs : Typs) → AllTyped mode E es c G Xs → bare_packed_terms E (bare_all c es) ≡ packed_terms E c es

@@ -8,12 +8,12 @@ use mathlib.Core.Bool.{true≢false}
 use native.Mathlib.Omega.{arith}
 use Rattle.ac_types.proofs.Same.{both_true, and_true}
 use Rattle.ac_types.specs.Types.{Bytes, Typ, TInt, TBool, TStr, TUnit, TExn, TTuple, TList, TOpt, TFun, TAbs, Typs, no_types, typ, same, agree, mentions, mentions_of_all, is_small}
-use Rattle.ac_terms.specs.Terms.{Home, Expr, Int, Boolean, Str, Unit', Exn, ExnOf, Tuple, Nil, Empty, Present, Cons, Var, Own, Ref, Lam, Rec, App, Let, If, Seq, Match, Try, Raise, Prim, Marshal, Unmarshal, Packed, Val, Bracket, Exprs, no_exprs, expr, Arms, no_arms, arm, PValue, KInt, KBool, KStr, KUnit, KExn, KTuple, KList, KAbsent, KPresent, KFun, no_pvalues, pvalue, Value, VInt, VBool, VStr, VUnit, VExn, VTuple, VNil, VCons, VAbsent, VPresent, VLam, VRec, VProxy, VSeal, Values, no_values, value}
+use Rattle.ac_terms.specs.Terms.{Home, Expr, Int, Boolean, Str, Unit', Exn, ExnOf, Tuple, Nil, Empty, Present, Cons, Var, Own, Ref, Lam, Rec, App, Let, If, Seq, Match, Try, Raise, Prim, Marshal, Unmarshal, Val, Evaluated, Bracket, Exprs, no_exprs, expr, Arms, no_arms, arm, PValue, KInt, KBool, KStr, KUnit, KExn, KTuple, KList, KAbsent, KPresent, KFun, no_pvalues, pvalue, Value, VInt, VBool, VStr, VUnit, VExn, VTuple, VNil, VCons, VAbsent, VPresent, VLam, VRec, VProxy, VSeal, Values, no_values, value}
 use Rattle.ac_terms.specs.Defs.{Environment}
 use Rattle.ac_terms.specs.Bounds.{is_four, fits_type, fits_term, fit_terms, fit_arms, fits_value, fit_values, has_small_types}
 use Rattle.ac_terms.specs.Spelling.{value_count}
 use Rattle.ac_terms.specs.Parts.{value_parts}
-use Rattle.ac_terms.specs.Primitives.{is_exception}
+use Rattle.ac_terms.specs.PrimitiveTypes.{is_exception}
 use Rattle.ac_rules.specs.Views.{Mode, Plain, Coloured, view, head, opens, is_known, are_known}
 use Rattle.ac_rules.specs.Typing.{is_function, is_function_home, all_of, tuple_parts, list_item, option_item, type_of, seen as seen_type, holds, all_hold, each_holds}
 use Rattle.ac_rules.specs.Plain.{stays, where_there, in_front, may_travel, travelling}
@@ -236,8 +236,8 @@ module _ (mode : Mode) (E : Environment) (coherent : IsCoherent E) where
     still (Prim k es) c G X t w = all_still es c G t.0 t.1 (both_true _ _ w).1
     still (Marshal A a b) c G X t w = let p = both_true _ _ w in (still a c G _ t.1 (both_true _ _ p.0).1, still b c G _ t.2 p.1)
     still (Unmarshal A e) c G X t w = still e c G _ t.1 (both_true _ _ w).1
-    still (Packed A v) c G X t w = absurd t
-    still (Val A v) c G X t w = good v c X A t.2 t.1 (seen_of v c X A (record { from = A; known = t.2; seen = t.0; to = refl })) (both_true _ _ w).1
+    still (Val A v) c G X t w = absurd t
+    still (Evaluated A v) c G X t w = good v c X A t.2 t.1 (seen_of v c X A (record { from = A; known = t.2; seen = t.0; to = refl })) (both_true _ _ w).1
     still (Bracket b A e) c G X t w = absurd (true≢false (sym w))
 
     all_still : (es : Exprs) (c : Home) (G : List Typ) (Ts : Typs) → AllTyped mode E es c G Ts → fit_terms true (packed_terms E (bare_all c es)) ≡ true → AreStill (IsOf E) (packed_terms E (bare_all c es))

@@ -9,11 +9,11 @@ use Rattle.std.specs.Int.{int_wrap}
 use Rattle.std.specs.Fmt.{digits}
 use Rattle.ac_types.specs.Types.{Bytes, Typ, TInt, TStr, TBool, TUnit, TTuple, TList, TFun, typs}
 use Rattle.ac_types.specs.Words.{is_reserved}
-use Rattle.ac_terms.specs.Terms.{Main, In, Expr, Str, Unit', Var, Ref, Lam, App, Prim, Marshal, Unmarshal, Packed, Val, exprs, Value, VInt, VStr, VUnit, VTuple, VNil, VCons, VLam, VProxy, no_values, value, KInt, KStr, KFun, Present, KUnit}
-use Rattle.ac_terms.specs.Defs.{Environment, Entry, AMark, Here, AModule, Packet}
+use Rattle.ac_terms.specs.Terms.{Main, In, Expr, Str, Unit', Var, Ref, Lam, App, Prim, Marshal, Unmarshal, Val, Evaluated, exprs, Value, VInt, VStr, VUnit, VTuple, VNil, VCons, VLam, VProxy, no_values, value, KInt, KStr, KFun, Present, KUnit}
+use Rattle.ac_terms.specs.Defs.{Environment, Entry, AMark, Own', AModule, Packet}
 use Rattle.ac_terms.specs.Nesting.{value_nesting}
 use Rattle.ac_terms.specs.Heads.{packed_heads}
-use Rattle.ac_terms.specs.Reading.{packet_of}
+use Rattle.ac_terms.specs.PacketReading.{packet_of}
 use Rattle.ac_rules.specs.Views.{Plain, Coloured}
 use Rattle.ac_rules.specs.Faults.{Fault, Depth, Function, Size, NoString, behind, marshalled, first_fault, whole_fault}
 use Rattle.ac_rules.proofs.Samples.{c_t, one_entry}
@@ -30,7 +30,7 @@ use Rattle.ac_meaning.proofs.Programs.{number, plus, print_int}
 use Rattle.ac_types.specs.Sigs.{MyName}
 
 abbrev pub a_mark : Bytes → Entry
-a_mark s = record { def = AMark s; name = None; seen = Here; link = None }
+a_mark s = record { def = AMark s; name = None; seen = Own'; link = None }
 
 abbrev pub sent_of : Expr → Expr
 sent_of e = Prim 12 (exprs (e ∷ []))
@@ -167,7 +167,7 @@ a_wrapped_function = refl
 
 -- what is captured is packed, at its variable's type, in the home of its function
 pub captured :
-    packed one_entry Main (VProxy (In 0) c_t TInt (VLam TInt (Val TInt (VInt (pos 2))))) (TFun c_t TInt) ≡ KFun (In 0) (Lam TInt (Packed TInt (KInt (pos 2))))
+    packed one_entry Main (VProxy (In 0) c_t TInt (VLam TInt (Evaluated TInt (VInt (pos 2))))) (TFun c_t TInt) ≡ KFun (In 0) (Lam TInt (Val TInt (KInt (pos 2))))
 captured = refl
 
 -- `let rec w (n : int) : unit -> int = if n = 0 then (fun (u : unit) -> 0) else let f : unit -> int = w (n - 1) in (fun (u : unit) -> f ())`: w 100 nests 403 deep, w 200 too far
@@ -176,7 +176,7 @@ thunk = TFun TUnit TInt
 
 abbrev w : ℕ → Value
 w zero = VLam TUnit (number 0)
-w (suc n) = VLam TUnit (App (Val thunk (w n)) Unit')
+w (suc n) = VLam TUnit (App (Evaluated thunk (w n)) Unit')
 
 pub nests_403 : value_nesting (packed [] Main (w 100) thunk) ≡ 403
 nests_403 = refl
@@ -238,7 +238,7 @@ depth_before_travel = refl
 
 -- a captured string is too long before the function that is captured after it can't travel; the outer function's type asks nothing of what is captured
 abbrev captures : Value → Value → Value
-captures v u = VLam TUnit (App (Lam (TFun TInt TInt) (Val TStr v)) (Val (TFun TInt TInt) u))
+captures v u = VLam TUnit (App (Lam (TFun TInt TInt) (Evaluated TStr v)) (Evaluated (TFun TInt TInt) u))
 
 pub captured_string_first : fault_of 9 (TFun TUnit TStr) (captures long no_traveller) ≡ Some Size
 captured_string_first = refl

@@ -4,7 +4,7 @@ use Rattle.ac_types.specs.Types.{Bytes, Typ, TInt, TAbs}
 use Rattle.ac_terms.specs.Terms.{PVar, PCons, PNil, Expr, Int, Str, Var, Rec, App, If, Seq, Match, Prim, Nil, Cons, exprs, arms, Value}
 use Rattle.ac_types.specs.Types.{TList, TFun}
 use Rattle.ac_terms.specs.Terms.{Let}
-use Rattle.ac_terms.specs.Defs.{Environment, AnImport, Here}
+use Rattle.ac_terms.specs.Defs.{Environment, AnImport, Own'}
 use Rattle.ac_rules.specs.Views.{Mode}
 use Rattle.ac_rules.proofs.Samples.{t, one_entry, wanted}
 use Rattle.ac_meaning.specs.Writes.{Print}
@@ -74,7 +74,7 @@ abbrev pub d_t : Typ
 d_t = TAbs d_name t
 
 abbrev pub two_entries : Environment
-two_entries = one_entry ++ record { def = AnImport wanted; name = Some d_name; seen = Here; link = Some 0 } ∷ []
+two_entries = one_entry ++ record { def = AnImport wanted; name = Some d_name; seen = Own'; link = Some 0 } ∷ []
 
 -- a state of a program over some definitions
 abbrev pub over_steps : ℕ → Environment → Mode → Expr → ℕ → State Expr Value

@@ -2,7 +2,7 @@
 use Rattle.std.proofs.Common.{◌≡◌, refl, sym, ap, ◌∙◌, subst, ℕ, zero, suc, Bool, true, false, cond, nat_lt, List, [], ◌∷◌, ◌++◌, Option, Some, None}
 use mathlib.Core.Bool.{true≢false}
 use Rattle.ac_types.specs.Types.{Bytes, Typ, TBool, TStr, TExn, TList, TFun, Typs, typ, mentions}
-use Rattle.ac_terms.specs.Terms.{Home, Expr, Int, Boolean, Str, Unit', Exn, ExnOf, Tuple, Nil, Empty, Present, Cons, Var, Own, Ref, Lam, Rec, App, Let, If, Seq, Match, Try, Raise, Prim, Marshal, Unmarshal, Packed, Val, Bracket, Exprs, no_exprs, expr, Arms, no_arms, arm, Value, VStr, VTuple, VCons, VPresent, VLam, VRec, VProxy, Values, value}
+use Rattle.ac_terms.specs.Terms.{Home, Expr, Int, Boolean, Str, Unit', Exn, ExnOf, Tuple, Nil, Empty, Present, Cons, Var, Own, Ref, Lam, Rec, App, Let, If, Seq, Match, Try, Raise, Prim, Marshal, Unmarshal, Val, Evaluated, Bracket, Exprs, no_exprs, expr, Arms, no_arms, arm, Value, VStr, VTuple, VCons, VPresent, VLam, VRec, VProxy, Values, value}
 use Rattle.ac_terms.specs.Defs.{Environment}
 use Rattle.ac_rules.specs.Plain.{packed}
 use Rattle.ac_rules.specs.Views.{Mode, is_known}
@@ -11,7 +11,7 @@ use Rattle.ac_terms.proofs.AllLaws.{all_append}
 use Rattle.ac_meaning.specs.Worlds.{Exception, World, match_failure, counted}
 use Rattle.ac_meaning.specs.Substitution.{Written}
 use Rattle.ac_meaning.specs.Matching.{fit}
-use Rattle.ac_meaning.specs.Primitives.{answer_at, primitive, exception_value}
+use Rattle.ac_meaning.specs.PrimitiveSteps.{answer_at, primitive, exception_value}
 use Rattle.ac_code.specs.Constants.{meaning}
 use Rattle.ac_meaning.specs.Brackets.{is_function_value}
 use Rattle.ac_meaning.specs.References.{route}
@@ -223,8 +223,8 @@ module _ (arrives : Arrives) (mode : Mode) where
       sound (Unmarshal A t) c G T us z i e h =
           seq_ok z.environment (Is c TStr) (Is c T) (eval mode t apps c us z) (λ v. unmarshals mode c A v) (sound t c G TStr us z i e h.1)
           (λ v y g p. unmarshal_ok v c A T y (later z y g c i) p (known_later z y g c i A h.2) (h.0 ∙ seen_later z y g c i A h.2))
-      sound (Packed A v) c G T us z i e h = absurd h
-      sound (Val A v) c G T us z i e h = (grows_not z.environment i.0, h.1)
+      sound (Val A v) c G T us z i e h = absurd h
+      sound (Evaluated A v) c G T us z i e h = (grows_not z.environment i.0, h.1)
       sound (Bracket b A t) c G T us z i e h =
           let j : At z b = (i.0, h.3) in
           seq_ok z.environment (Is b (sees z b A)) (Is c T) (eval mode t apps b [] z) (λ v. across mode A b c v) (sound t b [] (sees z b A) [] z j refl h.2) (λ v y g p. across_later z y g A T b c v h.1 j i h.0 p)

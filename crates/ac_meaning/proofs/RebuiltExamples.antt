@@ -3,8 +3,8 @@ use Rattle.std.proofs.Common.{◌≡◌, refl}
 use Rattle.std.specs.Prelude.{pos, true, [], ◌∷◌, ◌++◌, None, Some, codes}
 use Rattle.ac_types.specs.Types.{Typ, TInt, TBool, TStr, TUnit, TExn, TTuple, TList, TOpt, TFun, TAbs, typs}
 use Rattle.ac_types.specs.Sigs.{MyName, Exact, HereAlready}
-use Rattle.ac_terms.specs.Terms.{Home, Main, In, Var, Lam, Rec, App, Packed, Val, KInt, KBool, KStr, KUnit, KExn, KTuple, KList, KAbsent, KPresent, KFun, no_pvalues, pvalue, VInt, VBool, VStr, VUnit, VExn, VTuple, VNil, VCons, VAbsent, VPresent, VLam, VRec, VProxy, VSeal, no_values, value}
-use Rattle.ac_terms.specs.Defs.{Environment, AModule, AnImport, Here}
+use Rattle.ac_terms.specs.Terms.{Home, Main, In, Var, Lam, Rec, App, Val, Evaluated, KInt, KBool, KStr, KUnit, KExn, KTuple, KList, KAbsent, KPresent, KFun, no_pvalues, pvalue, VInt, VBool, VStr, VUnit, VExn, VTuple, VNil, VCons, VAbsent, VPresent, VLam, VRec, VProxy, VSeal, no_values, value}
+use Rattle.ac_terms.specs.Defs.{Environment, AModule, AnImport, Own'}
 use Rattle.ac_rules.specs.Views.{Mode, Plain, Coloured}
 use Rattle.ac_rules.proofs.Samples.{t, c_name, c_t, abstract_sig, one_entry}
 use Rattle.ac_meaning.specs.Rebuilding.{rebuilt}
@@ -53,12 +53,12 @@ module _ (mode : Mode) (c : Home) where
   pub a_recursive_function : rebuilt mode [] c (TFun TInt TInt) (KFun Main (Rec TInt TInt (App (Var 1) (Var 0)))) ≡ VProxy Main TInt TInt (VRec TInt TInt (App (Var 1) (Var 0)))
   a_recursive_function = refl
 
-  pub a_captured_value : rebuilt mode [] c (TFun TUnit TInt) (KFun Main (Lam TUnit (Packed TInt (KInt (pos 2))))) ≡ VProxy Main TUnit TInt (VLam TUnit (Val TInt (VInt (pos 2))))
+  pub a_captured_value : rebuilt mode [] c (TFun TUnit TInt) (KFun Main (Lam TUnit (Val TInt (KInt (pos 2))))) ≡ VProxy Main TUnit TInt (VLam TUnit (Evaluated TInt (VInt (pos 2))))
   a_captured_value = refl
 
   pub a_captured_function :
-      rebuilt mode [] c (TFun TUnit TInt) (KFun Main (Lam TUnit (App (Packed (TFun TInt TInt) (KFun Main (Lam TInt (Var 0)))) (Packed TInt (KInt (pos 2)))))) ≡
-      VProxy Main TUnit TInt (VLam TUnit (App (Val (TFun TInt TInt) (VProxy Main TInt TInt (VLam TInt (Var 0)))) (Val TInt (VInt (pos 2)))))
+      rebuilt mode [] c (TFun TUnit TInt) (KFun Main (Lam TUnit (App (Val (TFun TInt TInt) (KFun Main (Lam TInt (Var 0)))) (Val TInt (KInt (pos 2)))))) ≡
+      VProxy Main TUnit TInt (VLam TUnit (App (Evaluated (TFun TInt TInt) (VProxy Main TInt TInt (VLam TInt (Var 0)))) (Evaluated TInt (VInt (pos 2)))))
   a_captured_function = refl
 
 -- an abstract value is sealed where the home doesn't open its name, stands as it is where it does, and in Plain mode nowhere has a seal
@@ -73,13 +73,13 @@ no_seal_in_plain_mode = refl
 
 -- what a function captures is rebuilt in the function's home: sealed in one that doesn't open the name, not in one that does
 pub captured_at_home :
-    rebuilt Coloured one_entry Main (TList (TFun TInt c_t)) (KList (pvalue (KFun (In 0) (Lam TInt (Packed c_t (KInt (pos 2))))) no_pvalues)) ≡
-    VCons (VProxy (In 0) TInt c_t (VLam TInt (Val c_t (VInt (pos 2))))) (VNil (TList (TFun TInt c_t)))
+    rebuilt Coloured one_entry Main (TList (TFun TInt c_t)) (KList (pvalue (KFun (In 0) (Lam TInt (Val c_t (KInt (pos 2))))) no_pvalues)) ≡
+    VCons (VProxy (In 0) TInt c_t (VLam TInt (Evaluated c_t (VInt (pos 2))))) (VNil (TList (TFun TInt c_t)))
 captured_at_home = refl
 
 pub captured_in_main :
-    rebuilt Coloured one_entry (In 0) (TFun TInt c_t) (KFun Main (Lam TInt (Packed c_t (KInt (pos 2))))) ≡
-    VProxy Main TInt c_t (VLam TInt (Val c_t (VSeal (In 0) c_name t (VInt (pos 2)))))
+    rebuilt Coloured one_entry (In 0) (TFun TInt c_t) (KFun Main (Lam TInt (Val c_t (KInt (pos 2))))) ≡
+    VProxy Main TInt c_t (VLam TInt (Evaluated c_t (VSeal (In 0) c_name t (VInt (pos 2)))))
 captured_in_main = refl
 
 -- with an import of C by its exact name behind it, a seal's home is the least entry of the name, and the import opens the name too
@@ -87,7 +87,7 @@ abbrev named_twice : Environment
 named_twice = one_entry ++ record {
   def = AnImport (record { name = codes "C"; sig = abstract_sig; constraint = Exact c_name; like = []; by = HereAlready ∷ [] });
   name = Some c_name;
-  seen = Here;
+  seen = Own';
   link = Some 0;
 } ∷ []
 
@@ -111,7 +111,7 @@ over_c = one_entry ++ record {
     fields = [];
   });
   name = Some (codes "d");
-  seen = Here;
+  seen = Own';
   link = None;
 } ∷ []
 

@@ -6,15 +6,16 @@ use Rattle.ac_types.proofs.FirstLaws.{none≢some, some_eq}
 use Rattle.ac_types.specs.Types.{Bytes, Typ, TInt, TBool, TStr, TUnit, TExn, TTuple, Typs, no_types, typ, same_all}
 use Rattle.ac_terms.specs.Terms.{Home, Prim, Value, VInt, VBool, VStr, VUnit, VTuple, Values, no_values, value}
 use Rattle.ac_terms.specs.Defs.{Environment}
-use Rattle.ac_terms.specs.Primitives.{Rule, arithmetic, comparison, by_rules, primitives, primitive_type}
-use Rattle.ac_code.specs.Constants.{Const, CInt, CBool, CStr, CUnit, CPart, Answer, Gives, Prints, Sends, Receives, Fails, NoSense, Meaning, meaning, applied, sum, difference, product, quotient, remainder, negation, equal, less, joined, opposite, print_int, print_string, send, receive, size, sub_string, of_int, part, meanings, same_int, division_by_zero, invalid_argument, most_bytes}
+use Rattle.ac_terms.specs.PrimitiveTypes.{Rule, arithmetic, comparison, by_rules, primitives, primitive_type}
+use Rattle.ac_types.specs.Limits.{longest_frame}
+use Rattle.ac_code.specs.Constants.{Const, CInt, CBool, CStr, CUnit, CPart, Answer, Gives, Prints, Sends, Receives, Fails, NoSense, Meaning, meaning, applied, sum, difference, product, quotient, remainder, negation, equal, less, joined, opposite, print_int, print_string, send, receive, size, sub_string, of_int, part, meanings, same_int, division_by_zero, invalid_argument}
 use Rattle.ac_rules.specs.Views.{Mode}
 use Rattle.ac_rules.specs.Coherent.{IsCoherent}
 use Rattle.ac_rules.proofs.Rules.{then_some}
 use Rattle.ac_meaning.specs.Worlds.{Exception, World}
 use Rattle.ac_outside.specs.Frames.{Frame, Whole, Bad as bad, AtEnd, next_frame}
 use Rattle.ac_meaning.specs.Substitution.{Written, slot_in}
-use Rattle.ac_meaning.specs.Primitives.{const_of, all_there, consts_of, answer_at}
+use Rattle.ac_meaning.specs.PrimitiveSteps.{const_of, all_there, consts_of, answer_at}
 use Rattle.ac_rules.specs.Growth.{Grows}
 use Rattle.ac_rules.proofs.Growth.{grows_not, grows_on}
 use Rattle.ac_meaning.proofs.Results.{Result, Fine, Raising, Spending, Wrongly, TooDeep, M, then', raise, Pure, Got, Bad, Deep, lift}
@@ -191,7 +192,7 @@ each_answers =
                     (ints less TBool (λ x y. refl), (bools less TBool (λ x y. refl), (strs less TBool (λ x y. refl), tt))),
                     (
                       (two, tt),
-                      (strs joined TStr (λ x y. tested (nat_le (length x + length y) most_bytes) TStr (Gives (CStr (x ++ y))) (invalid_argument (codes "string")) refl tt), tt),
+                      (strs joined TStr (λ x y. tested (nat_le (length x + length y) longest_frame) TStr (Gives (CStr (x ++ y))) (invalid_argument (codes "string")) refl tt), tt),
                       (
                         (one, tt),
                         (a_bool opposite TBool (λ x. refl), tt),

@@ -4,7 +4,7 @@ use Rattle.std.specs.Prelude.{ℤ, slice_get, option_and_then, nat_eq}
 use Rattle.ac_types.specs.First.{given}
 use Rattle.ac_types.proofs.FirstLaws.{none≢some, some_eq, given_some}
 use Rattle.ac_types.specs.Types.{Bytes, Typ, TInt, TBool, TStr, TUnit, TExn, TTuple, TList, TOpt, TFun, TAbs, TMine, Typs, no_types, typ}
-use Rattle.ac_terms.specs.Terms.{Home, Pattern, PWild, PVar, PInt, PBool, PStr, PUnit, PTuple, PNil, PCons, PAbsent, PPresent, PExn, PExnOf, Patterns, no_patterns, pattern', Expr, Int, Boolean, Str, Unit', Exn, ExnOf, Tuple, Nil, Empty, Present, Cons, Var, Own, Ref, Lam, Rec, App, Let, If, Seq, Match, Try, Raise, Prim, Marshal, Unmarshal, Packed, Val, Bracket, Exprs, no_exprs, expr, Arms, no_arms, arm, Value, VInt, VBool, VStr, VUnit, VExn, VTuple, VNil, VCons, VAbsent, VPresent, VLam, VRec, VProxy, VSeal, Values, no_values, value}
+use Rattle.ac_terms.specs.Terms.{Home, Pattern, PWild, PVar, PInt, PBool, PStr, PUnit, PTuple, PNil, PCons, PAbsent, PPresent, PExn, PExnOf, Patterns, no_patterns, pattern', Expr, Int, Boolean, Str, Unit', Exn, ExnOf, Tuple, Nil, Empty, Present, Cons, Var, Own, Ref, Lam, Rec, App, Let, If, Seq, Match, Try, Raise, Prim, Marshal, Unmarshal, Val, Evaluated, Bracket, Exprs, no_exprs, expr, Arms, no_arms, arm, Value, VInt, VBool, VStr, VUnit, VExn, VTuple, VNil, VCons, VAbsent, VPresent, VLam, VRec, VProxy, VSeal, Values, no_values, value}
 use Rattle.ac_terms.specs.Defs.{Environment}
 use Rattle.ac_rules.specs.Views.{Mode, opens}
 use Rattle.ac_meaning.specs.Substitution.{Written, Slot, Free, Bound, up, slot_in, slot, from_slot, binders, all_binders, inst, inst_all, inst_arms}
@@ -149,8 +149,8 @@ module _ (mode : Mode) (E : Environment) where
     inst_typed (Prim k ts) c D G T us d n e h = (h.0, all_inst_typed ts c D G h.0 us d n e h.1, h.2)
     inst_typed (Marshal A m t) c D G T us d n e h = (h.0, inst_typed m c D G TStr us d n e h.1, inst_typed t c D G (sees c A) us d n e h.2, h.3)
     inst_typed (Unmarshal A t) c D G T us d n e h = (h.0, inst_typed t c D G TStr us d n e h.1, h.2)
-    inst_typed (Packed A v) c D G T us d n e h = h
     inst_typed (Val A v) c D G T us d n e h = h
+    inst_typed (Evaluated A v) c D G T us d n e h = h
     inst_typed (Bracket b A t) c D G T us d n e h = h
 
     pub all_inst_typed : (ts : Exprs) (c : Home) (D G : List Typ) (Ts : Typs) (us : Written) (d : ℕ) → d ≡ length D → WrittenTyped mode E us c G → AllTyped mode E ts c (D ++ G) Ts → AllTyped mode E (inst_all d us ts) c D Ts

@@ -9,10 +9,10 @@ use Rattle.ac_types.specs.First.{given}
 use Rattle.ac_types.proofs.FirstLaws.{none≢some, some_eq, given_some}
 use Rattle.ac_types.proofs.Same.{both_true, and_true}
 use Rattle.ac_types.specs.Types.{Typ, TInt, TBool, TStr, TUnit, TExn, TTuple, TList, TOpt, TFun, Typs, no_types, typ, same, same_all, parts, parts_of_all, height, height_of_all, is_small}
-use Rattle.ac_terms.specs.Terms.{Home, Pattern, PWild, PVar, PInt, PBool, PStr, PUnit, PTuple, PNil, PCons, PAbsent, PPresent, PExn, PExnOf, Patterns, no_patterns, pattern', Expr, Int, Boolean, Str, Unit', Exn, ExnOf, Tuple, Nil, Empty, Present, Cons, Var, Own, Ref, Lam, Rec, App, Let, If, Seq, Match, Try, Raise, Prim, Marshal, Unmarshal, Packed, Val, Bracket, Exprs, no_exprs, expr, Arms, no_arms, arm}
+use Rattle.ac_terms.specs.Terms.{Home, Pattern, PWild, PVar, PInt, PBool, PStr, PUnit, PTuple, PNil, PCons, PAbsent, PPresent, PExn, PExnOf, Patterns, no_patterns, pattern', Expr, Int, Boolean, Str, Unit', Exn, ExnOf, Tuple, Nil, Empty, Present, Cons, Var, Own, Ref, Lam, Rec, App, Let, If, Seq, Match, Try, Raise, Prim, Marshal, Unmarshal, Val, Evaluated, Bracket, Exprs, no_exprs, expr, Arms, no_arms, arm}
 use Rattle.ac_terms.specs.Defs.{Environment}
-use Rattle.ac_terms.specs.Primitives.{Rule, by_rules, primitives, primitive_type}
-use Rattle.ac_terms.specs.Typing.{has, last_of}
+use Rattle.ac_terms.specs.PrimitiveTypes.{Rule, by_rules, primitives, primitive_type}
+use Rattle.ac_terms.specs.TermTyping.{has, last_of}
 use Rattle.ac_terms.specs.Parts.{OfType, pattern_types, all_pattern_types, term_parts, all_term_parts, arm_parts}
 use Rattle.ac_rules.specs.Views.{Coloured, view, opened_at_home, are_known}
 use Rattle.ac_rules.specs.Typing.{Scope, bind, bind_all, HasType, type_of, seen, types_of, arm_types, variables, variables_of_all, field_type, ref_type, a_list, an_option, are_all, one_of}
@@ -240,8 +240,8 @@ module _ (E : Environment) where
         let t = rule-Unmarshal Coloured E S A e T h in
         let k = kept_small (seen Coloured false E S.home A) T (given_some (has (type_of Coloured false E S e) TStr) _ h).1 in
         (k, first A (term_parts e) (written_small S.home A T t.2 k) (typed_small e S TStr s t.0).1)
-    typed_small (Packed A v) S T s h = absurd (true≢false (sym s))
     typed_small (Val A v) S T s h = absurd (true≢false (sym s))
+    typed_small (Evaluated A v) S T s h = absurd (true≢false (sym s))
     typed_small (Bracket c A e) S T s h = absurd (true≢false (sym s))
 
     all_typed_small : (es : Exprs) (S : Scope) (Ts : Typs) → are_source es ≡ true → types_of Coloured false E S es ≡ Some Ts → AllSmall Ts × Small (all_term_parts es)

@@ -3,7 +3,7 @@ use Rattle.std.proofs.Common.{◌≡◌, refl}
 use Rattle.std.specs.Prelude.{pos, false, [], ◌∷◌, None, codes}
 use Rattle.ac_types.specs.Types.{Bytes, Typ, TInt, TStr, TFun}
 use Rattle.ac_terms.specs.Terms.{Main, Expr, Int, Str, Var, Lam, App, Marshal, Unmarshal, KInt, VInt}
-use Rattle.ac_terms.specs.Defs.{Environment, AMark, Here}
+use Rattle.ac_terms.specs.Defs.{Environment, AMark, Own'}
 use Rattle.ac_rules.specs.Views.{Mode, Plain, Coloured}
 use Rattle.ac_meaning.specs.Worlds.{fresh}
 use Rattle.ac_meaning.specs.Acts.{Returned, Raised, At, Over, iter}
@@ -15,7 +15,7 @@ use Rattle.ac_meaning.specs.Packing.{Packing, Refuses, Packs, packing, landing, 
 
 -- the mark M, and nothing else
 abbrev marked : Environment
-marked = record { def = AMark (codes "M"); name = None; seen = Here; link = None } ∷ []
+marked = record { def = AMark (codes "M"); name = None; seen = Own'; link = None } ∷ []
 
 -- `unmarshal (marshal "M" (7 : int)) as int`
 abbrev seven : Expr

@@ -4,9 +4,9 @@ use Rattle.std.specs.Prelude.{nat_le, None}
 use Rattle.std.specs.List.{list_all}
 use Rattle.std.specs.Option.{option_map_or}
 use Rattle.ac_types.specs.Types.{Typ, TFun, is_small}
-use Rattle.ac_terms.specs.Terms.{Pattern, Expr, Int, Boolean, Str, Unit', Exn, ExnOf, Tuple, Nil, Empty, Present, Cons, Var, Own, Ref, Lam, Rec, App, Let, If, Seq, Match, Try, Raise, Prim, Marshal, Unmarshal, Packed, Val, Bracket, Exprs, no_exprs, expr, Arms, no_arms, arm, Value, VInt, VBool, VStr, VUnit, VExn, VTuple, VNil, VCons, VAbsent, VPresent, VLam, VRec, VProxy, VSeal, Values, no_values, value}
+use Rattle.ac_terms.specs.Terms.{Pattern, Expr, Int, Boolean, Str, Unit', Exn, ExnOf, Tuple, Nil, Empty, Present, Cons, Var, Own, Ref, Lam, Rec, App, Let, If, Seq, Match, Try, Raise, Prim, Marshal, Unmarshal, Val, Evaluated, Bracket, Exprs, no_exprs, expr, Arms, no_arms, arm, Value, VInt, VBool, VStr, VUnit, VExn, VTuple, VNil, VCons, VAbsent, VPresent, VLam, VRec, VProxy, VSeal, Values, no_values, value}
 use Rattle.ac_terms.specs.Spelling.{term_count, arm_count}
-use Rattle.ac_terms.specs.Primitives.{has_text, is_exception, primitives}
+use Rattle.ac_terms.specs.PrimitiveTypes.{has_text, is_exception, primitives}
 use Rattle.ac_terms.specs.Parts.{pattern_types}
 use Rattle.ac_terms.specs.Bounds.{is_string, is_two, is_four, is_integer, is_width, is_lower, fits_type, fits_pattern, takes}
 use Rattle.ac_meaning.specs.Writes.{Write, string_of}
@@ -60,8 +60,8 @@ abbrev mutual
   Within s (Prim k es) = Strictly s (takes primitives k (term_count es) ≡ true) × AllWithin s es
   Within s (Marshal T m e) = TypeFits T × Within s m × Within s e
   Within s (Unmarshal T e) = TypeFits T × Within s e
-  Within s (Packed T v) = ⊥
-  Within s (Val T v) = Strictly s (TypeFits T) × ValueWithin v
+  Within s (Val T v) = ⊥
+  Within s (Evaluated T v) = Strictly s (TypeFits T) × ValueWithin v
   Within s (Bracket c T e) = Within false e
 
   pub AllWithin : Bool → Exprs → Type 0

@@ -12,13 +12,14 @@ use native.Mathlib.Omega.{arith}
 use Rattle.ac_types.proofs.FirstLaws.{none≢some, some_eq}
 use Rattle.ac_types.specs.Types.{Bytes}
 use Rattle.ac_terms.specs.Terms.{Value, VInt, VBool, VStr, VUnit, VTuple, Values, no_values, value}
-use Rattle.ac_terms.specs.Primitives.{is_exception}
+use Rattle.ac_terms.specs.PrimitiveTypes.{is_exception}
 use Rattle.ac_terms.specs.Bounds.{is_string, is_integer}
-use Rattle.ac_code.specs.Constants.{Const, CInt, CBool, CStr, CUnit, CPart, Answer, Gives, Prints, Sends, Receives, Fails, NoSense, Meaning, One, Two, meanings, meaning, applied, sum, difference, product, quotient, remainder, negation, equal, less, joined, opposite, print_int, print_string, send, receive, size, sub_string, of_int, part, same_int, most_bytes, invalid_argument, division_by_zero}
+use Rattle.ac_types.specs.Limits.{longest_frame}
+use Rattle.ac_code.specs.Constants.{Const, CInt, CBool, CStr, CUnit, CPart, Answer, Gives, Prints, Sends, Receives, Fails, NoSense, Meaning, One, Two, meanings, meaning, applied, sum, difference, product, quotient, remainder, negation, equal, less, joined, opposite, print_int, print_string, send, receive, size, sub_string, of_int, part, same_int, invalid_argument, division_by_zero}
 use Rattle.ac_meaning.specs.Writes.{Print, Send}
 use Rattle.ac_meaning.specs.Worlds.{World}
-use Rattle.ac_outside.specs.Frames.{longest, Frame, Whole, Bad, AtEnd, next_frame}
-use Rattle.ac_meaning.specs.Primitives.{const_of_parts, const_of, all_there, consts_of, spelled, answer_at, primitive, answered, sending, receiving}
+use Rattle.ac_outside.specs.Frames.{Frame, Whole, Bad, AtEnd, next_frame}
+use Rattle.ac_meaning.specs.PrimitiveSteps.{const_of_parts, const_of, all_there, consts_of, spelled, answer_at, primitive, answered, sending, receiving}
 use Rattle.ac_meaning.proofs.Within.{Within, ValueWithin, ValuesWithin, WritesWithin}
 use Rattle.ac_meaning.proofs.WithinLaws.{Good, one_more}
 
@@ -129,7 +130,7 @@ less_within _ _ h k = tt
 
 joined_within : MeaningWithin (Two joined)
 joined_within (CStr s) (CStr t) h k =
-    tested (nat_le (length s + length t) most_bytes) (Gives (CStr (s ++ t))) (invalid_argument (codes "string"))
+    tested (nat_le (length s + length t) longest_frame) (Gives (CStr (s ++ t))) (invalid_argument (codes "string"))
     (λ e. ap (λ n. nat_le n 1048576) (length-append s t) ∙ e) (λ e. (refl, refl))
 joined_within _ _ h k = tt
 
@@ -268,13 +269,13 @@ whole_short (a ∷ (b ∷ [])) s rest e = absurd cc
 whole_short (a ∷ (b ∷ (c ∷ []))) s rest e = absurd cc
 whole_short (a ∷ (b ∷ (c ∷ (d ∷ bs)))) s rest e = by (from_be_bytes w32 (a ∷ b ∷ c ∷ d ∷ [])) _ refl e
   where
-    there : (n : ℕ) (b : Bool) → nat_le n longest ≡ true → cond b (Whole (take n bs) (drop n bs)) (Bad n (4 + length bs)) ≡ Whole s rest → is_string s ≡ true
+    there : (n : ℕ) (b : Bool) → nat_le n longest_frame ≡ true → cond b (Whole (take n bs) (drop n bs)) (Bad n (4 + length bs)) ≡ Whole s rest → is_string s ≡ true
     there n false p q = absurd cc
     there n true p q =
         let same : take n bs ≡ s = cc in
         subst (λ x. is_string x ≡ true) same (bytes_at_most (length (take n bs)) n (take_few n bs) p)
 
-    by : (n : ℕ) (b : Bool) → nat_le n longest ≡ b → cond b (cond (nat_le n (length bs)) (Whole (take n bs) (drop n bs)) (Bad n (4 + length bs))) (Bad n 4) ≡ Whole s rest → is_string s ≡ true
+    by : (n : ℕ) (b : Bool) → nat_le n longest_frame ≡ b → cond b (cond (nat_le n (length bs)) (Whole (take n bs) (drop n bs)) (Bad n (4 + length bs))) (Bad n 4) ≡ Whole s rest → is_string s ≡ true
     by n false p q = absurd cc
     by n true p q = there n (nat_le n (length bs)) p q
 

@@ -12,9 +12,9 @@ use Rattle.ac_types.specs.Sigs.{Typed_name}
 use Rattle.ac_types.specs.Words.{is_word, is_between}
 use Rattle.ac_terms.specs.Terms.{Home, In, Expr, PValue}
 use Rattle.ac_terms.specs.Defs.{Environment, Field, Module, Def, AModule, AnImport, AMark, Packet}
-use Rattle.ac_terms.specs.Parts.{Part, OfType, term_parts, sig_types, def_parts}
+use Rattle.ac_terms.specs.Parts.{Portion, OfType, term_parts, sig_types, def_parts}
 use Rattle.ac_terms.specs.Bounds.{is_string, is_upper, is_lower, fits_type, fits_term, fits_def, fits_packet, has_small_types}
-use Rattle.ac_terms.specs.Reading.{packet_of}
+use Rattle.ac_terms.specs.PacketReading.{packet_of}
 use Rattle.ac_terms.proofs.SpelledLaws.{read_is_spelled}
 use Rattle.ac_rules.specs.Views.{Mode, Coloured}
 use Rattle.ac_rules.specs.Typing.{of_field}
@@ -35,7 +35,7 @@ use Rattle.ac_meaning.proofs.WithinSources.{small_parts, one_small, term_within,
 use Rattle.ac_meaning.proofs.WithinSteps.{ComesWithin}
 
 -- a field of coherent definitions
-abbrev field_parts : List Field → List Part
+abbrev field_parts : List Field → List Portion
 field_parts fs = flat_map (λ (y : Field). OfType y.ty ∷ term_parts y.term) fs
 
 field_small : (fs : List Field) (g : ℕ) (x : Field) → has_small_types (field_parts fs) ≡ true → slice_get fs g ≡ Some x → has_small_types (term_parts x.term) ≡ true
@@ -55,7 +55,7 @@ field_within E coherent j f e q =
     let bounds = (both_true _ _ (coherent.within_bounds j (AModule m) x.is_module)).1 in
     let fit : fits_term false x.field.term ≡ true = (both_true _ _ (all_at (λ (y : Field). is_lower y.name && fits_type false y.ty && fits_term false y.term) m.fields f x.field bounds x.is_there)).1 in
     let all : has_small_types (def_parts (AModule m)) ≡ true = (both_true _ _ (coherent.plain j (AModule m) x.is_module)).0 in
-    let front : List Part = map OfType (sig_types m.sig) ++ map (λ (t : Typed_name). OfType t.ty) m.types in
+    let front : List Portion = map OfType (sig_types m.sig) ++ map (λ (t : Typed_name). OfType t.ty) m.types in
     let small : has_small_types (term_parts x.field.term) ≡ true = field_small m.fields f x.field (small_parts front (field_parts m.fields) all).1 x.is_there in
     loosened e
     (subst (Within true) (source_rebuilt Coloured E e (In j) (fields_source E coherent j f e q))

@@ -8,9 +8,9 @@ use Rattle.ac_types.proofs.FirstLaws.{none≢some, some_eq, given_some}
 use Rattle.ac_types.proofs.Same.{both_true}
 use Rattle.ac_types.specs.First.{given, or_else}
 use Rattle.ac_types.specs.Types.{is_small}
-use Rattle.ac_terms.specs.Terms.{Pattern, PWild, PVar, PInt, PBool, PStr, PUnit, PTuple, PNil, PCons, PAbsent, PPresent, PExn, PExnOf, Patterns, no_patterns, pattern', Expr, Int, Boolean, Str, Unit', Exn, ExnOf, Tuple, Nil, Empty, Present, Cons, Var, Own, Ref, Lam, Rec, App, Let, If, Seq, Match, Try, Raise, Prim, Marshal, Unmarshal, Packed, Val, Bracket, Exprs, no_exprs, expr, Arms, no_arms, arm, Value, VInt, VBool, VStr, VUnit, VExn, VTuple, VNil, VCons, VAbsent, VPresent, Values, no_values, value}
+use Rattle.ac_terms.specs.Terms.{Pattern, PWild, PVar, PInt, PBool, PStr, PUnit, PTuple, PNil, PCons, PAbsent, PPresent, PExn, PExnOf, Patterns, no_patterns, pattern', Expr, Int, Boolean, Str, Unit', Exn, ExnOf, Tuple, Nil, Empty, Present, Cons, Var, Own, Ref, Lam, Rec, App, Let, If, Seq, Match, Try, Raise, Prim, Marshal, Unmarshal, Val, Evaluated, Bracket, Exprs, no_exprs, expr, Arms, no_arms, arm, Value, VInt, VBool, VStr, VUnit, VExn, VTuple, VNil, VCons, VAbsent, VPresent, Values, no_values, value}
 use Rattle.ac_terms.specs.Spelling.{term_count, arm_count}
-use Rattle.ac_terms.specs.Primitives.{primitives}
+use Rattle.ac_terms.specs.PrimitiveTypes.{primitives}
 use Rattle.ac_terms.specs.Parts.{pattern_types, all_pattern_types}
 use Rattle.ac_terms.specs.Bounds.{is_string, is_two, is_four, is_width, fit_patterns, takes}
 use Rattle.ac_terms.proofs.AllLaws.{all_left, all_right}
@@ -54,8 +54,8 @@ mutual
   loosened (Prim k es) h = (tt, all_loosened es h.1)
   loosened (Marshal T m e) h = (h.0, loosened m h.1, loosened e h.2)
   loosened (Unmarshal T e) h = (h.0, loosened e h.1)
-  loosened (Packed T v) h = h
-  loosened (Val T v) h = (tt, h.1)
+  loosened (Val T v) h = h
+  loosened (Evaluated T v) h = (tt, h.1)
   loosened (Bracket c T e) h = h
 
   pub all_loosened : (es : Exprs) → AllWithin true es → AllWithin false es
@@ -127,8 +127,8 @@ mutual
   inst_within s (Prim k es) d ws w h = (counted_within s (takes primitives k) _ _ (count_inst es d ws) h.0, inst_all_within s es d ws w h.1)
   inst_within s (Marshal T m e) d ws w h = (h.0, inst_within s m d ws w h.1, inst_within s e d ws w h.2)
   inst_within s (Unmarshal T e) d ws w h = (h.0, inst_within s e d ws w h.1)
-  inst_within s (Packed T v) d ws w h = h
   inst_within s (Val T v) d ws w h = h
+  inst_within s (Evaluated T v) d ws w h = h
   inst_within s (Bracket c T e) d ws w h = h
 
   pub inst_all_within : (s : Bool) (es : Exprs) (d : ℕ) (ws : Written) → WrittenWithin ws → AllWithin s es → AllWithin s (inst_all d ws es)

@@ -7,9 +7,9 @@ use mathlib.Core.Bool.{true≢false}
 use native.Mathlib.Omega.{arith}
 use Rattle.ac_types.proofs.Same.{both_true, and_true}
 use Rattle.ac_types.specs.Types.{Bytes, Typ, Typs, no_types, typ, agree}
-use Rattle.ac_terms.specs.Terms.{Home, Main, In, Expr, Int, Boolean, Str, Unit', Exn, ExnOf, Tuple, Nil, Empty, Present, Cons, Var, Own, Ref, Lam, Rec, App, Let, If, Seq, Match, Try, Raise, Prim, Marshal, Unmarshal, Packed, Val, Bracket, Exprs, no_exprs, expr, Arms, no_arms, arm, PValue, KInt, KBool, KStr, KUnit, KExn, KTuple, KList, KAbsent, KPresent, KFun, PValues, no_pvalues, pvalue, Value, VInt, VBool, VStr, VUnit, VExn, VTuple, VNil, VCons, VAbsent, VPresent, VLam, VRec, VProxy, VSeal, Values, no_values, value}
+use Rattle.ac_terms.specs.Terms.{Home, Main, In, Expr, Int, Boolean, Str, Unit', Exn, ExnOf, Tuple, Nil, Empty, Present, Cons, Var, Own, Ref, Lam, Rec, App, Let, If, Seq, Match, Try, Raise, Prim, Marshal, Unmarshal, Val, Evaluated, Bracket, Exprs, no_exprs, expr, Arms, no_arms, arm, PValue, KInt, KBool, KStr, KUnit, KExn, KTuple, KList, KAbsent, KPresent, KFun, PValues, no_pvalues, pvalue, Value, VInt, VBool, VStr, VUnit, VExn, VTuple, VNil, VCons, VAbsent, VPresent, VLam, VRec, VProxy, VSeal, Values, no_values, value}
 use Rattle.ac_terms.specs.Defs.{Environment, Entry, def_of, module_of, module_at}
-use Rattle.ac_terms.specs.Primitives.{primitives}
+use Rattle.ac_terms.specs.PrimitiveTypes.{primitives}
 use Rattle.ac_terms.specs.Spelling.{two, term_count, arm_count, value_count}
 use Rattle.ac_terms.specs.Heads.{Head, before, type_heads, pattern_heads, term_heads, all_term_heads, arm_heads, value_heads, all_value_heads}
 use Rattle.ac_terms.specs.Bounds.{is_two, is_four, is_width, is_lambda, fits_home, takes, fits_type, fits_term, fit_terms, fit_arms, fits_value, fit_values}
@@ -272,8 +272,8 @@ module _ (E : Environment) (coherent : IsCoherent E) where
         let k = fine_both (type_heads T) (hs! (suc d) c a) g.0 in
         three (fits_type false T) (fits_term true (p! c a)) (fits_term true (p! c b)) h.0.0 (term_fits a c (suc d) h.1 k.1) (term_fits b c (suc d) h.2 g.1)
     term_fits (Unmarshal T e) c d h f = and_true h.0.0 (term_fits e c (suc d) h.1 (fine_both (type_heads T) (hs! (suc d) c e) (fine_rest _ _ f)).1)
-    term_fits (Packed T v) c d h f = absurd h
-    term_fits (Val T v) c d h f =
+    term_fits (Val T v) c d h f = absurd h
+    term_fits (Evaluated T v) c d h f =
         let w = packed E (bare_value c v) T in
         let g = (fine_both (type_heads T) (value_heads two (suc d) w) (fine_rest _ _ f)).1 in
         and_true h.0.0 (whole (suc d) w (value_where v c T (suc d) h.1) g)

@@ -3,10 +3,10 @@ use Rattle.std.proofs.Common.{◌≡◌, refl, Bool, true, false, List, [], ◌�
 use Rattle.std.specs.List.{list_all}
 use Rattle.ac_types.proofs.Same.{both_true, and_true}
 use Rattle.ac_types.specs.Types.{Typ, Typs, no_types, typ, is_small}
-use Rattle.ac_terms.specs.Terms.{Home, Expr, Int, Boolean, Str, Unit', Exn, ExnOf, Tuple, Nil, Empty, Present, Cons, Var, Own, Ref, Lam, Rec, App, Let, If, Seq, Match, Try, Raise, Prim, Marshal, Unmarshal, Packed, Val, Bracket, Exprs, no_exprs, expr, Arms, no_arms, arm, PValue, KInt, KBool, KStr, KUnit, KExn, KTuple, KList, KAbsent, KPresent, KFun, Value, VInt, VBool, VStr, VUnit, VExn, VTuple, VNil, VCons, VAbsent, VPresent, VLam, VRec, VProxy, VSeal, Values, no_values, value}
+use Rattle.ac_terms.specs.Terms.{Home, Expr, Int, Boolean, Str, Unit', Exn, ExnOf, Tuple, Nil, Empty, Present, Cons, Var, Own, Ref, Lam, Rec, App, Let, If, Seq, Match, Try, Raise, Prim, Marshal, Unmarshal, Val, Evaluated, Bracket, Exprs, no_exprs, expr, Arms, no_arms, arm, PValue, KInt, KBool, KStr, KUnit, KExn, KTuple, KList, KAbsent, KPresent, KFun, Value, VInt, VBool, VStr, VUnit, VExn, VTuple, VNil, VCons, VAbsent, VPresent, VLam, VRec, VProxy, VSeal, Values, no_values, value}
 use Rattle.ac_terms.specs.Defs.{Environment}
 use Rattle.ac_terms.specs.Bounds.{has_small_types}
-use Rattle.ac_terms.specs.Parts.{Part, OfType, OfRef, OfHome, Captured, pattern_types, term_parts, all_term_parts, arm_parts, value_parts, all_value_parts}
+use Rattle.ac_terms.specs.Parts.{Portion, OfType, OfRef, OfHome, Captured, pattern_types, term_parts, all_term_parts, arm_parts, value_parts, all_value_parts}
 use Rattle.ac_rules.specs.Views.{head}
 use Rattle.ac_rules.specs.Typing.{tuple_parts, list_item, option_item}
 use Rattle.ac_rules.specs.Plain.{stays, where_there, in_front, may_travel, travelling}
@@ -14,17 +14,17 @@ use Rattle.ac_meaning.specs.BareTerms.{bare, bare_all, bare_arms, bare_value, ba
 use Rattle.ac_meaning.specs.BarePacking.{bare_packed as packed, bare_all_packed as all_packed, bare_packed_term as packed_term, bare_packed_terms as packed_terms, bare_packed_arms as packed_arms}
 use Rattle.ac_meaning.proofs.Within.{Within, AllWithin, ArmsWithin, ValueWithin, ValuesWithin}
 
-abbrev pub Small : List Part → Type 0
+abbrev pub Small : List Portion → Type 0
 Small ps = has_small_types ps ≡ true
 
-pub both : (ps qs : List Part) → Small ps → Small qs → Small (ps ++ qs)
+pub both : (ps qs : List Portion) → Small ps → Small qs → Small (ps ++ qs)
 both [] qs h k = k
 both (OfType T ∷ ps) qs h k = let p = both_true (is_small T) (has_small_types ps) h in and_true {a = is_small T} {b = has_small_types (ps ++ qs)} p.0 (both ps qs p.1 k)
 both (OfRef j x ∷ ps) qs h k = both ps qs h k
 both (OfHome c ∷ ps) qs h k = both ps qs h k
 both (Captured ∷ ps) qs h k = both ps qs h k
 
-pub first : (T : Typ) (ps : List Part) → is_small T ≡ true → Small ps → Small (OfType T ∷ ps)
+pub first : (T : Typ) (ps : List Portion) → is_small T ≡ true → Small ps → Small (OfType T ∷ ps)
 first T ps h k = and_true {a = is_small T} {b = has_small_types ps} h k
 
 pub each : (Ts : List Typ) → list_all is_small Ts ≡ true → Small (map OfType Ts)
@@ -111,8 +111,8 @@ module _ (E : Environment) where
     term_small (Prim k es) c h = terms_small es c h.1
     term_small (Marshal T a b) c h = first T (term_parts (p! c a) ++ term_parts (p! c b)) h.0.1 (both (term_parts (p! c a)) (term_parts (p! c b)) (term_small a c h.1) (term_small b c h.2))
     term_small (Unmarshal T e) c h = first T (term_parts (p! c e)) h.0.1 (term_small e c h.1)
-    term_small (Packed T v) c h = absurd h
-    term_small (Val T v) c h = first T (Captured ∷ value_parts (packed E (bare_value c v) T)) h.0.1 (packed_small v c T h.1)
+    term_small (Val T v) c h = absurd h
+    term_small (Evaluated T v) c h = first T (Captured ∷ value_parts (packed E (bare_value c v) T)) h.0.1 (packed_small v c T h.1)
     term_small (Bracket b T e) c h = refl
 
     terms_small : (es : Exprs) (c : Home) → AllWithin true es → Small (all_term_parts (packed_terms E (bare_all c es)))

@@ -10,12 +10,12 @@ use Rattle.ac_types.specs.First.{given}
 use Rattle.ac_types.proofs.FirstLaws.{none≢some, some_eq, given_some}
 use Rattle.ac_types.proofs.Same.{both_true, and_true}
 use Rattle.ac_types.specs.Types.{Bytes, Typ, TInt, TBool, TStr, TUnit, TExn, TTuple, TList, TOpt, TFun, TAbs, TMine, Typs, no_types, typ, with_each, all_with_each, parts, parts_of_all, height, height_of_all, is_small}
-use Rattle.ac_terms.specs.Terms.{Home, Expr, Int, Boolean, Str, Unit', Exn, ExnOf, Tuple, Nil, Empty, Present, Cons, Var, Own, Ref, Lam, Rec, App, Let, If, Seq, Match, Try, Raise, Prim, Marshal, Unmarshal, Packed, Val, Bracket, Exprs, no_exprs, expr, Arms, no_arms, arm, PValue, KInt, KBool, KStr, KUnit, KExn, KTuple, KList, KAbsent, KPresent, KFun, PValues, no_pvalues, pvalue, Value, VInt, VBool, VStr, VUnit, VExn, VTuple, VAbsent, VPresent, VLam, VRec, VProxy}
+use Rattle.ac_terms.specs.Terms.{Home, Expr, Int, Boolean, Str, Unit', Exn, ExnOf, Tuple, Nil, Empty, Present, Cons, Var, Own, Ref, Lam, Rec, App, Let, If, Seq, Match, Try, Raise, Prim, Marshal, Unmarshal, Val, Evaluated, Bracket, Exprs, no_exprs, expr, Arms, no_arms, arm, PValue, KInt, KBool, KStr, KUnit, KExn, KTuple, KList, KAbsent, KPresent, KFun, PValues, no_pvalues, pvalue, Value, VInt, VBool, VStr, VUnit, VExn, VTuple, VAbsent, VPresent, VLam, VRec, VProxy}
 use Rattle.ac_terms.specs.Defs.{Environment}
-use Rattle.ac_terms.specs.Primitives.{primitives}
-use Rattle.ac_terms.specs.Typing.{has}
+use Rattle.ac_terms.specs.PrimitiveTypes.{primitives}
+use Rattle.ac_terms.specs.TermTyping.{has}
 use Rattle.ac_terms.specs.Spelling.{term_count, arm_count, value_count}
-use Rattle.ac_terms.specs.Parts.{Part, OfType, OfRef, OfHome, Captured, pattern_types, term_parts, all_term_parts, arm_parts, value_parts, all_value_parts}
+use Rattle.ac_terms.specs.Parts.{Portion, OfType, OfRef, OfHome, Captured, pattern_types, term_parts, all_term_parts, arm_parts, value_parts, all_value_parts}
 use Rattle.ac_terms.specs.Bounds.{is_four, is_width, takes, fits_term, fit_terms, fit_arms, fits_value, fit_values, has_small_types}
 use Rattle.ac_rules.specs.Views.{Mode, Coloured, view, opened_at_home, opens, head}
 use Rattle.ac_rules.specs.Typing.{Scope, bind, bind_all, all_of, HasType, type_of, seen, types_of, arm_types, variables, holds, all_hold, each_holds, kept_in, tuple_parts, list_item, option_item, is_function, is_function_home}
@@ -26,7 +26,7 @@ use Rattle.ac_meaning.proofs.Sources.{left, middle}
 use Rattle.ac_meaning.proofs.Within.{Within, AllWithin, ArmsWithin, ValueWithin, ValuesWithin, width}
 
 -- parts of small types
-pub small_parts : (ps qs : List Part) → has_small_types (ps ++ qs) ≡ true → (has_small_types ps ≡ true) × (has_small_types qs ≡ true)
+pub small_parts : (ps qs : List Portion) → has_small_types (ps ++ qs) ≡ true → (has_small_types ps ≡ true) × (has_small_types qs ≡ true)
 small_parts [] qs h = (refl, h)
 small_parts (OfType T ∷ ps) qs h =
     let p = both_true (is_small T) (has_small_types (ps ++ qs)) h in
@@ -40,7 +40,7 @@ small_types : (Ts : List Typ) → has_small_types (map OfType Ts) ≡ true → l
 small_types [] h = refl
 small_types (T ∷ Ts) h = let p = both_true (is_small T) (has_small_types (map OfType Ts)) h in and_true {a = is_small T} {b = list_all is_small Ts} p.0 (small_types Ts p.1)
 
-pub one_small : (T : Typ) (ps : List Part) → has_small_types (OfType T ∷ ps) ≡ true → (is_small T ≡ true) × (has_small_types ps ≡ true)
+pub one_small : (T : Typ) (ps : List Portion) → has_small_types (OfType T ∷ ps) ≡ true → (is_small T ≡ true) × (has_small_types ps ≡ true)
 one_small T ps h = both_true (is_small T) (has_small_types ps) h
 
 -- a type isn't larger than what a home sees of it
@@ -239,10 +239,10 @@ module _ (mode : Mode) (F : Environment) where
           let p = both_true _ _ w in
           let m = one_small A (term_parts e) s in
           ((p.0, m.0), term_within b e S TStr c (rule-Unmarshal Coloured E S A e T h).0 p.1 m.1)
-      term_within b (Packed A v) S T c h w s =
+      term_within b (Val A v) S T c h w s =
           let m = one_small A (Captured ∷ value_parts v) s in
           ((middle _ _ _ w, m.0), value_within v A c A (rule-Packed Coloured E S A v T h).0 (both_true _ _ w).1 m.1)
-      term_within b (Val A v) S T c h w s = absurd (true≢false (sym w))
+      term_within b (Evaluated A v) S T c h w s = absurd (true≢false (sym w))
       term_within b (Bracket d A e) S T c h w s = absurd (true≢false (sym w))
 
       terms_within : (b : Bool) (es : Exprs) (S : Scope) (Ts : Typs) (c : Home) → types_of Coloured false E S es ≡ Some Ts → fit_terms b es ≡ true → has_small_types (all_term_parts es) ≡ true → AllWithin true (rebuilt_terms mode F c es)
@@ -342,8 +342,8 @@ module _ (mode : Mode) (F : Environment) where
     source_rebuilt (Prim k es) c h = ap (Prim k) (sources_rebuilt es c h)
     source_rebuilt (Marshal T x y) c h = let p = both_true (is_source x) (is_source y) h in ap₂ (Marshal T) (source_rebuilt x c p.0) (source_rebuilt y c p.1)
     source_rebuilt (Unmarshal T e) c h = ap (Unmarshal T) (source_rebuilt e c h)
-    source_rebuilt (Packed T v) c h = absurd (true≢false (sym h))
     source_rebuilt (Val T v) c h = absurd (true≢false (sym h))
+    source_rebuilt (Evaluated T v) c h = absurd (true≢false (sym h))
     source_rebuilt (Bracket d T e) c h = absurd (true≢false (sym h))
 
     sources_rebuilt : (es : Exprs) (c : Home) → are_source es ≡ true → rebuilt_terms mode F c es ≡ es

@@ -3,10 +3,10 @@ use Rattle.std.proofs.Common.{◌≡◌, refl, ap, ap₂, ◌∙◌, ℕ, suc, B
 use Rattle.std.specs.Prelude.{option_map, is_some}
 use Rattle.ac_types.proofs.FirstLaws.{none≢some}
 use Rattle.ac_types.specs.Types.{Bytes, same_bytes, Typ, TInt, TBool, TStr, TUnit, TExn, TTuple, TList, TOpt, TFun, TAbs, Typs, no_types, typ}
-use Rattle.ac_terms.specs.Terms.{Home, Main, In, Expr, Int, Boolean, Str, Unit', Exn, ExnOf, Tuple, Nil, Empty, Present, Cons, Var, Own, Ref, Lam, Rec, App, Let, If, Seq, Match, Try, Raise, Prim, Marshal, Unmarshal, Packed, Val, Bracket, Exprs, no_exprs, expr, PValue, Value, VInt, VBool, VStr, VUnit, VExn, VTuple, VNil, VCons, VAbsent, VPresent, VLam, VRec, VProxy, VSeal, Values, no_values, value}
+use Rattle.ac_terms.specs.Terms.{Home, Main, In, Expr, Int, Boolean, Str, Unit', Exn, ExnOf, Tuple, Nil, Empty, Present, Cons, Var, Own, Ref, Lam, Rec, App, Let, If, Seq, Match, Try, Raise, Prim, Marshal, Unmarshal, Val, Evaluated, Bracket, Exprs, no_exprs, expr, PValue, Value, VInt, VBool, VStr, VUnit, VExn, VTuple, VNil, VCons, VAbsent, VPresent, VLam, VRec, VProxy, VSeal, Values, no_values, value}
 use Rattle.ac_terms.specs.Spelling.{term_count}
 use Rattle.ac_terms.specs.Bounds.{is_width, is_string}
-use Rattle.ac_terms.specs.Primitives.{has_text}
+use Rattle.ac_terms.specs.PrimitiveTypes.{has_text}
 use Rattle.ac_terms.specs.Defs.{Environment}
 use Rattle.ac_rules.specs.Plain.{packed}
 use Rattle.ac_rules.specs.Views.{Mode, opens, representation}
@@ -15,7 +15,7 @@ use Rattle.ac_meaning.specs.Worlds.{Exception, World, match_failure, counted}
 use Rattle.ac_meaning.specs.Acts.{Act, Is, Goes, Turns, Applies, Raises, Wrong, becomes, or_raises, part, State, At, Over, Returned, Raised, Spent, Stuck, after}
 use Rattle.ac_meaning.specs.Substitution.{inst}
 use Rattle.ac_meaning.specs.Matching.{chosen}
-use Rattle.ac_meaning.specs.Primitives.{spelled, primitive, answered, exception_of, exception_value, thrown}
+use Rattle.ac_meaning.specs.PrimitiveSteps.{spelled, primitive, answered, exception_of, exception_value, thrown}
 use Rattle.ac_meaning.specs.Brackets.{enclosed, all_enclosed, is_function_value, inside, unsealed, at_name, bracket_step}
 use Rattle.ac_meaning.specs.References.{own_field, Route, Nowhere, Once, Twice, route, routed}
 use Rattle.ac_meaning.specs.Packing.{Packing, Refuses, Packs, packs, packing, Arrival, Unfit, Brings, arrival, brings, marshal_step, unmarshal_step}
@@ -105,7 +105,7 @@ opened_within : (b : Home) (v : Value) (R : Option Typ) → ValueWithin v → Go
 opened_within b v None h = tt
 opened_within b v (Some T) h = (tt, h)
 
-stays_within : (b : Bool) (n t : Bytes) (v : Value) → ValueWithin v → Good (cond b (Goes (Val (TAbs n t) v)) Wrong)
+stays_within : (b : Bool) (n t : Bytes) (v : Value) → ValueWithin v → Good (cond b (Goes (Evaluated (TAbs n t) v)) Wrong)
 stays_within true n t v h = (tt, h)
 stays_within false n t v h = tt
 
@@ -195,7 +195,7 @@ module _ (comes : ComesWithin) (mode : Mode) (z : World) (coherent : IsCoherent 
     kept_within (Empty T) c h = tt
     kept_within (Lam T e) c h = h
     kept_within (Rec T U e) c h = h
-    kept_within (Val T v) c h = h.1
+    kept_within (Evaluated T v) c h = h.1
     kept_within (ExnOf k e) c h = one_part (ExnOf k) (exception_of k) (next c e) (kept_within e c h.1) (λ s p. (h.0, p)) (λ v p. text_within k v h.0 p)
     kept_within (Tuple es) c h =
         part_within (Counted (term_count es)) (Within false) (Wide (term_count es)) ValueWithin Tuple (λ vs. Is (VTuple vs)) Raises (all_next c es) (all_kept_within es c h.1)
@@ -230,7 +230,7 @@ module _ (comes : ComesWithin) (mode : Mode) (z : World) (coherent : IsCoherent 
     kept_within (Ref j x) c h = routed_within j (route E j x)
     kept_within (Bracket b T e) c h = one_part (Bracket b T) (bracket_step mode E b c T) (next b e) (kept_within e b h) (λ s p. p) (λ v p. bracket_within b c T v p)
     kept_within (Var i) c h = tt
-    kept_within (Packed T v) c h = tt
+    kept_within (Val T v) c h = tt
 
     pub all_kept_within : (es : Exprs) (c : Home) → AllWithin false es → ActWithin (Counted (term_count es)) (Wide (term_count es)) (all_next c es)
     all_kept_within no_exprs c h = (refl, tt)

@@ -9,7 +9,7 @@ use Rattle.ac_terms.specs.Terms.{Expr, Value}
 use Rattle.ac_terms.specs.Defs.{Environment}
 use Rattle.ac_terms.specs.Bounds.{fits_term, is_string}
 use Rattle.ac_rules.specs.Views.{Mode}
-use Rattle.ac_outside.specs.Frames.{longest}
+use Rattle.ac_types.specs.Limits.{longest_frame}
 use Rattle.ac_meaning.specs.Writes.{Write, string_of}
 use Rattle.ac_meaning.specs.Worlds.{Exception, World, IsShort, IsException, fresh}
 use Rattle.ac_meaning.specs.Acts.{Outcome, Returned, Raised, Spent, Stuck, At, Over}
@@ -20,13 +20,13 @@ use Rattle.ac_meaning.proofs.Within.{RaisedWithin, WritesWithin}
 use Rattle.ac_meaning.proofs.WithinSteps.{StateWithin}
 use Rattle.ac_meaning.proofs.MarshalledRead.{IsBounded, run_bounded, starts_bounded}
 
-at_most : (n : ℕ) → nat_le n 1048576 ≡ true → n ≤ longest
+at_most : (n : ℕ) → nat_le n 1048576 ≡ true → n ≤ longest_frame
 at_most n h = grind (arith, nat_tests)
 
-one_short : (ws before after : List Write) (w : Write) → ws ≡ before ++ w ∷ after → WritesWithin ws → length (string_of w) ≤ longest
+one_short : (ws before after : List Write) (w : Write) → ws ≡ before ++ w ∷ after → WritesWithin ws → length (string_of w) ≤ longest_frame
 one_short ws before after w e h = by before (subst WritesWithin e h)
   where
-    by : (before : List Write) → WritesWithin (before ++ w ∷ after) → length (string_of w) ≤ longest
+    by : (before : List Write) → WritesWithin (before ++ w ∷ after) → length (string_of w) ≤ longest_frame
     by [] h = at_most (length (string_of w)) h.0
     by (b ∷ before) h = by before h.1
 
@@ -48,7 +48,7 @@ module _ (E : Environment) (e : Expr) (T : Typ) (typed : IsTypedProgram E e T) (
   written_within (Spent z) h = h
   written_within Stuck h = tt
 
-  pub writes_short : (o : Outcome Value) → Ends mode E e input sends N o → (before after : List Write) (w : Write) → writes_of o ≡ before ++ w ∷ after → length (string_of w) ≤ longest
+  pub writes_short : (o : Outcome Value) → Ends mode E e input sends N o → (before after : List Write) (w : Write) → writes_of o ≡ before ++ w ∷ after → length (string_of w) ≤ longest_frame
   writes_short o end before after w e = one_short (writes_of o) before after w e (written_within o (end_within o end))
 
   pub raises_exception : (x : Exception) (z : World) → Ends mode E e input sends N (Raised x z) → IsException x

@@ -1,14 +1,14 @@
 -- Brackets: how a value comes from one home to another.
 use Rattle.std.specs.Prelude.{◌&&◌, Bool, true, false, Option, Some, None, option_map, is_some, cond}
 use Rattle.ac_types.specs.Types.{Bytes, Typ, TInt, TBool, TStr, TUnit, TExn, TTuple, TList, TOpt, TFun, TAbs, Typs, no_types, typ, same_bytes}
-use Rattle.ac_terms.specs.Terms.{Home, Expr, Tuple, Nil, Empty, Present, Cons, Val, Bracket, Exprs, no_exprs, expr, Value, VInt, VBool, VStr, VUnit, VExn, VTuple, VNil, VCons, VAbsent, VPresent, VLam, VRec, VProxy, VSeal, Values, no_values, value}
+use Rattle.ac_terms.specs.Terms.{Home, Expr, Tuple, Nil, Empty, Present, Cons, Evaluated, Bracket, Exprs, no_exprs, expr, Value, VInt, VBool, VStr, VUnit, VExn, VTuple, VNil, VCons, VAbsent, VPresent, VLam, VRec, VProxy, VSeal, Values, no_values, value}
 use Rattle.ac_terms.specs.Defs.{Environment}
 use Rattle.ac_rules.specs.Views.{Mode, opens, representation}
 use Rattle.ac_meaning.specs.Acts.{Act, Is, Goes, Wrong, becomes}
 
 -- the bracket of home b at type T round a value
 abbrev pub enclosed : Home → Typ → Value → Expr
-enclosed b T v = Bracket b T (Val T v)
+enclosed b T v = Bracket b T (Evaluated T v)
 
 -- a bracket round each part of a tuple
 abbrev pub all_enclosed : Home → Typs → Values → Option Exprs
@@ -61,21 +61,21 @@ abbrev pub at_name : Home → Bytes → Bytes → Option Typ → Value → Bool 
 -- both do: n.t becomes R
 at_name b n t R v true true = becomes (option_map (λ T. enclosed b T v) R)
 -- b alone does: v is sealed
-at_name b n t R v true false = Goes (Val (TAbs n t) (VSeal b n t v))
+at_name b n t R v true false = Goes (Evaluated (TAbs n t) (VSeal b n t v))
 -- the home alone does: the seal is taken off, and its home takes the place of b
 at_name b n t R v false true = becomes (unsealed (inside n t v) R)
 -- neither does: the seal stays
-at_name b n t R v false false = cond (is_some (inside n t v)) (Goes (Val (TAbs n t) v)) Wrong
+at_name b n t R v false false = cond (is_some (inside n t v)) (Goes (Evaluated (TAbs n t) v)) Wrong
 
 -- `Bracket(b, T, v)` in home c, by the head of T
 module _ (mode : Mode) (E : Environment) where
   abbrev pub bracket_step : Home → Home → Typ → Value → Act Expr Value
   -- a constant is the same in each home
-  bracket_step b c TInt (VInt n) = Goes (Val TInt (VInt n))
-  bracket_step b c TBool (VBool x) = Goes (Val TBool (VBool x))
-  bracket_step b c TStr (VStr s) = Goes (Val TStr (VStr s))
-  bracket_step b c TUnit VUnit = Goes (Val TUnit VUnit)
-  bracket_step b c TExn (VExn k s) = Goes (Val TExn (VExn k s))
+  bracket_step b c TInt (VInt n) = Goes (Evaluated TInt (VInt n))
+  bracket_step b c TBool (VBool x) = Goes (Evaluated TBool (VBool x))
+  bracket_step b c TStr (VStr s) = Goes (Evaluated TStr (VStr s))
+  bracket_step b c TUnit VUnit = Goes (Evaluated TUnit VUnit)
+  bracket_step b c TExn (VExn k s) = Goes (Evaluated TExn (VExn k s))
   -- the bracket goes to each part
   bracket_step b c (TTuple Ts) (VTuple vs) = becomes (option_map Tuple (all_enclosed b Ts vs))
   bracket_step b c (TList T) (VNil U) = Goes (Nil (TList T))

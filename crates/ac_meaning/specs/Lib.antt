@@ -1,10 +1,10 @@
 pub mod Writes
 pub mod Worlds
-pub mod Read
+pub mod ReadExn
 pub mod Acts
 pub mod Substitution
 pub mod Matching
-pub mod Primitives
+pub mod PrimitiveSteps
 pub mod Brackets
 pub mod References
 pub mod Packing
@@ -16,6 +16,6 @@ pub mod BareReduction
 pub mod Typed
 pub mod Laws
 pub mod Loads
-pub mod States
+pub mod TypedStates
 pub mod Redexes
 pub mod ReadBack

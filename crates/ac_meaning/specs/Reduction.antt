@@ -1,14 +1,14 @@
 -- The reduction of the whole language, in call by value and from the left, in both modes: a step of a term, and how a run ends.
 use Rattle.std.specs.Prelude.{ℕ, Bool, true, false, [], ◌∷◌, None}
 use Rattle.ac_types.specs.Types.{Bytes, TFun}
-use Rattle.ac_terms.specs.Terms.{Home, Main, Expr, Int, Boolean, Str, Unit', Exn, ExnOf, Tuple, Nil, Empty, Present, Cons, Var, Own, Ref, Lam, Rec, App, Let, If, Seq, Match, Try, Raise, Prim, Marshal, Unmarshal, Packed, Val, Bracket, Exprs, no_exprs, expr, Value, VInt, VBool, VStr, VUnit, VExn, VTuple, VNil, VCons, VAbsent, VPresent, VLam, VRec, VProxy, VSeal, Values, no_values, value}
+use Rattle.ac_terms.specs.Terms.{Home, Main, Expr, Int, Boolean, Str, Unit', Exn, ExnOf, Tuple, Nil, Empty, Present, Cons, Var, Own, Ref, Lam, Rec, App, Let, If, Seq, Match, Try, Raise, Prim, Marshal, Unmarshal, Val, Evaluated, Bracket, Exprs, no_exprs, expr, Value, VInt, VBool, VStr, VUnit, VExn, VTuple, VNil, VCons, VAbsent, VPresent, VLam, VRec, VProxy, VSeal, Values, no_values, value}
 use Rattle.ac_terms.specs.Defs.{Environment}
 use Rattle.ac_rules.specs.Views.{Mode}
 use Rattle.ac_meaning.specs.Worlds.{World, match_failure, fresh}
 use Rattle.ac_meaning.specs.Acts.{Act, Is, Goes, Applies, Wrong, becomes, or_raises, within, part, parts, Outcome, State, At, Over, step_by, Leads}
 use Rattle.ac_meaning.specs.Substitution.{inst}
 use Rattle.ac_meaning.specs.Matching.{chosen}
-use Rattle.ac_meaning.specs.Primitives.{spelled, primitive, answered, exception_of, exception_value, thrown}
+use Rattle.ac_meaning.specs.PrimitiveSteps.{spelled, primitive, answered, exception_of, exception_value, thrown}
 use Rattle.ac_meaning.specs.Brackets.{enclosed, bracket_step}
 use Rattle.ac_meaning.specs.References.{own_field, referred}
 use Rattle.ac_meaning.specs.Packing.{marshal_step, unmarshal_step}
@@ -17,7 +17,7 @@ use Rattle.ac_meaning.specs.Packing.{marshal_step, unmarshal_step}
 abbrev pub apply : Home → Value → Value → Act Expr Value
 apply c (VLam T e) w = Applies (inst 0 ((T, w) ∷ []) e)
 apply c (VRec T U e) w = Applies (inst 0 ((T, w) ∷ (TFun T U, VRec T U e) ∷ []) e)
-apply c (VProxy b T U f) w = Goes (Bracket b U (App (Val (TFun T U) f) (enclosed c T w)))
+apply c (VProxy b T U f) w = Goes (Bracket b U (App (Evaluated (TFun T U) f) (enclosed c T w)))
 apply c (VInt n) w = Wrong
 apply c (VBool b) w = Wrong
 apply c (VStr s) w = Wrong
@@ -62,7 +62,7 @@ module _ (mode : Mode) (z : World) where
     look c (Empty T) = Is (VAbsent T)
     look c (Lam T e) = Is (VLam T e)
     look c (Rec T U e) = Is (VRec T U e)
-    look c (Val T v) = Is v
+    look c (Evaluated T v) = Is v
     -- values where their parts are
     look c (ExnOf k e) = part (ExnOf k) (exception_of k) (look c e)
     look c (Tuple es) = part Tuple (λ vs. Is (VTuple vs)) (look_all c es)
@@ -93,7 +93,7 @@ module _ (mode : Mode) (z : World) where
     -- a variable has had its value written for it
     look c (Var i) = Wrong
     -- a packed value is rebuilt before it comes to stand in a term
-    look c (Packed T v) = Wrong
+    look c (Val T v) = Wrong
 
     -- terms from left to right
     pub look_all : Home → Exprs → Act Exprs Values

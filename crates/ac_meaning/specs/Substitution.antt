@@ -1,7 +1,7 @@
 -- Values written for the variables of a term.
 use Rattle.std.specs.Prelude.{ℕ, zero, suc, ◌+◌, List, [], ◌∷◌}
 use Rattle.ac_types.specs.Types.{Typ}
-use Rattle.ac_terms.specs.Terms.{Pattern, PWild, PVar, PInt, PBool, PStr, PUnit, PTuple, PNil, PCons, PAbsent, PPresent, PExn, PExnOf, Patterns, no_patterns, pattern', Expr, Int, Boolean, Str, Unit', Exn, ExnOf, Tuple, Nil, Empty, Present, Cons, Var, Own, Ref, Lam, Rec, App, Let, If, Seq, Match, Try, Raise, Prim, Marshal, Unmarshal, Packed, Val, Bracket, Exprs, no_exprs, expr, Arms, no_arms, arm, Value}
+use Rattle.ac_terms.specs.Terms.{Pattern, PWild, PVar, PInt, PBool, PStr, PUnit, PTuple, PNil, PCons, PAbsent, PPresent, PExn, PExnOf, Patterns, no_patterns, pattern', Expr, Int, Boolean, Str, Unit', Exn, ExnOf, Tuple, Nil, Empty, Present, Cons, Var, Own, Ref, Lam, Rec, App, Let, If, Seq, Match, Try, Raise, Prim, Marshal, Unmarshal, Val, Evaluated, Bracket, Exprs, no_exprs, expr, Arms, no_arms, arm, Value}
 
 -- what comes in the place of a variable: another variable, or a value with the variable's type
 pub data Slot (V : Type 0) : Type 0 where
@@ -30,7 +30,7 @@ Written = List (Typ × Value)
 
 abbrev pub from_slot : Slot Value → Expr
 from_slot (Free i) = Var i
-from_slot (Bound T v) = Val T v
+from_slot (Bound T v) = Evaluated T v
 
 -- how many variables a pattern binds
 abbrev mutual
@@ -82,8 +82,8 @@ abbrev mutual
   inst d ws (Prim k es) = Prim k (inst_all d ws es)
   inst d ws (Marshal T m e) = Marshal T (inst d ws m) (inst d ws e)
   inst d ws (Unmarshal T e) = Unmarshal T (inst d ws e)
-  inst d ws (Packed T v) = Packed T v
   inst d ws (Val T v) = Val T v
+  inst d ws (Evaluated T v) = Evaluated T v
   inst d ws (Bracket c T e) = Bracket c T e
 
   pub inst_all : ℕ → Written → Exprs → Exprs

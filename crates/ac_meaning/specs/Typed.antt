@@ -2,9 +2,9 @@
 use Rattle.std.specs.Prelude.{◌≡◌, true, false, List, [], ◌∷◌, ◌++◌, Some, Option, ℕ}
 use Rattle.std.specs.Prelude.{option_map, slice_get}
 use Rattle.ac_types.specs.Types.{Typ, TInt, TBool, TStr, TUnit, TExn, TTuple, TList, TOpt, TFun, TAbs, Typs, no_types, typ}
-use Rattle.ac_terms.specs.Terms.{Home, Pattern, PWild, PVar, PInt, PBool, PStr, PUnit, PTuple, PNil, PCons, PAbsent, PPresent, PExn, PExnOf, Patterns, no_patterns, pattern', Expr, Int, Boolean, Str, Unit', Exn, ExnOf, Tuple, Nil, Empty, Present, Cons, Var, Own, Ref, Lam, Rec, App, Let, If, Seq, Match, Try, Raise, Prim, Marshal, Unmarshal, Packed, Val, Bracket, Exprs, no_exprs, expr, Arms, no_arms, arm, Value, VInt, VBool, VStr, VUnit, VExn, VTuple, VNil, VCons, VAbsent, VPresent, VLam, VRec, VProxy, VSeal, Values, no_values, value}
+use Rattle.ac_terms.specs.Terms.{Home, Pattern, PWild, PVar, PInt, PBool, PStr, PUnit, PTuple, PNil, PCons, PAbsent, PPresent, PExn, PExnOf, Patterns, no_patterns, pattern', Expr, Int, Boolean, Str, Unit', Exn, ExnOf, Tuple, Nil, Empty, Present, Cons, Var, Own, Ref, Lam, Rec, App, Let, If, Seq, Match, Try, Raise, Prim, Marshal, Unmarshal, Val, Evaluated, Bracket, Exprs, no_exprs, expr, Arms, no_arms, arm, Value, VInt, VBool, VStr, VUnit, VExn, VTuple, VNil, VCons, VAbsent, VPresent, VLam, VRec, VProxy, VSeal, Values, no_values, value}
 use Rattle.ac_terms.specs.Defs.{Environment, Field}
-use Rattle.ac_terms.specs.Primitives.{primitive_type}
+use Rattle.ac_terms.specs.PrimitiveTypes.{primitive_type}
 use Rattle.ac_rules.specs.Views.{Mode, opens, view, are_known}
 use Rattle.ac_rules.specs.Typing.{is_home, fields_of, value_in}
 use Rattle.ac_meaning.specs.Substitution.{Written}
@@ -83,8 +83,8 @@ module _ (mode : Mode) (E : Environment) where
     Typed (Prim k es) c G T = (Ts : Typs) × AllTyped es c G Ts × (primitive_type k Ts ≡ Some T)
     Typed (Marshal A m e) c G T = (T ≡ TStr) × Typed m c G TStr × Typed e c G (seen c A) × Known A
     Typed (Unmarshal A e) c G T = (T ≡ seen c A) × Typed e c G TStr × Known A
-    Typed (Packed A v) c G T = ⊥
-    Typed (Val A v) c G T = (T ≡ seen c A) × ValueTyped v c T × Known A
+    Typed (Val A v) c G T = ⊥
+    Typed (Evaluated A v) c G T = (T ≡ seen c A) × ValueTyped v c T × Known A
     Typed (Bracket b A e) c G T = (T ≡ seen c A) × Known A × Typed e b [] (seen b A) × IsHome b
 
     pub AllTyped : Exprs → Home → List Typ → Typs → Type 0

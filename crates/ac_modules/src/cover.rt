@@ -7,7 +7,7 @@ ghost use Rattle.ac_types.specs.Types.{same, same_all, typs};
 ghost use Rattle.ac_types.specs.ReadTypes.{typ_of, typed_of, sig_type_of};
 ghost use Rattle.ac_terms.specs.Read.{module_of_code};
 ghost use Rattle.ac_rules.specs.Modules.{inside, covers_type, covers_val, uncovered};
-ghost use Rattle.ac_modules.specs.Asked.{all_inside};
+ghost use Rattle.ac_modules.specs.inner.Asked.{all_inside};
 
 use crate::lookups::field_type;
 use ac_terms::Module;
@@ -29,7 +29,8 @@ pub fn covers(m: &Module) -> Result<(), u32>
 }
 
 fn uncovered_type(m: &Module) -> Option<usize>
-    ensures { result ≡ first_failing (covers_type (module_of_code m.now)) (map sig_type_of m.now.sig.types) }
+    ensures { result ≡ first_failing (covers_type (module_of_code m.now))
+        (map sig_type_of m.now.sig.types) }
 {
     m.sig
         .types
@@ -39,7 +40,8 @@ fn uncovered_type(m: &Module) -> Option<usize>
 }
 
 fn uncovered_val(m: &Module) -> Option<usize>
-    ensures { result ≡ first_failing (covers_val (module_of_code m.now)) (map typed_of m.now.sig.vals) }
+    ensures { result ≡ first_failing (covers_val (module_of_code m.now))
+        (map typed_of m.now.sig.vals) }
 {
     m.sig.vals.as_slice().iter().position(|x| !covers_val(m, x))
 }
@@ -103,7 +105,8 @@ fn is_inside(ty: &Ty, written: &Ty, m: &Module) -> bool
 
 #[cycle(inside)]
 fn are_inside(tys: &[Ty], written: &[Ty], m: &Module) -> bool
-    ensures { result ≡ same_all (typs (map typ_of tys.now)) (all_inside (module_of_code m.now) (typs (map typ_of written.now))) }
+    ensures { result ≡ same_all (typs (map typ_of tys.now))
+        (all_inside (module_of_code m.now) (typs (map typ_of written.now))) }
 {
     if tys.len() != written.len() {
         return false;

@@ -5,7 +5,7 @@ ghost use Rattle.ac_types.specs.First.{first_failing};
 ghost use Rattle.ac_types.specs.ReadTypes.{typed_of, sig_type_of};
 ghost use Rattle.ac_terms.specs.Read.{import_of_code};
 ghost use Rattle.ac_rules.specs.Modules.{like_missing};
-ghost use Rattle.ac_modules.specs.Asked.{has_like};
+ghost use Rattle.ac_modules.specs.inner.Asked.{has_like};
 
 use ac_terms::Import;
 use ac_types::{SigType, TyField, type_named};

@@ -11,7 +11,8 @@ use ac_types::{Ty, Word};
 
 /// The type that the field of that name writes.
 pub fn field_type<'a>(fields: &'a [Field], name: &Word) -> Option<&'a Ty>
-    ensures { option_map typ_of (option_copied result) ≡ field_named name.now (map field_of fields.now) }
+    ensures { option_map typ_of (option_copied result) ≡ field_named name.now
+        (map field_of fields.now) }
 {
     for x in fields {
         if x.name.text().as_slice() == name.text().as_slice() {

@@ -4,7 +4,8 @@ use Rattle.std.specs.Int.{from_be_bytes, w32}
 use Rattle.std.proofs.lemmas.List.{append-nil, drop_at}
 use Rattle.ac_types.specs.Types.{Bytes}
 use Rattle.ac_outside.specs.Filling.{Grown}
-use Rattle.ac_outside.specs.Frames.{longest, Whole, Bad, next_frame}
+use Rattle.ac_types.specs.Limits.{longest_frame}
+use Rattle.ac_outside.specs.Frames.{Whole, Bad, next_frame}
 use Rattle.ac_outside.specs.Readers.{Reader, Keeps, Refused, IsBad, Goes, Gives, IsPart}
 use Rattle.ac_outside.specs.declared.frames.FrameGot.{FrameGot}
 use Rattle.ac_outside.specs.declared.frames.FrameGot.TheVariants as answers
@@ -27,7 +28,7 @@ empty_part h b short none = record {
   within = subst (λ x. length x ≤ from_be_bytes w32 h) (sym none) (omega arith);
 }
 
-pub full_part : (h b : Bytes) (n : ℕ) → length h ≡ 4 → n ≡ from_be_bytes w32 h → n ≤ longest → length b ≤ n → IsPart h b
+pub full_part : (h b : Bytes) (n : ℕ) → length h ≡ 4 → n ≡ from_be_bytes w32 h → n ≤ longest_frame → length b ≤ n → IsPart h b
 full_part h b n four is le within = record {
   short = omega (arith, four);
   none = λ less. absurd (omega (arith, four, less));
@@ -60,23 +61,24 @@ moved_head h b l g k none e =
     ap (λ x. (h ++ x) ++ l) none ∙ ap (λ x. x ++ l) (append-nil h) ∙ e ∙ sym (ap (λ x. x ++ k) (append-nil g)) ∙ sym (ap (λ x. (g ++ x) ++ k) none)
 
 module _ (h b l : Bytes) (n : ℕ) (four : length h ≡ 4) (is : n ≡ from_be_bytes w32 h) where
-  pub over_goes : longest < n → Goes (answers.Bad n 4) (h ++ b) (Refused n 4)
+  pub over_goes : longest_frame < n → Goes (answers.Bad n 4) (h ++ b) (Refused n 4)
   over_goes over = (record { bytes = h ++ b; is = behind h b n four is ∙ too_long n b over }, refl)
 
-  pub over_gives : longest < n → b ≡ [] → Gives (answers.Bad n 4) ((h ++ b) ++ l) (Refused n 4) l
+  pub over_gives : longest_frame < n → b ≡ [] → Gives (answers.Bad n 4) ((h ++ b) ++ l) (Refused n 4) l
   over_gives over none =
       let four_there : length (h ++ b) ≡ 4 = ap (λ x. length (h ++ x)) none ∙ ap length (append-nil h) ∙ four in
       (ap next_frame (append_assoc h b l) ∙ behind h (b ++ l) n four is ∙ too_long n (b ++ l) over, sym (drop_at (h ++ b) l 4 four_there))
 
-  pub whole_gives : (c k : Bytes) → n ≤ longest → length c ≡ n → b ++ l ≡ c ++ k → next_frame ((h ++ b) ++ l) ≡ Whole c k
+  pub whole_gives : (c k : Bytes) → n ≤ longest_frame → length c ≡ n → b ++ l ≡ c ++ k → next_frame ((h ++ b) ++ l) ≡ Whole c k
   whole_gives c k le all e = ap next_frame (append_assoc h b l ∙ ap (λ x. h ++ x) e) ∙ behind h (c ++ k) n four is ∙ whole n c k le all
 
-  pub early_goes : (c : Bytes) → n ≤ longest → length c < n → Goes (answers.Bad n (4 + length c)) (h ++ b) (Refused n (4 + length c))
+  pub early_goes : (c : Bytes) → n ≤ longest_frame → length c < n → Goes (answers.Bad n (4 + length c)) (h ++ b) (Refused n (4 + length c))
   early_goes c le less = (record { bytes = h ++ c; is = behind h c n four is ∙ early n c le less }, refl)
 
-  pub early_gives : (c k : Bytes) → n ≤ longest → length c < n → b ++ l ≡ c → k ≡ [] → Gives (answers.Bad n (4 + length c)) ((h ++ b) ++ l) (Refused n (4 + length c)) k
+  pub early_gives : (c k : Bytes) → n ≤ longest_frame → length c < n → b ++ l ≡ c → k ≡ [] → Gives (answers.Bad n (4 + length c)) ((h ++ b) ++ l) (Refused n (4 + length c)) k
   early_gives c k le less e none =
       let all : (h ++ b) ++ l ≡ h ++ c = append_assoc h b l ∙ ap (λ x. h ++ x) e in
-      let size : length (h ++ c) ≡ 4 + length c = length-append h c ∙ ap (λ m. m + length c) four in
-      (ap next_frame all ∙ behind h c n four is ∙ early n c le less,
-       none ∙ sym (ap (λ x. drop (4 + length c) x) (all ∙ sym (append-nil (h ++ c))) ∙ drop_at (h ++ c) [] (4 + length c) size))
+      let size : length (h ++ c) ≡ 4 + length c = length-append h c ∙ ap (λ m. m + length c) four in (
+        ap next_frame all ∙ behind h c n four is ∙ early n c le less,
+        none ∙ sym (ap (λ x. drop (4 + length c) x) (all ∙ sym (append-nil (h ++ c))) ∙ drop_at (h ++ c) [] (4 + length c) size),
+      )

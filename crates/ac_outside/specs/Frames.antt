@@ -1,11 +1,8 @@
 -- The frames of a channel: each string stands behind its length.
 use Rattle.std.specs.Prelude.{◌≡◌, ◌≤◌, ◌+◌, ℕ, nat_le, cond, List, [], ◌∷◌, ◌++◌, length, take, drop}
 use Rattle.std.specs.Int.{from_be_bytes, to_be_bytes, w32}
+use Rattle.ac_types.specs.Limits.{longest_frame}
 use Rattle.ac_types.specs.Types.{Bytes}
-
--- a frame holds a string of at most so many bytes
-abbrev pub longest : ℕ
-longest = 1048576
 
 -- a string as a frame: the number of its bytes in four bytes, the highest first, and the bytes
 abbrev pub frame_of : Bytes → Bytes
@@ -14,7 +11,7 @@ frame_of s = to_be_bytes w32 (length s) ++ s
 -- these bytes are one whole frame
 pub record IsFrame (bytes : Bytes) : Type 0 where
   pub string : Bytes
-  pub short : length string ≤ longest
+  pub short : length string ≤ longest_frame
   pub is : bytes ≡ frame_of string
 
 -- what an input begins with
@@ -29,7 +26,7 @@ pub data Frame : Type 0 where
 -- a frame behind a length, where the input goes on so
 abbrev pub framed : ℕ → Bytes → Frame
 framed n rest =
-    cond (nat_le n longest)
+    cond (nat_le n longest_frame)
     (cond (nat_le n (length rest)) (Whole (take n rest) (drop n rest)) (Bad n (4 + length rest)))
     (Bad n 4)
 

@@ -51,9 +51,9 @@ rest End left = left
 rest Failed left = left
 
 -- what a read of a file from a place answers
-abbrev pub Reads : Got → Option (List ℕ) → ℕ → List ℕ → Type 0
-Reads got (Some bytes) from buf = Takes got (drop from bytes) buf
-Reads got None from buf = got ≡ Failed
+abbrev pub ReadsFrom : Got → Option (List ℕ) → ℕ → List ℕ → Type 0
+ReadsFrom got (Some bytes) from buf = Takes got (drop from bytes) buf
+ReadsFrom got None from buf = got ≡ Failed
 
 -- a file has fewer than 2^64 bytes
 abbrev pub IsShort : Option (List ℕ) → Type 0

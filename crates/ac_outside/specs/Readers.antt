@@ -2,7 +2,8 @@
 use Rattle.std.specs.Prelude.{◌≡◌, ◌<◌, ◌≤◌, ℕ, Option, Some, None, [], ◌++◌, length, drop}
 use Rattle.std.specs.Int.{from_be_bytes, w32}
 use Rattle.ac_types.specs.Types.{Bytes}
-use Rattle.ac_outside.specs.Frames.{longest, Frame, Whole, Bad, AtEnd, next_frame}
+use Rattle.ac_types.specs.Limits.{longest_frame}
+use Rattle.ac_outside.specs.Frames.{Frame, Whole, Bad, AtEnd, next_frame}
 use Rattle.ac_outside.specs.declared.frames.FrameGot.{FrameGot}
 use Rattle.ac_outside.specs.declared.frames.FrameGot.TheVariants as answers
 use Rattle.ac_outside.specs.declared.frames.Stop.{Stop}
@@ -31,7 +32,7 @@ pub record IsBad (n g : ℕ) : Type 0 where
 
 -- the reader after an answer, where it kept these bytes before, whatever its source is
 abbrev pub Goes : FrameGot → Bytes → Reader → Type 0
-Goes (answers.Frame s) kept new = (length s.0 ≤ longest) × (new ≡ Keeps [])
+Goes (answers.Frame s) kept new = (length s.0 ≤ longest_frame) × (new ≡ Keeps [])
 Goes answers.End kept new = (kept ≡ []) × (new ≡ Keeps [])
 Goes (answers.Bad n g) kept new = IsBad n g × (new ≡ Refused n g)
 Goes answers.Failed kept new = (more : Bytes) × (new ≡ Keeps (kept ++ more))
@@ -65,7 +66,7 @@ kept p = p.head.0 ++ p.body.0
 pub record IsPart (head body : Bytes) : Type 0 where
   pub short : length head ≤ 4
   pub none : length head < 4 → body ≡ []
-  pub over : longest < from_be_bytes w32 head → body ≡ []
+  pub over : longest_frame < from_be_bytes w32 head → body ≡ []
   pub within : length body ≤ from_be_bytes w32 head
 
 abbrev pub reader : Option Stop → Bytes → Reader

@@ -2,7 +2,7 @@
 ghost use Rattle.std.specs.Prelude.{◌≡◌, ◌⊎◌, ◌<◌, ◌≤◌, ◌↔◌, ◌++◌, [], true, None, IsTrue, MatchOption, IfSome, OnOk, OnErr, Contains, length};
 ghost use Rattle.ac_outside.specs.Calls.{unused};
 ghost use Rattle.ac_outside.specs.Kept.{bytes_of, StandsAt};
-ghost use Rattle.ac_outside.specs.Outside.{Rose, IsWithin, OthersSame, NeverFall, Reads, IsShort, Created, Appended, or_empty};
+ghost use Rattle.ac_outside.specs.Outside.{Rose, IsWithin, OthersSame, NeverFall, ReadsFrom, IsShort, Created, Appended, or_empty};
 
 use crate::calls::Calls;
 use crate::taking::take_from;
@@ -20,8 +20,8 @@ pub struct MemoryFile {
     pub bytes: Text,
 }
 
-/// Files in memory, of which the first of a name counts. They have one count of failed reads for all names, and
-/// one of failed creates and appends.
+/// Files in memory, of which the first of a name counts. They have one count of failed reads for
+/// all names, and one of failed creates and appends.
 #[derive(Drop)]
 pub struct MemoryFiles {
     alloc: Global,
@@ -46,7 +46,12 @@ impl MemoryFiles {
         fail_reads: Many<u64>,
         fail_writes: Many<u64>,
     ) -> MemoryFiles
-        ensures { result ≡ record { files = files; reads = unused fail_reads; writes = unused fail_writes } }
+        ensures { result ≡ record {
+          files = files;
+          reads = unused fail_reads;
+          writes = unused
+              fail_writes;
+        } }
     {
         MemoryFiles {
             alloc,
@@ -58,7 +63,8 @@ impl MemoryFiles {
 
     /// The bytes of a name, `None` exactly where there is no such file.
     pub fn bytes(&self, name: &str) -> Option<&Text>
-        ensures { MatchOption result (bytes_of self.now.files name.now ≡ None) (λ text. bytes_of self.now.files name.now ≡ Some text.now.0) }
+        ensures { MatchOption result (bytes_of self.now.files name.now ≡ None)
+            (λ text. bytes_of self.now.files name.now ≡ Some text.now.0) }
     {
         text_of(&self.files, name)
     }
@@ -66,7 +72,8 @@ impl MemoryFiles {
 
 fn text_of<'a>(files: &'a [MemoryFile], name: &str) -> Option<&'a Text>
     ensures short { IsShort (bytes_of files.now name.now) }
-    ensures text { MatchOption result (bytes_of files.now name.now ≡ None) (λ text. bytes_of files.now name.now ≡ Some text.now.0) }
+    ensures text { MatchOption result (bytes_of files.now name.now ≡ None)
+        (λ text. bytes_of files.now name.now ≡ Some text.now.0) }
 {
     let at = place_of(files, name)?;
     let text = &files[at].bytes;
@@ -76,7 +83,8 @@ fn text_of<'a>(files: &'a [MemoryFile], name: &str) -> Option<&'a Text>
 
 fn place_of(files: &[MemoryFile], name: &str) -> Option<usize>
     ensures within { IfSome result (λ at. at < length files.now) }
-    ensures place { MatchOption result (bytes_of files.now name.now ≡ None) (λ at. StandsAt files.now name.now at) }
+    ensures place { MatchOption result (bytes_of files.now name.now ≡ None)
+        (λ at. StandsAt files.now name.now at) }
 {
     for (i, file) in files.iter().enumerate() {
         if file.name.as_str() == name {
@@ -99,13 +107,14 @@ impl Files for MemoryFiles {
     fn read(&mut self, name: &str, from: u64, buf: &mut [u8]) -> Got
         requires { 0 < length buf.old }
         ensures bound { IsWithin result (length buf.new) }
-        ensures bytes { Reads result (bytes_of self.old.files name.now) from buf.new }
+        ensures bytes { ReadsFrom result (bytes_of self.old.files name.now) from buf.new }
         ensures same { self.new.files ≡ self.old.files }
         ensures short { IsShort (bytes_of self.old.files name.now) }
         ensures cause { result ≡ Got.Failed → Rose self.old.reads.failed self.new.reads.failed }
         ensures later { self.old.reads.failed ≤ self.new.reads.failed }
         ensures later_writes { self.old.writes.failed ≤ self.new.writes.failed }
-        ensures fails { (result ≡ Got.Failed) ↔ (Contains self.old.reads.fail self.old.reads.made ⊎ (bytes_of self.old.files name.now ≡ None)) }
+        ensures fails { (result ≡ Got.Failed) ↔ (Contains self.old.reads.fail self.old.reads.made ⊎
+            (bytes_of self.old.files name.now ≡ None)) }
     {
         let found = text_of(&self.files, name);
         if !self.reads.next_fails()
@@ -119,7 +128,8 @@ impl Files for MemoryFiles {
 
     /// `Failed` comes exactly for the writes that are to fail, which change nothing.
     fn create(&mut self, name: &str) -> Put
-        ensures bytes { Created result (bytes_of self.old.files name.now) (bytes_of self.new.files name.now) }
+        ensures bytes { Created result (bytes_of self.old.files name.now)
+            (bytes_of self.new.files name.now) }
         ensures others { OthersSame name.now (bytes_of self.old.files) (bytes_of self.new.files) }
         ensures cause { result ≡ Put.Failed → Rose self.old.writes.failed self.new.writes.failed }
         ensures later { self.old.reads.failed ≤ self.new.reads.failed }
@@ -138,7 +148,8 @@ impl Files for MemoryFiles {
 
     /// `Failed` comes exactly for the writes that are to fail, which change nothing.
     fn append(&mut self, name: &str, bytes: &[u8]) -> Put
-        ensures bytes { Appended result (bytes_of self.old.files name.now) (bytes_of self.new.files name.now) bytes.now }
+        ensures bytes { Appended result (bytes_of self.old.files name.now)
+            (bytes_of self.new.files name.now) bytes.now }
         ensures others { OthersSame name.now (bytes_of self.old.files) (bytes_of self.new.files) }
         ensures cause { result ≡ Put.Failed → Rose self.old.writes.failed self.new.writes.failed }
         ensures later { self.old.reads.failed ≤ self.new.reads.failed }
@@ -175,7 +186,8 @@ fn set(alloc: Global, files: &mut Vec<MemoryFile>, name: &str, bytes: &[u8]) -> 
 
 // Adds bytes at the end of what a name has.
 fn add(alloc: Global, files: &mut Vec<MemoryFile>, name: &str, bytes: &[u8]) -> Result<(), Memory>
-    ensures ok { OnOk result (bytes_of files.new.items name.now ≡ Some (or_empty (bytes_of files.old.items name.now) ++ bytes.now)) }
+    ensures ok { OnOk result (bytes_of files.new.items name.now ≡ Some
+        (or_empty (bytes_of files.old.items name.now) ++ bytes.now)) }
     ensures others { OthersSame name.now (bytes_of files.old.items) (bytes_of files.new.items) }
     ensures err { OnErr result (files.new.items ≡ files.old.items) }
 {

@@ -32,7 +32,8 @@ pub enum FrameGot {
     Memory,
 }
 
-/// A reader of frames. After `Bad` it answers the same `Bad`, after `Memory` `Memory`, and takes nothing.
+/// A reader of frames. After `Bad` it answers the same `Bad`, after `Memory` `Memory`, and takes
+/// nothing.
 #[derive(Drop)]
 pub struct Frames {
     alloc: Global,

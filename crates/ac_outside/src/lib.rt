@@ -1,8 +1,10 @@
-//! What a program meets outside: files to read and write, sinks for its output, and the world in which it runs.
+//! What a program meets outside: files to read and write, sinks for its output, and the world in
+//! which it runs.
 //!
-//! Each trait has counts of faults that never fall, and a call that answers `Failed` shows in its count. So code
-//! that is generic over a trait can't claim a fault that didn't happen. Some implementations tell what they
-//! contain, and some don't: a clause that begins with `IsTrue told` speaks of the former alone.
+//! Each trait has counts of faults that never fall, and a call that answers `Failed` shows in its
+//! count. So code that is generic over a trait can't claim a fault that didn't happen. Some
+//! implementations tell what they contain, and some don't: a clause that begins with `IsTrue told`
+//! speaks of the former alone.
 #![tactic(auto)]
 
 mod calls;

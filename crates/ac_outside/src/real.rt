@@ -7,7 +7,8 @@ use std::io;
 use std::io::{Read, Seek, SeekFrom, Write};
 use std::marker::Model;
 
-/// A sink over any writer, which it flushes after each piece. Contracts see it as the number of writes that failed.
+/// A sink over any writer, which it flushes after each piece. Contracts see it as the number of
+/// writes that failed.
 #[derive(Drop)]
 pub struct RealSink<W> {
     inner: W,
@@ -54,8 +55,8 @@ fn written<W: Write>(inner: &mut W, bytes: &[u8]) -> io::Result<()> {
     inner.flush()
 }
 
-/// The files of the system. Contracts see them as the numbers of reads, and of creates and appends, that failed,
-/// each one count for all names.
+/// The files of the system. Contracts see them as the numbers of reads, and of creates and appends,
+/// that failed, each one count for all names.
 #[derive(Drop)]
 pub struct RealFiles<R> {
     rt: R,

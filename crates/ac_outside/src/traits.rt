@@ -1,6 +1,6 @@
 // The traits of the outside, and what their calls answer.
 ghost use Rattle.std.specs.Prelude.{◌≡◌, ◌<◌, ◌≤◌, ℕ, List, Bool, IsTrue, length};
-ghost use Rattle.ac_outside.specs.Outside.{Rose, Contents, NeverFall, IsWithin, Takes, rest, Reads, IsShort, Wrote, Created, Appended, OthersSame};
+ghost use Rattle.ac_outside.specs.Outside.{Rose, Contents, NeverFall, IsWithin, Takes, rest, ReadsFrom, IsShort, Wrote, Created, Appended, OthersSame};
 ghost use Rattle.ac_outside.specs.Frames.{IsFrame};
 
 /// What a read answers.
@@ -74,7 +74,8 @@ pub trait Source {
     ghost passes_on: { (a b c : Self) → passes a b → passes b c → passes a c };
 }
 
-/// What a program meets while it runs: its input, a console and a channel. It tells what they have, or nothing.
+/// What a program meets while it runs: its input, a console and a channel. It tells what they have,
+/// or nothing.
 pub trait World: Source {
     /// The bytes printed so far.
     ghost console: { Self → List ℕ };
@@ -87,8 +88,10 @@ pub trait World: Source {
 
     /// Adds the bytes of one print to the console.
     fn print(&mut self, bytes: &[u8]) -> Put
-        ensures bytes { IsTrue Self.told → Wrote result (console self.old) (console self.new) bytes.now }
-        ensures others { IsTrue Self.told → (Self.left self.new ≡ Self.left self.old) × (channel self.new ≡ channel self.old) }
+        ensures bytes { IsTrue Self.told → Wrote result (console self.old) (console self.new)
+            bytes.now }
+        ensures others { IsTrue Self.told → (Self.left self.new ≡ Self.left self.old) ×
+            (channel self.new ≡ channel self.old) }
         ensures cause { result ≡ Put.Failed → Rose (write_faults self.old) (write_faults self.new) }
         ensures later { write_faults self.old ≤ write_faults self.new }
         ensures later_reads { Self.read_faults self.old ≤ Self.read_faults self.new };
@@ -96,14 +99,17 @@ pub trait World: Source {
     /// Adds one whole frame to the channel, its length among the bytes.
     fn send(&mut self, bytes: &[u8]) -> Put
         requires { IsFrame bytes.now }
-        ensures bytes { IsTrue Self.told → Wrote result (channel self.old) (channel self.new) bytes.now }
-        ensures others { IsTrue Self.told → (Self.left self.new ≡ Self.left self.old) × (console self.new ≡ console self.old) }
+        ensures bytes { IsTrue Self.told → Wrote result (channel self.old) (channel self.new)
+            bytes.now }
+        ensures others { IsTrue Self.told → (Self.left self.new ≡ Self.left self.old) ×
+            (console self.new ≡ console self.old) }
         ensures cause { result ≡ Put.Failed → Rose (write_faults self.old) (write_faults self.new) }
         ensures later { write_faults self.old ≤ write_faults self.new }
         ensures later_reads { Self.read_faults self.old ≤ Self.read_faults self.new };
 
     /// A read leaves console and channel as they were.
-    ghost read_leaves: { (a b : Self) → Self.Source.passes a b → IsTrue Self.Source.told → (console b ≡ console a) × (channel b ≡ channel a) };
+    ghost read_leaves: { (a b : Self) → Self.Source.passes a b → IsTrue Self.Source.told →
+        (console b ≡ console a) × (channel b ≡ channel a) };
 
     /// In a read no count of failed writes falls.
     ghost read_keeps: { (a b : Self) → Self.Source.passes a b → write_faults a ≤ write_faults b };
@@ -123,30 +129,36 @@ pub trait Files {
     /// How often a write of a name has failed.
     ghost write_faults: { Self → List ℕ → ℕ };
 
-    /// Reads from a place on, in bytes from 0. Each file keeps its bytes, fewer than 2^64, and the read of a missing one fails.
+    /// Reads from a place on, in bytes from 0. Each file keeps its bytes, fewer than 2^64, and the
+    /// read of a missing one fails.
     fn read(&mut self, name: &str, from: u64, buf: &mut [u8]) -> Got
         requires { 0 < length buf.old }
         ensures bound { IsWithin result (length buf.new) }
-        ensures bytes { IsTrue told → Reads result (contents self.old name.now) from buf.new }
+        ensures bytes { IsTrue told → ReadsFrom result (contents self.old name.now) from buf.new }
         ensures same { IsTrue told → contents self.new ≡ contents self.old }
         ensures short { IsTrue told → IsShort (contents self.old name.now) }
-        ensures cause { result ≡ Got.Failed → Rose (read_faults self.old name.now) (read_faults self.new name.now) }
+        ensures cause { result ≡ Got.Failed →
+            Rose (read_faults self.old name.now) (read_faults self.new name.now) }
         ensures later { NeverFall (read_faults self.old) (read_faults self.new) }
         ensures later_writes { NeverFall (write_faults self.old) (write_faults self.new) };
 
     /// Makes a file empty.
     fn create(&mut self, name: &str) -> Put
-        ensures bytes { IsTrue told → Created result (contents self.old name.now) (contents self.new name.now) }
+        ensures bytes { IsTrue told → Created result (contents self.old name.now)
+            (contents self.new name.now) }
         ensures others { IsTrue told → OthersSame name.now (contents self.old) (contents self.new) }
-        ensures cause { result ≡ Put.Failed → Rose (write_faults self.old name.now) (write_faults self.new name.now) }
+        ensures cause { result ≡ Put.Failed →
+            Rose (write_faults self.old name.now) (write_faults self.new name.now) }
         ensures later { NeverFall (read_faults self.old) (read_faults self.new) }
         ensures later_writes { NeverFall (write_faults self.old) (write_faults self.new) };
 
     /// Adds bytes at the end of a file, which it makes first where it is missing.
     fn append(&mut self, name: &str, bytes: &[u8]) -> Put
-        ensures bytes { IsTrue told → Appended result (contents self.old name.now) (contents self.new name.now) bytes.now }
+        ensures bytes { IsTrue told → Appended result (contents self.old name.now)
+            (contents self.new name.now) bytes.now }
         ensures others { IsTrue told → OthersSame name.now (contents self.old) (contents self.new) }
-        ensures cause { result ≡ Put.Failed → Rose (write_faults self.old name.now) (write_faults self.new name.now) }
+        ensures cause { result ≡ Put.Failed →
+            Rose (write_faults self.old name.now) (write_faults self.new name.now) }
         ensures later { NeverFall (read_faults self.old) (read_faults self.new) }
         ensures later_writes { NeverFall (write_faults self.old) (write_faults self.new) };
 }

@@ -28,7 +28,11 @@ impl Model for SureWorld {
 
     ghost Value = { Around };
 
-    ghost view = { λ s. record { left = drop s.taken s.input.0; console = s.console.0; channel = s.channel.0 } };
+    ghost view = { λ s. record {
+      left = drop s.taken s.input.0;
+      console = s.console.0;
+      channel = s.channel.0;
+    } };
 }
 
 impl SureWorld {
@@ -76,7 +80,8 @@ impl Source for SureWorld {
         ensures rest { self.new.left ≡ rest result self.old.left }
         ensures cause { result ≡ Got.Failed → Rose 0 0 }
         ensures later { 0 ≤ 0 }
-        ensures passes { (self.new.console ≡ self.old.console) × (self.new.channel ≡ self.old.channel) }
+        ensures passes { (self.new.console ≡ self.old.console) ×
+            (self.new.channel ≡ self.old.channel) }
         ensures sure { result ≢ Got.Failed }
     {
         let got = take_from(self.input.as_slice(), self.taken, buf);
@@ -156,14 +161,19 @@ impl Model for MemoryWorld {
 }
 
 impl MemoryWorld {
-    /// A world with this input, whose reads of these numbers, from 0, fail, and whose prints and sends of those, counted together. It takes no memory.
+    /// A world with this input, whose reads of these numbers, from 0, fail, and whose prints and
+    /// sends of those, counted together. It takes no memory.
     pub fn new(
         alloc: Global,
         input: Text,
         fail_reads: Many<u64>,
         fail_writes: Many<u64>,
     ) -> MemoryWorld
-        ensures { result ≡ record { world = record { left = input.0; console = []; channel = [] }; reads = unused fail_reads; writes = unused fail_writes } }
+        ensures { result ≡ record {
+          world = record { left = input.0; console = []; channel = [] };
+          reads = unused fail_reads;
+          writes = unused fail_writes;
+        } }
     {
         MemoryWorld {
             world: SureWorld::new(alloc, input),
@@ -194,7 +204,8 @@ impl Source for MemoryWorld {
 
     ghost read_faults = { λ s. s.reads.failed };
 
-    ghost passes = { λ a b. (b.world.console ≡ a.world.console) × (b.world.channel ≡ a.world.channel) × (b.writes ≡ a.writes) };
+    ghost passes = { λ a b. (b.world.console ≡ a.world.console) ×
+        (b.world.channel ≡ a.world.channel) × (b.writes ≡ a.writes) };
 
     /// `Failed` comes exactly for the reads that are to fail.
     fn read(&mut self, buf: &mut [u8]) -> Got
@@ -204,7 +215,9 @@ impl Source for MemoryWorld {
         ensures rest { self.new.world.left ≡ rest result self.old.world.left }
         ensures cause { result ≡ Got.Failed → Rose self.old.reads.failed self.new.reads.failed }
         ensures later { self.old.reads.failed ≤ self.new.reads.failed }
-        ensures passes { (self.new.world.console ≡ self.old.world.console) × (self.new.world.channel ≡ self.old.world.channel) × (self.new.writes ≡ self.old.writes) }
+        ensures passes { (self.new.world.console ≡ self.old.world.console) ×
+            (self.new.world.channel ≡ self.old.world.channel) ×
+            (self.new.writes ≡ self.old.writes) }
         ensures fails { (result ≡ Got.Failed) ↔ Contains self.old.reads.fail self.old.reads.made }
     {
         if self.reads.next_fails() {
@@ -228,12 +241,14 @@ impl World for MemoryWorld {
 
     ghost read_leaves = { λ _ _ same _. (same.0, same.1) };
 
-    ghost read_keeps = { λ a _ same. let h : a.writes.failed ≤ a.writes.failed = omega arith in rw same.2 h };
+    ghost read_keeps = { λ a _ same. let h : a.writes.failed ≤ a.writes.failed = omega arith in rw
+        same.2 h };
 
     /// `Failed` comes exactly for the prints that are to fail, which print nothing.
     fn print(&mut self, bytes: &[u8]) -> Put
         ensures bytes { Wrote result self.old.world.console self.new.world.console bytes.now }
-        ensures others { (self.new.world.left ≡ self.old.world.left) × (self.new.world.channel ≡ self.old.world.channel) }
+        ensures others { (self.new.world.left ≡ self.old.world.left) ×
+            (self.new.world.channel ≡ self.old.world.channel) }
         ensures cause { result ≡ Put.Failed → Rose self.old.writes.failed self.new.writes.failed }
         ensures later { self.old.writes.failed ≤ self.new.writes.failed }
         ensures later_reads { self.old.reads.failed ≤ self.new.reads.failed }
@@ -250,7 +265,8 @@ impl World for MemoryWorld {
     fn send(&mut self, bytes: &[u8]) -> Put
         requires { IsFrame bytes.now }
         ensures bytes { Wrote result self.old.world.channel self.new.world.channel bytes.now }
-        ensures others { (self.new.world.left ≡ self.old.world.left) × (self.new.world.console ≡ self.old.world.console) }
+        ensures others { (self.new.world.left ≡ self.old.world.left) ×
+            (self.new.world.console ≡ self.old.world.console) }
         ensures cause { result ≡ Put.Failed → Rose self.old.writes.failed self.new.writes.failed }
         ensures later { self.old.writes.failed ≤ self.new.writes.failed }
         ensures later_reads { self.old.reads.failed ≤ self.new.reads.failed }

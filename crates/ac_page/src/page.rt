@@ -48,7 +48,8 @@ impl Page {
 
     /// Adds the digits of a number.
     pub fn number(&mut self, number: u64)
-        ensures { (self.new ≡ None) ⊎ (self.new ≡ option_map (λ old. old ++ decimal number) self.old) }
+        ensures { (self.new ≡ None) ⊎ (self.new ≡ option_map (λ old. old ++ decimal number)
+            self.old) }
     {
         match format!(in self.alloc; "{number}") {
             Ok(digits) => self.put(digits.as_bytes()),
@@ -58,7 +59,8 @@ impl Page {
 
     /// Adds the digits of a number, behind a `-` where it is negative.
     pub fn integer(&mut self, number: i64)
-        ensures { (self.new ≡ None) ⊎ (self.new ≡ option_map (λ old. old ++ signed_decimal number) self.old) }
+        ensures { (self.new ≡ None) ⊎ (self.new ≡ option_map (λ old. old ++ signed_decimal number)
+            self.old) }
     {
         match format!(in self.alloc; "{number}") {
             Ok(digits) => self.put(digits.as_bytes()),

@@ -3,14 +3,14 @@ use Rattle.std.proofs.Common.{◌≡◌, ℕ, List, [], ◌∷◌, refl, sym, �
 use Rattle.ac_types.specs.Types.{Bytes}
 use Rattle.ac_syntax.specs.Signs.{Sign, Lower, Upper, Fixed}
 use Rattle.ac_syntax.specs.Trees.{NameAt, TypeTree, AbbrevTree, SigTree}
-use Rattle.ac_syntax.specs.Types.{IsType, Whole}
+use Rattle.ac_syntax.specs.TypeForms.{IsType, Whole}
 use Rattle.ac_syntax.specs.Programs.{IsSig}
-use Rattle.ac_syntax.specs.Parsing.{SymbolAt, NoSymbol, LowerAt, NoLower, NoType, NoSig}
+use Rattle.ac_syntax.specs.PartParsing.{SymbolAt, NoSymbol, LowerAt, NoLower, NoType, NoSig}
 use Rattle.ac_syntax.specs.declared.sign.Symbol.{Symbol}
 use Rattle.ac_syntax.specs.declared.sign.Symbol.TheVariants.{Colon, Equals}
 use Rattle.ac_syntax.proofs.UniqueTypes.{tail_eq, same_type}
 use Rattle.ac_syntax.proofs.UniquePrograms.{same_sig}
-use Rattle.ac_parser.specs.Parsing.{UpperAt, NoUpper, OnlyRead, NoRead, Anything, AbbrevAt, NoAbbrev, HeadAt}
+use Rattle.ac_parser.specs.inner.ProgramParsing.{UpperAt, NoUpper, OnlyRead, NoRead, Anything, AbbrevAt, NoAbbrev, HeadAt}
 
 pub head_eq : {x y : Sign} {r s : List Sign} → x ∷ r ≡ y ∷ s → x ≡ y
 head_eq e = cc

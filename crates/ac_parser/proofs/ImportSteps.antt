@@ -2,15 +2,15 @@
 use Rattle.std.proofs.Common.{◌≡◌, ℕ, Bool, List, [], ◌∷◌, ◌++◌, Option, Some, None, refl, sym, ◌∙◌, ap, subst, append_assoc, append-nil}
 use Rattle.ac_types.specs.Sigs.{Range, Constraint, Ranges, Exact, Resolve}
 use Rattle.ac_version.specs.declared.read.VToken.{VToken}
-use Rattle.ac_version.specs.Reading.{RangeAt, Ranged, last_range, starred_range, more_ranges, IsConstraint, ranged, ReadsConstraint}
+use Rattle.ac_version.specs.VersionReading.{RangeAt, Ranged, last_range, starred_range, more_ranges, IsConstraint, ranged, ReadsConstraint}
 use Rattle.ac_syntax.specs.Signs.{Sign, Upper, Fixed}
 use Rattle.ac_syntax.specs.Trees.{NameAt, AbbrevTree, SigTree, WantsTree, WantsVersion, WantsName, DefTree, ImportDef}
 use Rattle.ac_syntax.specs.Programs.{IsSig, ParsesAbbrevs, vtoken_of, VTokens, no_vtokens, vtoken_, ParsesLike, no_like, like, resolve_of, ParsesResolve, last_resolve, more_resolve, ParsesDef, import_version, import_name, name_at}
-use Rattle.ac_syntax.specs.Parsing.{SymbolAt, NoSymbol}
+use Rattle.ac_syntax.specs.PartParsing.{SymbolAt, NoSymbol}
 use Rattle.ac_syntax.specs.declared.sign.Symbol.TheVariants.{By, Comma, Equals, Import, Like, NameWord, Struct, Version}
 use Rattle.ac_syntax.proofs.Exceptions.{nothing_there, same_value}
 use Rattle.ac_syntax.proofs.UniqueTypes.{tail_eq}
-use Rattle.ac_parser.specs.Parsing.{UpperAt, NoUpper, OnlyRead, NoRead, Anything, NoComma, NoVToken, StructOf, HeadAt, ConstraintAt, LikeAt, NameWanted, DemandAt, by_version, by_name, ResolveAt, NoResolve}
+use Rattle.ac_parser.specs.inner.ProgramParsing.{UpperAt, NoUpper, OnlyRead, NoRead, Anything, NoComma, NoVToken, StructOf, HeadAt, ConstraintAt, LikeAt, NameWanted, DemandAt, by_version, by_name, ResolveAt, NoResolve}
 use Rattle.ac_parser.proofs.Fronts.{head_eq, upper_eq, name_eq}
 use Rattle.ac_parser.proofs.VersionSteps.{nothing_is_none, first_no_vtoken}
 

@@ -3,15 +3,15 @@ use Rattle.std.proofs.Common.{◌≡◌, ℕ, List, [], ◌∷◌, Option, refl,
 use Rattle.ac_types.specs.Sigs.{Atom}
 use Rattle.ac_syntax.specs.Signs.{Sign, Lower, Fixed}
 use Rattle.ac_syntax.specs.Trees.{NameAt, TypeTree, Tree, AbbrevTree, SigTree, FieldTree, AbbrevField, ValField, DefTree, ModuleDef}
-use Rattle.ac_syntax.specs.Types.{IsType, Whole}
+use Rattle.ac_syntax.specs.TypeForms.{IsType, Whole}
 use Rattle.ac_syntax.specs.Expressions.{IsExpr}
 use Rattle.ac_syntax.specs.Programs.{ParsesFields, no_fields, type_field, value_field, ParsesAbbrevs, no_abbrevs, abbrev_, ParsesVersion, ParsesDef, module_, name_at}
-use Rattle.ac_syntax.specs.Parsing.{SymbolAt, NoSymbol, LowerAt, NoLower, NoType}
+use Rattle.ac_syntax.specs.PartParsing.{SymbolAt, NoSymbol, LowerAt, NoLower, NoType}
 use Rattle.ac_syntax.specs.declared.sign.Symbol.TheVariants.{Colon, End, Equals, Module, Struct, TypeWord, Val}
 use Rattle.ac_syntax.proofs.UniqueTypes.{tail_eq, same_type}
 use Rattle.ac_syntax.proofs.UniqueExpressions.{same_expr}
-use Rattle.ac_expressions.specs.Parsing.{NoExpr}
-use Rattle.ac_parser.specs.Parsing.{OnlyRead, NoRead, Anything, NoComma, StructOf, Others, ItemAt, AbbrevAt, NoAbbrev, HeadAt, VersionAt}
+use Rattle.ac_expressions.specs.ExpressionParsing.{NoExpr}
+use Rattle.ac_parser.specs.inner.ProgramParsing.{OnlyRead, NoRead, Anything, NoComma, StructOf, Others, ItemAt, AbbrevAt, NoAbbrev, HeadAt, VersionAt}
 use Rattle.ac_parser.proofs.Fronts.{lower_eq, name_eq, type_at, type_to, sig_at, same_abbrev}
 use Rattle.ac_parser.proofs.Lists.{item_at}
 

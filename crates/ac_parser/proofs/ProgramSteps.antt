@@ -7,14 +7,14 @@ use Rattle.ac_syntax.specs.declared.sign.Sign as code
 use Rattle.ac_syntax.specs.Trees.{Tree, DefTree, MarkDef, ProgramTree}
 use Rattle.ac_syntax.specs.Expressions.{IsExpr}
 use Rattle.ac_syntax.specs.Programs.{ParsesDef, module_, import_version, import_name, mark, ParsesProgram, main, definition, IsProgram, program, IsModule, module_alone}
-use Rattle.ac_syntax.specs.Parsing.{SymbolAt, NoSymbol}
+use Rattle.ac_syntax.specs.PartParsing.{SymbolAt, NoSymbol}
 use Rattle.ac_syntax.specs.declared.sign.Symbol.{Symbol}
 use Rattle.ac_syntax.specs.declared.sign.Symbol.TheVariants.{Comma, Import, Mark, Module}
 use Rattle.ac_syntax.proofs.UniqueTypes.{tail_eq}
 use Rattle.ac_syntax.proofs.UniqueExpressions.{same_expr}
 use Rattle.ac_syntax.proofs.Fronts.{begins_not}
-use Rattle.ac_expressions.specs.Parsing.{NoExpr}
-use Rattle.ac_parser.specs.Parsing.{TextAt, NoText, OnlyRead, NoRead, Anything, NoComma, NothingGoesOn, LeftDefs, DefsSoFar, NoTree}
+use Rattle.ac_expressions.specs.ExpressionParsing.{NoExpr}
+use Rattle.ac_parser.specs.inner.ProgramParsing.{TextAt, NoText, OnlyRead, NoRead, Anything, NoComma, NothingGoesOn, LeftDefs, DefsSoFar, NoProgramTree}
 use Rattle.ac_parser.proofs.Fronts.{head_eq}
 use Rattle.ac_parser.proofs.Lists.{none_at}
 use Rattle.ac_parser.proofs.VersionSteps.{nothing_is_none}
@@ -146,14 +146,14 @@ module _ (ts : List Sign) (done : List DefTree) (rest : List Sign) (so : DefsSoF
         record { left = f.others; is = l.is ∙ ap (λ (m : List DefTree). done ++ m) f.is ∙ sym (append_assoc done (d ∷ []) f.others); parses = f.parses };
   }
 
-  pub stuck : NothingGoesOn rest → NoTree IsProgram ts
+  pub stuck : NothingGoesOn rest → NoProgramTree IsProgram ts
   stuck none p is = program_parts is (λ ds e q. nothing_none none (so.forth ds e q).parses)
 
   module _ (none : NoRead ParsesDef Anything rest) where
-    pub no_expression : NoExpr rest → NoTree IsProgram ts
+    pub no_expression : NoExpr rest → NoProgramTree IsProgram ts
     no_expression absent p is = program_parts is (λ ds e q. no_main none absent (so.forth ds e q).parses)
 
-    pub more_behind : (f : Tree) (end : List Sign) → IsExpr rest f end → (end ≡ [] → ⊥) → NoTree IsProgram ts
+    pub more_behind : (f : Tree) (end : List Sign) → IsExpr rest f end → (end ≡ [] → ⊥) → NoProgramTree IsProgram ts
     more_behind f end x more p is = program_parts is (λ ds e q. more_none none x more (so.forth ds e q).parses)
 
   pub program_read : (e : Tree) (end : List Sign) → IsExpr rest e end → end ≡ [] → IsProgram ts (record { defs = done; expr = Some e })
@@ -182,15 +182,15 @@ module_def (module_alone p) f = f _ p
 nothing_no_comma : NoComma []
 nothing_no_comma rest c = nothing_is_none c.is
 
-pub no_module_word : (ts : List Sign) → NoSymbol Module ts → NoTree IsModule ts
+pub no_module_word : (ts : List Sign) → NoSymbol Module ts → NoProgramTree IsModule ts
 no_module_word ts none p is = module_begins is (λ a us e. none us (record { at = a; is = e }))
 
 module _ (ts us : List Sign) (at : ℕ) (is : ts ≡ Fixed at Module ∷ us) where
-  pub no_module_tree : NoRead ParsesDef NoComma (Fixed at Module ∷ us) → NoTree IsModule ts
+  pub no_module_tree : NoRead ParsesDef NoComma (Fixed at Module ∷ us) → NoProgramTree IsModule ts
   no_module_tree none p m = module_def m (λ d q. none d [] (def_at (sym is) q) nothing_no_comma)
 
   module _ (d : DefTree) (end : List Sign) (o : OnlyRead ParsesDef NoComma (Fixed at Module ∷ us) d end) where
-    pub module_and_more : (end ≡ [] → ⊥) → NoTree IsModule ts
+    pub module_and_more : (end ≡ [] → ⊥) → NoProgramTree IsModule ts
     module_and_more more p m = module_def m (λ c q. more (sym (o.only c [] (def_at (sym is) q) nothing_no_comma).1))
 
     pub module_tree : end ≡ [] → IsModule ts (record { defs = d ∷ []; expr = None })

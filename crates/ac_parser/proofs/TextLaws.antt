@@ -12,11 +12,11 @@ use Rattle.ac_syntax.specs.declared.fault.ParseFault.{ParseFault}
 use Rattle.ac_syntax.specs.declared.fault.ParseFault.TheVariants as fault
 use Rattle.ac_syntax.specs.declared.stop.Stop.{Stop}
 use Rattle.ac_syntax.specs.declared.stop.Stop.TheVariants as stop
-use Rattle.ac_syntax.specs.Parsing.{OnSyntax}
+use Rattle.ac_syntax.specs.PartParsing.{OnSyntax}
 use Rattle.ac_syntax.proofs.UniquePrograms.{same_program, same_module}
 use Rattle.ac_syntax.proofs.UniqueTypes.{tail_eq}
-use Rattle.ac_parser.specs.Parsing.{NoTree}
-use Rattle.ac_parser.specs.Texts.{IsRead, HasTree, IsPlace, Unread, too_long, lexical, too_deep, Refused, unread, syntax, IsUnread, IsFault, FaultAt, memory, at_place, SameCause, same, both_syntax}
+use Rattle.ac_parser.specs.inner.ProgramParsing.{NoProgramTree}
+use Rattle.ac_parser.specs.Texts.{IsRead, HasTree, IsPlace, UnreadText, too_long, lexical, too_deep, Refused, unread, syntax, IsUnread, IsTextFault, FaultAt, memory, at_place, SameCause, same, both_syntax}
 use Rattle.ac_parser.proofs.Fronts.{head_eq}
 
 -- the first sign at which too many openers are unclosed
@@ -69,7 +69,7 @@ one_module_text text p q x y =
 deep_at : {text : Bytes} {at : ℕ} {ts us : List Token} → Tokens text ts → Tokens text us → IsDeep (signs us) at → IsDeep (signs ts) at
 deep_at {text} {at} {ts} {us} p q d = subst (λ (l : List Token). IsDeep (signs l) at) (lexed.same_tokens text us ts q p) d
 
-tree_and_unread : (text : Bytes) (ts : List Token) (e : ParseFault) → IsRead text ts → Unread text e → ⊥
+tree_and_unread : (text : Bytes) (ts : List Token) (e : ParseFault) → IsRead text ts → UnreadText text e → ⊥
 tree_and_unread text ts e x (too_long long) = let short = x.short in absurd (omega arith)
 tree_and_unread text ts e x (lexical {at = at} short fails) = lexed.no_failure text ts at x.lexed fails
 tree_and_unread text ts e x (too_deep short tokens deep) = shallow_or_deep x.shallow (deep_at x.lexed tokens deep)
@@ -82,7 +82,7 @@ tree_and_refusal G text p e x (syntax {tokens = ts} read none here) =
 same_at : {e f : ParseFault} → e ≡ f → SameCause e f
 same_at {e} {f} is = subst (λ (g : ParseFault). SameCause e g) is same
 
-one_unread : (text : Bytes) (e f : ParseFault) → Unread text e → Unread text f → SameCause e f
+one_unread : (text : Bytes) (e f : ParseFault) → UnreadText text e → UnreadText text f → SameCause e f
 one_unread text e f (too_long p) (too_long q) = same
 one_unread text e f (too_long p) (lexical q fails) = absurd (omega arith)
 one_unread text e f (too_long p) (too_deep q ts d) = absurd (omega arith)
@@ -101,27 +101,27 @@ one_refusal G text e f (syntax r none here) (syntax s never there) = both_syntax
 
 -- what the parsers say, over the text
 
-pub fault_of : (G : List Sign → ProgramTree → Type 0) (text : Bytes) (tokens : List Token) (s : Stop) (e : ParseFault) → IsRead text tokens → FaultAt tokens (length text) s e → OnSyntax s (NoTree G (signs tokens)) → IsFault G text e
+pub fault_of : (G : List Sign → ProgramTree → Type 0) (text : Bytes) (tokens : List Token) (s : Stop) (e : ParseFault) → IsRead text tokens → FaultAt tokens (length text) s e → OnSyntax s (NoProgramTree G (signs tokens)) → IsTextFault G text e
 fault_of G text tokens s e read memory none = read.short
 fault_of G text tokens s e read (at_place here) none = syntax read none here
 
 pub has_tree : (G : List Sign → ProgramTree → Type 0) (text : Bytes) (tokens : List Token) (tree : ProgramTree) → IsRead text tokens → G (signs tokens) tree → HasTree G text tree
 has_tree G text tokens tree read t = record { tokens = tokens; read = read; is = t }
 
-pub unread_fault : (G : List Sign → ProgramTree → Type 0) (text : Bytes) (e : ParseFault) → IsUnread text e → IsFault G text e
+pub unread_fault : (G : List Sign → ProgramTree → Type 0) (text : Bytes) (e : ParseFault) → IsUnread text e → IsTextFault G text e
 unread_fault G text (fault.TooLong len) u = unread u
 unread_fault G text (fault.Lexical at) u = unread u
 unread_fault G text (fault.TooDeep at) u = unread u
 unread_fault G text (fault.Syntax at) u = unread u
 unread_fault G text fault.Memory u = u
 
-pub long_text : (text : Bytes) (len : ℕ) → (longest_text < length text) × (len ≡ length text) → Unread text (fault.TooLong len)
-long_text text len is = subst (λ (n : ℕ). Unread text (fault.TooLong n)) (sym is.1) (too_long is.0)
+pub long_text : (text : Bytes) (len : ℕ) → (longest_text < length text) × (len ≡ length text) → UnreadText text (fault.TooLong len)
+long_text text len is = subst (λ (n : ℕ). UnreadText text (fault.TooLong n)) (sym is.1) (too_long is.0)
 
-pub unlexed_text : (text : Bytes) (at : ℕ) → (length text ≤ longest_text) × FailsAt text at → Unread text (fault.Lexical at)
+pub unlexed_text : (text : Bytes) (at : ℕ) → (length text ≤ longest_text) × FailsAt text at → UnreadText text (fault.Lexical at)
 unlexed_text text at is = lexical is.0 is.1
 
-pub deep_text : (text : Bytes) (tokens : List Token) (at : ℕ) → length text ≤ longest_text → Tokens text tokens → IsDeep (signs tokens) at → Unread text (fault.TooDeep at)
+pub deep_text : (text : Bytes) (tokens : List Token) (at : ℕ) → length text ≤ longest_text → Tokens text tokens → IsDeep (signs tokens) at → UnreadText text (fault.TooDeep at)
 deep_text text tokens at short lexes deep = too_deep short lexes deep
 
 pub memory_fault : (tokens : List Token) (end : ℕ) (s : Stop) → s ≡ stop.Memory → FaultAt tokens end s fault.Memory

@@ -7,19 +7,19 @@ use Rattle.ac_types.specs.Sigs.{Atom, Constraint, Ranges, Exact}
 use Rattle.ac_version.specs.declared.read.VToken.{VToken}
 use Rattle.ac_version.specs.declared.read.VersionFault.{VersionFault}
 use Rattle.ac_version.specs.declared.read.VersionFault.TheVariants as bad
-use Rattle.ac_version.specs.Reading.{IsVersion, NoVersion, IsConstraint, ReadsConstraint, NoConstraint, OnBad}
+use Rattle.ac_version.specs.VersionReading.{IsVersion, NoVersion, IsConstraint, ReadsConstraint, NoConstraint, OnBad}
 use Rattle.ac_version.proofs.Unique.{same_version, same_constraint}
 use Rattle.ac_syntax.specs.Signs.{Sign, Fixed}
 use Rattle.ac_syntax.specs.declared.sign.Sign as code
 use Rattle.ac_syntax.specs.ReadSigns.{read_sign, read_signs}
 use Rattle.ac_syntax.specs.Programs.{vtoken_of, VTokens, no_vtokens, vtoken_, ParsesVersion, no_version, version}
-use Rattle.ac_syntax.specs.Parsing.{OnSyntax, SymbolAt, NoSymbol}
+use Rattle.ac_syntax.specs.PartParsing.{OnSyntax, SymbolAt, NoSymbol}
 use Rattle.ac_syntax.specs.declared.stop.Stop.{Stop}
 use Rattle.ac_syntax.specs.declared.stop.Stop.TheVariants as stop
 use Rattle.ac_syntax.specs.declared.sign.Symbol.TheVariants.{Equals, Version}
 use Rattle.ac_syntax.proofs.Exceptions.{nothing_there, same_value}
 use Rattle.ac_syntax.proofs.UniqueTypes.{tail_eq}
-use Rattle.ac_parser.specs.Parsing.{OnlyRead, NoRead, Anything, NoVToken, BeginsEquals, VersionAt, ConstraintAt, stopped}
+use Rattle.ac_parser.specs.inner.ProgramParsing.{OnlyRead, NoRead, Anything, NoVToken, BeginsEquals, VersionAt, ConstraintAt, stopped}
 use Rattle.ac_parser.proofs.Fronts.{head_eq}
 
 -- what a fault says of the tokens, a stop says of the signs

@@ -1,2 +1,2 @@
-pub mod Parsing
 pub mod Texts
+pub mod inner

@@ -31,24 +31,24 @@ abbrev pub IsPlace : List Token → ℕ → ℕ → Type 0
 IsPlace tokens end at = (at ≡ end) ⊎ ((i : ℕ) × (option_map token_place (slice_get tokens i) ≡ Some at))
 
 -- the text is not read: it is too long, or has no tokens, or too many openers are unclosed
-pub data Unread (text : Bytes) : ParseFault → Type 0 where
-  too_long : longest_text < length text → Unread text (fault.TooLong (length text))
-  lexical : {at : ℕ} → length text ≤ longest_text → FailsAt text at → Unread text (fault.Lexical at)
-  too_deep : {at : ℕ} {tokens : List Token} → length text ≤ longest_text → Tokens text tokens → IsDeep (signs tokens) at → Unread text (fault.TooDeep at)
+pub data UnreadText (text : Bytes) : ParseFault → Type 0 where
+  too_long : longest_text < length text → UnreadText text (fault.TooLong (length text))
+  lexical : {at : ℕ} → length text ≤ longest_text → FailsAt text at → UnreadText text (fault.Lexical at)
+  too_deep : {at : ℕ} {tokens : List Token} → length text ≤ longest_text → Tokens text tokens → IsDeep (signs tokens) at → UnreadText text (fault.TooDeep at)
 
 -- the text is refused: it is not read, or its signs have no tree by the grammar
 pub data Refused (Grammar : List Sign → ProgramTree → Type 0) (text : Bytes) : ParseFault → Type 0 where
-  unread : {e : ParseFault} → Unread text e → Refused Grammar text e
+  unread : {e : ParseFault} → UnreadText text e → Refused Grammar text e
   syntax : {at : ℕ} {tokens : List Token} → IsRead text tokens → ((tree : ProgramTree) → Grammar (signs tokens) tree → ⊥) → IsPlace tokens (length text) at → Refused Grammar text (fault.Syntax at)
 
 -- what a fault says of the text; memory may run out at any that is not too long
 abbrev pub IsUnread : Bytes → ParseFault → Type 0
 IsUnread text fault.Memory = length text ≤ longest_text
-IsUnread text e = Unread text e
+IsUnread text e = UnreadText text e
 
-abbrev pub IsFault : (List Sign → ProgramTree → Type 0) → Bytes → ParseFault → Type 0
-IsFault Grammar text fault.Memory = length text ≤ longest_text
-IsFault Grammar text e = Refused Grammar text e
+abbrev pub IsTextFault : (List Sign → ProgramTree → Type 0) → Bytes → ParseFault → Type 0
+IsTextFault Grammar text fault.Memory = length text ≤ longest_text
+IsTextFault Grammar text e = Refused Grammar text e
 
 -- the same cause at the same place; the place of a fault of syntax may be that of any token
 pub data SameCause : ParseFault → ParseFault → Type 0 where

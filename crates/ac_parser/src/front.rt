@@ -3,8 +3,8 @@
 ghost use Rattle.std.specs.Prelude.{◌<◌, length, IfOk, IfErr, IfSome, MatchOption};
 ghost use Rattle.ac_syntax.specs.ReadSigns.{read_signs};
 ghost use Rattle.ac_syntax.specs.ReadTrees.{name_of, abbrev_of, sig_of};
-ghost use Rattle.ac_syntax.specs.Parsing.{OnSyntax};
-ghost use Rattle.ac_parser.specs.Parsing.{UpperAt, NoUpper, TextAt, NoText, OnlyRead, NoRead, Anything, AbbrevAt, NoAbbrev, HeadAt};
+ghost use Rattle.ac_syntax.specs.PartParsing.{OnSyntax};
+ghost use Rattle.ac_parser.specs.inner.ProgramParsing.{UpperAt, NoUpper, TextAt, NoText, OnlyRead, NoRead, Anything, AbbrevAt, NoAbbrev, HeadAt};
 
 use ac_syntax::{
     HIGHEST_TYPE, SAbbrev, SName, SSig, Sign, SignKind, Stop, Symbol, after, next, next_name,
@@ -18,7 +18,8 @@ pub fn next_upper<'s, 't>(
     alloc: Global,
     signs: &'s [Sign<'t>],
 ) -> Result<Option<(SName, &'s [Sign<'t>])>, Memory>
-    ensures found { IfOk result (λ o. MatchOption o (NoUpper (read_signs signs.now)) (λ x. UpperAt (name_of x.0) (read_signs signs.now) (read_signs x.1.now))) }
+    ensures found { IfOk result (λ o. MatchOption o (NoUpper (read_signs signs.now))
+        (λ x. UpperAt (name_of x.0) (read_signs signs.now) (read_signs x.1.now))) }
     ensures shorter { IfOk result (λ o. IfSome o (λ x. length x.1.now < length signs.now)) }
 {
     let Some((first, rest)) = next(signs) else {
@@ -36,7 +37,8 @@ pub fn next_text<'s, 't>(
     alloc: Global,
     signs: &'s [Sign<'t>],
 ) -> Result<Option<(u32, Text, &'s [Sign<'t>])>, Memory>
-    ensures found { IfOk result (λ o. MatchOption o (NoText (read_signs signs.now)) (λ x. TextAt x.0 x.1.0 (read_signs signs.now) (read_signs x.2.now))) }
+    ensures found { IfOk result (λ o. MatchOption o (NoText (read_signs signs.now))
+        (λ x. TextAt x.0 x.1.0 (read_signs signs.now) (read_signs x.2.now))) }
     ensures shorter { IfOk result (λ o. IfSome o (λ x. length x.2.now < length signs.now)) }
 {
     let Some((first, rest)) = next(signs) else {
@@ -54,7 +56,8 @@ pub fn abbreviation<'s, 't>(
     alloc: Global,
     signs: &'s [Sign<'t>],
 ) -> Result<(SAbbrev, &'s [Sign<'t>]), Stop>
-    ensures found { IfOk result (λ x. AbbrevAt (read_signs signs.now) (abbrev_of x.0) (read_signs x.1.now)) }
+    ensures found { IfOk result (λ x. AbbrevAt (read_signs signs.now) (abbrev_of x.0)
+        (read_signs x.1.now)) }
     ensures shorter { IfOk result (λ x. length x.1.now < length signs.now) }
     ensures none { IfErr result (λ e. OnSyntax e (NoAbbrev (read_signs signs.now))) }
 {
@@ -73,7 +76,8 @@ pub fn head<'s, 't>(
     alloc: Global,
     signs: &'s [Sign<'t>],
 ) -> Result<((SName, SSig), &'s [Sign<'t>]), Stop>
-    ensures head { IfOk result (λ x. OnlyRead HeadAt Anything (read_signs signs.now) (name_of x.0.0, sig_of x.0.1) (read_signs x.1.now)) }
+    ensures head { IfOk result (λ x. OnlyRead HeadAt Anything (read_signs signs.now)
+        (name_of x.0.0, sig_of x.0.1) (read_signs x.1.now)) }
     ensures shorter { IfOk result (λ x. length x.1.now < length signs.now) }
     ensures none { IfErr result (λ e. OnSyntax e (NoRead HeadAt Anything (read_signs signs.now))) }
 {

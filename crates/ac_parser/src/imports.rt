@@ -6,8 +6,8 @@ ghost use Rattle.ac_syntax.specs.Programs.{ParsesResolve, ParsesDef};
 ghost use Rattle.ac_types.specs.ReadTypes.{resolve_of};
 ghost use Rattle.ac_syntax.specs.ReadSigns.{read_signs};
 ghost use Rattle.ac_syntax.specs.ReadTrees.{name_of, abbrevs_of, wants_of, def_of};
-ghost use Rattle.ac_syntax.specs.Parsing.{OnSyntax};
-ghost use Rattle.ac_parser.specs.Parsing.{OnlyRead, NoRead, Anything, NoComma, LikeAt, NameWanted, DemandAt, ResolveAt, NoResolve};
+ghost use Rattle.ac_syntax.specs.PartParsing.{OnSyntax};
+ghost use Rattle.ac_parser.specs.inner.ProgramParsing.{OnlyRead, NoRead, Anything, NoComma, LikeAt, NameWanted, DemandAt, ResolveAt, NoResolve};
 
 use crate::front::{head, next_upper};
 use crate::modules::abbreviations;
@@ -23,7 +23,8 @@ fn likespec<'s, 't>(
     alloc: Global,
     signs: &'s [Sign<'t>],
 ) -> Result<(Option<Many<SAbbrev>>, &'s [Sign<'t>]), Stop>
-    ensures like { IfOk result (λ x. OnlyRead LikeAt Anything (read_signs signs.now) (option_map abbrevs_of x.0) (read_signs x.1.now)) }
+    ensures like { IfOk result (λ x. OnlyRead LikeAt Anything (read_signs signs.now)
+        (option_map abbrevs_of x.0) (read_signs x.1.now)) }
     ensures shorter { IfOk result (λ x. length x.1.now < length signs.now) }
     ensures none { IfErr result (λ e. OnSyntax e (NoRead LikeAt Anything (read_signs signs.now))) }
 {
@@ -45,9 +46,12 @@ fn name_wanted<'s, 't>(
     alloc: Global,
     signs: &'s [Sign<'t>],
 ) -> Result<(SName, &'s [Sign<'t>]), Stop>
-    ensures name { IfOk result (λ x. (a : ℕ) → NameWanted (Fixed a Symbol.NameWord ∷ read_signs signs.now) (name_of x.0) (read_signs x.1.now)) }
+    ensures name { IfOk result (λ x. (a : ℕ) →
+        NameWanted (Fixed a Symbol.NameWord ∷ read_signs signs.now) (name_of x.0)
+        (read_signs x.1.now)) }
     ensures shorter { IfOk result (λ x. length x.1.now < length signs.now) }
-    ensures none { IfErr result (λ e. OnSyntax e ((a : ℕ) → NoRead NameWanted Anything (Fixed a Symbol.NameWord ∷ read_signs signs.now))) }
+    ensures none { IfErr result (λ e. OnSyntax e ((a : ℕ) →
+        NoRead NameWanted Anything (Fixed a Symbol.NameWord ∷ read_signs signs.now))) }
 {
     let Some(behind) = after(Symbol::Equals, signs) else {
         return Err(refused_at(signs));
@@ -66,7 +70,8 @@ fn demand<'s, 't>(
     alloc: Global,
     signs: &'s [Sign<'t>],
 ) -> Result<((SWants, Option<Many<SAbbrev>>), &'s [Sign<'t>]), Stop>
-    ensures demand { IfOk result (λ x. OnlyRead DemandAt Anything (read_signs signs.now) (wants_of x.0.0, option_map abbrevs_of x.0.1) (read_signs x.1.now)) }
+    ensures demand { IfOk result (λ x. OnlyRead DemandAt Anything (read_signs signs.now)
+        (wants_of x.0.0, option_map abbrevs_of x.0.1) (read_signs x.1.now)) }
     ensures shorter { IfOk result (λ x. length x.1.now < length signs.now) }
     ensures none { IfErr result (λ e. OnSyntax e (NoRead DemandAt Anything (read_signs signs.now))) }
 {
@@ -84,7 +89,8 @@ fn next_resolve<'s, 't>(
     alloc: Global,
     signs: &'s [Sign<'t>],
 ) -> Result<Option<(Resolve, &'s [Sign<'t>])>, Memory>
-    ensures found { IfOk result (λ o. MatchOption o (NoResolve (read_signs signs.now)) (λ x. ResolveAt (read_signs signs.now) (resolve_of x.0) (read_signs x.1.now))) }
+    ensures found { IfOk result (λ o. MatchOption o (NoResolve (read_signs signs.now))
+        (λ x. ResolveAt (read_signs signs.now) (resolve_of x.0) (read_signs x.1.now))) }
     ensures shorter { IfOk result (λ o. IfSome o (λ x. length x.1.now < length signs.now)) }
 {
     let Some((first, rest)) = next(signs) else {
@@ -106,9 +112,11 @@ fn resolves<'s, 't>(
     alloc: Global,
     signs: &'s [Sign<'t>],
 ) -> Result<(Many<Resolve>, &'s [Sign<'t>]), Stop>
-    ensures places { IfOk result (λ x. OnlyRead ParsesResolve NoComma (read_signs signs.now) (map resolve_of x.0) (read_signs x.1.now)) }
+    ensures places { IfOk result (λ x. OnlyRead ParsesResolve NoComma (read_signs signs.now)
+        (map resolve_of x.0) (read_signs x.1.now)) }
     ensures shorter { IfOk result (λ x. length x.1.now < length signs.now) }
-    ensures none { IfErr result (λ e. OnSyntax e (NoRead ParsesResolve NoComma (read_signs signs.now))) }
+    ensures none { IfErr result (λ e. OnSyntax e
+        (NoRead ParsesResolve NoComma (read_signs signs.now))) }
 {
     let Some((first, mut rest)) = next_resolve(alloc, signs)? else {
         return Err(refused_at(signs));
@@ -131,9 +139,11 @@ pub fn import<'s, 't>(
     at: u32,
     signs: &'s [Sign<'t>],
 ) -> Result<(SDef, &'s [Sign<'t>]), Stop>
-    ensures import { IfOk result (λ x. OnlyRead ParsesDef NoComma (Fixed at Symbol.Import ∷ read_signs signs.now) (def_of x.0) (read_signs x.1.now)) }
+    ensures import { IfOk result (λ x. OnlyRead ParsesDef NoComma
+        (Fixed at Symbol.Import ∷ read_signs signs.now) (def_of x.0) (read_signs x.1.now)) }
     ensures shorter { IfOk result (λ x. length x.1.now < length signs.now) }
-    ensures none { IfErr result (λ e. OnSyntax e (NoRead ParsesDef NoComma (Fixed at Symbol.Import ∷ read_signs signs.now))) }
+    ensures none { IfErr result (λ e. OnSyntax e
+        (NoRead ParsesDef NoComma (Fixed at Symbol.Import ∷ read_signs signs.now))) }
 {
     let ((name, sig), rest) = head(alloc, signs)?;
     let Some(asked) = after(Symbol::Version, rest) else {

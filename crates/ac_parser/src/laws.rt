@@ -9,22 +9,29 @@ ghost use Rattle.ac_parser.specs.Texts.{HasTree, Refused, SameCause};
 
 /// A text is at most one program.
 pub fn one_program()
-    ensures { (text : Bytes) (p q : ProgramTree) → HasTree IsProgram text p → HasTree IsProgram text q → p ≡ q }
+    ensures { (text : Bytes) (p q : ProgramTree) → HasTree IsProgram text p →
+        HasTree IsProgram text q → p ≡ q }
 {}
 
 /// A text is at most one module.
 pub fn one_module()
-    ensures { (text : Bytes) (p q : ProgramTree) → HasTree IsModule text p → HasTree IsModule text q → p ≡ q }
+    ensures { (text : Bytes) (p q : ProgramTree) → HasTree IsModule text p →
+        HasTree IsModule text q → p ≡ q }
 {}
 
 /// A text that has a tree is not refused.
 pub fn tree_or_refused()
-    ensures program { (text : Bytes) (p : ProgramTree) (e : ParseFault) → HasTree IsProgram text p → Refused IsProgram text e → ⊥ }
-    ensures module { (text : Bytes) (p : ProgramTree) (e : ParseFault) → HasTree IsModule text p → Refused IsModule text e → ⊥ }
+    ensures program { (text : Bytes) (p : ProgramTree) (e : ParseFault) → HasTree IsProgram text p →
+        Refused IsProgram text e → ⊥ }
+    ensures module { (text : Bytes) (p : ProgramTree) (e : ParseFault) → HasTree IsModule text p →
+        Refused IsModule text e → ⊥ }
 {}
 
-/// A text is refused for one cause at most, and at one place at most where it isn't a fault of syntax.
+/// A text is refused for one cause at most, and at one place at most where it isn't a fault of
+/// syntax.
 pub fn one_cause()
-    ensures program { (text : Bytes) (e f : ParseFault) → Refused IsProgram text e → Refused IsProgram text f → SameCause e f }
-    ensures module { (text : Bytes) (e f : ParseFault) → Refused IsModule text e → Refused IsModule text f → SameCause e f }
+    ensures program { (text : Bytes) (e f : ParseFault) → Refused IsProgram text e →
+        Refused IsProgram text f → SameCause e f }
+    ensures module { (text : Bytes) (e f : ParseFault) → Refused IsModule text e →
+        Refused IsModule text f → SameCause e f }
 {}

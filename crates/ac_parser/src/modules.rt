@@ -5,8 +5,8 @@ ghost use Rattle.ac_syntax.specs.Signs.{Fixed};
 ghost use Rattle.ac_syntax.specs.Programs.{ParsesFields, ParsesAbbrevs, ParsesDef};
 ghost use Rattle.ac_syntax.specs.ReadSigns.{read_signs};
 ghost use Rattle.ac_syntax.specs.ReadTrees.{abbrev_of, field_of, def_of};
-ghost use Rattle.ac_syntax.specs.Parsing.{OnSyntax, NoSymbol};
-ghost use Rattle.ac_parser.specs.Parsing.{OnlyRead, NoRead, Anything, NoComma, StructOf, ItemAt};
+ghost use Rattle.ac_syntax.specs.PartParsing.{OnSyntax, NoSymbol};
+ghost use Rattle.ac_parser.specs.inner.ProgramParsing.{OnlyRead, NoRead, Anything, NoComma, StructOf, ItemAt};
 
 use crate::front::{abbreviation, head};
 use crate::versions::version;
@@ -23,9 +23,11 @@ pub fn abbreviations<'s, 't>(
     alloc: Global,
     signs: &'s [Sign<'t>],
 ) -> Result<(Many<SAbbrev>, &'s [Sign<'t>]), Stop>
-    ensures abbreviations { IfOk result (λ x. OnlyRead (StructOf ParsesAbbrevs) Anything (read_signs signs.now) (map abbrev_of x.0) (read_signs x.1.now)) }
+    ensures abbreviations { IfOk result (λ x. OnlyRead (StructOf ParsesAbbrevs) Anything
+        (read_signs signs.now) (map abbrev_of x.0) (read_signs x.1.now)) }
     ensures shorter { IfOk result (λ x. length x.1.now < length signs.now) }
-    ensures none { IfErr result (λ e. OnSyntax e (NoRead (StructOf ParsesAbbrevs) Anything (read_signs signs.now))) }
+    ensures none { IfErr result (λ e. OnSyntax e
+        (NoRead (StructOf ParsesAbbrevs) Anything (read_signs signs.now))) }
 {
     let Some(inner) = after(Symbol::Struct, signs) else {
         return Err(refused_at(signs));
@@ -50,9 +52,12 @@ fn value_field<'s, 't>(
     alloc: Global,
     signs: &'s [Sign<'t>],
 ) -> Result<(SField, &'s [Sign<'t>]), Stop>
-    ensures field { IfOk result (λ x. (a : ℕ) → ItemAt ParsesFields (Fixed a Symbol.Val ∷ read_signs signs.now) (field_of x.0) (read_signs x.1.now)) }
+    ensures field { IfOk result (λ x. (a : ℕ) →
+        ItemAt ParsesFields (Fixed a Symbol.Val ∷ read_signs signs.now) (field_of x.0)
+        (read_signs x.1.now)) }
     ensures shorter { IfOk result (λ x. length x.1.now < length signs.now) }
-    ensures none { IfErr result (λ e. OnSyntax e ((a : ℕ) → NoRead ParsesFields Anything (Fixed a Symbol.Val ∷ read_signs signs.now))) }
+    ensures none { IfErr result (λ e. OnSyntax e ((a : ℕ) →
+        NoRead ParsesFields Anything (Fixed a Symbol.Val ∷ read_signs signs.now))) }
 {
     let Some((name, rest)) = next_name(alloc, signs)? else {
         return Err(refused_at(signs));
@@ -70,9 +75,11 @@ fn value_field<'s, 't>(
 
 /// The field at the front.
 fn field<'s, 't>(alloc: Global, signs: &'s [Sign<'t>]) -> Result<(SField, &'s [Sign<'t>]), Stop>
-    ensures field { IfOk result (λ x. ItemAt ParsesFields (read_signs signs.now) (field_of x.0) (read_signs x.1.now)) }
+    ensures field { IfOk result (λ x. ItemAt ParsesFields (read_signs signs.now) (field_of x.0)
+        (read_signs x.1.now)) }
     ensures shorter { IfOk result (λ x. length x.1.now < length signs.now) }
-    ensures none { IfErr result (λ e. OnSyntax e (NoSymbol Symbol.End (read_signs signs.now) → NoRead ParsesFields Anything (read_signs signs.now))) }
+    ensures none { IfErr result (λ e. OnSyntax e (NoSymbol Symbol.End (read_signs signs.now) →
+        NoRead ParsesFields Anything (read_signs signs.now))) }
 {
     if let Some(behind) = after(Symbol::Val, signs) {
         return value_field(alloc, behind);
@@ -89,9 +96,11 @@ fn fields<'s, 't>(
     alloc: Global,
     signs: &'s [Sign<'t>],
 ) -> Result<(Many<SField>, &'s [Sign<'t>]), Stop>
-    ensures fields { IfOk result (λ x. OnlyRead (StructOf ParsesFields) Anything (read_signs signs.now) (map field_of x.0) (read_signs x.1.now)) }
+    ensures fields { IfOk result (λ x. OnlyRead (StructOf ParsesFields) Anything
+        (read_signs signs.now) (map field_of x.0) (read_signs x.1.now)) }
     ensures shorter { IfOk result (λ x. length x.1.now < length signs.now) }
-    ensures none { IfErr result (λ e. OnSyntax e (NoRead (StructOf ParsesFields) Anything (read_signs signs.now))) }
+    ensures none { IfErr result (λ e. OnSyntax e
+        (NoRead (StructOf ParsesFields) Anything (read_signs signs.now))) }
 {
     let Some(inner) = after(Symbol::Struct, signs) else {
         return Err(refused_at(signs));
@@ -114,9 +123,11 @@ pub fn module<'s, 't>(
     at: u32,
     signs: &'s [Sign<'t>],
 ) -> Result<(SDef, &'s [Sign<'t>]), Stop>
-    ensures module { IfOk result (λ x. OnlyRead ParsesDef NoComma (Fixed at Symbol.Module ∷ read_signs signs.now) (def_of x.0) (read_signs x.1.now)) }
+    ensures module { IfOk result (λ x. OnlyRead ParsesDef NoComma
+        (Fixed at Symbol.Module ∷ read_signs signs.now) (def_of x.0) (read_signs x.1.now)) }
     ensures shorter { IfOk result (λ x. length x.1.now < length signs.now) }
-    ensures none { IfErr result (λ e. OnSyntax e (NoRead ParsesDef NoComma (Fixed at Symbol.Module ∷ read_signs signs.now))) }
+    ensures none { IfErr result (λ e. OnSyntax e
+        (NoRead ParsesDef NoComma (Fixed at Symbol.Module ∷ read_signs signs.now))) }
 {
     let ((name, sig), rest) = head(alloc, signs)?;
     let (version, behind) = version(alloc, rest)?;

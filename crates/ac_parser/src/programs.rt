@@ -4,8 +4,8 @@ ghost use Rattle.std.specs.Prelude.{◌≡◌, [], map, IfOk, IfErr};
 ghost use Rattle.ac_syntax.specs.Programs.{ParsesDef, IsProgram, IsModule};
 ghost use Rattle.ac_syntax.specs.ReadSigns.{read_signs};
 ghost use Rattle.ac_syntax.specs.ReadTrees.{def_of, surface_of};
-ghost use Rattle.ac_syntax.specs.Parsing.{OnSyntax};
-ghost use Rattle.ac_parser.specs.Parsing.{NoRead, Anything, DefsSoFar, NoTree};
+ghost use Rattle.ac_syntax.specs.PartParsing.{OnSyntax};
+ghost use Rattle.ac_parser.specs.inner.ProgramParsing.{NoRead, Anything, DefsSoFar, NoProgramTree};
 
 use crate::defs::next_def;
 use crate::modules::module;
@@ -19,9 +19,10 @@ fn definitions<'s, 't>(
     alloc: Global,
     signs: &'s [Sign<'t>],
 ) -> Result<(Many<SDef>, &'s [Sign<'t>]), Stop>
-    ensures defs { IfOk result (λ x. DefsSoFar (read_signs signs.now) (map def_of x.0) (read_signs x.1.now)) }
+    ensures defs { IfOk result (λ x. DefsSoFar (read_signs signs.now) (map def_of x.0)
+        (read_signs x.1.now)) }
     ensures end { IfOk result (λ x. NoRead ParsesDef Anything (read_signs x.1.now)) }
-    ensures none { IfErr result (λ e. OnSyntax e (NoTree IsProgram (read_signs signs.now))) }
+    ensures none { IfErr result (λ e. OnSyntax e (NoProgramTree IsProgram (read_signs signs.now))) }
 {
     let mut defs = Many::new(alloc);
     let (first, mut rest) = next_def(alloc, signs)?;
@@ -55,7 +56,7 @@ fn at_end<T: Drop>(tree: T, rest: &[Sign<'_>]) -> Result<T, Stop>
 /// The program of these signs.
 pub fn program(alloc: Global, signs: &[Sign<'_>]) -> Result<Surface, Stop>
     ensures tree { IfOk result (λ x. IsProgram (read_signs signs.now) (surface_of x)) }
-    ensures none { IfErr result (λ e. OnSyntax e (NoTree IsProgram (read_signs signs.now))) }
+    ensures none { IfErr result (λ e. OnSyntax e (NoProgramTree IsProgram (read_signs signs.now))) }
 {
     let (defs, rest) = definitions(alloc, signs)?;
     let (expr, end) = expression(alloc, rest)?;
@@ -69,7 +70,7 @@ pub fn program(alloc: Global, signs: &[Sign<'_>]) -> Result<Surface, Stop>
 /// The module that all these signs are.
 pub fn module_alone(alloc: Global, signs: &[Sign<'_>]) -> Result<Surface, Stop>
     ensures tree { IfOk result (λ x. IsModule (read_signs signs.now) (surface_of x)) }
-    ensures none { IfErr result (λ e. OnSyntax e (NoTree IsModule (read_signs signs.now))) }
+    ensures none { IfErr result (λ e. OnSyntax e (NoProgramTree IsModule (read_signs signs.now))) }
 {
     let Some(behind) = after(Symbol::Module, signs) else {
         return Err(refused_at(signs));

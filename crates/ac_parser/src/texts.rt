@@ -3,7 +3,7 @@
 ghost use Rattle.std.specs.Prelude.{◌≤◌, IfOk, IfErr};
 ghost use Rattle.ac_syntax.specs.Programs.{IsProgram, IsModule};
 ghost use Rattle.ac_syntax.specs.ReadTrees.{surface_of};
-ghost use Rattle.ac_parser.specs.Texts.{IsRead, HasTree, IsPlace, IsUnread, IsFault, FaultAt};
+ghost use Rattle.ac_parser.specs.Texts.{IsRead, HasTree, IsPlace, IsUnread, IsTextFault, FaultAt};
 
 use crate::programs::{module_alone, program};
 use ac_lexer::{LexFault, Token, lex};
@@ -51,12 +51,14 @@ fn fault(tokens: &[Token], len: usize, stop: Stop) -> ParseFault
     }
 }
 
-/// The program that a text is. A text has exactly one of these answers, but that memory may run out at any text that is not too long:
-/// its tree; `TooLong`, with its length in bytes; `Lexical`, where it has no tokens; `TooDeep`, at the first opener at which more than 200 are unclosed;
-/// `Syntax`, where its signs are no program, heights past their bounds included, at the place of the token at which no program can go on, or the text's length.
+/// The program that a text is. A text has exactly one of these answers, but that memory may run out
+/// at any text that is not too long: its tree; `TooLong`, with its length in bytes; `Lexical`,
+/// where it has no tokens; `TooDeep`, at the first opener at which more than 200 are unclosed;
+/// `Syntax`, where its signs are no program, heights past their bounds included, at the place of
+/// the token at which no program can go on, or the text's length.
 pub fn parse_program(alloc: Global, bytes: &[u8]) -> Result<Surface, ParseFault>
     ensures tree { IfOk result (λ x. HasTree IsProgram bytes.now (surface_of x)) }
-    ensures fault { IfErr result (λ e. IsFault IsProgram bytes.now e) }
+    ensures fault { IfErr result (λ e. IsTextFault IsProgram bytes.now e) }
 {
     let found = tokens(alloc, bytes)?;
     let all = signs(alloc, found.as_slice())?;
@@ -69,7 +71,7 @@ pub fn parse_program(alloc: Global, bytes: &[u8]) -> Result<Surface, ParseFault>
 /// The one module that a text is, with no expression. The faults are as those of a program.
 pub fn parse_module(alloc: Global, bytes: &[u8]) -> Result<Surface, ParseFault>
     ensures tree { IfOk result (λ x. HasTree IsModule bytes.now (surface_of x)) }
-    ensures fault { IfErr result (λ e. IsFault IsModule bytes.now e) }
+    ensures fault { IfErr result (λ e. IsTextFault IsModule bytes.now e) }
 {
     let found = tokens(alloc, bytes)?;
     let all = signs(alloc, found.as_slice())?;

@@ -5,8 +5,8 @@ ghost use Rattle.ac_types.specs.ReadTypes.{constraint_of};
 ghost use Rattle.ac_syntax.specs.Programs.{vtoken_of, VTokens, ParsesVersion};
 ghost use Rattle.ac_syntax.specs.ReadSigns.{read_sign, read_signs};
 ghost use Rattle.ac_syntax.specs.ReadTrees.{version_of};
-ghost use Rattle.ac_syntax.specs.Parsing.{OnSyntax};
-ghost use Rattle.ac_parser.specs.Parsing.{OnlyRead, NoRead, Anything, BeginsEquals, NoVToken, VersionAt, ConstraintAt, stopped};
+ghost use Rattle.ac_syntax.specs.PartParsing.{OnSyntax};
+ghost use Rattle.ac_parser.specs.inner.ProgramParsing.{OnlyRead, NoRead, Anything, BeginsEquals, NoVToken, VersionAt, ConstraintAt, stopped};
 
 use ac_syntax::{Sign, SignKind, Stop, Symbol, after, refused_at};
 use ac_types::{Constraint, Memory, Version};
@@ -32,7 +32,8 @@ fn vtokens<'s, 't>(
     alloc: Global,
     signs: &'s [Sign<'t>],
 ) -> Result<(Vec<VToken>, &'s [Sign<'t>]), Memory>
-    ensures all { IfOk result (λ x. OnlyRead VTokens NoVToken (read_signs signs.now) x.0.items (read_signs x.1.now)) }
+    ensures all { IfOk result (λ x. OnlyRead VTokens NoVToken (read_signs signs.now) x.0.items
+        (read_signs x.1.now)) }
     ensures stops { IfOk result (λ x. NoVToken (read_signs x.1.now)) }
     ensures within { IfOk result (λ x. length x.1.now ≤ length signs.now) }
 {
@@ -63,9 +64,11 @@ fn written<'s, 't>(
     alloc: Global,
     signs: &'s [Sign<'t>],
 ) -> Result<(Option<Version>, &'s [Sign<'t>]), Stop>
-    ensures version { IfOk result (λ x. OnlyRead ParsesVersion BeginsEquals (read_signs signs.now) (option_map version_of x.0) (read_signs x.1.now)) }
+    ensures version { IfOk result (λ x. OnlyRead ParsesVersion BeginsEquals (read_signs signs.now)
+        (option_map version_of x.0) (read_signs x.1.now)) }
     ensures within { IfOk result (λ x. length x.1.now ≤ length signs.now) }
-    ensures none { IfErr result (λ e. OnSyntax e (NoRead ParsesVersion BeginsEquals (read_signs signs.now))) }
+    ensures none { IfErr result (λ e. OnSyntax e
+        (NoRead ParsesVersion BeginsEquals (read_signs signs.now))) }
 {
     let Some(behind) = after(Symbol::Version, signs) else {
         return Ok((None, signs));
@@ -82,7 +85,8 @@ pub fn version<'s, 't>(
     alloc: Global,
     signs: &'s [Sign<'t>],
 ) -> Result<(Option<Version>, &'s [Sign<'t>]), Stop>
-    ensures version { IfOk result (λ x. OnlyRead VersionAt Anything (read_signs signs.now) (option_map version_of x.0) (read_signs x.1.now)) }
+    ensures version { IfOk result (λ x. OnlyRead VersionAt Anything (read_signs signs.now)
+        (option_map version_of x.0) (read_signs x.1.now)) }
     ensures shorter { IfOk result (λ x. length x.1.now < length signs.now) }
     ensures none { IfErr result (λ e. OnSyntax e (NoRead VersionAt Anything (read_signs signs.now))) }
 {
@@ -98,9 +102,11 @@ pub fn constraint<'s, 't>(
     alloc: Global,
     signs: &'s [Sign<'t>],
 ) -> Result<(Constraint, &'s [Sign<'t>]), Stop>
-    ensures constraint { IfOk result (λ x. OnlyRead ConstraintAt NoVToken (read_signs signs.now) (constraint_of x.0) (read_signs x.1.now)) }
+    ensures constraint { IfOk result (λ x. OnlyRead ConstraintAt NoVToken (read_signs signs.now)
+        (constraint_of x.0) (read_signs x.1.now)) }
     ensures within { IfOk result (λ x. length x.1.now ≤ length signs.now) }
-    ensures none { IfErr result (λ e. OnSyntax e (NoRead ConstraintAt NoVToken (read_signs signs.now))) }
+    ensures none { IfErr result (λ e. OnSyntax e
+        (NoRead ConstraintAt NoVToken (read_signs signs.now))) }
 {
     let (tokens, rest) = vtokens(alloc, signs)?;
     match read_constraint(alloc, tokens.as_slice()) {

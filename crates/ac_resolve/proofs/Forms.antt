@@ -14,7 +14,7 @@ use Rattle.ac_resolve.specs.declared.scope.Scope.{Scope, out-Scope, map-Scope, f
 use Rattle.ac_resolve.specs.declared.scope.Scope.TheOpen.{Scope-F}
 use Rattle.ac_resolve.specs.declared.scope.Scope.TheVariants as scope
 use Rattle.ac_resolve.specs.Elaboration.{bind}
-use Rattle.ac_resolve.specs.Scopes.{names_in, scope_layer}
+use Rattle.ac_resolve.specs.inner.NameScopes.{names_in, scope_layer}
 use Rattle.ac_syntax.specs.ReadTrees.{name_of}
 use Rattle.ac_resolve.proofs.TreeLaws.{pat_laws, tree_laws}
 use Rattle.ac_resolve.proofs.Counted.{type_count_of, pat_count_of, tree_count_of, arm_count_of}

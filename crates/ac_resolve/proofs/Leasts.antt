@@ -2,7 +2,7 @@
 use Rattle.std.proofs.Common.{◌≡◌, ◌∙◌, ap, refl, sym, arith, ℕ, suc, ◌+◌, ◌<◌, min, List, [], ◌∷◌, length, drop, get_or, Option, Some, None}
 use Rattle.std.proofs.lemmas.Bool.Decides.{nat_tests}
 use Rattle.ac_resolve.specs.declared.flaws.Flaws.{Flaws}
-use Rattle.ac_resolve.specs.Names.{least}
+use Rattle.ac_resolve.specs.ScopedNames.{least}
 use Rattle.ac_resolve.specs.Counts.{over}
 use Rattle.ac_types.specs.Types.{Bytes}
 use Rattle.ac_syntax.specs.Trees.{PatTree, Tree, ArmTrees, arm_tree}
@@ -10,7 +10,7 @@ use Rattle.ac_resolve.specs.Elaboration.{variables, bind}
 use Rattle.ac_resolve.specs.Unbound.{unbound_pat, unbound, unbound_arms}
 use Rattle.ac_resolve.specs.Repeated.{repeated_name, repeated, repeated_arms}
 use Rattle.ac_resolve.specs.Counts.{large_pat, too_many, too_many_in_arms}
-use Rattle.ac_resolve.specs.Flaws.{no_flaws, joined, arm_flaws, arms_flaws}
+use Rattle.ac_resolve.specs.inner.Flaws.{no_flaws, joined, arm_flaws, arms_flaws}
 use Rattle.ac_resolve.proofs.Lists.{drop_next, drop_end}
 
 min_assoc : (a b c : ℕ) → min (min a b) c ≡ min a (min b c)

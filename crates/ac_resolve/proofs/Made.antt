@@ -15,7 +15,7 @@ use Rattle.ac_terms.specs.declared.term.Term.{Term}
 use Rattle.ac_terms.specs.declared.term.Arm.{Arm}
 use Rattle.ac_terms.specs.declared.pat.Pat.{Pat}
 use Rattle.ac_resolve.specs.Elaboration.{type_in, types_in, pattern_in, patterns_in, variables, bind, elaborated, elaborated_all, elaborated_arms}
-use Rattle.ac_resolve.specs.Scopes.{read_arm}
+use Rattle.ac_resolve.specs.inner.NameScopes.{read_arm}
 use Rattle.ac_resolve.proofs.Lists.{built_all}
 
 abbrev pub type_made : SType → Typ

@@ -6,7 +6,7 @@ use Rattle.ac_types.specs.Types.{Bytes, same_bytes}
 use Rattle.ac_syntax.specs.declared.surface.SName.{SName}
 use Rattle.ac_syntax.specs.Trees.{NameAt}
 use Rattle.ac_syntax.specs.ReadTrees.{name_of}
-use Rattle.ac_resolve.specs.Names.{binders_to, least}
+use Rattle.ac_resolve.specs.ScopedNames.{binders_to, least}
 use Rattle.ac_resolve.specs.Elaboration.{bind}
 use Rattle.ac_resolve.specs.Repeated.{where_there, repeated_name}
 use Rattle.ac_resolve.proofs.Lists.{drop_next, drop_end}

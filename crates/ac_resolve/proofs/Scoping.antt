@@ -7,11 +7,11 @@ use Rattle.std.proofs.lemmas.Bool.Decides.{nat_tests}
 use Rattle.ac_types.specs.Types.{Bytes, same_bytes}
 use Rattle.ac_syntax.specs.declared.surface.SName.{SName}
 use Rattle.ac_syntax.specs.Trees.{NameAt}
-use Rattle.ac_resolve.specs.Names.{binders_to}
+use Rattle.ac_resolve.specs.ScopedNames.{binders_to}
 use Rattle.ac_resolve.specs.Elaboration.{bind}
 use Rattle.ac_resolve.specs.Counts.{over}
 use Rattle.ac_syntax.specs.ReadTrees.{name_of}
-use Rattle.ac_resolve.specs.Scopes.{passed}
+use Rattle.ac_resolve.specs.inner.NameScopes.{passed}
 
 pub bind-length : (names : List SName) (outer : List Bytes) → length (bind (map name_of names) outer) ≡ length outer + length names
 bind-length [] outer = omega arith

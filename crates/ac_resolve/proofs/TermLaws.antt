@@ -9,7 +9,7 @@ use Rattle.ac_terms.specs.declared.term.PVal.TheOpen.{Term-F}
 use Rattle.ac_terms.specs.declared.term.PVal.TheFolds.{fold_out-Arm}
 use Rattle.ac_terms.specs.declared.term.Term.TheVariants as term
 use Rattle.ac_terms.proofs.ReadLaws.{read_arm as fold_arm, read_parts, expr_out, term_laws}
-use Rattle.ac_resolve.specs.Scopes.{read_arm}
+use Rattle.ac_resolve.specs.inner.NameScopes.{read_arm}
 
 arm_read : (a : Arm) → fold_arm a ≡ read_arm a
 unfolding fold_arm expr_of

@@ -2,7 +2,7 @@
 use Rattle.std.specs.Prelude.{ℕ, suc, List, ◌∷◌, length, Option, Some, None, nat_le, if◌then◌else◌}
 use Rattle.ac_types.specs.Types.{Bytes, Typ, parts, height}
 use Rattle.ac_syntax.specs.Trees.{TypeTree, TyTuple, TyList, TyOpt, TyFun, TypeTrees, no_type_trees, type_tree, PatTree, PatVar, PatTuple, PatCons, PatPresent, PatExnOf, PatTrees, no_pat_trees, pat_tree, Tree, ExExnOf, ExTuple, ExNil, ExAbsent, ExPresent, ExCons, ExFun, ExRec, ExApp, ExLet, ExLetRec, ExIf, ExSeq, ExMatch, ExTry, ExRaise, ExAnd, ExOr, ExOp, ExMarshal, ExUnmarshal, Trees, no_trees, tree, ArmTrees, no_arm_trees, arm_tree}
-use Rattle.ac_resolve.specs.Names.{least}
+use Rattle.ac_resolve.specs.ScopedNames.{least}
 use Rattle.ac_resolve.specs.Elaboration.{type_in, variables, bind}
 
 -- what a count gives at its limit

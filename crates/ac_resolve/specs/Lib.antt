@@ -1,9 +1,7 @@
 pub mod Counts
 pub mod Elaboration
-pub mod Flaws
-pub mod Joining
-pub mod Names
-pub mod Programs
+pub mod ScopedNames
+pub mod ScopeFaults
 pub mod Repeated
-pub mod Scopes
 pub mod Unbound
+pub mod inner

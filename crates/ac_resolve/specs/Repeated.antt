@@ -2,7 +2,7 @@
 use Rattle.std.specs.Prelude.{ℕ, List, [], ◌∷◌, Option, Some, None}
 use Rattle.ac_types.specs.Types.{Bytes}
 use Rattle.ac_syntax.specs.Trees.{NameAt, Tree, ExExnOf, ExTuple, ExPresent, ExCons, ExFun, ExRec, ExApp, ExLet, ExLetRec, ExIf, ExSeq, ExMatch, ExTry, ExRaise, ExAnd, ExOr, ExOp, ExMarshal, ExUnmarshal, Trees, no_trees, tree, ArmTrees, no_arm_trees, arm_tree}
-use Rattle.ac_resolve.specs.Names.{binders_to, least}
+use Rattle.ac_resolve.specs.ScopedNames.{binders_to, least}
 use Rattle.ac_resolve.specs.Elaboration.{variables}
 
 -- the place, where something is there

@@ -3,7 +3,7 @@ use Rattle.std.specs.Prelude.{ℕ, List, ◌∷◌, Option, Some, None}
 use Rattle.ac_types.specs.Types.{Bytes}
 use Rattle.ac_syntax.specs.Trees.{NameAt, TypeTree, TyLocal, TyOf, TyTuple, TyList, TyOpt, TyFun, TypeTrees, no_type_trees, type_tree, PatTree, PatVar, PatTuple, PatCons, PatPresent, PatExnOf, PatTrees, no_pat_trees, pat_tree, Tree, ExExnOf, ExTuple, ExNil, ExAbsent, ExPresent, ExCons, ExVar, ExOf, ExFun, ExRec, ExApp, ExLet, ExLetRec, ExIf, ExSeq, ExMatch, ExTry, ExRaise, ExAnd, ExOr, ExOp, ExMarshal, ExUnmarshal, Trees, no_trees, tree, ArmTrees, no_arm_trees, arm_tree}
 use Rattle.ac_resolve.specs.declared.primitive.Primitive.{Primitive}
-use Rattle.ac_resolve.specs.Names.{binders_to, entry_of, standard, least}
+use Rattle.ac_resolve.specs.ScopedNames.{binders_to, entry_of, standard, least}
 use Rattle.ac_resolve.specs.Elaboration.{variables, bind}
 
 -- a type's own name is unbound, of `M.t` the module: without definitions there is neither

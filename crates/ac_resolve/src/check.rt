@@ -3,12 +3,12 @@
 ghost use Rattle.std.specs.Prelude.{◌≡◌, ◌∷◌, map, length, IfOk};
 ghost use Rattle.ac_syntax.specs.Trees.{trees, arm_trees};
 ghost use Rattle.ac_syntax.specs.ReadTrees.{expr_of, arm_of, type_of, name_of};
-ghost use Rattle.ac_resolve.specs.Names.{entry_of, standard, binders_to};
+ghost use Rattle.ac_resolve.specs.ScopedNames.{entry_of, standard, binders_to};
 ghost use Rattle.ac_resolve.specs.Unbound.{unbound_in, unless};
 ghost use Rattle.ac_resolve.specs.Counts.{over, scope_limit};
-ghost use Rattle.ac_resolve.specs.Flaws.{counted, missing, joined, type_flaws, flaws, flaws_of_all, arm_flaws, arms_flaws};
-ghost use Rattle.ac_resolve.specs.Joining.{Typed};
-ghost use Rattle.ac_resolve.specs.Scopes.{names_in};
+ghost use Rattle.ac_resolve.specs.inner.Flaws.{counted, missing, joined, type_flaws, flaws, flaws_of_all, arm_flaws, arms_flaws};
+ghost use Rattle.ac_resolve.specs.inner.Joining.{JoinedTyped};
+ghost use Rattle.ac_resolve.specs.inner.NameScopes.{names_in};
 
 use crate::flaws::{Flaws, join};
 use crate::patterns::{pat_flaws, repeated_name, variables};
@@ -36,7 +36,8 @@ fn leaf(scope: &Scope) -> Flaws
 /// What is wrong with a variable.
 #[tactic(auto, using(crate::proofs::Leasts::over_laws))]
 fn variable(at: u32, word: &Word, scope: &Scope) -> Flaws
-    ensures { result ≡ joined (missing (unless (binders_to word.now (names_in scope.now)) at)) (counted (over scope_limit (length (names_in scope.now)))) }
+    ensures { result ≡ joined (missing (unless (binders_to word.now (names_in scope.now)) at))
+        (counted (over scope_limit (length (names_in scope.now)))) }
 {
     let leaf = leaf(scope);
     match binders_to(scope, word) {
@@ -47,7 +48,8 @@ fn variable(at: u32, word: &Word, scope: &Scope) -> Flaws
 
 /// What is wrong with a name after a module's name.
 fn of_module(owner: &SName, name: &SName) -> Flaws
-    ensures { result ≡ missing (unbound_in (entry_of owner.now.word standard) (name_of owner.now) (name_of name.now)) }
+    ensures { result ≡ missing (unbound_in (entry_of owner.now.word standard) (name_of owner.now)
+        (name_of name.now)) }
 {
     match Standard::named(&owner.word) {
         None => Flaws::unbound(owner.at),
@@ -164,7 +166,8 @@ fn in_fun<'a>(
     argument: &'a SName,
     scope: &'a Scope<'a>,
 ) -> Result<Flaws, Memory>
-    ensures { IfOk result (λ f. f ≡ flaws (argument.now.word ∷ name.now.word ∷ names_in scope.now) (expr_of body.now)) }
+    ensures { IfOk result (λ f. f ≡ flaws (argument.now.word ∷ name.now.word ∷ names_in scope.now)
+        (expr_of body.now)) }
 {
     let outer = Scope::Inner(scope, name);
     under(alloc, body, argument, &outer)
@@ -172,7 +175,7 @@ fn in_fun<'a>(
 
 /// What is wrong with the types of a function with a name, and with what sees it.
 fn with_types(ty: &SType, to: &SType, inner: Result<Flaws, Memory>) -> Result<Flaws, Memory>
-    ensures { IfOk result (λ f. Typed (type_of ty.now) (type_of to.now) inner f) }
+    ensures { IfOk result (λ f. JoinedTyped (type_of ty.now) (type_of to.now) inner f) }
 {
     let inner = inner?;
     Ok(type_flaws(ty).join(type_flaws(to).join(inner)))
@@ -180,7 +183,8 @@ fn with_types(ty: &SType, to: &SType, inner: Result<Flaws, Memory>) -> Result<Fl
 
 #[cycle(flaws)]
 fn all<'a>(alloc: Global, parts: &'a [SExpr], scope: &'a Scope<'a>) -> Result<Flaws, Memory>
-    ensures { IfOk result (λ f. f ≡ flaws_of_all (names_in scope.now) (trees (map expr_of parts.now))) }
+    ensures { IfOk result (λ f. f ≡ flaws_of_all (names_in scope.now)
+        (trees (map expr_of parts.now))) }
 {
     let mut found = Flaws::none();
     for tree in parts {
@@ -192,7 +196,8 @@ fn all<'a>(alloc: Global, parts: &'a [SExpr], scope: &'a Scope<'a>) -> Result<Fl
 
 #[cycle(flaws)]
 fn arms<'a>(alloc: Global, cases: &'a [SArm], scope: &'a Scope<'a>) -> Result<Flaws, Memory>
-    ensures { IfOk result (λ f. f ≡ arms_flaws (names_in scope.now) (arm_trees (map arm_of cases.now))) }
+    ensures { IfOk result (λ f. f ≡ arms_flaws (names_in scope.now)
+        (arm_trees (map arm_of cases.now))) }
 {
     let mut found = Flaws::none();
     for case in cases {

@@ -2,8 +2,8 @@
 
 ghost use Rattle.std.specs.Prelude.{◌≡◌, ◌<◌, ◌^◌, Some, IfOk};
 ghost use Rattle.ac_resolve.specs.Counts.{over};
-ghost use Rattle.ac_resolve.specs.Flaws.{joined, no_flaws, missing, repeats, counted};
-ghost use Rattle.ac_resolve.specs.Joining.{Joins};
+ghost use Rattle.ac_resolve.specs.inner.Flaws.{joined, no_flaws, missing, repeats, counted};
+ghost use Rattle.ac_resolve.specs.inner.Joining.{Joins};
 
 use crate::least::least;
 use ac_types::Memory;

@@ -1,7 +1,7 @@
 // The least of two numbers that may be there.
 
 ghost use Rattle.std.specs.Prelude.{◌≡◌};
-ghost use Rattle.ac_resolve.specs.Names.{least};
+ghost use Rattle.ac_resolve.specs.ScopedNames.{least};
 
 /// The least of what is there.
 pub fn least(a: Option<u32>, b: Option<u32>) -> Option<u32>

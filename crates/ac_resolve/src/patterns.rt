@@ -6,7 +6,7 @@ ghost use Rattle.ac_terms.specs.Read.{pattern_of};
 ghost use Rattle.ac_syntax.specs.Trees.{pat_trees};
 ghost use Rattle.ac_syntax.specs.ReadTrees.{name_of, pat_of};
 ghost use Rattle.ac_resolve.specs.Elaboration.{pattern_in, patterns_in, variables, variables_of_all};
-ghost use Rattle.ac_resolve.specs.Flaws.{pat_flaws, pats_flaws};
+ghost use Rattle.ac_resolve.specs.inner.Flaws.{pat_flaws, pats_flaws};
 ghost use Rattle.ac_resolve.specs.Repeated.{repeated_name};
 
 use crate::flaws::Flaws;
@@ -54,7 +54,8 @@ fn boxed(alloc: Global, tree: &SPat) -> Result<Box<Pat>, Memory>
 
 #[cycle(pattern)]
 fn all(alloc: Global, trees: &[SPat]) -> Result<Many<Pat>, Memory>
-    ensures { IfOk result (λ ps. patterns (map pattern_of ps) ≡ patterns_in (pat_trees (map pat_of trees.now))) }
+    ensures { IfOk result (λ ps. patterns (map pattern_of ps) ≡ patterns_in (pat_trees
+        (map pat_of trees.now))) }
 {
     let mut found = Many::new(alloc);
     for tree in trees {
@@ -113,7 +114,8 @@ pub fn variables(alloc: Global, tree: &SPat) -> Result<Many<SName>, Memory>
 #[cycle(add_variables)]
 #[tactic(auto, using(crate::proofs::Forms::pat_tree_forms))]
 fn add_variables(alloc: Global, tree: &SPat, found: Many<SName>) -> Result<Many<SName>, Memory>
-    ensures { IfOk result (λ names. map name_of names ≡ map name_of found ++ variables (pat_of tree.now)) }
+    ensures { IfOk result (λ names. map name_of names ≡ map name_of found ++ variables
+        (pat_of tree.now)) }
 {
     match &tree.kind {
         SPatKind::Wild => Ok(found),
@@ -141,7 +143,8 @@ fn add_variables_of_all(
     trees: &[SPat],
     found: Many<SName>,
 ) -> Result<Many<SName>, Memory>
-    ensures { IfOk result (λ names. map name_of names ≡ map name_of found ++ variables_of_all (pat_trees (map pat_of trees.now))) }
+    ensures { IfOk result (λ names. map name_of names ≡ map name_of found ++ variables_of_all
+        (pat_trees (map pat_of trees.now))) }
 {
     let mut names = found;
     for tree in trees {
@@ -153,7 +156,8 @@ fn add_variables_of_all(
 
 /// These names, and behind them this one.
 fn with_name(alloc: Global, found: Many<SName>, name: &SName) -> Result<Many<SName>, Memory>
-    ensures { IfOk result (λ names. map name_of names ≡ map name_of found ++ (name_of name.now ∷ [])) }
+    ensures { IfOk result (λ names. map name_of names ≡ map name_of
+        found ++ (name_of name.now ∷ [])) }
 {
     let mut names = found;
     let at = name.at;

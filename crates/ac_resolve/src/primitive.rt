@@ -4,13 +4,11 @@ ghost use Rattle.std.specs.Prelude.{◌≡◌, IfOk, option_map};
 ghost use Rattle.ac_types.specs.ReadTypes.{typ_of};
 ghost use Rattle.ac_terms.specs.Read.{expr_of};
 ghost use Rattle.ac_resolve.specs.declared.primitive.Primitive.TheVariants.{Sub};
-ghost use Rattle.ac_resolve.specs.Names.{entry_of, standard, io, str, table_of, primitive, number_of, argument_of};
+ghost use Rattle.ac_resolve.specs.ScopedNames.{entry_of, standard, io, str, table_of, primitive, number_of, argument_of};
 ghost use Rattle.ac_resolve.specs.Elaboration.{primitive_of};
 
 use ac_terms::Term;
-use ac_types::primitives::{
-    LENGTH, OF_INT, PRINT_INT, PRINT_STRING, RECEIVE, SEND, SUB_STRING,
-};
+use ac_types::primitives::{LENGTH, OF_INT, PRINT_INT, PRINT_STRING, RECEIVE, SEND, SUB_STRING};
 use ac_types::{Many, Memory, Ty, Word};
 use std::alloc::Global;
 

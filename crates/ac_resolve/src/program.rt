@@ -3,7 +3,7 @@
 ghost use Rattle.std.specs.Prelude.{◌≡◌, [], IfOk, IfErr};
 ghost use Rattle.ac_terms.specs.Read.{expr_of};
 ghost use Rattle.ac_syntax.specs.ReadTrees.{surface_of};
-ghost use Rattle.ac_resolve.specs.Programs.{Elaborates, Refuses};
+ghost use Rattle.ac_resolve.specs.ScopeFaults.{Elaborates, RefusesScopes};
 
 use crate::check::flaws;
 use crate::fault::ScopeFault;
@@ -24,13 +24,14 @@ pub struct RawProgram {
 
 /// What a program elaborates to, behind the definitions that were there before.
 ///
-/// `Unbound`, `Repeated` and `TooMany` come exactly where they are the first that applies: a name isn't in scope,
+/// `Unbound`, `Repeated` and `TooMany` come exactly where they are the first that applies: a name
+/// isn't in scope,
 /// a variable stands twice in one pattern, a count passes its limit.
 pub fn elaborate(alloc: Global, s: &Surface, env: &Env) -> Result<RawProgram, ScopeFault>
     requires no_definitions { s.now.defs ≡ [] }
     ensures main { IfOk result (λ p. Elaborates (surface_of s.now) (expr_of p.main)) }
     ensures environment { IfOk result (λ p. p.env ≡ env.now) }
-    ensures refused { IfErr result (λ fault. Refuses (surface_of s.now) fault) }
+    ensures refused { IfErr result (λ fault. RefusesScopes (surface_of s.now) fault) }
 {
     let main = main_term(alloc, s)?;
     let env = env.copy(alloc)?;
@@ -41,7 +42,7 @@ pub fn elaborate(alloc: Global, s: &Surface, env: &Env) -> Result<RawProgram, Sc
 #[tactic(auto, using(crate::proofs::Mains::main_forms))]
 fn main_term(alloc: Global, s: &Surface) -> Result<Term, ScopeFault>
     ensures main { IfOk result (λ t. Elaborates (surface_of s.now) (expr_of t)) }
-    ensures refused { IfErr result (λ fault. Refuses (surface_of s.now) fault) }
+    ensures refused { IfErr result (λ fault. RefusesScopes (surface_of s.now) fault) }
 {
     let Some(tree) = &s.expr else {
         return Ok(Term::Unit);

@@ -3,9 +3,9 @@
 ghost use Rattle.std.specs.Prelude.{◌≡◌, ◌≤◌, List, min, map, length, option_map};
 ghost use Rattle.ac_types.specs.Types.{Bytes};
 ghost use Rattle.ac_syntax.specs.ReadTrees.{name_of};
-ghost use Rattle.ac_resolve.specs.Names.{binders_to};
+ghost use Rattle.ac_resolve.specs.ScopedNames.{binders_to};
 ghost use Rattle.ac_resolve.specs.Elaboration.{bind};
-ghost use Rattle.ac_resolve.specs.Scopes.{names_in, passed};
+ghost use Rattle.ac_resolve.specs.inner.NameScopes.{names_in, passed};
 
 use ac_syntax::SName;
 use ac_types::Word;
@@ -36,7 +36,8 @@ pub fn depth(scope: &Scope) -> usize
     }
 }
 
-/// How many binders stand between a name and its own, at most 65,536, `None` exactly where it isn't in scope.
+/// How many binders stand between a name and its own, at most 65,536, `None` exactly where it isn't
+/// in scope.
 #[tactic(auto, using(crate::proofs::Forms::scope_laws))]
 pub fn binders_to(scope: &Scope, word: &Word) -> Option<usize>
     ensures { result ≡ option_map (λ i. min i 65536) (binders_to word.now (names_in scope.now)) }
@@ -62,7 +63,9 @@ pub fn binders_to(scope: &Scope, word: &Word) -> Option<usize>
 
 /// How many of these names stand behind the last that is this one.
 fn behind(names: &[SName], word: &Word) -> Option<usize>
-    ensures { (outer : List Bytes) → binders_to word.now (bind (map name_of names.now) outer) ≡ passed result (length names.now) (binders_to word.now outer) }
+    ensures { (outer : List Bytes) → binders_to word.now
+        (bind (map name_of names.now) outer) ≡ passed result (length names.now)
+        (binders_to word.now outer) }
 {
     let mut left = names.len();
     while left > 0 {

@@ -5,11 +5,11 @@ ghost use Rattle.ac_terms.specs.Terms.{Var, exprs, arms};
 ghost use Rattle.ac_terms.specs.Read.{expr_of};
 ghost use Rattle.ac_syntax.specs.Trees.{trees, arm_trees};
 ghost use Rattle.ac_syntax.specs.ReadTrees.{expr_of as tree_of, arm_of, type_of};
-ghost use Rattle.ac_resolve.specs.Names.{binders_to, primitive};
+ghost use Rattle.ac_resolve.specs.ScopedNames.{binders_to, primitive};
 ghost use Rattle.ac_resolve.specs.Elaboration.{pattern_in, variables, bind, value_of, primitive_at, elaborated, elaborated_all, elaborated_arms};
 ghost use Rattle.ac_resolve.specs.Counts.{over, scope_limit, too_many, too_many_in_all, too_many_in_arms};
-ghost use Rattle.ac_resolve.specs.Joining.{RecOf};
-ghost use Rattle.ac_resolve.specs.Scopes.{names_in, read_arm};
+ghost use Rattle.ac_resolve.specs.inner.Joining.{RecOf};
+ghost use Rattle.ac_resolve.specs.inner.NameScopes.{names_in, read_arm};
 
 use crate::patterns::{pattern, variables};
 use crate::primitive::{Primitive, named};
@@ -184,7 +184,8 @@ fn under<'a>(
     scope: &'a Scope<'a>,
 ) -> Result<Box<Term>, Memory>
     requires { too_many (name.now.word ∷ names_in scope.now) (tree_of body.now) ≡ None }
-    ensures { IfOk result (λ t. expr_of t ≡ elaborated (name.now.word ∷ names_in scope.now) (tree_of body.now)) }
+    ensures { IfOk result (λ t. expr_of t ≡ elaborated (name.now.word ∷ names_in scope.now)
+        (tree_of body.now)) }
 {
     let inner = Scope::Inner(scope, name);
     boxed(alloc, body, &inner)
@@ -200,8 +201,10 @@ fn in_fun<'a>(
     argument: &'a SName,
     scope: &'a Scope<'a>,
 ) -> Result<Box<Term>, Memory>
-    requires { too_many (argument.now.word ∷ name.now.word ∷ names_in scope.now) (tree_of body.now) ≡ None }
-    ensures { IfOk result (λ t. expr_of t ≡ elaborated (argument.now.word ∷ name.now.word ∷ names_in scope.now) (tree_of body.now)) }
+    requires { too_many (argument.now.word ∷ name.now.word ∷ names_in scope.now)
+        (tree_of body.now) ≡ None }
+    ensures { IfOk result (λ t. expr_of t ≡ elaborated
+        (argument.now.word ∷ name.now.word ∷ names_in scope.now) (tree_of body.now)) }
 {
     let outer = Scope::Inner(scope, name);
     under(alloc, body, argument, &outer)
@@ -238,7 +241,8 @@ fn boxed_rec(
 #[cycle(term)]
 fn all<'a>(alloc: Global, parts: &'a [SExpr], scope: &'a Scope<'a>) -> Result<Many<Term>, Memory>
     requires { too_many_in_all (names_in scope.now) (trees (map tree_of parts.now)) ≡ None }
-    ensures { IfOk result (λ ts. exprs (map expr_of ts) ≡ elaborated_all (names_in scope.now) (trees (map tree_of parts.now))) }
+    ensures { IfOk result (λ ts. exprs (map expr_of ts) ≡ elaborated_all (names_in scope.now)
+        (trees (map tree_of parts.now))) }
 {
     let mut terms = Many::new(alloc);
     for tree in parts {
@@ -251,7 +255,8 @@ fn all<'a>(alloc: Global, parts: &'a [SExpr], scope: &'a Scope<'a>) -> Result<Ma
 #[cycle(term)]
 fn arms<'a>(alloc: Global, cases: &'a [SArm], scope: &'a Scope<'a>) -> Result<Many<Arm>, Memory>
     requires { too_many_in_arms (names_in scope.now) (arm_trees (map arm_of cases.now)) ≡ None }
-    ensures { IfOk result (λ found. arms (map read_arm found) ≡ elaborated_arms (names_in scope.now) (arm_trees (map arm_of cases.now))) }
+    ensures { IfOk result (λ found. arms (map read_arm found) ≡ elaborated_arms (names_in scope.now)
+        (arm_trees (map arm_of cases.now))) }
 {
     let mut found = Many::new(alloc);
     for case in cases {
@@ -265,8 +270,13 @@ fn arms<'a>(alloc: Global, cases: &'a [SArm], scope: &'a Scope<'a>) -> Result<Ma
 #[cycle(term)]
 #[tactic(auto, using(crate::proofs::Forms::arm_forms))]
 fn arm<'a>(alloc: Global, case: &'a SArm, scope: &'a Scope<'a>) -> Result<Arm, Memory>
-    requires { too_many (bind (variables (arm_of case.now).0) (names_in scope.now)) (arm_of case.now).1 ≡ None }
-    ensures { IfOk result (λ a. read_arm a ≡ (pattern_in (arm_of case.now).0, elaborated (bind (variables (arm_of case.now).0) (names_in scope.now)) (arm_of case.now).1)) }
+    requires { too_many (bind (variables (arm_of case.now).0) (names_in scope.now))
+        (arm_of case.now).1 ≡ None }
+    ensures { IfOk result (λ a. read_arm a ≡ (
+      pattern_in (arm_of case.now).0,
+      elaborated
+          (bind (variables (arm_of case.now).0) (names_in scope.now)) (arm_of case.now).1,
+    )) }
 {
     let names = variables(alloc, &case.pat)?;
     let inner = Scope::Arm(&*scope, names.as_slice());

@@ -6,7 +6,7 @@ ghost use Rattle.ac_types.specs.ReadTypes.{typ_of};
 ghost use Rattle.ac_syntax.specs.Trees.{type_trees};
 ghost use Rattle.ac_syntax.specs.ReadTrees.{type_of};
 ghost use Rattle.ac_resolve.specs.Elaboration.{type_in, types_in};
-ghost use Rattle.ac_resolve.specs.Flaws.{names_and_tuples, names_and_tuples_of_all, type_flaws};
+ghost use Rattle.ac_resolve.specs.inner.Flaws.{names_and_tuples, names_and_tuples_of_all, type_flaws};
 
 use crate::flaws::Flaws;
 use ac_syntax::{SType, STypeKind};
@@ -54,7 +54,8 @@ fn boxed(alloc: Global, tree: &SType) -> Result<Box<Ty>, Memory>
 
 #[cycle(ty)]
 fn tys(alloc: Global, trees: &[SType]) -> Result<Many<Ty>, Memory>
-    ensures { IfOk result (λ ts. typs (map typ_of ts) ≡ types_in (type_trees (map type_of trees.now))) }
+    ensures { IfOk result (λ ts. typs (map typ_of ts) ≡ types_in (type_trees
+        (map type_of trees.now))) }
 {
     let mut found = Many::new(alloc);
     for tree in trees {
@@ -67,7 +68,8 @@ fn tys(alloc: Global, trees: &[SType]) -> Result<Many<Ty>, Memory>
 /// The type of a function from one type that is written to another.
 #[tactic(auto, using(crate::proofs::Forms::type_forms))]
 pub fn fun_ty(alloc: Global, from: &SType, to: &SType) -> Result<Ty, Memory>
-    ensures { IfOk result (λ t. typ_of t ≡ TFun (type_in (type_of from.now)) (type_in (type_of to.now))) }
+    ensures { IfOk result (λ t. typ_of t ≡ TFun (type_in (type_of from.now))
+        (type_in (type_of to.now))) }
 {
     both(boxed(alloc, from), boxed(alloc, to)).map(|(from, to)| Ty::Fun(from, to))
 }

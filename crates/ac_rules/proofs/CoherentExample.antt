@@ -7,14 +7,14 @@ use Rattle.sha2.specs.Sha256.{sha256}
 use Rattle.ac_types.specs.Words.{is_reserved}
 use Rattle.ac_types.proofs.FirstLaws.{none≢some, some_eq}
 use Rattle.ac_types.specs.Types.{Bytes}
-use Rattle.ac_terms.specs.Defs.{Environment, Entry, Def, Seen, Here, Shelf, Arrived, def_of, name_at}
+use Rattle.ac_terms.specs.Defs.{Environment, Entry, Def, Seen, Own', Shelf, Arrived, def_of, name_at}
 use Rattle.ac_terms.specs.Names.{text_of_def, text_of_entry, name_of_entry}
 use Rattle.ac_terms.specs.Bounds.{fits_def}
 use Rattle.ac_terms.proofs.Samples.{six}
-use Rattle.ac_rules.specs.Coherent.{Each, IsCoherent, IsLinked, IsModule, is_uri}
+use Rattle.ac_rules.specs.Coherent.{Each, IsCoherent, IsLinked, IsAModule, is_uri}
 
 abbrev entry : Entry
-entry = record { def = six; name = option_map sha256 (text_of_def [] six); seen = Here; link = None }
+entry = record { def = six; name = option_map sha256 (text_of_def [] six); seen = Own'; link = None }
 
 abbrev alone_six : Environment
 alone_six = entry ∷ []
@@ -42,11 +42,11 @@ texts_of_six zero (suc j) n s t p q a b = absurd (none≢some b)
 texts_of_six (suc i) j n s t p q a b = absurd (none≢some a)
 
 is_shelf : Seen → Bool
-is_shelf Here = false
+is_shelf Own' = false
 is_shelf (Shelf u) = true
 is_shelf Arrived = false
 
-from_shelf_six : (i : ℕ) (e : Entry) (u : Bytes) → slice_get alone_six i ≡ Some e → e.seen ≡ Shelf u → IsTrue (is_uri u) × IsModule e.def
+from_shelf_six : (i : ℕ) (e : Entry) (u : Bytes) → slice_get alone_six i ≡ Some e → e.seen ≡ Shelf u → IsTrue (is_uri u) × IsAModule e.def
 unfolding is_shelf
 from_shelf_six zero e u p q = absurd (true≢false (sym (ap is_shelf (ap (λ (x : Entry). x.seen) (some_eq p) ∙ q))))
 from_shelf_six (suc k) e u p q = absurd (none≢some p)

@@ -13,7 +13,7 @@ use Rattle.ac_rules.specs.Views.{Mode, Plain, Coloured, representation, opened, 
 use Rattle.ac_rules.specs.Typing.{is_home, is_function_home, fields_of, value_in}
 use Rattle.ac_rules.specs.Links.{has_arrived}
 use Rattle.ac_rules.specs.Coherent.{IsCoherent}
-use Rattle.ac_rules.specs.Growth.{Extends, Grows}
+use Rattle.ac_rules.specs.Growth.{Widening, Grows}
 use Rattle.ac_rules.proofs.Rules.{map_some, then_some, some_there}
 use Rattle.ac_rules.proofs.ListLaws.{get_old}
 use Rattle.ac_rules.proofs.ViewLaws.{within}
@@ -22,7 +22,7 @@ use Rattle.ac_rules.proofs.LookupLaws.{name_old, fields_old, value_old, find_old
 use Rattle.ac_rules.proofs.KnownTypes.{rounds_plus, rounds_still, each_same, opened_known, head_old, has_value}
 
 -- growth is an order
-pub extends_not : (E : Environment) → IsCoherent E → Extends E E
+pub extends_not : (E : Environment) → IsCoherent E → Widening E E
 extends_not E c = record { before = c; more = []; is_more = sym (append-nil E) }
 
 pub grows_not : (E : Environment) → IsCoherent E → Grows E E
@@ -66,7 +66,7 @@ home_there E i h =
     let e = map_some (λ (x : Entry). x.def) (slice_get E i) d.0 d.1 in
     within E i e.0 e.1
 
-module _ (E F : Environment) (g : Extends E F) where
+module _ (E F : Environment) (g : Widening E F) where
   -- what holds of E with more behind it holds of F
   of_longer : (P : Environment → Type 0) → P (E ++ g.more) → P F
   of_longer P h = subst P (sym g.is_more) h

@@ -4,7 +4,7 @@ use Rattle.std.specs.Prelude.{true, [], ◌∷◌, ◌++◌, Some, None, codes}
 use Rattle.ac_types.specs.Types.{TInt, TStr}
 use Rattle.ac_types.specs.Sigs.{One, Ranges, Exact, StaticLink}
 use Rattle.ac_terms.specs.Terms.{Prim}
-use Rattle.ac_terms.specs.Defs.{Environment, Module, Import, AModule, Here, Arrived}
+use Rattle.ac_terms.specs.Defs.{Environment, Module, Import, AModule, Own', Arrived}
 use Rattle.ac_rules.specs.Links.{link_fault, linked, NoModule, External, Version, Spec, Like, Name, AtLoad, InPacket}
 use Rattle.ac_rules.proofs.Samples.{c_name, t, abstract_sig, abstract_module, one_entry, wanted}
 
@@ -49,7 +49,7 @@ abbrev manifest_module : Module
 manifest_module = record abstract_module { sig = record abstract_sig { types = record { name = t; manifest = Some TInt } ∷ [] } }
 
 abbrev manifest_entry : Environment
-manifest_entry = record { def = AModule manifest_module; name = Some c_name; seen = Here; link = None } ∷ []
+manifest_entry = record { def = AModule manifest_module; name = Some c_name; seen = Own'; link = None } ∷ []
 
 abbrev get_int : Import
 get_int = record wanted { sig = record { types = record { name = t; manifest = None } ∷ []; vals = [] } }

@@ -4,7 +4,7 @@ use Rattle.std.specs.Prelude.{ℤ, pos, true, List, [], ◌∷◌, ◌++◌, Som
 use Rattle.ac_types.specs.Types.{Bytes, Typ, TInt, TBool, TUnit, TTuple, TFun, TAbs, typs}
 use Rattle.ac_types.specs.Sigs.{Number, MyName}
 use Rattle.ac_terms.specs.Terms.{Main, Int, Tuple, Var, Own, Ref, Lam, Prim, exprs, KInt, KBool, KFun}
-use Rattle.ac_terms.specs.Defs.{Environment, Packet, Entry, Module, Def, AModule, AMark, Here}
+use Rattle.ac_terms.specs.Defs.{Environment, Packet, Entry, Module, Def, AModule, AMark, Own'}
 use Rattle.ac_terms.proofs.Samples.{number_module, pair_type, pair_packet}
 use Rattle.ac_terms.specs.Names.{name_by}
 use Rattle.ac_rules.specs.Needed.{packet_for}
@@ -31,7 +31,7 @@ pub ill_formed_definition : cause itself [] (of_int (number_def (pos 1) ∷ read
 ill_formed_definition = refl
 
 abbrev number_entry : Bytes → Environment
-number_entry n = record { def = number_def (pos 1); name = Some n; seen = Here; link = None } ∷ []
+number_entry n = record { def = number_def (pos 1); name = Some n; seen = Own'; link = None } ∷ []
 
 pub a_clash_with_an_entry : cause always (number_entry []) (of_int (number_def (pos 1) ∷ number_def (pos 2) ∷ [])) TInt ≡ Some (Clash 1 0)
 a_clash_with_an_entry = refl
@@ -40,7 +40,7 @@ pub a_clash_in_the_packet : cause always [] (of_int (number_def (pos 1) ∷ numb
 a_clash_in_the_packet = refl
 
 abbrev a_mark : Entry
-a_mark = record { def = AMark (codes "MK"); name = None; seen = Here; link = None }
+a_mark = record { def = AMark (codes "MK"); name = None; seen = Own'; link = None }
 
 pub one_entry_too_many : too_many itself (replicate 65535 a_mark) (number_def (pos 1) ∷ []) ≡ Some (Full 65536)
 one_entry_too_many = refl
@@ -55,7 +55,7 @@ pub no_integer : cause itself [] (record (of_int []) { value = KBool true }) TIn
 no_integer = refl
 
 abbrev m1_entry : Environment
-m1_entry = record { def = AModule (number_module (codes "M1") (codes "y") (Number 2 ∷ []) (pos 7)); name = Some (codes "m"); seen = Here; link = None } ∷ []
+m1_entry = record { def = AModule (number_module (codes "M1") (codes "y") (Number 2 ∷ []) (pos 7)); name = Some (codes "m"); seen = Own'; link = None } ∷ []
 
 pub accepted : cause itself m1_entry pair_packet (TFun TUnit (TTuple (typs (TInt ∷ TInt ∷ [])))) ≡ None
 accepted = refl
@@ -77,10 +77,10 @@ the_value_again = refl
 
 -- an abstract value between programs whose modules differ in one number
 abbrev under_its_name : Module → Environment
-under_its_name m = record { def = AModule m; name = name_by itself [] (AModule m); seen = Here; link = None } ∷ []
+under_its_name m = record { def = AModule m; name = name_by itself [] (AModule m); seen = Own'; link = None } ∷ []
 
 abbrev with_mark : Environment → Environment
-with_mark E = record { def = AMark (codes "MK"); name = None; seen = Here; link = None } ∷ E
+with_mark E = record { def = AMark (codes "MK"); name = None; seen = Own'; link = None } ∷ E
 
 abbrev adds : ℤ → Module
 adds n = record abstract_module {

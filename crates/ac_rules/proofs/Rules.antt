@@ -6,10 +6,10 @@ use Rattle.ac_types.specs.First.{given}
 use Rattle.ac_types.proofs.FirstLaws.{none≢some, some_eq, given_some}
 use Rattle.ac_types.proofs.Same.{both_true, same_eq}
 use Rattle.ac_types.specs.Types.{Bytes, Typ, TInt, TBool, TStr, TUnit, TExn, TTuple, TFun, TOpt, TList, Typs, typ, agree}
-use Rattle.ac_terms.specs.Terms.{Home, Main, In, PValue, Expr, Exprs, expr, Arms, Int, Boolean, Str, Unit', Exn, ExnOf, Tuple, Nil, Empty, Var, App, Lam, Let, If, Seq, Match, Try, Raise, Rec, Prim, Unmarshal, Marshal, Packed, Present, Cons, Own, Ref}
+use Rattle.ac_terms.specs.Terms.{Home, Main, In, PValue, Expr, Exprs, expr, Arms, Int, Boolean, Str, Unit', Exn, ExnOf, Tuple, Nil, Empty, Var, App, Lam, Let, If, Seq, Match, Try, Raise, Rec, Prim, Unmarshal, Marshal, Val, Present, Cons, Own, Ref}
 use Rattle.ac_terms.specs.Defs.{Environment, Module, Def, AModule, AnImport, AMark, module_of, signature, def_of, module_at}
-use Rattle.ac_terms.specs.Primitives.{has_text, is_exception, primitive_type}
-use Rattle.ac_terms.specs.Typing.{has, both_same, also, last_of}
+use Rattle.ac_terms.specs.PrimitiveTypes.{has_text, is_exception, primitive_type}
+use Rattle.ac_terms.specs.TermTyping.{has, both_same, also, last_of}
 use Rattle.ac_rules.specs.Views.{Mode, Plain, Coloured, view, are_known}
 use Rattle.ac_rules.specs.Typing.{Scope, bind, field_type, ref_type, HasType, applied, kept_in, holds, seen, types_of, arm_types, one_of, a_list, an_option, joined, is_home, is_function_home}
 
@@ -238,5 +238,5 @@ module _ (mode : Mode) (E : Environment) (S : Scope) where
   pub rule-Unmarshal : (A : Typ) (e : Expr) (T : Typ) → HasType mode E S (Unmarshal A e) T → HasType mode E S e TStr × (are_known E A ≡ true) × (view mode E S.home A ≡ T)
   rule-Unmarshal A e T h = let p = ends _ A T h in (has_some _ TStr p.0, p.1, p.2)
 
-  pub rule-Packed : (A : Typ) (v : PValue) (T : Typ) → HasType mode E S (Packed A v) T → (holds mode false E v A ≡ true) × (are_known E A ≡ true) × (view mode E S.home A ≡ T)
+  pub rule-Packed : (A : Typ) (v : PValue) (T : Typ) → HasType mode E S (Val A v) T → (holds mode false E v A ≡ true) × (are_known E A ≡ true) × (view mode E S.home A ≡ T)
   rule-Packed A v T h = ends _ A T h

@@ -3,7 +3,7 @@ use Rattle.std.specs.Prelude.{pos, false, [], ◌∷◌, None, Some, codes}
 use Rattle.ac_types.specs.Types.{Bytes, Typ, TInt, TFun, TAbs, TMine}
 use Rattle.ac_types.specs.Sigs.{Signature, Number, MyName, One, From, Ranges, HereAlready, Uri}
 use Rattle.ac_terms.specs.Terms.{Expr, Int, Var, Own, Ref, Lam, App, Prim, exprs}
-use Rattle.ac_terms.specs.Defs.{Environment, Module, Import, AModule, AMark, Here}
+use Rattle.ac_terms.specs.Defs.{Environment, Module, Import, AModule, AMark, Own'}
 use Rattle.ac_terms.proofs.Samples.{number_module, any_m1}
 
 -- a module with an abstract type: `type t val make : int -> t val get : t -> int`, t being int
@@ -34,7 +34,7 @@ abstract_module = record {
 }
 
 abbrev pub one_entry : Environment
-one_entry = record { def = AModule abstract_module; name = Some c_name; seen = Here; link = None } ∷ []
+one_entry = record { def = AModule abstract_module; name = Some c_name; seen = Own'; link = None } ∷ []
 
 abbrev pub made : Expr
 made = App (Ref 0 (codes "make")) (Int (pos 4))
@@ -52,7 +52,7 @@ wanted = record {
 -- M1, an import linked to it, a mark, and M2
 abbrev pub sender : Environment
 sender =
-    record { def = AModule (number_module (codes "M1") (codes "y") (Number 1 ∷ []) (pos 6)); name = Some (codes "m1"); seen = Here; link = None } ∷
-    record { def = any_m1; name = Some (codes "i1"); seen = Here; link = Some 0 } ∷
-    record { def = AMark (codes "MK"); name = None; seen = Here; link = None } ∷
-    record { def = AModule (number_module (codes "M2") (codes "z") (MyName ∷ []) (pos 3)); name = Some (codes "m2"); seen = Here; link = None } ∷ []
+    record { def = AModule (number_module (codes "M1") (codes "y") (Number 1 ∷ []) (pos 6)); name = Some (codes "m1"); seen = Own'; link = None } ∷
+    record { def = any_m1; name = Some (codes "i1"); seen = Own'; link = Some 0 } ∷
+    record { def = AMark (codes "MK"); name = None; seen = Own'; link = None } ∷
+    record { def = AModule (number_module (codes "M2") (codes "z") (MyName ∷ []) (pos 3)); name = Some (codes "m2"); seen = Own'; link = None } ∷ []

@@ -2,7 +2,7 @@
 use Rattle.std.proofs.Common.{◌≡◌, refl}
 use Rattle.std.specs.Prelude.{ℕ, zero, suc, pos, true, false, [], ◌∷◌, Option, Some, None, codes}
 use Rattle.ac_types.specs.Types.{Typ, TInt, TBool, TStr, TUnit, TExn, TTuple, TList, TOpt, TFun, TAbs, typs}
-use Rattle.ac_terms.specs.Terms.{Main, In, PWild, PVar, PInt, PCons, PNil, PTuple, PExnOf, patterns, Expr, Int, Boolean, Str, Unit', Exn, ExnOf, Tuple, Nil, Empty, Present, Cons, Var, Own, Ref, Lam, Rec, App, Let, If, Seq, Match, Try, Raise, Prim, Marshal, Unmarshal, Packed, Val, Bracket, exprs, no_arms, arms, KInt, KFun, KExn, VInt, VSeal}
+use Rattle.ac_terms.specs.Terms.{Main, In, PWild, PVar, PInt, PCons, PNil, PTuple, PExnOf, patterns, Expr, Int, Boolean, Str, Unit', Exn, ExnOf, Tuple, Nil, Empty, Present, Cons, Var, Own, Ref, Lam, Rec, App, Let, If, Seq, Match, Try, Raise, Prim, Marshal, Unmarshal, Val, Evaluated, Bracket, exprs, no_arms, arms, KInt, KFun, KExn, VInt, VSeal}
 use Rattle.ac_rules.specs.Views.{Plain, Coloured, view, bare, IsFirstOrder}
 use Rattle.ac_rules.specs.Typing.{all_of, of_field, type_of, HasType, holds}
 use Rattle.ac_rules.proofs.Samples.{c_name, t, c_t, one_entry, made}
@@ -52,10 +52,10 @@ no_equation_of_functions = refl
 pub a_marshal : main_type (Marshal TInt (Str (codes "MK")) (Int (pos 5))) ≡ Some TStr
 a_marshal = refl
 
-pub a_packed_function : main_type (Packed (TFun TUnit TInt) (KFun Main (Lam TUnit (Packed TInt (KInt (pos 5)))))) ≡ Some (TFun TUnit TInt)
+pub a_packed_function : main_type (Val (TFun TUnit TInt) (KFun Main (Lam TUnit (Val TInt (KInt (pos 5)))))) ≡ Some (TFun TUnit TInt)
 a_packed_function = refl
 
-pub no_free_variable : main_type (Packed (TFun TUnit TInt) (KFun Main (Lam TUnit (Var 1)))) ≡ None
+pub no_free_variable : main_type (Val (TFun TUnit TInt) (KFun Main (Lam TUnit (Var 1)))) ≡ None
 no_free_variable = refl
 
 -- one refusal a rule
@@ -131,10 +131,10 @@ no_marshal_at_another_type = refl
 pub no_unmarshal_of_a_number : main_type (Unmarshal TInt (Int (pos 5))) ≡ None
 no_unmarshal_of_a_number = refl
 
-pub no_packed_value_of_another_type : main_type (Packed TBool (KInt (pos 5))) ≡ None
+pub no_packed_value_of_another_type : main_type (Val TBool (KInt (pos 5))) ≡ None
 no_packed_value_of_another_type = refl
 
-pub no_exception_value_without_its_text : main_type (Packed TExn (KExn 0 None)) ≡ None
+pub no_exception_value_without_its_text : main_type (Val TExn (KExn 0 None)) ≡ None
 no_exception_value_without_its_text = refl
 
 -- a type that mentions an unknown name is no type of a term, nor is a home that is not there
@@ -201,10 +201,10 @@ no_later_entry = refl
 pub a_bracket : HasType Coloured one_entry (all_of one_entry Main) (Bracket (In 0) c_t (Int (pos 5))) c_t
 a_bracket = refl
 
-pub a_seal : HasType Coloured one_entry (all_of one_entry Main) (Val c_t (VSeal (In 0) c_name t (VInt (pos 5)))) c_t
+pub a_seal : HasType Coloured one_entry (all_of one_entry Main) (Evaluated c_t (VSeal (In 0) c_name t (VInt (pos 5)))) c_t
 a_seal = refl
 
-pub no_seal_at_home : type_of Coloured false one_entry (all_of one_entry (In 0)) (Val c_t (VSeal (In 0) c_name t (VInt (pos 5)))) ≡ None
+pub no_seal_at_home : type_of Coloured false one_entry (all_of one_entry (In 0)) (Evaluated c_t (VSeal (In 0) c_name t (VInt (pos 5)))) ≡ None
 no_seal_at_home = refl
 
 pub a_packed_abstract_value : holds Coloured false one_entry (KInt (pos 5)) c_t ≡ true

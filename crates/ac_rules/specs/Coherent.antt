@@ -1,7 +1,7 @@
 -- Coherent environments: what holds of every environment that a program has.
 use Rattle.std.specs.Prelude.{◌≡◌, ℕ, ◌<◌, ◌≤◌, ◌&&◌, Bool, true, nat_le, List, [], ◌∷◌, length, filter_map, Option, Some, None, option_and_then, slice_get, IsTrue}
 use Rattle.ac_types.specs.Types.{Bytes}
-use Rattle.ac_terms.specs.Defs.{Environment, Entry, Def, AModule, AnImport, AMark, Seen, Here, Shelf, Arrived, def_of, name_at}
+use Rattle.ac_terms.specs.Defs.{Environment, Entry, Def, AModule, AnImport, AMark, Seen, Own', Shelf, Arrived, def_of, name_at}
 use Rattle.ac_terms.specs.Names.{text_of_entry, name_of_entry}
 use Rattle.ac_terms.specs.Bounds.{fits_def}
 use Rattle.ac_rules.specs.Links.{MayLink}
@@ -24,7 +24,7 @@ IsLinked E i (AMark t) = link_at E i ≡ None
 -- shelf entries stand first, then own entries, then arrived ones
 abbrev pub rank : Seen → ℕ
 rank (Shelf u) = 0
-rank Here = 1
+rank Own' = 1
 rank Arrived = 2
 
 abbrev pub rises : ℕ → List Entry → Bool
@@ -33,7 +33,7 @@ rises low (e ∷ es) = nat_le low (rank e.seen) && rises (rank e.seen) es
 
 -- the URI of a shelf entry, and the name of a mark
 abbrev pub uri_of : Entry → Option Bytes
-uri_of e = elim e.seen [ Here ↦ None | Shelf u ↦ Some u | Arrived ↦ None ]
+uri_of e = elim e.seen [ Own' ↦ None | Shelf u ↦ Some u | Arrived ↦ None ]
 
 abbrev pub mark_of : Entry → Option Bytes
 mark_of e = elim e.def [ AModule m ↦ None | AnImport i ↦ None | AMark t ↦ Some t ]
@@ -42,17 +42,17 @@ mark_of e = elim e.def [ AModule m ↦ None | AnImport i ↦ None | AMark t ↦ 
 abbrev pub is_uri : Bytes → Bool
 is_uri u = nat_le 1 (length u) && nat_le (length u) 1024
 
-abbrev pub IsModule : Def → Type 0
-IsModule (AModule m) = Unit {0}
-IsModule (AnImport i) = ⊥
-IsModule (AMark t) = ⊥
+abbrev pub IsAModule : Def → Type 0
+IsAModule (AModule m) = Unit {0}
+IsAModule (AnImport i) = ⊥
+IsAModule (AMark t) = ⊥
 
 pub record IsCoherent (E : Environment) : Type 0 where
   -- there are at most 65,535 entries: those of the shelf, own ones, arrived ones
   pub few : length E ≤ 65535
   pub in_order : IsTrue (rises 0 E)
   -- shelf entries are modules of distinct URIs
-  pub from_shelf : (i : ℕ) (e : Entry) (u : Bytes) → slice_get E i ≡ Some e → e.seen ≡ Shelf u → IsTrue (is_uri u) × IsModule e.def
+  pub from_shelf : (i : ℕ) (e : Entry) (u : Bytes) → slice_get E i ≡ Some e → e.seen ≡ Shelf u → IsTrue (is_uri u) × IsAModule e.def
   pub uris_distinct : IsTrue (are_distinct (filter_map uri_of E))
   -- marks have distinct names
   pub marks_distinct : IsTrue (are_distinct (filter_map mark_of E))

@@ -4,7 +4,7 @@ use Rattle.std.specs.Option.{option_map_or}
 use Rattle.ac_types.specs.First.{first_failing, or_else, first_some}
 use Rattle.ac_types.specs.Types.{Bytes, Typ, same, same_bytes, agree}
 use Rattle.ac_types.specs.Sigs.{Signature, Sig_type, Typed_name, Range, Constraint, Ranges, Exact, Resolve, StaticLink, HereAlready, Uri, under, type_under, is_manifest, is_abstract, equal_under}
-use Rattle.ac_terms.specs.Defs.{Environment, Entry, Module, Import, Seen, Here, Shelf, Arrived, module_at, name_at, names}
+use Rattle.ac_terms.specs.Defs.{Environment, Entry, Module, Import, Seen, Own', Shelf, Arrived, module_at, name_at, names}
 use Rattle.ac_version.specs.Versions.{fit}
 
 -- the conditions of a link, in order; a spec is counted among the import's types and then its values, an abstract type among its types
@@ -97,7 +97,7 @@ last_below test (suc k) = elim (test k) [ true ↦ Some k | false ↦ last_below
 
 -- the kinds of entries among which an import looks
 abbrev pub is_own : Seen → Bool
-is_own Here = true
+is_own Own' = true
 is_own s = false
 
 abbrev pub has_arrived : Seen → Bool

@@ -5,13 +5,13 @@ use Rattle.std.specs.Option.{option_map_or}
 use Rattle.ac_types.specs.First.{first_failing, or_else}
 use Rattle.ac_types.specs.Types.{Bytes, Typ, TInt, TBool, TStr, TUnit, TExn, TTuple, TList, TOpt, TFun, TAbs, TMine, Typs, no_types, typ, same_bytes, with_mine}
 use Rattle.ac_types.specs.Sigs.{Typed_name, Sig_type, Signature, Constraint, Ranges, Exact, under, type_under, is_abstract}
-use Rattle.ac_terms.specs.Terms.{In, Expr, Int, Boolean, Str, Unit', Exn, ExnOf, Tuple, Nil, Empty, Present, Cons, Var, Own, Ref, Lam, Rec, App, Let, If, Seq, Match, Try, Raise, Prim, Marshal, Unmarshal, Packed, Val, Bracket, Exprs, no_exprs, expr}
+use Rattle.ac_terms.specs.Terms.{In, Expr, Int, Boolean, Str, Unit', Exn, ExnOf, Tuple, Nil, Empty, Present, Cons, Var, Own, Ref, Lam, Rec, App, Let, If, Seq, Match, Try, Raise, Prim, Marshal, Unmarshal, Val, Evaluated, Bracket, Exprs, no_exprs, expr}
 use Rattle.ac_terms.specs.Defs.{Environment, Field, Module, Import, Def, AModule, AnImport, AMark, signature_at}
 use Rattle.ac_terms.specs.Parts.{part_refs, part_mentions, def_parts, has_captured}
 use Rattle.ac_terms.specs.Bounds.{has_small_types}
 use Rattle.ac_rules.specs.Views.{Coloured, view, is_known}
 use Rattle.ac_rules.specs.Typing.{type_of, of_field}
-use Rattle.ac_terms.specs.Typing.{has}
+use Rattle.ac_terms.specs.TermTyping.{has}
 
 -- valuable: an expression that a field may have, since it computes nothing
 abbrev mutual
@@ -42,8 +42,8 @@ abbrev mutual
   is_valuable (Prim k es) = false
   is_valuable (Marshal T m e) = false
   is_valuable (Unmarshal T e) = false
-  is_valuable (Packed T v) = false
   is_valuable (Val T v) = false
+  is_valuable (Evaluated T v) = false
   is_valuable (Bracket c T e) = false
 
   pub are_valuable : Exprs → Bool

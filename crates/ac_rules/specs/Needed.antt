@@ -5,7 +5,7 @@ use Rattle.ac_types.specs.Types.{Bytes, Typ, mentions, same_bytes}
 use Rattle.ac_terms.specs.Terms.{PValue}
 use Rattle.ac_types.specs.Sigs.{Exact, Resolve, HereAlready, Uri}
 use Rattle.ac_terms.specs.Defs.{Environment, Entry, Module, Def, AModule, AnImport, AMark, Seen, Shelf, Packet, find_name}
-use Rattle.ac_terms.specs.Parts.{Part, part_refs, part_homes, part_mentions, def_parts, value_parts}
+use Rattle.ac_terms.specs.Parts.{Portion, part_refs, part_homes, part_mentions, def_parts, value_parts}
 use Rattle.ac_terms.specs.Renumbered.{def_renumbered, value_renumbered}
 
 -- whether an entry is the mark of that name
@@ -37,7 +37,7 @@ abbrev pub packet_form : ℕ → ℕ → Entry → Def
 packet_form mark i e = form_of e.def e.name e.seen (nat_lt i mark)
 
 -- the entries that some parts speak of: homes, references, and the least entry of each mentioned name
-abbrev pub spoken_of : Environment → List Part → List ℕ
+abbrev pub spoken_of : Environment → List Portion → List ℕ
 spoken_of E ps = part_homes ps ++ part_refs ps ++ filter_map (λ (p : Bytes × Bytes). find_name E p.0) (part_mentions ps)
 
 -- the entries that the packet form of entry i speaks of

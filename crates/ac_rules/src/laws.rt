@@ -1,4 +1,5 @@
-//! What holds of packets: what is accepted keeps everything, what is packed is accepted again, and what an import links to rests on no entry that has arrived.
+//! What holds of packets: what is accepted keeps everything, what is packed is accepted again, and
+//! what an import links to rests on no entry that has arrived.
 
 ghost use Rattle.std.specs.Prelude.{◌≡◌, ◌<◌, ℕ, false, List, ◌++◌, length, Contains, None, Some, IsTrue, is_none, nat_le};
 ghost use Rattle.std.specs.List.{list_all};
@@ -22,31 +23,53 @@ pub fn one_spelling()
     ensures { (bytes : Bytes) (p q : Packet) → Spells bytes p → Spells bytes q → p ≡ q }
 {}
 
-/// Where a packet is accepted, the definitions stay coherent; what they have more has arrived and is no mark; the value is one of the type over them, and can be packed there.
+/// Where a packet is accepted, the definitions stay coherent; what they have more has arrived and
+/// is no mark; the value is one of the type over them, and can be packed there.
 pub fn arrival()
-    ensures coherent { (E : Environment) (p : Packet) (T : Typ) (F : Environment) (v : PValue) → IsCoherent E → IsTrue (fits_packet p) → Accepts E p T F v → IsCoherent F }
-    ensures longer { (E : Environment) (p : Packet) (T : Typ) (F : Environment) (v : PValue) → IsCoherent E → IsTrue (fits_packet p) → Accepts E p T F v → (more : Environment) × (F ≡ E ++ more) × IsTrue (list_all (λ (e : Entry). has_arrived e.seen) more) × IsTrue (list_all (λ (e : Entry). is_none (mark_of e)) more) }
-    ensures value { (E : Environment) (p : Packet) (T : Typ) (F : Environment) (v : PValue) → IsCoherent E → IsTrue (fits_packet p) → Accepts E p T F v → Holds F v T }
-    ensures packable { (E : Environment) (p : Packet) (T : Typ) (F : Environment) (v : PValue) → IsCoherent E → IsTrue (fits_packet p) → Accepts E p T F v → IsPackable F T v × IsTrue (nat_le (value_nesting v) 500) }
+    ensures coherent { (E : Environment) (p : Packet) (T : Typ) (F : Environment) (v : PValue) →
+        IsCoherent E → IsTrue (fits_packet p) → Accepts E p T F v → IsCoherent F }
+    ensures longer { (E : Environment) (p : Packet) (T : Typ) (F : Environment) (v : PValue) →
+        IsCoherent E → IsTrue (fits_packet p) → Accepts E p T F v → (more : Environment) ×
+        (F ≡ E ++ more) × IsTrue (list_all (λ (e : Entry). has_arrived e.seen) more) ×
+        IsTrue (list_all (λ (e : Entry). is_none (mark_of e)) more) }
+    ensures value { (E : Environment) (p : Packet) (T : Typ) (F : Environment) (v : PValue) →
+        IsCoherent E → IsTrue (fits_packet p) → Accepts E p T F v → Holds F v T }
+    ensures packable { (E : Environment) (p : Packet) (T : Typ) (F : Environment) (v : PValue) →
+        IsCoherent E → IsTrue (fits_packet p) → Accepts E p T F v → IsPackable F T v ×
+        IsTrue (nat_le (value_nesting v) 500) }
 {}
 
-/// What is packed is accepted where it was packed, or refused for want of room or of a link alone; and a string that marshal gives of it spells its packet.
+/// What is packed is accepted where it was packed, or refused for want of room or of a link alone;
+/// and a string that marshal gives of it spells its packet.
 pub fn round_trip()
-    ensures accepted { (E : Environment) (mark : ℕ) (T : Typ) (v : PValue) → IsCoherent E → IsPackable E T v → IsExcused (cause sha256 E (packet_for E mark T v) T) }
-    ensures spelled { (E : Environment) (mark : Bytes) (T : Typ) (v : PValue) (s : Bytes) → IsCoherent E → IsPackable E T v → marshalled E mark T v ≡ AString s → (m : ℕ) × (mark_at E mark ≡ Some m) × Spells s (packet_for E m T v) }
+    ensures accepted { (E : Environment) (mark : ℕ) (T : Typ) (v : PValue) → IsCoherent E →
+        IsPackable E T v → IsExcused (cause sha256 E (packet_for E mark T v) T) }
+    ensures spelled { (E : Environment) (mark : Bytes) (T : Typ) (v : PValue) (s : Bytes) →
+        IsCoherent E → IsPackable E T v → marshalled E mark T v ≡ AString s → (m : ℕ) ×
+        (mark_at E mark ≡ Some m) × Spells s (packet_for E m T v) }
 {}
 
-/// In two environments that differ in arrived entries alone an import by version of a packet links to the same.
+/// In two environments that differ in arrived entries alone an import by version of a packet links
+/// to the same.
 pub fn rebinding()
-    ensures { (E xs ys : Environment) (i : Import) → IsTrue (list_all (λ (e : Entry). has_arrived e.seen) xs) → IsTrue (list_all (λ (e : Entry). has_arrived e.seen) ys) → is_exact i.constraint ≡ false → linked (E ++ xs) i InPacket ≡ linked (E ++ ys) i InPacket }
+    ensures { (E xs ys : Environment) (i : Import) →
+        IsTrue (list_all (λ (e : Entry). has_arrived e.seen) xs) →
+        IsTrue (list_all (λ (e : Entry). has_arrived e.seen) ys) → is_exact i.constraint ≡ false →
+        linked (E ++ xs) i InPacket ≡ linked (E ++ ys) i InPacket }
 {}
 
-/// A packet that is accepted is accepted with further own entries too, or refused for a clash or for want of room alone.
+/// A packet that is accepted is accepted with further own entries too, or refused for a clash or
+/// for want of room alone.
 pub fn rebinding_own()
-    ensures { (E F : Environment) (p : Packet) (T : Typ) → Widens E F → IsCoherent E → IsCoherent F → IsTrue (fits_packet p) → cause sha256 E p T ≡ None → IsKept (cause sha256 F p T) }
+    ensures { (E F : Environment) (p : Packet) (T : Typ) → Widens E F → IsCoherent E →
+        IsCoherent F → IsTrue (fits_packet p) → cause sha256 E p T ≡ None →
+        IsKept (cause sha256 F p T) }
 {}
 
-/// The needed entries are the least set that holds the roots and what the packet form of each member speaks of, in the order of the environment.
+/// The needed entries are the least set that holds the roots and what the packet form of each
+/// member speaks of, in the order of the environment.
 pub fn needed_is_least()
-    ensures { (E : Environment) (mark : ℕ) (roots : List ℕ) → IsCoherent E → ((i : ℕ) → Contains roots i → i < length E) → AreNeeded E mark roots (needed_by E mark roots) }
+    ensures { (E : Environment) (mark : ℕ) (roots : List ℕ) → IsCoherent E →
+        ((i : ℕ) → Contains roots i → i < length E) →
+        AreNeeded E mark roots (needed_by E mark roots) }
 {}

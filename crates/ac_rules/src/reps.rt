@@ -13,7 +13,8 @@ use ac_types::{Constraint, Name, Ty, Word, type_named};
 #[tactic(auto, using(ac_terms::proofs::EnvLaws::env_laws))]
 pub fn rep<'a>(env: &'a Env, n: &Name, t: &Word) -> Option<&'a Ty>
     requires { length env.now.entries < 2 ^ 32 }
-    ensures { option_map typ_of (option_copied result) ≡ representation (environment_of env.now) n.now.0 t.now }
+    ensures { option_map typ_of (option_copied result) ≡ representation (environment_of env.now)
+        n.now.0 t.now }
 {
     let i = env.find(n)?;
     let entry = env.entry(i)?;
@@ -22,7 +23,8 @@ pub fn rep<'a>(env: &'a Env, n: &Name, t: &Word) -> Option<&'a Ty>
 
 #[tactic(auto, using(ac_terms::proofs::EnvLaws::env_laws))]
 fn type_in_entry<'a>(env: &'a Env, t: &Word, def: &'a Def, link: Option<u32>) -> Option<&'a Ty>
-    ensures { option_map typ_of (option_copied result) ≡ type_of_entry (environment_of env.now) t.now (def_of_code def.now) link }
+    ensures { option_map typ_of (option_copied result) ≡ type_of_entry (environment_of env.now)
+        t.now (def_of_code def.now) link }
 {
     match def {
         Def::Module(m) => type_named(m.types.as_slice(), t),
@@ -39,7 +41,8 @@ fn type_in_entry<'a>(env: &'a Env, t: &Word, def: &'a Def, link: Option<u32>) ->
 
 #[tactic(auto, using(ac_terms::proofs::EnvLaws::env_laws))]
 fn type_in_module<'a>(env: &'a Env, t: &Word, j: u32) -> Option<&'a Ty>
-    ensures { option_map typ_of (option_copied result) ≡ module_type (environment_of env.now) t.now j }
+    ensures { option_map typ_of (option_copied result) ≡ module_type (environment_of env.now) t.now
+        j }
 {
     match env.entry(j) {
         None => None,

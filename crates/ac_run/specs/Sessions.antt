@@ -10,10 +10,10 @@ use Rattle.ac_rules.specs.Views.{Mode}
 use Rattle.ac_rules.specs.declared.loaded.Loaded.{Loaded}
 use Rattle.ac_machine.specs.States.{Core, Ask, AskDone, AskRaised, AskSpent, Paused}
 use Rattle.ac_machine.specs.Resumes as standing
-use Rattle.ac_machine.specs.Seen.{Seen, standing}
+use Rattle.ac_machine.specs.Seen.{MachineSeen, standing}
 use Rattle.ac_meaning.specs.Writes.{Write, Print, Send, Console, Channel, written}
 use Rattle.ac_meaning.specs.Worlds.{World}
-use Rattle.ac_meaning.specs.Read.{exn_of}
+use Rattle.ac_meaning.specs.ReadExn.{exn_of}
 use Rattle.ac_meaning.specs.Acts.{Outcome, Returned, Raised, Spent}
 use Rattle.ac_meaning.specs.Reduction.{Ends}
 use Rattle.ac_run.specs.declared.end.RunEnd.{RunEnd}
@@ -24,7 +24,7 @@ pub record Session : Type 0 where
   pub program : Loaded
   pub steps : ℕ
   pub sends : Bool
-  pub machine : Seen
+  pub machine : MachineSeen
   pub end : Option RunEnd
 
 abbrev pub environment : Session → Environment

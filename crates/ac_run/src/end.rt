@@ -11,9 +11,11 @@ use std::alloc::Global;
 pub enum RunEnd {
     /// The program has come to its end, and all that it prints and sends is written.
     Finished,
-    /// It has raised an exception that nothing handles, and all that it printed and sent before is written.
+    /// It has raised an exception that nothing handles, and all that it printed and sent before is
+    /// written.
     Uncaught(Exn),
-    /// It has made as many applications as it may, these, and would make another; all that it printed and sent before is written.
+    /// It has made as many applications as it may, these, and would make another; all that it
+    /// printed and sent before is written.
     Spent { steps: u64 },
     /// A print or a send failed, and nothing was written after it.
     WriteFault,

@@ -7,29 +7,29 @@ use Rattle.ac_code.specs.Code as instr
 use Rattle.ac_code.specs.Code.{Block, Code, field_code}
 use Rattle.ac_generate.specs.Sizes.{lambdas}
 use Rattle.ac_generate.specs.Generate.{code as code_at, blocks}
-use Rattle.ac_generate.specs.Programs.{term_blocks}
+use Rattle.ac_generate.specs.Generated.{term_blocks}
 use Rattle.ac_meaning.specs.References.{own_field}
-use Rattle.ac_simulation.specs.Source.{IsSource}
+use Rattle.ac_simulation.specs.Source.{IsOfSource}
 
--- a list stands in another from a place on
-abbrev pub Part : {X : Type 0} → List X → ℕ → List X → Type 0
-Part l p [] = Unit {0}
-Part l p (x ∷ xs) = (slice_get l p ≡ Some x) × Part l (suc p) xs
+-- a list stands in another from an address on
+abbrev pub PlacedPart : {X : Type 0} → List X → ℕ → List X → Type 0
+PlacedPart l p [] = Unit {0}
+PlacedPart l p (x ∷ xs) = (slice_get l p ≡ Some x) × PlacedPart l (suc p) xs
 
 module _ (K : Code) where
   -- block b is the own block of a term, and those of the term's lambdas stand before it
-  pub record HasTerm (c : Home) (e : Expr) (b : ℕ) : Type 0 where
+  pub record HasCode (c : Home) (e : Expr) (b : ℕ) : Type 0 where
     pub first : ℕ
     pub is : b ≡ first + lambdas e
-    pub made : Part K.blocks first (term_blocks c e first)
-    pub source : IsSource e
+    pub made : PlacedPart K.blocks first (term_blocks c e first)
+    pub source : IsOfSource e
 
   -- a block holds the code of a function's body, and those of the body's lambdas stand in the table
   pub record HasBody (c : Home) (G : List Typ) (e : Expr) (is : List instr.Instr) : Type 0 where
     pub first : ℕ
     pub code : is ≡ code_at e 0 first ++ instr.Return ∷ []
-    pub made : Part K.blocks first (blocks c G e first)
-    pub source : IsSource e
+    pub made : PlacedPart K.blocks first (blocks c G e first)
+    pub source : IsOfSource e
 
   -- where a block was made from a lambda, it is that one's
   abbrev pub HasLambda : Home → Option Expr → List Typ → List instr.Instr → Type 0
@@ -46,7 +46,7 @@ module _ (K : Code) where
   abbrev pub HasField : ℕ → Option Expr → Option ℕ → Type 0
   HasField j None o = o ≡ None
   HasField j (Some e) None = ⊥
-  HasField j (Some e) (Some b) = HasTerm (In j) e b
+  HasField j (Some e) (Some b) = HasCode (In j) e b
 
 -- every block of a lambda is as the scheme says, each field has its block, and no two fields have the same
 pub record IsPlaced (E : Environment) (K : Code) : Type 0 where

@@ -4,9 +4,9 @@ use Rattle.std.proofs.lemmas.List.{drop-map, take-append-drop, length-map}
 use Rattle.std.proofs.Math.Seq.{drop-append_seam}
 use Rattle.ac_syntax.specs.Signs.{Sign}
 use Rattle.ac_syntax.specs.Trees.{TypeTree, TypeTrees, SpecTree, SigTree}
-use Rattle.ac_syntax.specs.Types.{TypeLevel, Whole, ParsesType, ParsesFactors, no_arrow, arrow, one_factor, factors, suffixed, no_suffix, list_of, option_of, int, bool, string, unit, exn, local, of_module, parens, last_factor, more_factors, IsType}
+use Rattle.ac_syntax.specs.TypeForms.{TypeLevel, Whole, ParsesType, ParsesFactors, no_arrow, arrow, one_factor, factors, suffixed, no_suffix, list_of, option_of, int, bool, string, unit, exn, local, of_module, parens, last_factor, more_factors, IsType}
 use Rattle.ac_syntax.specs.Programs.{ParsesSpecs, no_specs, abstract_type, manifest_type, value, IsSig, sig}
-use Rattle.ac_syntax.specs.Parsing.{NoType, NoSig}
+use Rattle.ac_syntax.specs.PartParsing.{NoType, NoSig}
 use Rattle.ac_syntax.specs.ReadSigns.{read_sign, read_signs}
 use Rattle.ac_syntax.specs.declared.sign.Sign as code
 

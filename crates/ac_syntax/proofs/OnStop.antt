@@ -1,6 +1,6 @@
 -- What a stop says, passed on.
 use Rattle.std.proofs.Common.{◌≡◌, ℕ, sym, subst}
-use Rattle.ac_syntax.specs.Parsing.{OnSyntax, OnFault, faulted}
+use Rattle.ac_syntax.specs.PartParsing.{OnSyntax, OnFault, faulted}
 use Rattle.ac_syntax.specs.declared.fault.ParseFault.{ParseFault}
 use Rattle.ac_syntax.specs.declared.stop.Stop.{Stop}
 use Rattle.ac_syntax.specs.declared.stop.Stop.TheVariants as stop

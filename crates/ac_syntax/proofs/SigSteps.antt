@@ -3,9 +3,9 @@ use Rattle.std.proofs.Common.{◌≡◌, ℕ, List, [], ◌∷◌, ◌++◌, ref
 use Rattle.ac_types.specs.Types.{Bytes}
 use Rattle.ac_syntax.specs.Signs.{Sign, Lower, Fixed, here}
 use Rattle.ac_syntax.specs.Trees.{NameAt, TypeTree, SpecTree, AbstractSpec, ManifestSpec, ValSpec, SigTree}
-use Rattle.ac_syntax.specs.Types.{IsType, Whole}
+use Rattle.ac_syntax.specs.TypeForms.{IsType, Whole}
 use Rattle.ac_syntax.specs.Programs.{ParsesSpecs, no_specs, abstract_type, manifest_type, value, IsSig, sig}
-use Rattle.ac_syntax.specs.Parsing.{SymbolAt, NoSymbol, LowerAt, NoLower, NoType, OtherSpecs, SpecAt, NoSpecs, NoSig}
+use Rattle.ac_syntax.specs.PartParsing.{SymbolAt, NoSymbol, LowerAt, NoLower, NoType, OtherSpecs, SpecAt, NoSpecs, NoSig}
 use Rattle.ac_syntax.specs.declared.sign.Symbol.TheVariants.{End, TypeWord, Val, Equals, Colon, Sig}
 use Rattle.ac_syntax.proofs.UniqueTypes.{same_type}
 

@@ -9,7 +9,7 @@ use Rattle.ac_types.specs.Words.{reserved, is_reserved}
 use Rattle.ac_types.proofs.FirstLaws.{none≢some}
 use Rattle.ac_lexer.specs.declared.tokens.TokenKind.{TokenKind}
 use Rattle.ac_lexer.specs.declared.tokens.TokenKind.TheVariants as kind
-use Rattle.ac_lexer.specs.Spellings.{symbols, is_symbol, Spells, number, name, symbol, string}
+use Rattle.ac_lexer.specs.Spellings.{symbols, is_symbol, SpellsToken, number, name, symbol, string}
 use Rattle.ac_syntax.specs.Signs.{Other, spellings, spelled, symbol_of, fixed, sign_at}
 use Rattle.ac_syntax.specs.declared.sign.Symbol.{Symbol}
 
@@ -58,7 +58,7 @@ name_read at n bytes true c k e = fixed_read at n (symbol_of bytes) (k refl) e
 name_read at n bytes false true k e = cc
 name_read at n bytes false false k e = cc
 
-pub no_other : (at n : ℕ) (bytes : List ℕ) (k : TokenKind) → Spells bytes k → sign_at at k ≡ Other n → ⊥
+pub no_other : (at n : ℕ) (bytes : List ℕ) (k : TokenKind) → SpellsToken bytes k → sign_at at k ≡ Other n → ⊥
 no_other at n bytes k (number h) e = cc
 no_other at n bytes k (name h) e = name_read at n bytes (is_reserved bytes) _ (reserved_known bytes) e
 no_other at n bytes k (symbol h) e = fixed_read at n (symbol_of bytes) (symbol_known bytes h) e

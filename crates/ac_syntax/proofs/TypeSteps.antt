@@ -3,9 +3,9 @@ use Rattle.std.proofs.Common.{◌≡◌, ◌<◌, ◌≤◌, ◌+◌, ◌-◌, �
 use Rattle.ac_types.specs.Types.{Bytes}
 use Rattle.ac_syntax.specs.Signs.{Sign, Lower, Upper, Fixed, here}
 use Rattle.ac_syntax.specs.Trees.{NameAt, TypeTree, TyInt, TyBool, TyStr, TyUnit, TyExn, TyLocal, TyOf, TyTuple, TyList, TyOpt, TyFun, TypeTrees, no_type_trees, type_tree, type_trees, type_height, highest_type}
-use Rattle.ac_syntax.specs.Types.{TypeLevel, Whole, Product, Suffixed, Suffixes, Single, ParsesType, ParsesFactors, no_arrow, arrow, one_factor, factors, suffixed, no_suffix, list_of, option_of, int, bool, string, unit, exn, local, of_module, parens, last_factor, more_factors, type_front, TypeStops, IsTypeTree}
+use Rattle.ac_syntax.specs.TypeForms.{TypeLevel, Whole, Product, Suffixed, Suffixes, Single, ParsesType, ParsesFactors, no_arrow, arrow, one_factor, factors, suffixed, no_suffix, list_of, option_of, int, bool, string, unit, exn, local, of_module, parens, last_factor, more_factors, type_front, TypeStops, IsTypeTree}
 use Rattle.ac_types.proofs.FirstLaws.{some_eq}
-use Rattle.ac_syntax.specs.Parsing.{LowerAt, NoLower, SymbolAt, NoSymbol, NoType, LeafAt, Enclosed, NoLeaf, base_type, suffix_symbol, suffixed_by, NoSuffix, TupleOf, NoFactors}
+use Rattle.ac_syntax.specs.PartParsing.{LowerAt, NoLower, SymbolAt, NoSymbol, NoType, LeafAt, Enclosed, NoLeaf, base_type, suffix_symbol, suffixed_by, NoSuffix, TupleOf, NoFactors}
 use Rattle.ac_syntax.specs.declared.sign.Symbol.{Symbol}
 use Rattle.ac_syntax.specs.declared.sign.Symbol.TheVariants.{Open, Close, Dot, Star, Arrow, IntType, BoolType, StringType, UnitType, ExnType, ListType, OptionType}
 use Rattle.ac_syntax.specs.declared.types.Suffix.{Suffix}

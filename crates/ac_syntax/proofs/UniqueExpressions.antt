@@ -2,7 +2,7 @@
 use Rattle.std.proofs.Common.{◌≡◌, ◌<◌, ℕ, List, Option, Some, refl, sym, ◌∙◌, ap, subst, arith}
 use Rattle.ac_syntax.specs.Signs.{Sign}
 use Rattle.ac_syntax.specs.Trees.{TypeTree, Tree, Trees, no_trees, tree, ArmTrees}
-use Rattle.ac_syntax.specs.Types.{IsType}
+use Rattle.ac_syntax.specs.TypeForms.{IsType}
 use Rattle.ac_syntax.specs.Expressions.{Operator, ToLeft, ToRight, Once, after_bar, Level, After, Args, Ending, Closed, Parses, alone, sequence, let_in, let_rec, fun, rec, if_else, marshal, unmarshal, raise, operators, binary, unary, stop, left, right, once, minus, negative, not_, app, some, exn_with_string, applied, no_argument, argument, number, string, true_, false_, unit, exn, var, of_module, parens, tuple, nil, none, match_with, try_with, ParsesParts, last_part, more_parts, ParsesItems, last_item, more_items, ParsesArms, last_arm, more_arms, front, Stops, IsExpr}
 use Rattle.ac_syntax.proofs.Exceptions.{apart, nothing_there, same_value, close_is_no_comma, end_is_no_bar}
 use Rattle.ac_syntax.proofs.UniqueTypes.{tail_eq, same_type}

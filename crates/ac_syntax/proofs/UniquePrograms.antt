@@ -2,7 +2,7 @@
 use Rattle.std.proofs.Common.{◌≡◌, ℕ, Bool, true, false, List, [], ◌∷◌, Option, Some, None, refl, sym, ◌∙◌, ap, subst, arith}
 use Rattle.ac_types.specs.Sigs.{Atom, Range, Resolve}
 use Rattle.ac_version.specs.declared.read.VToken.{VToken}
-use Rattle.ac_version.specs.Reading.{IsVersion, IsConstraint}
+use Rattle.ac_version.specs.VersionReading.{IsVersion, IsConstraint}
 use Rattle.ac_version.proofs.Unique.{same_version, same_constraint}
 use Rattle.ac_syntax.specs.Signs.{Sign, Int, Str, Lower, Upper, Fixed, Other}
 use Rattle.ac_syntax.specs.Trees.{Tree, AbbrevTree, SpecTree, SigTree, FieldTree, DefTree, ProgramTree}

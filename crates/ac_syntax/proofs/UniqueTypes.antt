@@ -2,7 +2,7 @@
 use Rattle.std.proofs.Common.{◌≡◌, ◌<◌, ℕ, List, [], ◌∷◌, refl, sym, ap, subst, arith}
 use Rattle.ac_syntax.specs.Signs.{Sign, Int, Str, Lower, Upper, Fixed, Other}
 use Rattle.ac_syntax.specs.Trees.{TypeTree, TypeTrees, no_type_trees, type_tree}
-use Rattle.ac_syntax.specs.Types.{TypeLevel, Suffixes, ParsesType, ParsesFactors, no_arrow, arrow, one_factor, factors, suffixed, no_suffix, list_of, option_of, int, bool, string, unit, exn, local, of_module, parens, last_factor, more_factors, type_front, TypeStops, IsType}
+use Rattle.ac_syntax.specs.TypeForms.{TypeLevel, Suffixes, ParsesType, ParsesFactors, no_arrow, arrow, one_factor, factors, suffixed, no_suffix, list_of, option_of, int, bool, string, unit, exn, local, of_module, parens, last_factor, more_factors, type_front, TypeStops, IsType}
 use Rattle.ac_syntax.specs.declared.sign.Symbol.TheVariants.{Star, Arrow, ListType, OptionType}
 
 pub tail_eq : {x y : Sign} {r s : List Sign} → x ∷ r ≡ y ∷ s → r ≡ s

@@ -29,7 +29,7 @@ use Rattle.ac_types.specs.Types.{Bytes}
 use Rattle.ac_syntax.specs.Signs.{Sign, Int, Str, Lower, Upper, Fixed, here}
 use Rattle.ac_types.specs.Primitives as primitives
 use Rattle.ac_syntax.specs.Trees.{TypeTree, PatTree, Tree, ExInt, ExBool, ExStr, ExUnit, ExExn, ExExnOf, ExTuple, ExNil, ExAbsent, ExPresent, ExCons, ExVar, ExOf, ExFun, ExRec, ExApp, ExLet, ExLetRec, ExIf, ExSeq, ExMatch, ExTry, ExRaise, ExAnd, ExOr, ExOp, ExMarshal, ExUnmarshal, Trees, no_trees, tree, ArmTrees, no_arm_trees, arm_tree, height}
-use Rattle.ac_syntax.specs.Types.{IsType}
+use Rattle.ac_syntax.specs.TypeForms.{IsType}
 use Rattle.ac_syntax.specs.Patterns.{IsPattern, exception, exception_with_string}
 use Rattle.ac_syntax.specs.declared.sign.Symbol.{Symbol}
 use Rattle.ac_syntax.specs.declared.sign.Symbol.TheVariants as symbol

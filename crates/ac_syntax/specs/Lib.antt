@@ -2,9 +2,9 @@ pub mod Signs
 pub mod Openers
 pub mod ReadSigns
 pub mod Trees
-pub mod Types
+pub mod TypeForms
 pub mod Patterns
 pub mod Expressions
 pub mod Programs
 pub mod ReadTrees
-pub mod Parsing
+pub mod PartParsing

@@ -18,10 +18,10 @@ use Rattle.ac_types.specs.Types.{Bytes}
 use Rattle.ac_types.specs.Sigs.{Atom, Range, Ranges, Resolve, StaticLink, HereAlready, Uri}
 use Rattle.ac_version.specs.declared.read.VToken.{VToken}
 use Rattle.ac_version.specs.declared.read.VToken.TheVariants as vtoken
-use Rattle.ac_version.specs.Reading.{IsVersion, IsConstraint}
+use Rattle.ac_version.specs.VersionReading.{IsVersion, IsConstraint}
 use Rattle.ac_syntax.specs.Signs.{Sign, Int, Str, Lower, Upper, Fixed}
 use Rattle.ac_syntax.specs.Trees.{NameAt, TypeTree, Tree, AbbrevTree, SpecTree, AbstractSpec, ManifestSpec, ValSpec, SigTree, FieldTree, AbbrevField, ValField, WantsVersion, WantsName, DefTree, ModuleDef, ImportDef, MarkDef, ProgramTree}
-use Rattle.ac_syntax.specs.Types.{IsType}
+use Rattle.ac_syntax.specs.TypeForms.{IsType}
 use Rattle.ac_syntax.specs.Expressions.{IsExpr}
 use Rattle.ac_syntax.specs.declared.sign.Symbol.TheVariants as symbol
 use Rattle.ac_syntax.specs.declared.sign.Symbol.TheVariants.{By, Colon, Comma, End, Equals, Import, Like, Mark, Module, NameWord, Sig, Struct, TypeWord, Val, Version}

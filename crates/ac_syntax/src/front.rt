@@ -4,7 +4,7 @@ ghost use Rattle.std.specs.Prelude.{◌≡◌, ◌<◌, [], ◌∷◌, length, I
 ghost use Rattle.ac_syntax.specs.Signs.{here};
 ghost use Rattle.ac_syntax.specs.ReadSigns.{read_sign, read_signs};
 ghost use Rattle.ac_syntax.specs.ReadTrees.{name_of};
-ghost use Rattle.ac_syntax.specs.Parsing.{NoFixed, SymbolAt, NoSymbol, LowerAt, NoLower};
+ghost use Rattle.ac_syntax.specs.PartParsing.{NoFixed, SymbolAt, NoSymbol, LowerAt, NoLower};
 
 use crate::sign::{Sign, SignKind, Symbol};
 use crate::surface::SName;
@@ -13,7 +13,8 @@ use std::alloc::Global;
 
 /// The first sign, and those behind it.
 pub fn next<'s, 't>(signs: &'s [Sign<'t>]) -> Option<(Sign<'t>, &'s [Sign<'t>])>
-    ensures first { MatchOption result (read_signs signs.now ≡ []) (λ x. read_signs signs.now ≡ read_sign x.0 ∷ read_signs x.1.now) }
+    ensures first { MatchOption result (read_signs signs.now ≡ [])
+        (λ x. read_signs signs.now ≡ read_sign x.0 ∷ read_signs x.1.now) }
     ensures shorter { IfSome result (λ x. length x.1.now < length signs.now) }
 {
     let (first, rest) = signs.split_first()?;
@@ -32,7 +33,8 @@ pub fn here(signs: &[Sign<'_>]) -> u32
 
 /// A symbol or reserved word at the front.
 pub fn next_symbol<'s, 't>(signs: &'s [Sign<'t>]) -> Option<(Symbol, &'s [Sign<'t>])>
-    ensures found { MatchOption result (NoFixed (read_signs signs.now)) (λ x. SymbolAt x.0 (read_signs signs.now) (read_signs x.1.now)) }
+    ensures found { MatchOption result (NoFixed (read_signs signs.now))
+        (λ x. SymbolAt x.0 (read_signs signs.now) (read_signs x.1.now)) }
     ensures shorter { IfSome result (λ x. length x.1.now < length signs.now) }
 {
     let (first, rest) = next(signs)?;
@@ -44,7 +46,8 @@ pub fn next_symbol<'s, 't>(signs: &'s [Sign<'t>]) -> Option<(Symbol, &'s [Sign<'
 
 /// What stands behind this symbol.
 pub fn after<'s, 't>(symbol: Symbol, signs: &'s [Sign<'t>]) -> Option<&'s [Sign<'t>]>
-    ensures found { MatchOption result (NoSymbol symbol (read_signs signs.now)) (λ rest. SymbolAt symbol (read_signs signs.now) (read_signs rest.now)) }
+    ensures found { MatchOption result (NoSymbol symbol (read_signs signs.now))
+        (λ rest. SymbolAt symbol (read_signs signs.now) (read_signs rest.now)) }
     ensures shorter { IfSome result (λ rest. length rest.now < length signs.now) }
 {
     let (found, rest) = next_symbol(signs)?;
@@ -56,7 +59,8 @@ pub fn next_name<'s, 't>(
     alloc: Global,
     signs: &'s [Sign<'t>],
 ) -> Result<Option<(SName, &'s [Sign<'t>])>, Memory>
-    ensures found { IfOk result (λ o. MatchOption o (NoLower (read_signs signs.now)) (λ x. LowerAt (name_of x.0) (read_signs signs.now) (read_signs x.1.now))) }
+    ensures found { IfOk result (λ o. MatchOption o (NoLower (read_signs signs.now))
+        (λ x. LowerAt (name_of x.0) (read_signs signs.now) (read_signs x.1.now))) }
     ensures shorter { IfOk result (λ o. IfSome o (λ x. length x.1.now < length signs.now)) }
 {
     let Some((first, rest)) = next(signs) else {

@@ -3,10 +3,10 @@
 ghost use Rattle.std.specs.Prelude.{◌≡◌, ◌≤◌, ◌-◌, length, drop, IfOk, IfErr, List, ℕ};
 ghost use Rattle.ac_syntax.specs.Signs.{signs};
 ghost use Rattle.ac_syntax.specs.Openers.{IsShallow};
-ghost use Rattle.ac_syntax.specs.Types.{IsType, Whole};
+ghost use Rattle.ac_syntax.specs.TypeForms.{IsType, Whole};
 ghost use Rattle.ac_syntax.specs.Programs.{IsSig};
 ghost use Rattle.ac_syntax.specs.ReadTrees.{type_of, sig_of};
-ghost use Rattle.ac_syntax.specs.Parsing.{OnFault, NoType, NoSig, faulted};
+ghost use Rattle.ac_syntax.specs.PartParsing.{OnFault, NoType, NoSig, faulted};
 
 use crate::fault::ParseFault;
 use crate::sign::{Sign, signs};
@@ -56,12 +56,13 @@ fn number_behind(all: &[Sign<'_>], rest: &[Sign<'_>]) -> Result<u32, ParseFault>
     }
 }
 
-/// The type that begins at token number `from`, taken as long as it can be, and the number of the token after it.
-/// The place of a `Syntax` is that of the token at which no type can go on, or that of the last token.
-/// A number past the `u32`s counts as want of memory.
+/// The type that begins at token number `from`, taken as long as it can be, and the number of the
+/// token after it. The place of a `Syntax` is that of the token at which no type can go on, or that
+/// of the last token. A number past the `u32`s counts as want of memory.
 pub fn parse_type(alloc: Global, tokens: &[Token], from: u32) -> Result<(SType, u32), ParseFault>
     requires { IsShallow (signs tokens.now) }
-    ensures tree { IfOk result (λ x. IsType (drop from (signs tokens.now)) (type_of x.0) (drop x.1 (signs tokens.now))) }
+    ensures tree { IfOk result (λ x. IsType (drop from (signs tokens.now)) (type_of x.0)
+        (drop x.1 (signs tokens.now))) }
     ensures within { IfOk result (λ x. x.1 ≤ length tokens.now) }
     ensures none { IfErr result (λ e. OnFault e (NoType 100 Whole (drop from (signs tokens.now)))) }
 {
@@ -76,12 +77,13 @@ pub fn parse_type(alloc: Global, tokens: &[Token], from: u32) -> Result<(SType, 
     }
 }
 
-/// The signature that begins at token number `from`, and the number of the token after it.
-/// The place of a `Syntax` is that of the token at which no signature can go on, or that of the last token.
-/// A number past the `u32`s counts as want of memory.
+/// The signature that begins at token number `from`, and the number of the token after it. The
+/// place of a `Syntax` is that of the token at which no signature can go on, or that of the last
+/// token. A number past the `u32`s counts as want of memory.
 pub fn parse_sig(alloc: Global, tokens: &[Token], from: u32) -> Result<(SSig, u32), ParseFault>
     requires { IsShallow (signs tokens.now) }
-    ensures tree { IfOk result (λ x. IsSig (drop from (signs tokens.now)) (sig_of x.0) (drop x.1 (signs tokens.now))) }
+    ensures tree { IfOk result (λ x. IsSig (drop from (signs tokens.now)) (sig_of x.0)
+        (drop x.1 (signs tokens.now))) }
     ensures within { IfOk result (λ x. x.1 ≤ length tokens.now) }
     ensures none { IfErr result (λ e. OnFault e (NoSig (drop from (signs tokens.now)))) }
 {

@@ -5,7 +5,7 @@ ghost use Rattle.ac_syntax.specs.Signs.{Fixed};
 ghost use Rattle.ac_syntax.specs.Programs.{IsSig};
 ghost use Rattle.ac_syntax.specs.ReadSigns.{read_signs};
 ghost use Rattle.ac_syntax.specs.ReadTrees.{spec_of, sig_of};
-ghost use Rattle.ac_syntax.specs.Parsing.{OnSyntax, NoSymbol, SpecAt, NoSpecs, NoSig};
+ghost use Rattle.ac_syntax.specs.PartParsing.{OnSyntax, NoSymbol, SpecAt, NoSpecs, NoSig};
 
 use crate::front::{after, here, next_name};
 use crate::sign::{Sign, Symbol};
@@ -17,9 +17,11 @@ use std::alloc::Global;
 
 /// The spec behind a `type`.
 fn type_spec<'s, 't>(alloc: Global, signs: &'s [Sign<'t>]) -> Result<(SSpec, &'s [Sign<'t>]), Stop>
-    ensures spec { IfOk result (λ x. (a : ℕ) → SpecAt (Fixed a Symbol.TypeWord ∷ read_signs signs.now) (spec_of x.0) (read_signs x.1.now)) }
+    ensures spec { IfOk result (λ x. (a : ℕ) →
+        SpecAt (Fixed a Symbol.TypeWord ∷ read_signs signs.now) (spec_of x.0) (read_signs x.1.now)) }
     ensures shorter { IfOk result (λ x. length x.1.now < length signs.now) }
-    ensures none { IfErr result (λ e. OnSyntax e ((a : ℕ) → NoSpecs (Fixed a Symbol.TypeWord ∷ read_signs signs.now))) }
+    ensures none { IfErr result (λ e. OnSyntax e ((a : ℕ) →
+        NoSpecs (Fixed a Symbol.TypeWord ∷ read_signs signs.now))) }
 {
     let Some((name, rest)) = next_name(alloc, signs)? else {
         return Err(refused_at(signs));
@@ -33,9 +35,11 @@ fn type_spec<'s, 't>(alloc: Global, signs: &'s [Sign<'t>]) -> Result<(SSpec, &'s
 
 /// The spec behind a `val`.
 fn value_spec<'s, 't>(alloc: Global, signs: &'s [Sign<'t>]) -> Result<(SSpec, &'s [Sign<'t>]), Stop>
-    ensures spec { IfOk result (λ x. (a : ℕ) → SpecAt (Fixed a Symbol.Val ∷ read_signs signs.now) (spec_of x.0) (read_signs x.1.now)) }
+    ensures spec { IfOk result (λ x. (a : ℕ) →
+        SpecAt (Fixed a Symbol.Val ∷ read_signs signs.now) (spec_of x.0) (read_signs x.1.now)) }
     ensures shorter { IfOk result (λ x. length x.1.now < length signs.now) }
-    ensures none { IfErr result (λ e. OnSyntax e ((a : ℕ) → NoSpecs (Fixed a Symbol.Val ∷ read_signs signs.now))) }
+    ensures none { IfErr result (λ e. OnSyntax e ((a : ℕ) →
+        NoSpecs (Fixed a Symbol.Val ∷ read_signs signs.now))) }
 {
     let Some((name, rest)) = next_name(alloc, signs)? else {
         return Err(refused_at(signs));
@@ -49,9 +53,11 @@ fn value_spec<'s, 't>(alloc: Global, signs: &'s [Sign<'t>]) -> Result<(SSpec, &'
 
 /// The spec at the front.
 fn spec<'s, 't>(alloc: Global, signs: &'s [Sign<'t>]) -> Result<(SSpec, &'s [Sign<'t>]), Stop>
-    ensures spec { IfOk result (λ x. SpecAt (read_signs signs.now) (spec_of x.0) (read_signs x.1.now)) }
+    ensures spec { IfOk result (λ x. SpecAt (read_signs signs.now) (spec_of x.0)
+        (read_signs x.1.now)) }
     ensures shorter { IfOk result (λ x. length x.1.now < length signs.now) }
-    ensures none { IfErr result (λ e. OnSyntax e (NoSymbol Symbol.End (read_signs signs.now) → NoSpecs (read_signs signs.now))) }
+    ensures none { IfErr result (λ e. OnSyntax e (NoSymbol Symbol.End (read_signs signs.now) →
+        NoSpecs (read_signs signs.now))) }
 {
     if let Some(behind) = after(Symbol::TypeWord, signs) {
         return type_spec(alloc, behind);

@@ -5,7 +5,8 @@ ghost use Rattle.std.specs.Prelude.{◌≡◌, length};
 use crate::sign::Sign;
 use ac_types::Memory;
 
-/// Why a parser gives no tree: want of memory, or no tree stands there, which shows where so many signs are left.
+/// Why a parser gives no tree: want of memory, or no tree stands there, which shows where so many
+/// signs are left.
 #[derive(Clone, Copy, Debug, PartialEq, Eq)]
 pub enum Stop {
     Memory,

@@ -1,4 +1,5 @@
-// The trees of programs as they are written. Each node has the place of the first byte of its first token.
+// The trees of programs as they are written. Each node has the place of the first byte of its first
+// token.
 
 use ac_types::{Box, Constraint, Many, Resolve, Text, Version, Word};
 

@@ -4,10 +4,10 @@
 ghost use Rattle.std.specs.Prelude.{◌≡◌, ◌<◌, ◌≤◌, ◌-◌, ◌^◌, ◌∷◌, ℕ, max, length, IfOk, IfErr, IfSome, MatchOption, Some, None};
 ghost use Rattle.ac_syntax.specs.Signs.{Upper};
 ghost use Rattle.ac_syntax.specs.Trees.{TyFun, type_height};
-ghost use Rattle.ac_syntax.specs.Types.{Whole, Product, Suffixed, Single, IsTypeTree};
+ghost use Rattle.ac_syntax.specs.TypeForms.{Whole, Product, Suffixed, Single, IsTypeTree};
 ghost use Rattle.ac_syntax.specs.ReadSigns.{read_signs};
 ghost use Rattle.ac_syntax.specs.ReadTrees.{type_of, type_kind_of};
-ghost use Rattle.ac_syntax.specs.Parsing.{OnSyntax, SymbolAt, NoType, LeafAt, NoLeaf, base_type, suffix_symbol, suffixed_by, NoSuffix, TupleOf, NoFactors};
+ghost use Rattle.ac_syntax.specs.PartParsing.{OnSyntax, SymbolAt, NoType, LeafAt, NoLeaf, base_type, suffix_symbol, suffixed_by, NoSuffix, TupleOf, NoFactors};
 
 use crate::front::{after, here, next, next_name, next_symbol};
 use crate::sign::{Sign, SignKind, Symbol};
@@ -35,7 +35,8 @@ pub enum Suffix {
 
 /// A `list` or an `option` at the front.
 fn next_suffix<'s, 't>(signs: &'s [Sign<'t>]) -> Option<(Suffix, &'s [Sign<'t>])>
-    ensures found { MatchOption result (NoSuffix (read_signs signs.now)) (λ x. SymbolAt (suffix_symbol x.0) (read_signs signs.now) (read_signs x.1.now)) }
+    ensures found { MatchOption result (NoSuffix (read_signs signs.now))
+        (λ x. SymbolAt (suffix_symbol x.0) (read_signs signs.now) (read_signs x.1.now)) }
     ensures shorter { IfSome result (λ x. length x.1.now < length signs.now) }
 {
     if let Some(rest) = after(Symbol::ListType, signs) {
@@ -72,7 +73,8 @@ fn function(alloc: Global, at: u32, from: ParsedType, to: ParsedType) -> Result<
     requires low { max from.height to.height < 2 ^ 32 - 1 }
     requires from { from.height ≡ type_height (type_of from.tree) }
     requires to { to.height ≡ type_height (type_of to.tree) }
-    ensures tree { IfOk result (λ x. type_of x.tree ≡ TyFun at (type_of from.tree) (type_of to.tree)) }
+    ensures tree { IfOk result (λ x. type_of x.tree ≡ TyFun at (type_of from.tree)
+        (type_of to.tree)) }
     ensures height { IfOk result (λ x. x.height ≡ type_height (type_of x.tree)) }
     ensures memory { IfErr result (λ e. e ≡ Stop.Memory) }
 {
@@ -90,7 +92,8 @@ fn function(alloc: Global, at: u32, from: ParsedType, to: ParsedType) -> Result<
 
 #[tactic(auto, using(crate::proofs::TypeLaws::type_laws))]
 fn base_kind(symbol: Symbol) -> Option<STypeKind>
-    ensures { (at : ℕ) → MatchOption result (base_type symbol at ≡ None) (λ kind. base_type symbol at ≡ Some (type_kind_of kind at)) }
+    ensures { (at : ℕ) → MatchOption result (base_type symbol at ≡ None)
+        (λ kind. base_type symbol at ≡ Some (type_kind_of kind at)) }
 {
     match symbol {
         Symbol::IntType => Some(STypeKind::Int),
@@ -109,7 +112,9 @@ fn qualified<'s, 't>(
     word: &Word,
     signs: &'s [Sign<'t>],
 ) -> Result<Option<(SType, &'s [Sign<'t>])>, Memory>
-    ensures found { IfOk result (λ o. MatchOption o (NoLeaf (Upper at word.now ∷ read_signs signs.now)) (λ x. LeafAt (Upper at word.now ∷ read_signs signs.now) (type_of x.0) (read_signs x.1.now))) }
+    ensures found { IfOk result (λ o. MatchOption o
+        (NoLeaf (Upper at word.now ∷ read_signs signs.now))
+        (λ x. LeafAt (Upper at word.now ∷ read_signs signs.now) (type_of x.0) (read_signs x.1.now))) }
     ensures shorter { IfOk result (λ o. IfSome o (λ x. length x.1.now < length signs.now)) }
 {
     let Some(behind) = after(Symbol::Dot, signs) else {
@@ -128,7 +133,8 @@ fn leaf<'s, 't>(
     alloc: Global,
     signs: &'s [Sign<'t>],
 ) -> Result<Option<(SType, &'s [Sign<'t>])>, Memory>
-    ensures found { IfOk result (λ o. MatchOption o (NoLeaf (read_signs signs.now)) (λ x. LeafAt (read_signs signs.now) (type_of x.0) (read_signs x.1.now))) }
+    ensures found { IfOk result (λ o. MatchOption o (NoLeaf (read_signs signs.now))
+        (λ x. LeafAt (read_signs signs.now) (type_of x.0) (read_signs x.1.now))) }
     ensures shorter { IfOk result (λ o. IfSome o (λ x. length x.1.now < length signs.now)) }
 {
     let Some((first, rest)) = next(signs) else {
@@ -156,7 +162,8 @@ fn single<'s, 't>(
     depth: u32,
     signs: &'s [Sign<'t>],
 ) -> Result<(ParsedType, &'s [Sign<'t>]), Stop>
-    ensures tree { IfOk result (λ x. IsTypeTree depth Single (read_signs signs.now) (type_of x.0.tree) (read_signs x.1.now)) }
+    ensures tree { IfOk result (λ x. IsTypeTree depth Single (read_signs signs.now)
+        (type_of x.0.tree) (read_signs x.1.now)) }
     ensures height { IfOk result (λ x. x.0.height ≡ type_height (type_of x.0.tree)) }
     ensures shorter { IfOk result (λ x. length x.1.now < length signs.now) }
     ensures none { IfErr result (λ e. OnSyntax e (NoType depth Single (read_signs signs.now))) }
@@ -184,7 +191,8 @@ fn suffixed<'s, 't>(
     depth: u32,
     signs: &'s [Sign<'t>],
 ) -> Result<(ParsedType, &'s [Sign<'t>]), Stop>
-    ensures tree { IfOk result (λ x. IsTypeTree depth Suffixed (read_signs signs.now) (type_of x.0.tree) (read_signs x.1.now)) }
+    ensures tree { IfOk result (λ x. IsTypeTree depth Suffixed (read_signs signs.now)
+        (type_of x.0.tree) (read_signs x.1.now)) }
     ensures height { IfOk result (λ x. x.0.height ≡ type_height (type_of x.0.tree)) }
     ensures shorter { IfOk result (λ x. length x.1.now < length signs.now) }
     ensures none { IfErr result (λ e. OnSyntax e (NoType depth Suffixed (read_signs signs.now))) }
@@ -208,7 +216,8 @@ fn product<'s, 't>(
     depth: u32,
     signs: &'s [Sign<'t>],
 ) -> Result<(ParsedType, &'s [Sign<'t>]), Stop>
-    ensures tree { IfOk result (λ x. IsTypeTree depth Product (read_signs signs.now) (type_of x.0.tree) (read_signs x.1.now)) }
+    ensures tree { IfOk result (λ x. IsTypeTree depth Product (read_signs signs.now)
+        (type_of x.0.tree) (read_signs x.1.now)) }
     ensures height { IfOk result (λ x. x.0.height ≡ type_height (type_of x.0.tree)) }
     ensures shorter { IfOk result (λ x. length x.1.now < length signs.now) }
     ensures none { IfErr result (λ e. OnSyntax e (NoType depth Product (read_signs signs.now))) }
@@ -234,7 +243,8 @@ fn tuple<'s, 't>(
 ) -> Result<(ParsedType, &'s [Sign<'t>]), Stop>
     requires low { first.height < depth }
     requires first { first.height ≡ type_height (type_of first.tree) }
-    ensures tree { IfOk result (λ x. TupleOf depth at (type_of first.tree) (read_signs signs.now) (type_of x.0.tree) (read_signs x.1.now)) }
+    ensures tree { IfOk result (λ x. TupleOf depth at (type_of first.tree) (read_signs signs.now)
+        (type_of x.0.tree) (read_signs x.1.now)) }
     ensures height { IfOk result (λ x. x.0.height ≡ type_height (type_of x.0.tree)) }
     ensures shorter { IfOk result (λ x. length x.1.now < length signs.now) }
     ensures none { IfErr result (λ e. OnSyntax e (NoFactors (depth - 1) (read_signs signs.now))) }
@@ -268,7 +278,8 @@ pub fn whole_type<'s, 't>(
     depth: u32,
     signs: &'s [Sign<'t>],
 ) -> Result<(ParsedType, &'s [Sign<'t>]), Stop>
-    ensures tree { IfOk result (λ x. IsTypeTree depth Whole (read_signs signs.now) (type_of x.0.tree) (read_signs x.1.now)) }
+    ensures tree { IfOk result (λ x. IsTypeTree depth Whole (read_signs signs.now)
+        (type_of x.0.tree) (read_signs x.1.now)) }
     ensures height { IfOk result (λ x. x.0.height ≡ type_height (type_of x.0.tree)) }
     ensures shorter { IfOk result (λ x. length x.1.now < length signs.now) }
     ensures none { IfErr result (λ e. OnSyntax e (NoType depth Whole (read_signs signs.now))) }

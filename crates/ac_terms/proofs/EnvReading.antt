@@ -71,7 +71,7 @@ def_back (code_def.Def.Import i) = ap code_def.Def.Import (import_back i)
 def_back (code_def.Def.Mark t) = refl
 
 abbrev find_seen : defs.Seen → code_seen.Seen
-find_seen defs.Here = code_seen.Seen.Own
+find_seen defs.Own' = code_seen.Seen.Own
 find_seen (defs.Shelf u) = code_seen.Seen.Shelf (record { 0 = u })
 find_seen defs.Arrived = code_seen.Seen.Arrived
 

@@ -5,7 +5,7 @@ use Rattle.std.proofs.lemmas.Bool.Decides.{nat_tests}
 use native.Mathlib.Omega.{arith}
 use Rattle.ac_types.proofs.Same.{both_true, and_true}
 use Rattle.ac_types.specs.Types.{Bytes, Typ}
-use Rattle.ac_terms.specs.Terms.{Pattern, PWild, PVar, PInt, PBool, PStr, PUnit, PTuple, PNil, PCons, PAbsent, PPresent, PExn, PExnOf, Patterns, no_patterns, pattern', Expr, Int, Boolean, Str, Unit', Exn, ExnOf, Tuple, Nil, Empty, Present, Cons, Var, Own, Ref, Lam, Rec, App, Let, If, Seq, Match, Try, Raise, Prim, Marshal, Unmarshal, Packed, Val, Bracket, Exprs, no_exprs, expr, Arms, no_arms, arm, PValue, KInt, KBool, KStr, KUnit, KExn, KTuple, KList, KAbsent, KPresent, KFun, PValues, no_pvalues, pvalue}
+use Rattle.ac_terms.specs.Terms.{Pattern, PWild, PVar, PInt, PBool, PStr, PUnit, PTuple, PNil, PCons, PAbsent, PPresent, PExn, PExnOf, Patterns, no_patterns, pattern', Expr, Int, Boolean, Str, Unit', Exn, ExnOf, Tuple, Nil, Empty, Present, Cons, Var, Own, Ref, Lam, Rec, App, Let, If, Seq, Match, Try, Raise, Prim, Marshal, Unmarshal, Val, Evaluated, Bracket, Exprs, no_exprs, expr, Arms, no_arms, arm, PValue, KInt, KBool, KStr, KUnit, KExn, KTuple, KList, KAbsent, KPresent, KFun, PValues, no_pvalues, pvalue}
 use Rattle.ac_terms.specs.Spelling.{two, arm_count}
 use Rattle.ac_terms.specs.Nesting.{pattern_nesting, pattern_depth, nesting, depth, arm_depth, value_nesting, value_depth}
 use Rattle.ac_terms.specs.Heads.{Head, before, type_heads, pattern_heads, all_pattern_heads, term_heads, all_term_heads, arm_heads, value_heads, all_value_heads, packed_heads}
@@ -111,7 +111,7 @@ module _ (ref : ℕ → Bytes) (k : ℕ) where
     term_low d (Unmarshal T e) l =
         first d k (type_heads T ++ th (suc d) e) (omega (arith, l))
         (behind k (type_heads T) (th (suc d) e) (typed k T) (term_low (suc d) e (omega (arith, l))))
-    term_low d (Packed T v) l =
+    term_low d (Val T v) l =
         first d k (type_heads T ++ value_heads ref (suc d) v) (omega (arith, l))
         (behind k (type_heads T) (value_heads ref (suc d) v) (typed k T) (value_low (suc d) v (omega (arith, l))))
     term_low d (Nil T) l = first d k (type_heads T) (omega (arith, l)) (typed k T)
@@ -124,7 +124,7 @@ module _ (ref : ℕ → Bytes) (k : ℕ) where
     term_low d (Var i) l = first d k [] (omega (arith, l)) refl
     term_low d (Own f) l = first d k [] (omega (arith, l)) refl
     term_low d (Ref j x) l = first d k [] (omega (arith, l)) refl
-    term_low d (Val T v) l = first d k [] (omega (arith, l)) refl
+    term_low d (Evaluated T v) l = first d k [] (omega (arith, l)) refl
     term_low d (Bracket c T e) l = first d k [] (omega (arith, l)) refl
 
     terms_low : (d : ℕ) (es : Exprs) → d + depth es ≤ suc k → nest_to k (all_term_heads ref d es) ≡ true

@@ -2,7 +2,7 @@
 use Rattle.std.proofs.Common.{◌≡◌, refl, length, Some, None}
 use Rattle.ac_types.specs.Primitives as numbers
 use Rattle.ac_types.specs.Types.{TInt, TBool, TStr, TUnit, TTuple, no_types, typ}
-use Rattle.ac_terms.specs.Primitives.{primitives, primitive_type}
+use Rattle.ac_terms.specs.PrimitiveTypes.{primitives, primitive_type}
 
 each_has_a_rule : length primitives ≡ length numbers.primitive_names
 each_has_a_rule = refl

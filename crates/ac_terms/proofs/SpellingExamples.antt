@@ -3,7 +3,7 @@ use Rattle.std.proofs.Common.{◌≡◌, refl, IsTrue, arith}
 use Rattle.std.specs.Prelude.{false, [], ◌∷◌, Some, length, pos}
 use Rattle.ac_types.specs.Words.{is_reserved}
 use Rattle.ac_types.specs.Types.{TInt, TMine}
-use Rattle.ac_terms.specs.Terms.{Int, Lam, Packed, KInt}
+use Rattle.ac_terms.specs.Terms.{Int, Lam, Val, KInt}
 use Rattle.ac_terms.specs.Spelling.{canonical_text, packet_bytes}
 use Rattle.ac_terms.specs.Bounds.{Spells, fits_packet, fits_type, fits_term}
 use Rattle.ac_terms.proofs.Samples.{six, five_packet, pair_packet}
@@ -45,7 +45,7 @@ pair_packet_spelled = record { fits = pair_packet_fits; spelled = refl; short = 
 pub no_own_type : fits_type false (TMine (0x74 ∷ [])) ≡ false
 no_own_type = refl
 
-pub no_captured_value : fits_term false (Lam TInt (Packed TInt (KInt (pos 5)))) ≡ false
+pub no_captured_value : fits_term false (Lam TInt (Val TInt (KInt (pos 5)))) ≡ false
 no_captured_value = refl
 
 -- an int of 2^63 has no spelling

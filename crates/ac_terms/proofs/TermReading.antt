@@ -73,8 +73,8 @@ abbrev mutual
   find_term (terms.Prim k es) = roll-Term (code.Prim k (find_terms es))
   find_term (terms.Marshal T m e) = roll-Term (code.Marshal (back T) (find_term m) (find_term e))
   find_term (terms.Unmarshal T e) = roll-Term (code.Unmarshal (back T) (find_term e))
-  find_term (terms.Packed T v) = roll-Term (code.Val (back T) (find_value v))
-  find_term (terms.Val T v) = roll-Term code.Term::Unit
+  find_term (terms.Val T v) = roll-Term (code.Val (back T) (find_value v))
+  find_term (terms.Evaluated T v) = roll-Term code.Term::Unit
   find_term (terms.Bracket c T e) = roll-Term code.Term::Unit
 
   pub find_terms : Exprs → List Term

@@ -5,13 +5,13 @@ use Rattle.std.specs.Option.{option_map_or}
 use Rattle.ac_types.specs.Limits.{longest_string, longest_packet}
 use Rattle.ac_types.specs.Words.{is_word, is_between}
 use Rattle.ac_types.specs.Types.{Bytes, Typ, TInt, TBool, TStr, TUnit, TExn, TTuple, TList, TOpt, TFun, TAbs, TMine, Typs, no_types, typ, is_small}
-use Rattle.ac_terms.specs.Terms.{Home, Main, In, Pattern, PWild, PVar, PInt, PBool, PStr, PUnit, PTuple, PNil, PCons, PAbsent, PPresent, PExn, PExnOf, Patterns, no_patterns, pattern', Expr, Int, Boolean, Str, Unit', Exn, ExnOf, Tuple, Nil, Empty, Present, Cons, Var, Own, Ref, Lam, Rec, App, Let, If, Seq, Match, Try, Raise, Prim, Marshal, Unmarshal, Packed, Val, Bracket, Exprs, no_exprs, expr, Arms, no_arms, arm, PValue, KInt, KBool, KStr, KUnit, KExn, KTuple, KList, KAbsent, KPresent, KFun, PValues, no_pvalues, pvalue}
+use Rattle.ac_terms.specs.Terms.{Home, Main, In, Pattern, PWild, PVar, PInt, PBool, PStr, PUnit, PTuple, PNil, PCons, PAbsent, PPresent, PExn, PExnOf, Patterns, no_patterns, pattern', Expr, Int, Boolean, Str, Unit', Exn, ExnOf, Tuple, Nil, Empty, Present, Cons, Var, Own, Ref, Lam, Rec, App, Let, If, Seq, Match, Try, Raise, Prim, Marshal, Unmarshal, Val, Evaluated, Bracket, Exprs, no_exprs, expr, Arms, no_arms, arm, PValue, KInt, KBool, KStr, KUnit, KExn, KTuple, KList, KAbsent, KPresent, KFun, PValues, no_pvalues, pvalue}
 use Rattle.ac_types.specs.Sigs.{Typed_name, Sig_type, Signature, Atom, Number, MyName, Range, One, Between, UpTo, From, Constraint, Ranges, Exact, Resolve, StaticLink, HereAlready, Uri}
 use Rattle.ac_terms.specs.Defs.{Field, Def, AModule, AnImport, AMark, Packet}
-use Rattle.ac_terms.specs.Primitives.{has_text, is_exception, Rule, primitives}
+use Rattle.ac_terms.specs.PrimitiveTypes.{has_text, is_exception, Rule, primitives}
 use Rattle.ac_terms.specs.Spelling.{type_count, pattern_count, term_count, arm_count, value_count, packet_bytes}
 use Rattle.ac_terms.specs.Nesting.{nesting, value_nesting}
-use Rattle.ac_terms.specs.Parts.{Part, part_types, def_parts, value_parts}
+use Rattle.ac_terms.specs.Parts.{Portion, part_types, def_parts, value_parts}
 
 -- identifiers that begin with a lower letter or `_`, and with an upper letter
 abbrev pub is_lower : Bytes → Bool
@@ -116,8 +116,8 @@ is_lambda (Raise T e) = false
 is_lambda (Prim k es) = false
 is_lambda (Marshal T m e) = false
 is_lambda (Unmarshal T e) = false
-is_lambda (Packed T v) = false
 is_lambda (Val T v) = false
+is_lambda (Evaluated T v) = false
 is_lambda (Bracket c T e) = false
 
 abbrev pub fits_home : Home → Bool
@@ -153,8 +153,8 @@ abbrev mutual
   fits_term within (Prim k es) = takes primitives k (term_count es) && fit_terms within es
   fits_term within (Marshal T m e) = fits_type false T && fits_term within m && fits_term within e
   fits_term within (Unmarshal T e) = fits_type false T && fits_term within e
-  fits_term within (Packed T v) = within && fits_type false T && fits_value v
-  fits_term within (Val T v) = false
+  fits_term within (Val T v) = within && fits_type false T && fits_value v
+  fits_term within (Evaluated T v) = false
   fits_term within (Bracket c T e) = false
 
   pub fit_terms : Bool → Exprs → Bool
@@ -233,7 +233,7 @@ def_nesting (AMark t) = []
 abbrev pub nests_little : Def → Bool
 nests_little d = list_all (λ n. nat_le n 500) (def_nesting d)
 
-abbrev pub has_small_types : List Part → Bool
+abbrev pub has_small_types : List Portion → Bool
 has_small_types ps = list_all is_small (part_types ps)
 
 -- a packet within the bounds

@@ -1,7 +1,7 @@
 -- The parts of a type, a pattern, a term and a packed value in the order in which they are written, whatever spells types and references.
 use Rattle.std.specs.Prelude.{ℕ, suc, Bool, true, false, List, [], ◌∷◌, ◌++◌}
 use Rattle.ac_types.specs.Types.{Bytes, Typ}
-use Rattle.ac_terms.specs.Terms.{Pattern, PWild, PVar, PInt, PBool, PStr, PUnit, PTuple, PNil, PCons, PAbsent, PPresent, PExn, PExnOf, Patterns, no_patterns, pattern', Expr, Int, Boolean, Str, Unit', Exn, ExnOf, Tuple, Nil, Empty, Present, Cons, Var, Own, Ref, Lam, Rec, App, Let, If, Seq, Match, Try, Raise, Prim, Marshal, Unmarshal, Packed, Val, Bracket, Exprs, no_exprs, expr, Arms, no_arms, arm, PValue, KInt, KBool, KStr, KUnit, KExn, KTuple, KList, KAbsent, KPresent, KFun, PValues, no_pvalues, pvalue}
+use Rattle.ac_terms.specs.Terms.{Pattern, PWild, PVar, PInt, PBool, PStr, PUnit, PTuple, PNil, PCons, PAbsent, PPresent, PExn, PExnOf, Patterns, no_patterns, pattern', Expr, Int, Boolean, Str, Unit', Exn, ExnOf, Tuple, Nil, Empty, Present, Cons, Var, Own, Ref, Lam, Rec, App, Let, If, Seq, Match, Try, Raise, Prim, Marshal, Unmarshal, Val, Evaluated, Bracket, Exprs, no_exprs, expr, Arms, no_arms, arm, PValue, KInt, KBool, KStr, KUnit, KExn, KTuple, KList, KAbsent, KPresent, KFun, PValues, no_pvalues, pvalue}
 use Rattle.ac_terms.specs.Pieces.{two, four, pattern_count, home_bytes, term_count, arm_count, value_count}
 use Rattle.ac_terms.specs.SpelledBy.{pattern_bytes, term_bytes, value_bytes}
 use Rattle.ac_terms.specs.Bounds.{is_lambda}
@@ -79,8 +79,8 @@ module _ (type_bytes : Typ → Bytes) (ref : ℕ → Bytes) where
     term_heads d (Prim k es) = head d (0x17 ∷ k ∷ []) ∷ all_term_heads (suc d) es
     term_heads d (Marshal T m e) = head d (0x18 ∷ []) ∷ type_heads type_bytes T ++ term_heads (suc d) m ++ term_heads (suc d) e
     term_heads d (Unmarshal T e) = head d (0x19 ∷ []) ∷ type_heads type_bytes T ++ term_heads (suc d) e
-    term_heads d (Packed T v) = head d (0x1A ∷ []) ∷ type_heads type_bytes T ++ value_heads (suc d) v
-    term_heads d (Val T v) = record (head d []) { travels = false } ∷ []
+    term_heads d (Val T v) = head d (0x1A ∷ []) ∷ type_heads type_bytes T ++ value_heads (suc d) v
+    term_heads d (Evaluated T v) = record (head d []) { travels = false } ∷ []
     term_heads d (Bracket c T e) = record (head d []) { travels = false } ∷ []
 
     pub all_term_heads : ℕ → Exprs → List Head

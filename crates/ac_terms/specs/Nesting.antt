@@ -1,6 +1,6 @@
 -- How far values, terms and patterns nest: their nodes on the longest path down.
 use Rattle.std.specs.Prelude.{ℕ, ◌+◌, max}
-use Rattle.ac_terms.specs.Terms.{Pattern, PWild, PVar, PInt, PBool, PStr, PUnit, PTuple, PNil, PCons, PAbsent, PPresent, PExn, PExnOf, Patterns, no_patterns, pattern', Expr, Int, Boolean, Str, Unit', Exn, ExnOf, Tuple, Nil, Empty, Present, Cons, Var, Own, Ref, Lam, Rec, App, Let, If, Seq, Match, Try, Raise, Prim, Marshal, Unmarshal, Packed, Val, Bracket, Exprs, no_exprs, expr, Arms, no_arms, arm, PValue, KInt, KBool, KStr, KUnit, KExn, KTuple, KList, KAbsent, KPresent, KFun, PValues, no_pvalues, pvalue}
+use Rattle.ac_terms.specs.Terms.{Pattern, PWild, PVar, PInt, PBool, PStr, PUnit, PTuple, PNil, PCons, PAbsent, PPresent, PExn, PExnOf, Patterns, no_patterns, pattern', Expr, Int, Boolean, Str, Unit', Exn, ExnOf, Tuple, Nil, Empty, Present, Cons, Var, Own, Ref, Lam, Rec, App, Let, If, Seq, Match, Try, Raise, Prim, Marshal, Unmarshal, Val, Evaluated, Bracket, Exprs, no_exprs, expr, Arms, no_arms, arm, PValue, KInt, KBool, KStr, KUnit, KExn, KTuple, KList, KAbsent, KPresent, KFun, PValues, no_pvalues, pvalue}
 
 abbrev mutual
   pub pattern_nesting : Pattern → ℕ
@@ -50,8 +50,8 @@ abbrev mutual
   nesting (Prim k es) = depth es + 1
   nesting (Marshal T m e) = max (nesting m) (nesting e) + 1
   nesting (Unmarshal T e) = nesting e + 1
-  nesting (Packed T v) = value_nesting v + 1
-  nesting (Val T v) = 1
+  nesting (Val T v) = value_nesting v + 1
+  nesting (Evaluated T v) = 1
   nesting (Bracket c T e) = 1
 
   pub depth : Exprs → ℕ

@@ -2,7 +2,7 @@
 use Rattle.std.specs.Prelude.{ℕ, Bool, true, false, List, [], ◌∷◌, ◌++◌, map, flat_map, option_to_list}
 use Rattle.ac_types.specs.Types.{Bytes, Typ, mentions}
 use Rattle.ac_types.specs.Sigs.{Typed_name, Sig_type, Signature}
-use Rattle.ac_terms.specs.Terms.{Home, Main, In, Pattern, PWild, PVar, PInt, PBool, PStr, PUnit, PTuple, PNil, PCons, PAbsent, PPresent, PExn, PExnOf, Patterns, no_patterns, pattern', Expr, Int, Boolean, Str, Unit', Exn, ExnOf, Tuple, Nil, Empty, Present, Cons, Var, Own, Ref, Lam, Rec, App, Let, If, Seq, Match, Try, Raise, Prim, Marshal, Unmarshal, Packed, Val, Bracket, Exprs, no_exprs, expr, Arms, no_arms, arm, PValue, KInt, KBool, KStr, KUnit, KExn, KTuple, KList, KAbsent, KPresent, KFun, PValues, no_pvalues, pvalue}
+use Rattle.ac_terms.specs.Terms.{Home, Main, In, Pattern, PWild, PVar, PInt, PBool, PStr, PUnit, PTuple, PNil, PCons, PAbsent, PPresent, PExn, PExnOf, Patterns, no_patterns, pattern', Expr, Int, Boolean, Str, Unit', Exn, ExnOf, Tuple, Nil, Empty, Present, Cons, Var, Own, Ref, Lam, Rec, App, Let, If, Seq, Match, Try, Raise, Prim, Marshal, Unmarshal, Val, Evaluated, Bracket, Exprs, no_exprs, expr, Arms, no_arms, arm, PValue, KInt, KBool, KStr, KUnit, KExn, KTuple, KList, KAbsent, KPresent, KFun, PValues, no_pvalues, pvalue}
 use Rattle.ac_terms.specs.Defs.{Field, Def, AModule, AnImport, AMark}
 
 -- the types of a pattern's variables, from left to right
@@ -27,15 +27,15 @@ abbrev mutual
   all_pattern_types (pattern' p ps) = pattern_types p ++ all_pattern_types ps
 
 -- a type, a reference, a home, or that a captured value stands there
-pub data Part : Type 0 where
-  OfType : Typ → Part
-  OfRef : ℕ → Bytes → Part
-  OfHome : Home → Part
-  Captured : Part
+pub data Portion : Type 0 where
+  OfType : Typ → Portion
+  OfRef : ℕ → Bytes → Portion
+  OfHome : Home → Portion
+  Captured : Portion
 
 -- the parts of a term and of a packed value, from left to right; a value of the reduction is not entered
 abbrev mutual
-  pub term_parts : Expr → List Part
+  pub term_parts : Expr → List Portion
   term_parts (Int n) = []
   term_parts (Boolean b) = []
   term_parts (Str s) = []
@@ -62,19 +62,19 @@ abbrev mutual
   term_parts (Prim k es) = all_term_parts es
   term_parts (Marshal T m e) = OfType T ∷ term_parts m ++ term_parts e
   term_parts (Unmarshal T e) = OfType T ∷ term_parts e
-  term_parts (Packed T v) = OfType T ∷ Captured ∷ value_parts v
-  term_parts (Val T v) = OfType T ∷ Captured ∷ []
+  term_parts (Val T v) = OfType T ∷ Captured ∷ value_parts v
+  term_parts (Evaluated T v) = OfType T ∷ Captured ∷ []
   term_parts (Bracket c T e) = OfHome c ∷ OfType T ∷ term_parts e
 
-  pub all_term_parts : Exprs → List Part
+  pub all_term_parts : Exprs → List Portion
   all_term_parts no_exprs = []
   all_term_parts (expr e es) = term_parts e ++ all_term_parts es
 
-  pub arm_parts : Arms → List Part
+  pub arm_parts : Arms → List Portion
   arm_parts no_arms = []
   arm_parts (arm p e rest) = map OfType (pattern_types p) ++ term_parts e ++ arm_parts rest
 
-  pub value_parts : PValue → List Part
+  pub value_parts : PValue → List Portion
   value_parts (KInt n) = []
   value_parts (KBool b) = []
   value_parts (KStr s) = []
@@ -86,12 +86,12 @@ abbrev mutual
   value_parts (KPresent v) = value_parts v
   value_parts (KFun h l) = OfHome h ∷ term_parts l
 
-  pub all_value_parts : PValues → List Part
+  pub all_value_parts : PValues → List Portion
   all_value_parts no_pvalues = []
   all_value_parts (pvalue v vs) = value_parts v ++ all_value_parts vs
 
 -- the types among some parts
-abbrev pub part_types : List Part → List Typ
+abbrev pub part_types : List Portion → List Typ
 part_types [] = []
 part_types (OfType T ∷ ps) = T ∷ part_types ps
 part_types (OfRef j x ∷ ps) = part_types ps
@@ -99,7 +99,7 @@ part_types (OfHome h ∷ ps) = part_types ps
 part_types (Captured ∷ ps) = part_types ps
 
 -- the definitions that are referred to
-abbrev pub part_refs : List Part → List ℕ
+abbrev pub part_refs : List Portion → List ℕ
 part_refs [] = []
 part_refs (OfType T ∷ ps) = part_refs ps
 part_refs (OfRef j x ∷ ps) = j ∷ part_refs ps
@@ -107,7 +107,7 @@ part_refs (OfHome h ∷ ps) = part_refs ps
 part_refs (Captured ∷ ps) = part_refs ps
 
 -- the definitions that are homes
-abbrev pub part_homes : List Part → List ℕ
+abbrev pub part_homes : List Portion → List ℕ
 part_homes [] = []
 part_homes (OfType T ∷ ps) = part_homes ps
 part_homes (OfRef j x ∷ ps) = part_homes ps
@@ -116,7 +116,7 @@ part_homes (OfHome (In k) ∷ ps) = k ∷ part_homes ps
 part_homes (Captured ∷ ps) = part_homes ps
 
 -- whether a captured value is among them
-abbrev pub has_captured : List Part → Bool
+abbrev pub has_captured : List Portion → Bool
 has_captured [] = false
 has_captured (OfType T ∷ ps) = has_captured ps
 has_captured (OfRef j x ∷ ps) = has_captured ps
@@ -128,7 +128,7 @@ abbrev pub sig_types : Signature → List Typ
 sig_types s = flat_map (λ (t : Sig_type). option_to_list t.manifest) s.types ++ map (λ (v : Typed_name). v.ty) s.vals
 
 -- the parts of a definition
-abbrev pub def_parts : Def → List Part
+abbrev pub def_parts : Def → List Portion
 def_parts (AModule m) =
     map OfType (sig_types m.sig) ++ map (λ (t : Typed_name). OfType t.ty) m.types ++
     flat_map (λ (f : Field). OfType f.ty ∷ term_parts f.term) m.fields
@@ -136,5 +136,5 @@ def_parts (AnImport i) = map OfType (sig_types i.sig) ++ map (λ (t : Typed_name
 def_parts (AMark t) = []
 
 -- the abstract types that some parts mention
-abbrev pub part_mentions : List Part → List (Bytes × Bytes)
+abbrev pub part_mentions : List Portion → List (Bytes × Bytes)
 part_mentions ps = flat_map mentions (part_types ps)

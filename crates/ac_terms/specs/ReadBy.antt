@@ -2,9 +2,9 @@
 use Rattle.std.specs.Prelude.{ℕ, zero, suc, List, [], ◌∷◌, Option, Some, None}
 use Rattle.ac_types.specs.Types.{Bytes, Typ}
 use Rattle.ac_types.specs.Sigs.{Typed_name, Sig_type, Signature, Atom, Constraint, Resolve}
-use Rattle.ac_terms.specs.Terms.{Pattern, PWild, PVar, PInt, PBool, PStr, PUnit, PTuple, PNil, PCons, PAbsent, PPresent, PExn, PExnOf, no_patterns, pattern', Expr, Int, Boolean, Str, Unit', Exn, ExnOf, Tuple, Nil, Empty, Present, Cons, Var, Own, Ref, Lam, Rec, App, Let, If, Seq, Match, Try, Raise, Prim, Marshal, Unmarshal, Packed, no_exprs, expr, PValue, KInt, KBool, KStr, KUnit, KExn, KTuple, KList, KAbsent, KPresent, KFun, no_pvalues, pvalue}
+use Rattle.ac_terms.specs.Terms.{Pattern, PWild, PVar, PInt, PBool, PStr, PUnit, PTuple, PNil, PCons, PAbsent, PPresent, PExn, PExnOf, no_patterns, pattern', Expr, Int, Boolean, Str, Unit', Exn, ExnOf, Tuple, Nil, Empty, Present, Cons, Var, Own, Ref, Lam, Rec, App, Let, If, Seq, Match, Try, Raise, Prim, Marshal, Unmarshal, Val, no_exprs, expr, PValue, KInt, KBool, KStr, KUnit, KExn, KTuple, KList, KAbsent, KPresent, KFun, no_pvalues, pvalue}
 use Rattle.ac_terms.specs.Defs.{Field, Def, AModule, AnImport}
-use Rattle.ac_terms.specs.Primitives.{has_text, primitives}
+use Rattle.ac_terms.specs.PrimitiveTypes.{has_text, primitives}
 use Rattle.ac_terms.specs.Readers.{Reads, give, one, after, two, three, pair, times, read_list, tagged, nothing, read_byte, read_two, read_four, read_eight, read_truth, read_word, read_str, with_text, read_home, arity, many_arms, read_atom, read_constraint, read_resolve}
 
 abbrev pub a_sig_type : Bytes → Option Typ → Sig_type
@@ -65,7 +65,7 @@ module _ (read_type : Reads Typ) (read_ref : Reads ℕ) where
       two Lam read_type f ∷ three Rec read_type read_type f ∷ two App f f ∷ three Let read_type f f ∷ three If f f f ∷
       one Seq (after read_four (times no_exprs expr f)) ∷ two Match f (after read_two (many_arms p f)) ∷ two Try f (after read_two (many_arms p f)) ∷
       two Raise read_type f ∷ after read_byte (λ k. one (Prim k) (times no_exprs expr f (arity primitives k))) ∷
-      three Marshal read_type f f ∷ two Unmarshal read_type f ∷ two Packed read_type g ∷ []
+      three Marshal read_type f f ∷ two Unmarshal read_type f ∷ two Val read_type g ∷ []
 
   abbrev pub value_table : Reads Expr → Reads PValue → List (Reads PValue)
   value_table f g =

@@ -4,7 +4,7 @@ use Rattle.std.specs.Int.{w16, w32, w64, from_be_bytes, cast_signed}
 use Rattle.ac_types.specs.Types.{Bytes}
 use Rattle.ac_types.specs.Sigs.{Atom, Number, MyName, Range, One, Between, UpTo, From, Constraint, Ranges, Exact, Resolve, StaticLink, HereAlready, Uri}
 use Rattle.ac_terms.specs.Terms.{Home, Main, In, Pattern, Expr, Arms, no_arms, arm}
-use Rattle.ac_terms.specs.Primitives.{Rule}
+use Rattle.ac_terms.specs.PrimitiveTypes.{Rule}
 use Rattle.ac_terms.specs.Spelling.{type_count}
 
 -- what is read, and the bytes that are left

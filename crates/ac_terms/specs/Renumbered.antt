@@ -1,6 +1,6 @@
 -- A term, a value or a definition with other numbers for the definitions that it speaks of.
 use Rattle.std.specs.Prelude.{ℕ, map}
-use Rattle.ac_terms.specs.Terms.{Home, Main, In, Expr, Int, Boolean, Str, Unit', Exn, ExnOf, Tuple, Nil, Empty, Present, Cons, Var, Own, Ref, Lam, Rec, App, Let, If, Seq, Match, Try, Raise, Prim, Marshal, Unmarshal, Packed, Val, Bracket, Exprs, no_exprs, expr, Arms, no_arms, arm, PValue, KInt, KBool, KStr, KUnit, KExn, KTuple, KList, KAbsent, KPresent, KFun, PValues, no_pvalues, pvalue}
+use Rattle.ac_terms.specs.Terms.{Home, Main, In, Expr, Int, Boolean, Str, Unit', Exn, ExnOf, Tuple, Nil, Empty, Present, Cons, Var, Own, Ref, Lam, Rec, App, Let, If, Seq, Match, Try, Raise, Prim, Marshal, Unmarshal, Val, Evaluated, Bracket, Exprs, no_exprs, expr, Arms, no_arms, arm, PValue, KInt, KBool, KStr, KUnit, KExn, KTuple, KList, KAbsent, KPresent, KFun, PValues, no_pvalues, pvalue}
 use Rattle.ac_terms.specs.Defs.{Field, Def, AModule, AnImport, AMark}
 
 abbrev pub home_by : (ℕ → ℕ) → Home → Home
@@ -36,8 +36,8 @@ abbrev mutual
   renumbered f (Prim k es) = Prim k (all_renumbered f es)
   renumbered f (Marshal T m e) = Marshal T (renumbered f m) (renumbered f e)
   renumbered f (Unmarshal T e) = Unmarshal T (renumbered f e)
-  renumbered f (Packed T v) = Packed T (value_renumbered f v)
-  renumbered f (Val T v) = Val T v
+  renumbered f (Val T v) = Val T (value_renumbered f v)
+  renumbered f (Evaluated T v) = Evaluated T v
   renumbered f (Bracket c T e) = Bracket c T e
 
   pub all_renumbered : (ℕ → ℕ) → Exprs → Exprs

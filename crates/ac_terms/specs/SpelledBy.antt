@@ -2,7 +2,7 @@
 use Rattle.std.specs.Prelude.{ℕ, List, [], ◌∷◌, ◌++◌, Option, Some, None}
 use Rattle.ac_types.specs.Types.{Bytes, Typ}
 use Rattle.ac_types.specs.Sigs.{Typed_name, Sig_type, Signature}
-use Rattle.ac_terms.specs.Terms.{Pattern, PWild, PVar, PInt, PBool, PStr, PUnit, PTuple, PNil, PCons, PAbsent, PPresent, PExn, PExnOf, Patterns, no_patterns, pattern', Expr, Int, Boolean, Str, Unit', Exn, ExnOf, Tuple, Nil, Empty, Present, Cons, Var, Own, Ref, Lam, Rec, App, Let, If, Seq, Match, Try, Raise, Prim, Marshal, Unmarshal, Packed, Val, Bracket, Exprs, no_exprs, expr, Arms, no_arms, arm, PValue, KInt, KBool, KStr, KUnit, KExn, KTuple, KList, KAbsent, KPresent, KFun, PValues, no_pvalues, pvalue}
+use Rattle.ac_terms.specs.Terms.{Pattern, PWild, PVar, PInt, PBool, PStr, PUnit, PTuple, PNil, PCons, PAbsent, PPresent, PExn, PExnOf, Patterns, no_patterns, pattern', Expr, Int, Boolean, Str, Unit', Exn, ExnOf, Tuple, Nil, Empty, Present, Cons, Var, Own, Ref, Lam, Rec, App, Let, If, Seq, Match, Try, Raise, Prim, Marshal, Unmarshal, Val, Evaluated, Bracket, Exprs, no_exprs, expr, Arms, no_arms, arm, PValue, KInt, KBool, KStr, KUnit, KExn, KTuple, KList, KAbsent, KPresent, KFun, PValues, no_pvalues, pvalue}
 use Rattle.ac_terms.specs.Defs.{Field, Module, Import}
 use Rattle.ac_terms.specs.Pieces.{two, four, eight, truth, word, str, listed, byte, home_bytes, exn_bytes, pattern_count, term_count, arm_count, value_count, atom_bytes, constraint_bytes}
 
@@ -75,8 +75,8 @@ module _ (type_bytes : Typ → Bytes) (ref : ℕ → Bytes) where
     term_bytes (Prim k es) = 0x17 ∷ k ∷ all_term_bytes es
     term_bytes (Marshal T m e) = 0x18 ∷ type_bytes T ++ term_bytes m ++ term_bytes e
     term_bytes (Unmarshal T e) = 0x19 ∷ type_bytes T ++ term_bytes e
-    term_bytes (Packed T v) = 0x1A ∷ type_bytes T ++ value_bytes v
-    term_bytes (Val T v) = []
+    term_bytes (Val T v) = 0x1A ∷ type_bytes T ++ value_bytes v
+    term_bytes (Evaluated T v) = []
     term_bytes (Bracket c T e) = []
 
     pub all_term_bytes : Exprs → Bytes

@@ -1,4 +1,5 @@
-// Texts with the form of their pattern and how many signs are left behind it; `!` with the signs left where there is none.
+// Texts with the form of their pattern and how many signs are left behind it; `!` with the signs
+// left where there is none.
 
 use ac_expressions::pattern;
 use ac_lexer::lex;

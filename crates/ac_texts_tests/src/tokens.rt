@@ -1,4 +1,5 @@
-// Texts with their tokens: a letter for the kind, the bytes and `@` with the place; `!` with the place where a text has none.
+// Texts with their tokens: a letter for the kind, the bytes and `@` with the place; `!` with the
+// place where a text has none.
 
 use ac_lexer::{LexFault, Token, TokenKind, lex};
 use std::alloc::{AllocError, Global};

@@ -1,4 +1,5 @@
-// Types and signatures as texts: each node in parentheses with its place behind `@`, then the number of the token after it;
+// Types and signatures as texts: each node in parentheses with its place behind `@`, then the
+// number of the token after it;
 // `!` with a place where the text begins with none.
 
 use ac_lexer::{Token, lex};
@@ -124,7 +125,8 @@ const SIGNATURES: [(&[u8], u32, &[u8]); 26] = [
     (b"sig sig end end", 0, b"!4"),
 ];
 
-// Texts of pieces, each so many times, with the number of the token after the type that begins there.
+// Texts of pieces, each so many times, with the number of the token after the type that begins
+// there.
 const HEIGHTS: [(&[(&[u8], u32)], Option<u32>); 14] = [
     (&[(b"int -> ", 99), (b"int", 1)], Some(199)),
     (&[(b"int -> ", 100), (b"int", 1)], None),

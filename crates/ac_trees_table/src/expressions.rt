@@ -1,4 +1,5 @@
-// Expressions: the form, the names and types that stand in front, the parts, the type that stands behind.
+// Expressions: the form, the names and types that stand in front, the parts, the type that stands
+// behind.
 
 use crate::page::TreePage;
 use crate::patterns::write_pattern;

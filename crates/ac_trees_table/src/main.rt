@@ -1,8 +1,10 @@
 //! Prints for each line of its input the tree of the text on it, or why it has none.
 //!
-//! A line is a word, a space and a text. `program` gives the tree of a program, `module` that of a module
-//! alone, `places` that of a program, with the place of each node and name behind an `@`. After `long` and
-//! `long_module` `{N PIECE}` stands in the text for N times that piece, and no tree is printed. A leaf is
+//! A line is a word, a space and a text. `program` gives the tree of a program, `module` that of a
+//! module alone, `places` that of a program, with the place of each node and name behind an `@`.
+//! After `long` and
+//! `long_module` `{N PIECE}` stands in the text for N times that piece, and no tree is printed. A
+//! leaf is
 //! printed as it is, any other node in parentheses, its form in front of its parts.
 #![tactic(auto)]
 

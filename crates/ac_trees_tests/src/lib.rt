@@ -1,4 +1,5 @@
-//! Tests of the trees, their versions, numbers in bytes, the table of blocks and the store of values.
+//! Tests of the trees, their versions, numbers in bytes, the table of blocks and the store of
+//! values.
 #![tactic(auto)]
 
 #[cfg(test)]

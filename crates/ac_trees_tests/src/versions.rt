@@ -1,4 +1,5 @@
-// Tokens as a text, `m` for `myname`, and what they are: numbers, `n..m` for a range, a last `*`; `!` where they are nothing.
+// Tokens as a text, `m` for `myname`, and what they are: numbers, `n..m` for a range, a last `*`;
+// `!` where they are nothing.
 
 use ac_types::{Atom, Constraint, Name, Range};
 use ac_version::{

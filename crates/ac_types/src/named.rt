@@ -26,7 +26,8 @@ pub fn type_named<'a>(types: &'a [TyField], name: &Word) -> Option<&'a Ty>
 /// A signature's first type of that name, `None` exactly where it has none. It takes no memory.
 pub fn spec_named<'a>(types: &'a [SigType], name: &Word) -> Option<&'a SigType>
     ensures first { option_copied result ≡ find (λ s. same_bytes s.name name.now) types.now }
-    ensures manifest { option_map (λ s. (sig_type_of s).manifest) (option_copied result) ≡ type_under name.now (map sig_type_of types.now) }
+    ensures manifest { option_map (λ s. (sig_type_of s).manifest)
+        (option_copied result) ≡ type_under name.now (map sig_type_of types.now) }
 {
     for x in types {
         if x.name.text().as_slice() == name.text().as_slice() {

@@ -58,7 +58,8 @@ fn is_under(target: &Sig, a: &Ty, b: &Ty) -> bool
 
 #[cycle(under)]
 fn are_under(target: &Sig, a: &[Ty], b: &[Ty]) -> bool
-    ensures { result ≡ same_all (typs (map typ_of a.now)) (all_with_mine (stands (sig_of target.now)) (typs (map typ_of b.now))) }
+    ensures { result ≡ same_all (typs (map typ_of a.now))
+        (all_with_mine (stands (sig_of target.now)) (typs (map typ_of b.now))) }
 {
     if a.len() != b.len() {
         return false;

@@ -3,7 +3,7 @@ use Rattle.std.specs.Prelude.{ℕ, ◌≡◌, ◌<◌, ◌+◌, List, [], ◌∷
 use Rattle.std.proofs.Common.{sym, ◌∙◌, ap, subst, append_assoc, length-append, arith}
 use Rattle.std.proofs.Math.Seq.{get_or-append_seam}
 use Rattle.std.proofs.Math.ListN.{get_or-append}
-use Rattle.ac_values.specs.Built.{built}
+use Rattle.ac_values.specs.Building.{built}
 
 module _ {A B : Type 0} (make : List B → A → B) where
   pub built-push : (bs : List B) (as' : List A) (a : A) → built make bs (as' ++ a ∷ []) ≡ built make bs as' ++ make (built make bs as') a ∷ []

@@ -1,9 +1,9 @@
 -- Laws of lists that share their tails.
 use Rattle.std.proofs.Common.{◌≡◌, ◌⊎◌, inl, inr, ℕ, zero, suc, ◌<◌, ◌≤◌, ◌+◌, List, [], ◌∷◌, ◌++◌, Option, Some, None, slice_get, length, get_or, refl, sym, ◌∙◌, ap, ap₂, arith, length-append, zero-add, subst}
 use Rattle.ac_values.specs.declared.chain.Cell.{Cell}
-use Rattle.ac_values.specs.Built.{built}
+use Rattle.ac_values.specs.Building.{built}
 use Rattle.ac_values.proofs.BuiltLaws.{built-push, length-built, built-keeps, built-at}
-use Rattle.ac_values.specs.Chains.{list_of, lists, AreEarlier}
+use Rattle.ac_values.specs.inner.Chains.{list_of, lists, AreEarlier}
 
 pub length_lists : {T : Type 0} (cs : List (Cell T)) → length (lists cs) ≡ suc (length cs)
 unfolding lists

@@ -7,7 +7,7 @@ use Rattle.std.proofs.lemmas.List.{get_or_past}
 use Rattle.ac_values.specs.declared.node.Node.{Node}
 use Rattle.ac_values.specs.declared.node.Value.{Value}
 use Rattle.ac_values.specs.declared.node.Node.TheVariants.{Int, Bool, Str, Unit as UnitNode, Exn, Tuple, Nil, Cons, Absent, Present, Closure, EnvEnd, EnvCons}
-use Rattle.ac_values.specs.Built.{built}
+use Rattle.ac_values.specs.Building.{built}
 use Rattle.ac_values.proofs.BuiltLaws.{built-push, length-built, built-keeps, built-at}
 use Rattle.ac_values.specs.Below.{Below, IsOrdered}
 use Rattle.ac_values.specs.Values.{MValue, MUnit, MTuple, MExnOf, MCons, MPresent, MClosure, MMore, MValues, also, value_at, values_at, value_of, values, stands}

@@ -1,6 +1,6 @@
 pub mod Below
-pub mod Built
-pub mod Chains
+pub mod Building
 pub mod Fits
 pub mod Readers
 pub mod Values
+pub mod inner

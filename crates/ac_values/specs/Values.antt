@@ -3,7 +3,7 @@ use Rattle.std.specs.Prelude.{ℕ, ℤ, ◌≡◌, ◌<◌, Bool, List, [], ◌�
 use Rattle.ac_values.specs.declared.node.Node.{Node}
 use Rattle.ac_values.specs.declared.node.Value.{Value}
 use Rattle.ac_values.specs.declared.node.Node.TheVariants.{Int, Bool as BoolNode, Str, Unit as UnitNode, Exn, Tuple, Nil, Cons, Absent, Present, Closure, EnvEnd, EnvCons}
-use Rattle.ac_values.specs.Built.{built}
+use Rattle.ac_values.specs.Building.{built}
 
 -- a machine value, or a list of them: MEnd, or MMore with the newest and the rest
 mutual

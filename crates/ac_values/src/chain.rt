@@ -25,7 +25,7 @@ impl<T> Model for Chain<T> {
 
     ghost coded = { coded_list (coded_list T.code) };
 
-    ghost use Rattle.ac_values.specs.Chains.{lists, AreEarlier};
+    ghost use Rattle.ac_values.specs.inner.Chains.{lists, AreEarlier};
 
     ghost view = { λ c. lists c.cells };
 
@@ -59,7 +59,8 @@ impl<T: Copy> Chain<T> {
     #[tactic(auto, using(crate::proofs::ChainLaws::list_zero, crate::proofs::ChainLaws::none_past, crate::proofs::ChainLaws::cell_at, crate::proofs::ChainLaws::length_lists))]
     pub fn top(&self, number: usize) -> Option<(T, usize)>
         requires { number < length self.now }
-        ensures { MatchOption result (get_or self.now number [] ≡ []) (λ p. (p.1 < number) × (get_or self.now number [] ≡ p.0 ∷ get_or self.now p.1 [])) }
+        ensures { MatchOption result (get_or self.now number [] ≡ []) (λ p. (p.1 < number) ×
+            (get_or self.now number [] ≡ p.0 ∷ get_or self.now p.1 [])) }
     {
         let cells = &self.cells;
         if number == 0 {

@@ -11,7 +11,9 @@ use ac_types::{Many, Text};
 
 /// The newest of a list of values, and the rest.
 pub fn opened(store: &Store, v: Value) -> Option<(Value, Value)>
-    ensures { MatchOption result (opened (stands store.now v.0) ≡ None) (λ p. (p.0.0 < v.0) × (p.1.0 < v.0) × (v.0 < length store.now) × (opened (stands store.now v.0) ≡ Some (stands store.now p.0.0, stands store.now p.1.0))) }
+    ensures { MatchOption result (opened (stands store.now v.0) ≡ None) (λ p. (p.0.0 < v.0) ×
+        (p.1.0 < v.0) × (v.0 < length store.now) ×
+        (opened (stands store.now v.0) ≡ Some (stands store.now p.0.0, stands store.now p.1.0))) }
 {
     match store.node(v) {
         Some(Node::EnvCons(newest, rest)) => Some((*newest, *rest)),
@@ -31,7 +33,9 @@ pub fn int_in(store: &Store, v: Value) -> Option<i64>
 
 /// Entry i of a list of values.
 pub fn entry(store: &Store, list: Value, i: usize) -> Option<Value>
-    ensures { MatchOption result (entry i (stands store.now list.0) ≡ None) (λ v. (v.0 < length store.now) × (entry i (stands store.now list.0) ≡ Some (stands store.now v.0))) }
+    ensures { MatchOption result (entry i (stands store.now list.0) ≡ None)
+        (λ v. (v.0 < length store.now) × (entry i (stands store.now list.0) ≡ Some
+        (stands store.now v.0))) }
 {
     let mut rest = list;
     for _ in 0..i {
@@ -58,7 +62,9 @@ pub fn bool_in(store: &Store, v: Value) -> Option<bool>
 
 /// The block, the mark and the environment of a closure.
 pub fn closure_in(store: &Store, v: Value) -> Option<(CodeId, bool, Value)>
-    ensures { MatchOption result (closure_in (stands store.now v.0) ≡ None) (λ q. (q.2.0 < length store.now) × (v.0 < length store.now) × (closure_in (stands store.now v.0) ≡ Some (q.0.0, q.1, stands store.now q.2.0))) }
+    ensures { MatchOption result (closure_in (stands store.now v.0) ≡ None)
+        (λ q. (q.2.0 < length store.now) × (v.0 < length store.now) ×
+        (closure_in (stands store.now v.0) ≡ Some (q.0.0, q.1, stands store.now q.2.0))) }
 {
     match store.node(v) {
         Some(
@@ -75,7 +81,9 @@ pub fn closure_in(store: &Store, v: Value) -> Option<(CodeId, bool, Value)>
 /// A list of values without the n newest.
 pub fn without(store: &Store, list: Value, n: usize) -> Option<Value>
     requires { list.0 < length store.now }
-    ensures { MatchOption result (without n (stands store.now list.0) ≡ None) (λ v. (v.0 < length store.now) × (without n (stands store.now list.0) ≡ Some (stands store.now v.0))) }
+    ensures { MatchOption result (without n (stands store.now list.0) ≡ None)
+        (λ v. (v.0 < length store.now) × (without n (stands store.now list.0) ≡ Some
+        (stands store.now v.0))) }
 {
     let mut rest = list;
     for _ in 0..n {
@@ -89,7 +97,8 @@ pub fn without(store: &Store, list: Value, n: usize) -> Option<Value>
 
 /// The bytes that a value is.
 pub fn text_in<'a>(store: &'a Store, v: Value) -> Option<&'a Text>
-    ensures { MatchOption result (text_in (stands store.now v.0) ≡ None) (λ t. text_in (stands store.now v.0) ≡ Some t.now.0) }
+    ensures { MatchOption result (text_in (stands store.now v.0) ≡ None)
+        (λ t. text_in (stands store.now v.0) ≡ Some t.now.0) }
 {
     match store.node(v) {
         Some(Node::Str(text)) => Some(text),
@@ -99,7 +108,9 @@ pub fn text_in<'a>(store: &'a Store, v: Value) -> Option<&'a Text>
 
 /// The head and the tail of a list.
 pub fn cons_in(store: &Store, v: Value) -> Option<(Value, Value)>
-    ensures { MatchOption result (cons_in (stands store.now v.0) ≡ None) (λ p. (p.0.0 < length store.now) × (p.1.0 < length store.now) × (cons_in (stands store.now v.0) ≡ Some (stands store.now p.0.0, stands store.now p.1.0))) }
+    ensures { MatchOption result (cons_in (stands store.now v.0) ≡ None)
+        (λ p. (p.0.0 < length store.now) × (p.1.0 < length store.now) ×
+        (cons_in (stands store.now v.0) ≡ Some (stands store.now p.0.0, stands store.now p.1.0))) }
 {
     match store.node(v) {
         Some(Node::Cons(head, tail)) => Some((*head, *tail)),
@@ -109,7 +120,9 @@ pub fn cons_in(store: &Store, v: Value) -> Option<(Value, Value)>
 
 /// What an option holds.
 pub fn present_in(store: &Store, v: Value) -> Option<Value>
-    ensures { MatchOption result (present_in (stands store.now v.0) ≡ None) (λ p. (p.0 < length store.now) × (present_in (stands store.now v.0) ≡ Some (stands store.now p.0))) }
+    ensures { MatchOption result (present_in (stands store.now v.0) ≡ None)
+        (λ p. (p.0 < length store.now) × (present_in (stands store.now v.0) ≡ Some
+        (stands store.now p.0))) }
 {
     match store.node(v) {
         Some(Node::Present(inner)) => Some(*inner),
@@ -119,7 +132,9 @@ pub fn present_in(store: &Store, v: Value) -> Option<Value>
 
 /// The parts of a tuple.
 pub fn tuple_in<'a>(store: &'a Store, v: Value) -> Option<&'a Many<Value>>
-    ensures { MatchOption result (tuple_in (stands store.now v.0) ≡ None) (λ ps. All (λ p. p.0 < length store.now) ps.now × (tuple_in (stands store.now v.0) ≡ Some (values_at (values store.now) ps.now))) }
+    ensures { MatchOption result (tuple_in (stands store.now v.0) ≡ None)
+        (λ ps. All (λ p. p.0 < length store.now) ps.now ×
+        (tuple_in (stands store.now v.0) ≡ Some (values_at (values store.now) ps.now))) }
 {
     match store.node(v) {
         Some(Node::Tuple(parts)) => Some(parts),
@@ -129,7 +144,9 @@ pub fn tuple_in<'a>(store: &'a Store, v: Value) -> Option<&'a Many<Value>>
 
 /// The number and the value of an exception that has one.
 pub fn exn_with(store: &Store, v: Value) -> Option<(u8, Value)>
-    ensures { MatchOption result (exn_with (stands store.now v.0) ≡ None) (λ p. (p.1.0 < length store.now) × (exn_with (stands store.now v.0) ≡ Some (p.0, stands store.now p.1.0))) }
+    ensures { MatchOption result (exn_with (stands store.now v.0) ≡ None)
+        (λ p. (p.1.0 < length store.now) × (exn_with (stands store.now v.0) ≡ Some
+        (p.0, stands store.now p.1.0))) }
 {
     match store.node(v) {
         Some(Node::Exn(number, Some(inner))) => Some((*number, *inner)),

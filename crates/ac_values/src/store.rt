@@ -44,7 +44,8 @@ impl Store {
         self.nodes.len()
     }
 
-    /// One more node, whose parts have smaller numbers; its number. Nothing changes where memory ran out.
+    /// One more node, whose parts have smaller numbers; its number. Nothing changes where memory
+    /// ran out.
     pub fn push(&mut self, node: Node) -> Result<Value, Memory>
         requires { Below (length self.old) node }
         ensures ok { OnOk result (self.new ≡ self.old ++ node ∷ []) }
@@ -61,7 +62,8 @@ impl Store {
     pub fn node(&self, v: Value) -> Option<&Node>
         ensures value { option_copied result ≡ slice_get self.now v.0 }
         ensures parts { MatchOption result (length self.now ≤ v.0) (λ n. Below v.0 n.now) }
-        ensures also { MatchOption result (stands self.now v.0 ≡ MUnit) (λ n. stands self.now v.0 ≡ value_of (values self.now) n.now) }
+        ensures also { MatchOption result (stands self.now v.0 ≡ MUnit)
+            (λ n. stands self.now v.0 ≡ value_of (values self.now) n.now) }
     {
         match self.nodes.get(v.0) {
             Some(node) => Some(node),

@@ -1,7 +1,7 @@
 -- The steps of the reading of constraints, over lists of tokens.
 use Rattle.std.proofs.Common.{◌≡◌, ◌<◌, ◌≤◌, ℕ, Bool, true, false, List, [], ◌∷◌, ◌++◌, length, refl, sym, ◌∙◌, ap, subst, append_assoc, arith}
 use Rattle.ac_types.specs.Sigs.{Range, One, Between, UpTo, From}
-use Rattle.ac_version.specs.Reading.{IsSmall, RangeAt, one, between, up_to, from, Ranged, last_range, starred_range, more_ranges, IsConstraint, any, ranged, NoConstraint, Behind, nothing, dot, RangeRead, NoRange, EndAt, unstarred, starred}
+use Rattle.ac_version.specs.VersionReading.{IsSmall, RangeAt, one, between, up_to, from, Ranged, last_range, starred_range, more_ranges, IsConstraint, any, ranged, NoConstraint, VersionBehind, nothing, dot, RangeRead, NoRange, EndAt, unstarred, starred}
 use Rattle.ac_version.specs.declared.read.VToken.{VToken}
 use Rattle.ac_version.specs.declared.read.VToken.TheVariants.{Number, Dot, Minus, Star}
 use Rattle.ac_version.proofs.Unique.{star_is_no_range, star_begins_none}
@@ -32,7 +32,7 @@ only_one none (from h) = absurd (none _ refl)
 pub one_read : (ts rest : List VToken) (n : ℕ) → ts ≡ Number n ∷ rest → IsSmall n → ((behind : List VToken) → rest ≡ Minus ∷ behind → ⊥) → RangeRead ts (One n) rest
 one_read ts rest n is small none = read_at is (record { at = one small; only = λ q other p x. only_one none p })
 
-only_between : {n m : ℕ} {rest other : List VToken} {q : Range} → RangeAt (Number n ∷ Minus ∷ Number m ∷ rest) q other → Behind other → (q ≡ Between n m) × (other ≡ rest)
+only_between : {n m : ℕ} {rest other : List VToken} {q : Range} → RangeAt (Number n ∷ Minus ∷ Number m ∷ rest) q other → VersionBehind other → (q ≡ Between n m) × (other ≡ rest)
 only_between (one h) x = elim x [ ]
 only_between (between h i) x = (refl, refl)
 only_between (from h) x = elim x [ ]
@@ -41,7 +41,7 @@ pub between_read : (ts rest behind end : List VToken) (n m : ℕ) → ts ≡ Num
 between_read ts rest behind end n m is minus then small below =
     read_at (is ∙ ap (λ (l : List VToken). Number n ∷ l) (minus ∙ ap (λ (l : List VToken). Minus ∷ l) then)) (record { at = between small below; only = λ q other p x. only_between p x })
 
-only_from : {n : ℕ} {behind other : List VToken} {q : Range} → ((m : ℕ) (rest : List VToken) → behind ≡ Number m ∷ rest → IsSmall m → ⊥) → RangeAt (Number n ∷ Minus ∷ behind) q other → Behind other → (q ≡ From n) × (other ≡ behind)
+only_from : {n : ℕ} {behind other : List VToken} {q : Range} → ((m : ℕ) (rest : List VToken) → behind ≡ Number m ∷ rest → IsSmall m → ⊥) → RangeAt (Number n ∷ Minus ∷ behind) q other → VersionBehind other → (q ≡ From n) × (other ≡ behind)
 only_from none (one h) x = elim x [ ]
 only_from none (between h i) x = absurd (none _ _ refl i)
 only_from none (from h) x = (refl, refl)
@@ -85,7 +85,7 @@ first_ended : {ts rest : List VToken} {r : Range} {star : Bool} → RangeAt ts r
 first_ended p unstarred = last_range p
 first_ended p starred = starred_range p
 
-first_forth : {ts rest : List VToken} {r : Range} {rs : List Range} {star : Bool} → ((q : Range) (other : List VToken) → RangeAt ts q other → Behind other → (q ≡ r) × (other ≡ rest)) → Ranged ts rs star → Remain (r ∷ []) rest rs star
+first_forth : {ts rest : List VToken} {r : Range} {rs : List Range} {star : Bool} → ((q : Range) (other : List VToken) → RangeAt ts q other → VersionBehind other → (q ≡ r) × (other ≡ rest)) → Ranged ts rs star → Remain (r ∷ []) rest rs star
 first_forth only (last_range {r = q} p) =
     let o = only q [] p nothing in all (ends_here _ (sym o.1)) (ap (λ (x : Range). x ∷ []) o.0)
 first_forth only (starred_range {r = q} p) =
@@ -100,7 +100,7 @@ first_ranges ts rest r read = record {
   forth = λ rs star w. first_forth read.only w;
 }
 
-first_of_ranges : {ts : List VToken} {rs : List Range} {star : Bool} {P : Type 0} → Ranged ts rs star → ((q : Range) (other : List VToken) → RangeAt ts q other → Behind other → P) → P
+first_of_ranges : {ts : List VToken} {rs : List Range} {star : Bool} {P : Type 0} → Ranged ts rs star → ((q : Range) (other : List VToken) → RangeAt ts q other → VersionBehind other → P) → P
 first_of_ranges (last_range {r = q} p) f = f q [] p nothing
 first_of_ranges (starred_range {r = q} p) f = f q (Dot ∷ Star ∷ []) p dot
 first_of_ranges (more_ranges {r = q} {after = after} p w) f = f q (Dot ∷ after) p dot

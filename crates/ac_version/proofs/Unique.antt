@@ -1,7 +1,7 @@
 -- Tokens are at most one version and at most one constraint.
 use Rattle.std.proofs.Common.{◌≡◌, Bool, List, [], ◌∷◌, refl, sym, ap, subst}
 use Rattle.ac_types.specs.Sigs.{Atom, Range}
-use Rattle.ac_version.specs.Reading.{AtomAt, numbered, own, Atoms, last_atom, more_atoms, IsVersion, RangeAt, one, between, up_to, from, Ranged, last_range, starred_range, more_ranges, IsConstraint, any, ranged, Behind, nothing, dot}
+use Rattle.ac_version.specs.VersionReading.{AtomAt, numbered, own, Atoms, last_atom, more_atoms, IsVersion, RangeAt, one, between, up_to, from, Ranged, last_range, starred_range, more_ranges, IsConstraint, any, ranged, VersionBehind, nothing, dot}
 use Rattle.ac_version.specs.declared.read.VToken.{VToken}
 use Rattle.ac_version.specs.declared.read.VToken.TheVariants.{Dot, Star}
 
@@ -20,7 +20,7 @@ pub record SameRange (r q : Range) (a b : List VToken) : Type 0 where
   pub range : r ≡ q
   pub rest : a ≡ b
 
-pub same_range : {ts a b : List VToken} {r q : Range} → RangeAt ts r a → RangeAt ts q b → Behind a → Behind b → SameRange r q a b
+pub same_range : {ts a b : List VToken} {r q : Range} → RangeAt ts r a → RangeAt ts q b → VersionBehind a → VersionBehind b → SameRange r q a b
 same_range (one h) (one i) x y = record { range = refl; rest = refl }
 same_range (one h) (between i j) x y = elim x [ ]
 same_range (one h) (from i) x y = elim x [ ]

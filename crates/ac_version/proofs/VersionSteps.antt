@@ -1,7 +1,7 @@
 -- The steps of the reading of versions, over lists of tokens.
 use Rattle.std.proofs.Common.{◌≡◌, ◌<◌, ℕ, List, [], ◌∷◌, ◌++◌, refl, sym, ◌∙◌, ap, subst, append_assoc}
 use Rattle.ac_types.specs.Sigs.{Atom, Number as Numbered, MyName as Own}
-use Rattle.ac_version.specs.Reading.{AtomAt, numbered, own, Atoms, last_atom, more_atoms, NoVersion, FirstAtom, NoAtom}
+use Rattle.ac_version.specs.VersionReading.{AtomAt, numbered, own, Atoms, last_atom, more_atoms, NoVersion, FirstAtom, NoAtom}
 use Rattle.ac_version.specs.declared.read.VToken.{VToken}
 use Rattle.ac_version.specs.declared.read.VToken.TheVariants.{Number, Dot, MyName}
 use Rattle.ac_version.proofs.Unique.{same_atom}

@@ -36,7 +36,8 @@ pub fn constraint_text(alloc: Global, c: &Constraint) -> Result<Text, Memory>
 
 /// Ranges, and a star behind them.
 fn ranges_text(alloc: Global, ranges: &[Range], star: bool) -> Result<Text, Memory>
-    ensures { IfOk result (λ text. text.0 ≡ joined (constraint_tokens (map range_of ranges.now) star)) }
+    ensures { IfOk result (λ text. text.0 ≡ joined
+        (constraint_tokens (map range_of ranges.now) star)) }
 {
     let mut text = Text::new(alloc);
     let mut is_first = true;

@@ -2,7 +2,7 @@
 
 ghost use Rattle.std.specs.Prelude.{◌≡◌, ◌<◌, ◌∷◌, [], map, length, IfOk, IfErr, IfSome, MatchOption, MatchBool};
 ghost use Rattle.ac_types.specs.ReadTypes.{atom_of, range_of, constraint_of};
-ghost use Rattle.ac_version.specs.Reading.{IsSmall, AtomAt, FirstAtom, NoAtom, IsVersion, NoVersion, OnBad, RangeRead, NoRange, EndAt, ReadsConstraint, NoConstraint};
+ghost use Rattle.ac_version.specs.VersionReading.{IsSmall, AtomAt, FirstAtom, NoAtom, IsVersion, NoVersion, OnBad, RangeRead, NoRange, EndAt, ReadsConstraint, NoConstraint};
 
 use ac_types::{Atom, Constraint, Many, Memory, Range, Version};
 use std::alloc::Global;
@@ -46,7 +46,8 @@ fn next(tokens: &[VToken]) -> Option<(VToken, &[VToken])>
 }
 
 fn after(token: VToken, tokens: &[VToken]) -> Option<&[VToken]>
-    ensures found { MatchOption result ((rest : _) → tokens.now ≡ token ∷ rest → ⊥) (λ rest. tokens.now ≡ token ∷ rest.now) }
+    ensures found { MatchOption result ((rest : _) → tokens.now ≡ token ∷ rest →
+        ⊥) (λ rest. tokens.now ≡ token ∷ rest.now) }
     ensures shorter { IfSome result (λ rest. length rest.now < length tokens.now) }
 {
     let (first, rest) = next(tokens)?;
@@ -68,7 +69,8 @@ fn atom(token: VToken) -> Option<Atom>
 
 /// An atom at the front.
 fn next_atom(tokens: &[VToken]) -> Option<(Atom, &[VToken])>
-    ensures found { MatchOption result (NoAtom tokens.now) (λ x. FirstAtom tokens.now (atom_of x.0) x.1.now) }
+    ensures found { MatchOption result (NoAtom tokens.now)
+        (λ x. FirstAtom tokens.now (atom_of x.0) x.1.now) }
     ensures shorter { IfSome result (λ x. length x.1.now < length tokens.now) }
 {
     let (token, rest) = next(tokens)?;
@@ -104,7 +106,8 @@ pub fn read_version(alloc: Global, tokens: &[VToken]) -> Result<Version, Version
 
 /// A number below 2^32 at the front.
 fn next_number(tokens: &[VToken]) -> Option<(u32, &[VToken])>
-    ensures found { MatchOption result ((n : _) (rest : _) → tokens.now ≡ VToken.Number n ∷ rest → IsSmall n → ⊥) (λ x. tokens.now ≡ VToken.Number x.0 ∷ x.1.now) }
+    ensures found { MatchOption result ((n : _) (rest : _) → tokens.now ≡ VToken.Number n ∷ rest →
+        IsSmall n → ⊥) (λ x. tokens.now ≡ VToken.Number x.0 ∷ x.1.now) }
     ensures small { IfSome result (λ x. IsSmall x.0) }
     ensures shorter { IfSome result (λ x. length x.1.now < length tokens.now) }
 {
@@ -118,9 +121,11 @@ fn next_number(tokens: &[VToken]) -> Option<(u32, &[VToken])>
     }
 }
 
-/// A range at the front, taken as long as it can be: a `-` behind a number takes a number that follows.
+/// A range at the front, taken as long as it can be: a `-` behind a number takes a number that
+/// follows.
 fn next_range(tokens: &[VToken]) -> Option<(Range, &[VToken])>
-    ensures found { MatchOption result (NoRange tokens.now) (λ x. RangeRead tokens.now (range_of x.0) x.1.now) }
+    ensures found { MatchOption result (NoRange tokens.now)
+        (λ x. RangeRead tokens.now (range_of x.0) x.1.now) }
     ensures shorter { IfSome result (λ x. length x.1.now < length tokens.now) }
 {
     if let Some(behind) = after(VToken::Minus, tokens) {
@@ -149,7 +154,8 @@ fn is_star(tokens: &[VToken]) -> bool
 
 /// Whether a star ends the constraint, where its end stands behind a range.
 fn end(tokens: &[VToken]) -> Option<bool>
-    ensures { MatchOption result ((star : _) → EndAt star tokens.now → ⊥) (λ star. EndAt star tokens.now) }
+    ensures { MatchOption result ((star : _) → EndAt star tokens.now →
+        ⊥) (λ star. EndAt star tokens.now) }
 {
     let Some(behind) = after(VToken::Dot, tokens) else {
         return match next(tokens) {

@@ -11,7 +11,7 @@ use Rattle.clap.specs.declared.error.kind.ErrorKind.TheVariants.{ArgumentConflic
 use Rattle.clap.specs.Faults.{walk_fault}
 use Rattle.std.proofs.Math.Bool.{and-false}
 use Rattle.ac_word_clap.proofs.Chains.{some_step, two_steps}
-use Rattle.ac_words.specs.Form.{Form, Given, Place, Text, is_fit, option_in, place_in}
+use Rattle.ac_words.specs.Form.{Form, Given, WordPlace, Text, is_fit, option_in, place_in}
 use Rattle.ac_word_clap.proofs.Reading.{Open, closed, has, nothing, option_met, place_met, read_from, run_of, value_of, with_item, word_at}
 use Rattle.ac_word_clap.specs.Rules.{Apart, MostFits, OptionFits, PlaceFits, most_of, place_rule, row, rule_with}
 use Rattle.ac_word_clap.proofs.Looks.{View, as_named, as_plain, view}
@@ -32,7 +32,7 @@ more_false c id values rows k words e = rw e refl
 
 module _ (c : List Rule) (f : Form) (r : Reads c f) where
   -- a place of the form has its rule
-  place_fits : (k : ℕ) (q : Place) → place_in f k ≡ Some q → PlaceFits c f q
+  place_fits : (k : ℕ) (q : WordPlace) → place_in f k ≡ Some q → PlaceFits c f q
   place_fits k q is = found (λ p. p.number == k) (PlaceFits c f) f.places q r.places is
 
   -- a run of the form may have more words than one
@@ -41,18 +41,18 @@ module _ (c : List Rule) (f : Form) (r : Reads c f) where
   run_of_most f id (Some m) h = h
 
   -- the same of the place that is next
-  run_fits : (k : ℕ) (o : Option Place) → place_in f k ≡ o → RunFits o
+  run_fits : (k : ℕ) (o : Option WordPlace) → place_in f k ≡ o → RunFits o
   run_fits k None is = tt
   run_fits k (Some q) is = run_of_most f q.name q.most (place_fits k q is).most
 
   -- after an option or a word of another place a word begins a new place
-  new_after : (k : ℕ) (id v : Text) (o : Option Place) → place_in f k ≡ o → Apart f id → IsNew o (Some (id, v ∷ []))
+  new_after : (k : ℕ) (id v : Text) (o : Option WordPlace) → place_in f k ≡ o → Apart f id → IsNew o (Some (id, v ∷ []))
   new_after k id v None is apart = tt
   new_after k id v (Some q) is apart =
       new_from (bytes_eq id q.name) q.most (found (λ p. p.number == k) (λ p. (bytes_eq id p.name && is_some p.most) ≡ false) f.places q apart is) (run_fits k (Some q) is)
 
   -- so it does where nothing is held
-  new_at_start : (o : Option Place) → IsNew o None
+  new_at_start : (o : Option WordPlace) → IsNew o None
   new_at_start None = tt
   new_at_start (Some q) = refl
 
@@ -92,7 +92,7 @@ module _ (c : List Rule) (f : Form) (r : Reads c f) where
     pub clean : (g : Given) (k : ℕ) → total c (walk_at (map row g) None idle k) words ≡ read_at words nothing g k
     pub value : (g : Given) (id : Text) (k : ℕ) → OptionFits c f (id, true)
         → total c (walk_at (map row g) (Some (id, [])) (option id) k) words ≡ read_at words (value_of id) g k
-    pub run : (g : Given) (q : Place) (most : ℕ) (v : Text) (vs : List Text) (k : ℕ) → q.most ≡ Some most → PlaceFits c f q
+    pub run : (g : Given) (q : WordPlace) (most : ℕ) (v : Text) (vs : List Text) (k : ℕ) → q.most ≡ Some most → PlaceFits c f q
         → arg_by_index c k ≡ Some (place_rule q)
         → total c (walk_at (map row g) (Some (q.name, v ∷ vs)) positional k) words ≡ read_at words (run_of q.name most (v ∷ vs)) g k
 
@@ -126,7 +126,7 @@ module _ (c : List Rule) (f : Form) (r : Reads c f) where
   is_run id (Some m) most e h = let same : m ≡ most = cc in subst (λ j. (1 == j) ≡ false) same h
 
   -- a plain word at a place, where nothing is held
-  place_is : (k : ℕ) (q : Place) (m : Option ℕ) (g : Given) (w : Text) (ws : List Text) → q.most ≡ m → place_in f k ≡ Some q
+  place_is : (k : ℕ) (q : WordPlace) (m : Option ℕ) (g : Given) (w : Text) (ws : List Text) → q.most ≡ m → place_in f k ≡ Some q
       → list_all is_fit ws ≡ true → Agrees ws
       → word_to c q.name m w (map row g) k ws ≡ option_map (map row) (option_and_then (read_from f ws) (word_at w q.name m k g))
   place_is k q None g w ws em is fit agrees =
@@ -142,7 +142,7 @@ module _ (c : List Rule) (f : Form) (r : Reads c f) where
       agrees.run g q m w [] k em (place_fits k q is) (r.index k ∙ ap (option_map place_rule) is)
 
   -- a plain word, where nothing is held
-  places_are : (k : ℕ) (o : Option Place) (g : Given) (w : Text) (ws : List Text) → place_in f k ≡ o → list_all is_fit ws ≡ true → Agrees ws
+  places_are : (k : ℕ) (o : Option WordPlace) (g : Given) (w : Text) (ws : List Text) → place_in f k ≡ o → list_all is_fit ws ≡ true → Agrees ws
       → after_place c o w (map row g) k ws ≡ option_map (map row) (option_and_then (read_from f ws) (place_met o w k g))
   places_are k None g w ws is fit agrees = refl
   places_are k (Some q) g w ws is fit agrees = place_is k q q.most g w ws refl is fit agrees
@@ -184,7 +184,7 @@ module _ (c : List Rule) (f : Form) (r : Reads c f) where
       rw (l, e', e, ← rows) (clean (g ++ (q, values) ∷ []))
 
   -- the next word after a word of a run
-  run_step : (g : Given) (q : Place) (most : ℕ) (v : Text) (vs : List Text) (k : ℕ) (w : Text) (ws : List Text) → View w
+  run_step : (g : Given) (q : WordPlace) (most : ℕ) (v : Text) (vs : List Text) (k : ℕ) (w : Text) (ws : List Text) → View w
       → list_all is_fit ws ≡ true → Agrees ws
       → q.most ≡ Some most → PlaceFits c f q → arg_by_index c k ≡ Some (place_rule q)
       → total c (walk_at (map row g) (Some (q.name, v ∷ vs)) positional k) (w ∷ ws) ≡ read_at (w ∷ ws) (run_of q.name most (v ∷ vs)) g k

@@ -6,7 +6,7 @@ use Rattle.clap.proofs.WalkLemmas.{find-map, first_value-rows, raw_values-rows}
 use Rattle.clap.specs.Words.{Row, all_of, first_of, first_value, found_of, matched_of, raw_values}
 use Rattle.clap.specs.declared.parser.matches.ArgMatches.{ArgMatches}
 use Rattle.ac_words.specs.Form.{Given, Text}
-use Rattle.ac_words.specs.Values.{all_in, first_in}
+use Rattle.ac_words.specs.WordValues.{all_in, first_in}
 use Rattle.ac_word_clap.specs.Rules.{row, rows_in}
 
 -- what was given, where the matches are its rows

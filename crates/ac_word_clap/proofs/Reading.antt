@@ -3,7 +3,7 @@ use Rattle.std.proofs.Common.{ℕ, ◌+◌, List, [], ◌∷◌, ◌++◌, Optio
 use Rattle.std.specs.Prelude.{if◌then◌else◌, nat_lt, option_and_then}
 use Rattle.std.specs.List.{list_any}
 use Rattle.std.specs.Str.{bytes_eq}
-use Rattle.ac_words.specs.Form.{Form, Given, Look, Place, Text, look, named, option_in, place_in, plain, refused}
+use Rattle.ac_words.specs.Form.{Form, Given, Look, WordPlace, Text, look, named, option_in, place_in, plain, refused}
 
 -- the name is among what was given
 abbrev pub has : Text → Given → Bool
@@ -55,7 +55,7 @@ abbrev pub word_at : Text → Text → Option ℕ → ℕ → Given → Option S
 word_at word id None k given = with_item id (word ∷ []) (k + 1) given
 word_at word id (Some most) k given = open_at k given (run_of id most (word ∷ []))
 
-abbrev pub place_met : Option Place → Text → ℕ → Given → Option State
+abbrev pub place_met : Option WordPlace → Text → ℕ → Given → Option State
 place_met None word k given = None
 place_met (Some p) word k given = word_at word p.name p.most k given
 

@@ -6,7 +6,7 @@ use Rattle.clap.specs.declared.error.kind.ErrorKind.TheVariants.{ArgumentConflic
 use Rattle.clap.specs.declared.builder.value_parser.ValueParser.TheVariants as vp
 use Rattle.clap.specs.Kinds.{range_kinds, values_kinds}
 use Rattle.clap.specs.Faults.{settle_fault, walk_fault}
-use Rattle.ac_words.specs.Form.{Place, Text}
+use Rattle.ac_words.specs.Form.{WordPlace, Text}
 use Rattle.ac_word_clap.specs.Rules.{most_of, option_rule, place_rule, row}
 use Rattle.ac_word_clap.proofs.Looks.{IsNamed, IsPlain}
 use Rattle.ac_word_clap.proofs.Rows.{same_bytes, used_once}
@@ -23,7 +23,7 @@ pub range_is : (most n : ℕ) → (1 == most) ≡ false → (n == 0) ≡ false �
 range_is most n run some least = rw (run, some, least) refl
 
 -- a run fails where it is too long or not the first
-pub run_fault : (c : List Rule) (q : Place) (most : ℕ) (v : Text) (vs : List Text) (rows : List Row) (long b : Bool)
+pub run_fault : (c : List Rule) (q : WordPlace) (most : ℕ) (v : Text) (vs : List Text) (rows : List Row) (long b : Bool)
     → q.most ≡ Some most → (1 == most) ≡ false → arg_by_id c q.name ≡ Some (place_rule q)
     → nat_lt most (length (v ∷ vs)) ≡ long → has_row q.name rows ≡ b
     → settle_fault c false (record { rows = rows; pending = Some (q.name, v ∷ vs); skip = 0 })
@@ -46,13 +46,13 @@ run_fault c q most v vs rows false false em run at l e =
     rw (at, em, range, l, e, pass) refl
 
 -- a run that ends is one more row
-pub run_settled : (c : List Rule) (q : Place) (v : Text) (vs : List Text) (rows : List Row) → arg_by_id c q.name ≡ Some (place_rule q)
+pub run_settled : (c : List Rule) (q : WordPlace) (v : Text) (vs : List Text) (rows : List Row) → arg_by_id c q.name ≡ Some (place_rule q)
     → has_row q.name rows ≡ false
     → settled_rows c (Some (q.name, v ∷ vs)) rows ≡ rows ++ row (q.name, v ∷ vs) ∷ []
 run_settled c q v vs rows at e = rw at (used_once q.name None (Some q.number) 1 (most_of q.most) v vs rows e)
 
 -- the word goes on with the run
-pub run_met : (c : List Rule) (rows : List Row) (q : Place) (most : ℕ) (v : Text) (vs : List Text) (k : ℕ) (w : Text) (ws : List Text)
+pub run_met : (c : List Rule) (rows : List Row) (q : WordPlace) (most : ℕ) (v : Text) (vs : List Text) (k : ℕ) (w : Text) (ws : List Text)
     → q.most ≡ Some most → (1 == most) ≡ false → arg_by_index c k ≡ Some (place_rule q) → IsPlain w
     → total c (walk_at rows (Some (q.name, v ∷ vs)) positional k) (w ∷ ws)
     ≡ total c (walk_at rows (Some (q.name, v ∷ (vs ++ w ∷ []))) positional k) ws
@@ -64,7 +64,7 @@ abbrev pub after_run : List Rule → Bool → Text → List Text → List Row �
 after_run c long id values rows k words = if long then None else more c id values rows k words
 
 -- a run at the end of the words
-pub run_end : (c : List Rule) (rows : List Row) (q : Place) (most : ℕ) (v : Text) (vs : List Text) (k : ℕ) (long b : Bool)
+pub run_end : (c : List Rule) (rows : List Row) (q : WordPlace) (most : ℕ) (v : Text) (vs : List Text) (k : ℕ) (long b : Bool)
     → q.most ≡ Some most → (1 == most) ≡ false → arg_by_id c q.name ≡ Some (place_rule q)
     → nat_lt most (length (v ∷ vs)) ≡ long → has_row q.name rows ≡ b
     → total c (walk_at rows (Some (q.name, v ∷ vs)) positional k) [] ≡ after_run c long q.name (v ∷ vs) rows k []
@@ -77,7 +77,7 @@ run_end c rows q most v vs k false false em run at l e =
     let fault = run_fault c q most v vs rows false false em run at l e in rw (fault, e) (ap Some (run_settled c q v vs rows at e))
 
 -- an option after a run
-pub run_named : (c : List Rule) (rows : List Row) (q : Place) (most : ℕ) (v : Text) (vs : List Text) (k : ℕ) (long b : Bool) (w : Text) (ws : List Text)
+pub run_named : (c : List Rule) (rows : List Row) (q : WordPlace) (most : ℕ) (v : Text) (vs : List Text) (k : ℕ) (long b : Bool) (w : Text) (ws : List Text)
     (n : Text) (x : Option Text) (o : Option (Text × Bool))
     → q.most ≡ Some most → (1 == most) ≡ false → arg_by_id c q.name ≡ Some (place_rule q)
     → nat_lt most (length (v ∷ vs)) ≡ long → has_row q.name rows ≡ b → IsNamed w n x → arg_by_long c n ≡ option_map option_rule o

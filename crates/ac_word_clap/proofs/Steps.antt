@@ -7,7 +7,7 @@ use Rattle.clap.specs.Walk.{Row, Rule, Waiting, Walk, idle, option, positional, 
 use Rattle.clap.specs.declared.error.kind.ErrorKind.{ErrorKind}
 use Rattle.clap.specs.Kinds.{Kinds, or_else}
 use Rattle.clap.specs.Faults.{settle_fault, turn_fault, walk_fault}
-use Rattle.ac_words.specs.Form.{Form, Place, Text, option_in, place_in}
+use Rattle.ac_words.specs.Form.{Form, WordPlace, Text, option_in, place_in}
 use Rattle.ac_word_clap.specs.Rules.{Every, OptionFits, PlaceFits, option_rule, place_rule, row, rule_with, shape_with}
 use Rattle.ac_word_clap.proofs.Looks.{IsNamed, IsPlain}
 use Rattle.ac_word_clap.proofs.Rows.{same_bytes, used_once, used_bare}
@@ -110,7 +110,7 @@ word_to c id None w rows k ws = total c (walk_at rows (Some (id, w ∷ [])) idle
 word_to c id (Some most) w rows k ws = total c (walk_at rows (Some (id, w ∷ [])) positional k) ws
 
 -- what follows a plain word, by the place that takes it
-abbrev pub after_place : List Rule → Option Place → Text → List Row → ℕ → List Text → Option (List Row)
+abbrev pub after_place : List Rule → Option WordPlace → Text → List Row → ℕ → List Text → Option (List Row)
 after_place c None w rows k ws = None
 after_place c (Some q) w rows k ws = word_to c q.name q.most w rows k ws
 
@@ -141,7 +141,7 @@ named_from c rows0 rows p waiting k w ws n None (Some (q, false)) false e free p
     let once = used_bare q (Some q) None rows e in rw (total_step, free, i.ends, i.long, met, passes, is, once, e) refl
 
 -- the pending words are no run that the place goes on with
-abbrev pub IsNew : Option Place → Option (Text × List Text) → Type 0
+abbrev pub IsNew : Option WordPlace → Option (Text × List Text) → Type 0
 IsNew None p = Unit {0}
 IsNew (Some q) p = (is_pending (place_rule q) p && takes_several (place_rule q)) ≡ false
 
@@ -151,12 +151,12 @@ IsRun None = Unit {0}
 IsRun (Some most) = (1 == most) ≡ false
 
 -- the same of a place
-abbrev pub RunFits : Option Place → Type 0
+abbrev pub RunFits : Option WordPlace → Type 0
 RunFits None = Unit {0}
 RunFits (Some q) = IsRun q.most
 
 -- a plain word is met at a place, where what is held passes
-pub place_from : (c : List Rule) (rows0 rows : List Row) (p : Option (Text × List Text)) (k : ℕ) (w : Text) (ws : List Text) (q : Place) (m : Option ℕ)
+pub place_from : (c : List Rule) (rows0 rows : List Row) (p : Option (Text × List Text)) (k : ℕ) (w : Text) (ws : List Text) (q : WordPlace) (m : Option ℕ)
     → q.most ≡ m → settle_fault c false (record { rows = rows0; pending = p; skip = 0 }) ≡ [] → settled_rows c p rows0 ≡ rows
     → IsPlain w → arg_by_index c k ≡ Some (place_rule q) → IsNew (Some q) p → IsRun m
     → total c (walk_at rows0 p idle k) (w ∷ ws) ≡ word_to c q.name m w rows k ws
@@ -167,7 +167,7 @@ place_from c rows0 rows p k w ws q (Some m) em passes is i met new run =
     let new' = rw em at new in rw (total_step, i.ends, i.long, i.short, met, em, new', passes, is, run) refl
 
 -- a plain word is met, where what is held passes
-pub plain_from : (c : List Rule) (rows0 rows : List Row) (p : Option (Text × List Text)) (k : ℕ) (w : Text) (ws : List Text) (o : Option Place)
+pub plain_from : (c : List Rule) (rows0 rows : List Row) (p : Option (Text × List Text)) (k : ℕ) (w : Text) (ws : List Text) (o : Option WordPlace)
     → settle_fault c false (record { rows = rows0; pending = p; skip = 0 }) ≡ [] → settled_rows c p rows0 ≡ rows
     → IsPlain w → arg_by_index c k ≡ option_map place_rule o → IsNew o p → RunFits o
     → total c (walk_at rows0 p idle k) (w ∷ ws) ≡ after_place c o w rows k ws
@@ -194,7 +194,7 @@ named_stuck c rows0 p k w ws n None (Some (q, false)) waiting kind kinds fails f
     rw (total_step, free, i.ends, i.long, met, fails) refl
 
 -- where what is held fails, the next plain word fails
-pub plain_stuck : (c : List Rule) (rows0 : List Row) (p : Option (Text × List Text)) (k : ℕ) (w : Text) (ws : List Text) (o : Option Place) (kind : ErrorKind) (kinds : Kinds)
+pub plain_stuck : (c : List Rule) (rows0 : List Row) (p : Option (Text × List Text)) (k : ℕ) (w : Text) (ws : List Text) (o : Option WordPlace) (kind : ErrorKind) (kinds : Kinds)
     → settle_fault c false (record { rows = rows0; pending = p; skip = 0 }) ≡ kind ∷ kinds
     → IsPlain w → arg_by_index c k ≡ option_map place_rule o → IsNew o p
     → total c (walk_at rows0 p idle k) (w ∷ ws) ≡ None

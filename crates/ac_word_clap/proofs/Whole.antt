@@ -11,7 +11,7 @@ use Rattle.clap.specs.declared.error.kind.ErrorKind.{ErrorKind}
 use Rattle.clap.specs.Kinds.{IsAmong, Kinds, or_else}
 use Rattle.clap.specs.Faults.{fault_of, level_fault, settle_fault, turn_fault, walk_fault, defaults_fault}
 use Rattle.std.proofs.Math.Bool.{or-false, or-true}
-use Rattle.ac_words.specs.Form.{Argument, arguments_of, with_word, Form, Look, Place, Text, given_of, is_fit, look, named, option_in, plain, refused}
+use Rattle.ac_words.specs.Form.{Argument, arguments_of, with_word, Form, Look, WordPlace, Text, given_of, is_fit, look, named, option_in, plain, refused}
 use Rattle.ac_word_clap.proofs.Gathered.{read_given}
 use Rattle.ac_word_clap.proofs.Agrees.{agrees}
 use Rattle.ac_word_clap.proofs.Reading.{step}
@@ -66,7 +66,7 @@ every_rule f = places f.places
     options [] = tt
     options (p ∷ ps) = (record { defaults = refl; required = refl }, options ps)
 
-    places : (ps : List Place) → Every Quiet (map place_rule ps ++ map option_rule f.options)
+    places : (ps : List WordPlace) → Every Quiet (map place_rule ps ++ map option_rule f.options)
     places [] = options f.options
     places (p ∷ ps) = (record { defaults = refl; required = refl }, places ps)
 
@@ -85,7 +85,7 @@ reads_form f a h = record { long = λ name. long name f.places; index = λ k. in
         go true e = refl
         go false e = e
 
-    long : (name : Text) (ps : List Place)
+    long : (name : Text) (ps : List WordPlace)
         → arg_by_long (map place_rule ps ++ map option_rule f.options) name ≡ option_map option_rule (option_in f name)
     long name [] = long_options name f.options
     long name (p ∷ ps) = long name ps
@@ -94,7 +94,7 @@ reads_form f a h = record { long = λ name. long name f.places; index = λ k. in
     index_options k [] = refl
     index_options k (p ∷ ps) = index_options k ps
 
-    index : (k : ℕ) (ps : List Place)
+    index : (k : ℕ) (ps : List WordPlace)
         → arg_by_index (map place_rule ps ++ map option_rule f.options) k ≡ option_map place_rule (find (λ p. p.number == k) ps)
     index k [] = index_options k f.options
     index k (p ∷ ps) = go (p.number == k) (index k ps)

@@ -12,7 +12,7 @@ use Rattle.clap.specs.declared.builder.ArgAction.TheVariants.{Set}
 use Rattle.clap.specs.declared.builder.value_parser.Reading.TheVariants.{AsWritten}
 use Rattle.clap.specs.declared.builder.value_parser.ValueParser.TheVariants as vp
 use Rattle.clap.specs.declared.parser.matches.ValueSource.TheVariants.{CommandLine}
-use Rattle.ac_words.specs.Form.{Form, Place}
+use Rattle.ac_words.specs.Form.{Form, WordPlace}
 
 -- an argument of clap's that is used at most once, with this name, its option's name or its place, and from
 -- `least` to `most` values, which are taken as they are written; it is not required and has no default
@@ -52,7 +52,7 @@ most_of None = 1
 most_of (Some most) = most
 
 -- the argument of a form's place
-abbrev pub place_rule : Place → Rule
+abbrev pub place_rule : WordPlace → Rule
 place_rule p = rule_with p.name None (Some p.number) 1 (most_of p.most)
 
 -- the arguments of a form, in the order in which clap keeps them once they are built
@@ -102,7 +102,7 @@ pub record OptionFits (c : List Rule) (f : Form) (p : Text × Bool) : Type 0 whe
   pub apart : Apart f p.0
 
 -- clap finds the place by its name, and counts on past its number
-pub record PlaceFits (c : List Rule) (f : Form) (p : Place) : Type 0 where
+pub record PlaceFits (c : List Rule) (f : Form) (p : WordPlace) : Type 0 where
   pub at : arg_by_id c p.name ≡ Some (place_rule p)
   pub next : min (p.number + 1) usize_max ≡ p.number + 1
   pub most : MostFits f p.name p.most

@@ -11,13 +11,14 @@ use ac_words::are_fit;
 use clap::error::ErrorKind;
 use clap::{ArgMatches, Command};
 
-/// The matches of a clap command that reads words as a form says, where it takes the words. The first
-/// word is the command's own name.
+/// The matches of a clap command that reads words as a form says, where it takes the words. The
+/// first word is the command's own name.
 pub fn matches_in<'a>(
     command: Command<'a>,
     words: &'a [String],
 ) -> Result<Option<ArgMatches<'a>>, Memory>
-    ensures { (f : Form) → ReadsForm f (app_of command.entry) → IfOk result (λ o. option_map rows_in o
+    ensures { (f : Form) → ReadsForm f (app_of command.entry) →
+        IfOk result (λ o. option_map rows_in o
         ≡ option_map (map row) (given_of f (drop 1 (map string_bytes words.now)))) }
 {
     if !are_fit(words) {

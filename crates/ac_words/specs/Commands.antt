@@ -3,7 +3,7 @@ use Rattle.std.specs.Prelude.{ℕ, true, List, [], ◌∷◌, length, codes, nat
 use Rattle.std.specs.Prelude.{Option, Some, None, if◌then◌else◌, option_and_then, option_map}
 use Rattle.std.specs.Str.{bytes_eq}
 use Rattle.ac_words.specs.Form.{Form, Given, Text, given_of}
-use Rattle.ac_words.specs.Values.{first_in, is_file, number_in}
+use Rattle.ac_words.specs.WordValues.{first_in, is_file, number_in}
 use Rattle.ac_words.specs.declared.command.Command.{Command}
 use Rattle.ac_words.specs.declared.command.Command.TheVariants as command
 

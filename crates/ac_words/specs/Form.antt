@@ -54,7 +54,7 @@ is_fit word = is_read (look word)
 
 -- a place for plain words that are no values: its number, from 1 on, and its name; it takes one word, or a
 -- run of words that stand next to one another, at most so many
-pub record Place : Type 0 where
+pub record WordPlace : Type 0 where
   pub number : ℕ
   pub name : Text
   pub most : Option ℕ
@@ -62,14 +62,14 @@ pub record Place : Type 0 where
 -- what a command takes: options by name, each with whether it has a value, and places
 pub record Form : Type 0 where
   pub options : List (Text × Bool)
-  pub places : List Place
+  pub places : List WordPlace
 
 -- the option of this name
 abbrev pub option_in : Form → Text → Option (Text × Bool)
 option_in f name = find (λ p. bytes_eq p.0 name) f.options
 
 -- the place of this number
-abbrev pub place_in : Form → ℕ → Option Place
+abbrev pub place_in : Form → ℕ → Option WordPlace
 place_in f k = find (λ p. p.number == k) f.places
 
 -- what words give: an option with its value, if it has one; or a word that is no value, for a place
@@ -120,12 +120,12 @@ with_place id None w more given = Some ((id, w ∷ []) ∷ given)
 with_place id (Some most) w more given = with_run id most w more given
 
 -- the same, where the command has that place
-abbrev pub with_place_in : Option Place → Text → List Argument → Given → Option Given
+abbrev pub with_place_in : Option WordPlace → Text → List Argument → Given → Option Given
 with_place_in None w more given = None
 with_place_in (Some p) w more given = with_place p.name p.most w more given
 
 -- the place of the word after one at this place: a run goes on
-abbrev pub place_after : Option Place → ℕ → ℕ
+abbrev pub place_after : Option WordPlace → ℕ → ℕ
 place_after None k = k + 1
 place_after (Some p) k = if is_some p.most then k else k + 1
 

@@ -1,7 +1,7 @@
 //! The commands, and the values of their words.
 ghost use Rattle.std.specs.Prelude.{◌≡◌, ◌==◌, option_map, slice_index};
 ghost use Rattle.ac_words.specs.Commands.{request_of, run_by, steps_in};
-ghost use Rattle.ac_words.specs.Values.{is_file, number_in};
+ghost use Rattle.ac_words.specs.WordValues.{is_file, number_in};
 
 // The steps of a `run` that names none.
 const DEFAULT_STEPS: u64 = 1_000_000;

@@ -1,7 +1,7 @@
 //! Prints for each line of its input what it asks for as a command line.
 //!
-//! The words of a line are parted by single spaces, so two spaces have an empty word between them. An
-//! empty line has no words.
+//! The words of a line are parted by single spaces, so two spaces have an empty word between them.
+//! An empty line has no words.
 #![tactic(auto)]
 
 use ac_command::read_words;

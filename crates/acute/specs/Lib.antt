@@ -1,6 +1,6 @@
 pub mod Endings
-pub mod Fronts
 pub mod Lines
 pub mod Meaning
 pub mod Refusals
 pub mod Streams
+pub mod inner

@@ -10,19 +10,24 @@ ghost use Rattle.acute.specs.Streams.{Reading, Writing};
 ghost use Rattle.acute.specs.Meaning.{Answer, Means};
 ghost use Rattle.acute.specs.Endings.{Ended};
 
-/// Within a budget a text has one meaning, which is the same in both modes: it is refused or not, and ends in one way,
-/// with the same writes.
+/// Within a budget a text has one meaning, which is the same in both modes: it is refused or not,
+/// and ends in one way, with the same writes.
 pub fn one_meaning()
     ensures { (m n : Mode) (text : List ℕ) (shelf : List Shelved) (steps : ℕ) (a b : Answer) →
-        Means m text shelf steps a → Means n text shelf steps b → (a.status ≡ b.status) × (a.writes ≡ b.writes) }
+        Means m text shelf steps a → Means n text shelf steps b → (a.status ≡ b.status) ×
+        (a.writes ≡ b.writes) }
 {}
 
-/// Where the file is told and no count rose, the status is that of the text's meaning, or that of want of memory.
+/// Where the file is told and no count rose, the status is that of the text's meaning, or that of
+/// want of memory.
 pub fn nothing_failed()
-    ensures { (name : List ℕ) (steps : ℕ) (files : List ℕ → Reading) (output errors : Writing) (status : Status) →
+    ensures { (name : List ℕ) (steps : ℕ) (files : List ℕ →
+        Reading) (output errors : Writing) (status : Status) →
         Ended (Some (run name steps)) files output errors status →
         IsTrue (files name).told → (Rose (files name).before (files name).after → ⊥) →
-        (Rose output.before output.after → ⊥) → (Rose errors.before errors.after → ⊥) → (status ≡ OUT_OF_MEMORY → ⊥) →
+        (Rose output.before output.after → ⊥) → (Rose errors.before errors.after → ⊥) →
+        (status ≡ OUT_OF_MEMORY → ⊥) →
         (bytes : List ℕ) → (files name).bytes ≡ Some bytes →
-        (mode : Mode) (a : Answer) → Means mode (take 1048577 bytes) [] steps a → status ≡ a.status }
+        (mode : Mode) (a : Answer) → Means mode (take 1048577 bytes) [] steps a →
+        status ≡ a.status }
 {}

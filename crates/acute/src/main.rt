@@ -13,11 +13,11 @@ mod world;
 
 use ac_outside::{RealFiles, RealSink};
 use ac_types::Memory;
+use status::Status;
 use std::alloc::Global;
 use std::env;
 use std::io::ErrorKind;
 use std::process::ExitCode;
-use status::Status;
 use top::acute;
 
 fn main(rt: HostRuntime) -> ExitCode {

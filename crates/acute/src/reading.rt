@@ -1,7 +1,7 @@
 // Reads a file, up to one byte past the limit of a text.
 ghost use Rattle.std.specs.Prelude.{◌≡◌, ◌≤◌, ◌<◌, ◌++◌, IsTrue, IfOk, IsErrOf, length, take, drop};
-ghost use Rattle.ac_outside.specs.Outside.{Rose, NeverFall, Reads};
-ghost use Rattle.acute.specs.Fronts.{IsFrontOf, Begins};
+ghost use Rattle.ac_outside.specs.Outside.{Rose, NeverFall, ReadsFrom};
+ghost use Rattle.acute.specs.inner.Fronts.{IsFrontOf, Begins};
 
 use ac_outside::{Files, Got};
 use ac_types::{Memory, Text};
@@ -20,9 +20,11 @@ const PIECE: usize = 4096;
 
 /// The bytes of a file, the first 1,048,577 at most.
 pub fn read_text<F: Files>(alloc: Global, files: &mut F, name: &str) -> Result<Text, ReadFault>
-    ensures text { IsTrue F.told → IfOk result (λ text. IsFrontOf (F.contents files.old name.now) text.0) }
+    ensures text { IsTrue F.told → IfOk result
+        (λ text. IsFrontOf (F.contents files.old name.now) text.0) }
     ensures same { IsTrue F.told → F.contents files.new ≡ F.contents files.old }
-    ensures cause { IsErrOf result ReadFault.Failed → Rose (F.read_faults files.old name.now) (F.read_faults files.new name.now) }
+    ensures cause { IsErrOf result ReadFault.Failed →
+        Rose (F.read_faults files.old name.now) (F.read_faults files.new name.now) }
 {
     let mut text = Text::new(alloc);
     let mut len = 0usize;

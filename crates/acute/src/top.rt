@@ -2,7 +2,7 @@
 ghost use Rattle.std.specs.Prelude.{◌≡◌, ◌⊎◌, [], List, ℕ, Option, Some, None, IfOk, IsTrue, string_bytes};
 ghost use Rattle.ac_types.specs.ReadTypes.{typ_of};
 ghost use Rattle.ac_terms.specs.Read.{environment_of, expr_of};
-ghost use Rattle.ac_meaning.specs.Read.{exn_of};
+ghost use Rattle.ac_meaning.specs.ReadExn.{exn_of};
 ghost use Rattle.ac_rules.specs.Views.{Mode};
 ghost use Rattle.ac_meaning.specs.Loads.{IsLoaded};
 ghost use Rattle.ac_load.specs.Loading.{Accepted};
@@ -97,7 +97,8 @@ fn run_text<O: Sink, E: Sink>(
     output: &mut O,
     errors: &mut E,
 ) -> Status
-    ensures { (request : Option Request) (files : List ℕ → Reading) → ((a : Answer) → ((mode : Mode) → Means mode text.now [] steps a) → Gives request files a) →
+    ensures { (request : Option Request) (files : List ℕ → Reading) →
+        ((a : Answer) → ((mode : Mode) → Means mode text.now [] steps a) → Gives request files a) →
         Ended request files
         (writing O.told O.written O.faults output.old output.new)
         (writing E.told E.written E.faults errors.old errors.new)
@@ -124,8 +125,10 @@ fn run_program<O: Sink, E: Sink>(
     errors: &mut E,
 ) -> Status
     requires loaded { IsLoaded (environment_of loaded.env) (expr_of loaded.main) (typ_of loaded.ty) }
-    ensures { (text : List ℕ) → Accepted text [] (environment_of loaded.env) (expr_of loaded.main) (typ_of loaded.ty) →
-        (request : Option Request) (files : List ℕ → Reading) → ((a : Answer) → ((mode : Mode) → Means mode text [] steps a) → Gives request files a) →
+    ensures { (text : List ℕ) → Accepted text [] (environment_of loaded.env) (expr_of loaded.main)
+        (typ_of loaded.ty) →
+        (request : Option Request) (files : List ℕ → Reading) →
+        ((a : Answer) → ((mode : Mode) → Means mode text [] steps a) → Gives request files a) →
         Ended request files
         (writing O.told O.written O.faults output.old output.new)
         (writing E.told E.written E.faults errors.old errors.new)
@@ -183,7 +186,8 @@ fn spent_line(alloc: Global, budget: u64) -> Result<String, AllocError>
 }
 
 fn no_memory<E: Sink>(errors: &mut E) -> Status
-    ensures { Said (writing E.told E.written E.faults errors.old errors.new) memory_line OUT_OF_MEMORY result }
+    ensures { Said (writing E.told E.written E.faults errors.old errors.new) memory_line
+        OUT_OF_MEMORY result }
 {
     say(errors, b"acute: out of memory\n", Status::OUT_OF_MEMORY)
 }

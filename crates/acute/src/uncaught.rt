@@ -1,7 +1,7 @@
 // The line of an exception that nothing handles.
 ghost use Rattle.std.specs.Prelude.{◌≡◌, ◌<◌, ◌++◌, IfOk, OnOk};
 ghost use Rattle.std.specs.List.{flat_map};
-ghost use Rattle.ac_meaning.specs.Read.{exn_of};
+ghost use Rattle.ac_meaning.specs.ReadExn.{exn_of};
 ghost use Rattle.acute.specs.Lines.{exception_name, hex_digit, escaped, literal, uncaught_line};
 
 use ac_terms::Exn;

@@ -21,7 +21,8 @@ impl Named for Brand {
     ghost name = { 0 };
 }
 
-// A world over a sink, which keeps the reference that it was made of. It has no input, and no room on its channel.
+// A world over a sink, which keeps the reference that it was made of. It has no input, and no room
+// on its channel.
 #[derive(Drop)]
 struct SinkWorld<'a, O: Sink, K: Named> {
     output: &'a mut O,
@@ -54,7 +55,8 @@ impl<O: Sink, K: Named> World for SinkWorld<'_, O, K> {
 
     ghost read_leaves = { λ _ _ same _. (ap O.written same, refl) };
 
-    ghost read_keeps = { λ a _ same. let h : O.faults a.output.now ≤ O.faults a.output.now = omega arith in rw same h };
+    ghost read_keeps = { λ a _ same. let h : O.faults a.output.now ≤ O.faults a.output.now = omega
+        arith in rw same h };
 
     fn print(&mut self, bytes: &[u8]) -> Put {
         self.output.write(bytes)
@@ -67,28 +69,34 @@ impl<O: Sink, K: Named> World for SinkWorld<'_, O, K> {
 
 /// Runs a program, whose prints go to a sink.
 pub fn run_on<O: Sink>(session: &mut Session, output: &mut O) -> RunEnd
-    ensures ends { session.old.end ≡ None → (mode : Mode) (o : Outcome Value) → ProgramEnds mode session.old [] o →
-        IsEnd result o session.new × Leaves result O.told (writes_of o) (streams (O.written output.old) []) (streams (O.written output.new) []) }
+    ensures ends { session.old.end ≡ None → (mode : Mode) (o : Outcome Value) →
+        ProgramEnds mode session.old [] o →
+        IsEnd result o session.new × Leaves result O.told (writes_of o)
+        (streams (O.written output.old) []) (streams (O.written output.new) []) }
     ensures steps { session.old.end ≡ None → session.new.steps ≡ session.old.steps }
-    ensures cause { session.old.end ≡ None → result ≡ RunEnd.WriteFault → Rose (O.faults output.old) (O.faults output.new) }
+    ensures cause { session.old.end ≡ None → result ≡ RunEnd.WriteFault →
+        Rose (O.faults output.old) (O.faults output.new) }
 {
     let mut end = RunEnd::Memory;
     let _ = run_at::<O, Brand>(session, output, &mut end);
     end
 }
 
-// Runs it over the sink of that name, and gives the sink back. The end is written to a place of its own: in one pair
-// with the sink, what it owns would hide what becomes of the sink.
+// Runs it over the sink of that name, and gives the sink back. The end is written to a place of its
+// own: in one pair with the sink, what it owns would hide what becomes of the sink.
 fn run_at<'a, O: Sink, K: Named>(
     session: &mut Session,
     output: &'a mut O,
     end: &mut RunEnd,
 ) -> &'a mut O
     requires { output.ghost_name ≡ K.name }
-    ensures ends { session.old.end ≡ None → (mode : Mode) (o : Outcome Value) → ProgramEnds mode session.old [] o →
-        IsEnd end.new o session.new × Leaves end.new O.told (writes_of o) (streams (O.written output.old) []) (streams (O.written result.now) []) }
+    ensures ends { session.old.end ≡ None → (mode : Mode) (o : Outcome Value) →
+        ProgramEnds mode session.old [] o →
+        IsEnd end.new o session.new × Leaves end.new O.told (writes_of o)
+        (streams (O.written output.old) []) (streams (O.written result.now) []) }
     ensures steps { session.old.end ≡ None → session.new.steps ≡ session.old.steps }
-    ensures cause { session.old.end ≡ None → end.new ≡ RunEnd.WriteFault → Rose (O.faults output.old) (O.faults result.now) }
+    ensures cause { session.old.end ≡ None → end.new ≡ RunEnd.WriteFault →
+        Rose (O.faults output.old) (O.faults result.now) }
     ensures same_reference { result.ghost_name ≡ output.entry.ghost_name }
 {
     let mut world = SinkWorld::<O, K> {

@@ -1,7 +1,7 @@
 use Rattle.std.proofs.Common.{◌≡◌, ◌∙◌, sym, ap, refl, codes, drop, map, option_map, string_bytes, List, Option, Some}
 use Rattle.std.specs.Prelude.{option_and_then}
 use Rattle.ac_words.specs.Form.{Given, Text, given_of}
-use Rattle.ac_words.specs.Values.{first_in}
+use Rattle.ac_words.specs.WordValues.{first_in}
 use Rattle.ac_words.specs.Commands.{run_by, run_form, run_of}
 use Rattle.ac_word_clap.specs.Rules.{row, rows_in}
 use Rattle.ac_word_clap.proofs.Getters.{first_found, some_given}

@@ -1,5 +1,5 @@
 use Rattle.std.proofs.Common.{◌≡◌, drop}
-use Rattle.ac_terms.specs.Typing.{last_of}
+use Rattle.ac_terms.specs.TermTyping.{last_of}
 use Rattle.ac_check.specs.Checking.{typs_of}
 use Rattle.ac_check.proofs.ArmLaws.{last_from}
 use Rattle.ac_check.proofs.arms.last_type.Given as goal

@@ -9,6 +9,6 @@ abbrev pub invariant-all_variables-loop-i : goal.invariant-all_variables-loop-i
 invariant-all_variables-loop-i l = record {
   lengths : length l.pats ≡ length l.tys;
   left :
-      joined (Some (newest_first l.initial.found)) (vars_of_all (entries_of l.place) (home_of l.place.home) l.pats l.tys)
-      ≡ joined (Some (newest_first l.found)) (vars_of_all (entries_of l.place) (home_of l.place.home) (drop l.i l.pats) (drop l.i l.tys));
+      joined (Some (newest_first l.initial.found)) (vars_of_all (entries_of l.site) (home_of l.site.home) l.pats l.tys)
+      ≡ joined (Some (newest_first l.found)) (vars_of_all (entries_of l.site) (home_of l.site.home) (drop l.i l.pats) (drop l.i l.tys));
 }

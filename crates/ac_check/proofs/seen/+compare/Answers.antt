@@ -11,6 +11,6 @@ use Rattle.ac_check.proofs.seen.+compare.Goals as goal
 
 pub are_viewed_as-returns-then-written-tys : goal.are_viewed_as-returns-then-written-tys
 are_viewed_as-returns-then-written-tys t c =
-    let f = opened_at_home (entries_of c.args.place.now) (home_of c.args.place.now.home) in
+    let f = opened_at_home (entries_of c.args.site.now) (home_of c.args.site.now.home) in
     sym (ap (λ (Vs : Typs). same_all Vs (typs_of c.args.tys.now)) (views f c.args.written.now)
     ∙ unlike_lengths (λ (u : Ty). with_each f (typ_of u)) typ_of c.args.written.now c.args.tys.now (λ e. c.if-written-tys.true e))

@@ -9,6 +9,6 @@ abbrev pub invariant-are_viewed_as-loop-i : goal.invariant-are_viewed_as-loop-i
 invariant-are_viewed_as-loop-i l = record {
   lengths : length l.written ≡ length l.tys;
   left :
-      same_all (all_with_each (opened_at_home (entries_of l.place) (home_of l.place.home)) (typs_of l.written)) (typs_of l.tys)
-      ≡ same_all (all_with_each (opened_at_home (entries_of l.place) (home_of l.place.home)) (typs_of (drop l.i l.written))) (typs_of (drop l.i l.tys));
+      same_all (all_with_each (opened_at_home (entries_of l.site) (home_of l.site.home)) (typs_of l.written)) (typs_of l.tys)
+      ≡ same_all (all_with_each (opened_at_home (entries_of l.site) (home_of l.site.home)) (typs_of (drop l.i l.written))) (typs_of (drop l.i l.tys));
 }

@@ -11,5 +11,5 @@ use Rattle.ac_check.proofs.seen.+view.Given as goal
 
 abbrev pub invariant-all_viewed-loop-ty : goal.invariant-all_viewed-loop-ty
 invariant-all_viewed-loop-ty l =
-    kept_all (all_with_each (opened_at_home (entries_of l.place) (home_of l.place.home)) (typs_of l.tys))
-    ≡ ahead l.found (collected (λ (t : Ty). K (Some (with_each (opened_at_home (entries_of l.place) (home_of l.place.home)) (typ_of t)))) (drop l.ty-index l.tys))
+    kept_all (all_with_each (opened_at_home (entries_of l.site) (home_of l.site.home)) (typs_of l.tys))
+    ≡ ahead l.found (collected (λ (t : Ty). K (Some (with_each (opened_at_home (entries_of l.site) (home_of l.site.home)) (typ_of t)))) (drop l.ty-index l.tys))

@@ -13,11 +13,11 @@ use Rattle.ac_check.proofs.typing.+typing.Given as goal
 
 abbrev pub invariant-types_of-loop-t : goal.invariant-types_of-loop-t
 invariant-types_of-loop-t l =
-    types_of Coloured false (entries_of l.place) (scope_of l.place (types_in l.vars)) (exprs (map expr_of l.terms))
-    ≡ ahead l.found (collected (λ (t : Term). type_of Coloured false (entries_of l.place) (scope_of l.place (types_in l.vars)) (expr_of t)) (drop l.t-index l.terms))
+    types_of Coloured false (entries_of l.site) (scope_of l.site (types_in l.vars)) (exprs (map expr_of l.terms))
+    ≡ ahead l.found (collected (λ (t : Term). type_of Coloured false (entries_of l.site) (scope_of l.site (types_in l.vars)) (expr_of t)) (drop l.t-index l.terms))
 
 abbrev pub invariant-arms_type-loop-arm : goal.invariant-arms_type-loop-arm
 invariant-arms_type-loop-arm l =
-    option_and_then one_of (arm_types Coloured false (entries_of l.place) (scope_of l.place (types_in l.vars)) (typ_of l.ty) (arms (map arm_of l.cases)))
+    option_and_then one_of (arm_types Coloured false (entries_of l.site) (scope_of l.site (types_in l.vars)) (typ_of l.ty) (arms (map arm_of l.cases)))
     ≡ arms_after (option_map typ_of l.first)
-    (collected (λ (a : Arm). arm_type (entries_of l.place) (scope_of l.place (types_in l.vars)) (typ_of l.ty) (pattern_of a.pat) (expr_of a.body)) (drop l.arm-index l.cases))
+    (collected (λ (a : Arm). arm_type (entries_of l.site) (scope_of l.site (types_in l.vars)) (typ_of l.ty) (pattern_of a.pat) (expr_of a.body)) (drop l.arm-index l.cases))

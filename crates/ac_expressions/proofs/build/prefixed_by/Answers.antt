@@ -2,7 +2,7 @@ use Rattle.std.proofs.Common.{◌+◌, ◌∙◌, ap, sym, arith}
 use Rattle.ac_syntax.specs.Trees.{height}
 use Rattle.ac_syntax.specs.ReadTrees.{expr_of}
 use Rattle.ac_expressions.specs.declared.front.Prefix.{Prefix}
-use Rattle.ac_expressions.specs.Forms.{prefixed}
+use Rattle.ac_expressions.specs.inner.Forms.{prefixed}
 use Rattle.ac_expressions.proofs.ExprLaws.{expr_of-ExnOf}
 use Rattle.ac_expressions.proofs.build.prefixed_by.Goals as goal
 

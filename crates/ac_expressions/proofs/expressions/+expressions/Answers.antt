@@ -14,8 +14,8 @@ use Rattle.ac_syntax.specs.declared.surface.SArm.{SArm}
 use Rattle.ac_syntax.specs.declared.surface.SPat.{SPat}
 use Rattle.ac_syntax.specs.declared.sign.Symbol.TheVariants.{Arrow, Close, Comma, Semicolon, Else, Equals, In, Then, With}
 use Rattle.ac_syntax.proofs.OnStop.{on_syntax_more, refused}
-use Rattle.ac_expressions.specs.Parsing.{Nothing, Before, Made}
-use Rattle.ac_expressions.specs.Forms.{Same, NoTree, IsLastPart, operator_read, OperatorAt, IsLastOperand, IsArm, IsArms, IsParts, sequence_tree}
+use Rattle.ac_expressions.specs.ExpressionParsing.{Nothing, Before, Made}
+use Rattle.ac_expressions.specs.inner.Forms.{Same, NoTree, IsLastPart, operator_read, OperatorAt, IsLastOperand, IsArm, IsArms, IsParts, sequence_tree}
 use Rattle.ac_expressions.proofs.ExprLaws.{arm_of-made}
 use Rattle.ac_expressions.proofs.Readers.{word_at, second_read, then, first_none, later_none, behind, no_symbol, behind_none, before, before_none, symbol_none, one_before, one_typed, one_argument, one_head}
 use Rattle.ac_expressions.proofs.Levels.{flat_none, one_tree, same_start, same_then, same_none, args_ended, argument_none, argument_high, next_argument, applied_none, same_applied, same_operand, prefixed_none, prefixed_tree, second_none, lone_tree, minus_none, minus_tree, not_none, not_tree, app_tree, app_none, unary_tree, unary_none, joined_height, operand_none, binary_tree, after_none, after_ended, left_step, right_step, once_step, goes_on, past_operator}

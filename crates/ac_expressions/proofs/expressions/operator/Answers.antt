@@ -6,7 +6,7 @@ use Rattle.ac_syntax.specs.declared.sign.Symbol.{Symbol}
 use Rattle.ac_syntax.specs.declared.sign.SignKind.{SignKind}
 use Rattle.ac_syntax.specs.declared.sign.SignKind.TheVariants as kind
 use Rattle.ac_syntax.proofs.Exceptions.{nothing_there, same_value}
-use Rattle.ac_expressions.specs.Forms.{NoOperator, operator_read}
+use Rattle.ac_expressions.specs.inner.Forms.{NoOperator, operator_read}
 use Rattle.ac_expressions.proofs.expressions.operator.Goals as goal
 
 nothing_here : {level : ℕ} {ts : List Sign} → ts ≡ [] → NoOperator level ts

@@ -1,7 +1,7 @@
 use Rattle.std.proofs.Common.{◌≡◌, List, ◌∷◌, refl}
 use Rattle.ac_syntax.specs.Signs.{Sign, Fixed}
 use Rattle.ac_syntax.specs.Expressions.{after_bar}
-use Rattle.ac_syntax.specs.Parsing.{NoSymbol}
+use Rattle.ac_syntax.specs.PartParsing.{NoSymbol}
 use Rattle.ac_syntax.specs.declared.sign.Symbol.TheVariants.{Bar}
 use Rattle.ac_expressions.proofs.keywords.after_bar.Goals as goal
 

@@ -7,7 +7,7 @@ use Rattle.ac_syntax.specs.ReadTrees.{expr_of}
 use Rattle.ac_syntax.specs.declared.surface.SExprKind.{Int}
 use Rattle.ac_syntax.specs.declared.surface.SExprKind.TheViews.{roll-SExpr}
 use Rattle.ac_syntax.proofs.OnStop.{refused}
-use Rattle.ac_expressions.specs.Forms.{LeafAt}
+use Rattle.ac_expressions.specs.inner.Forms.{FormLeafAt}
 use Rattle.ac_expressions.proofs.ExprLaws.{expr_of-Int, expr_of-Str, expr_of-Var, expr_of-kind}
 use Rattle.ac_expressions.proofs.Atoms.{int_leaf, str_leaf, var_leaf, base_leaf, no_base_leaf}
 use Rattle.ac_expressions.proofs.leaves.leaf.Goals as goal
@@ -15,7 +15,7 @@ use Rattle.ac_expressions.proofs.leaves.leaf.Goals as goal
 pub returns-in_ok-constant-in-Int-clause-found : goal.returns-in_ok-constant-in-Int-clause-found
 returns-in_ok-constant-in-Int-clause-found c =
     let f : FitsSigned w64 c.in_ok-constant-in-Int.field-0 = search rules in
-    subst (λ (z : ℤ). LeafAt (read_signs c.args.signs.now) (expr_of (roll-SExpr (record { at = c.in-Some.first.at; kind = Int z }))) (read_signs c.in-Some.rest.now)) (sym (to_z-of_z w64 c.in_ok-constant-in-Int.field-0 f))
+    subst (λ (z : ℤ). FormLeafAt (read_signs c.args.signs.now) (expr_of (roll-SExpr (record { at = c.in-Some.first.at; kind = Int z }))) (read_signs c.in-Some.rest.now)) (sym (to_z-of_z w64 c.in_ok-constant-in-Int.field-0 f))
     (int_leaf _ c.in-Some.first.at _ _ _ (c.in-Some.ensures.first ∙ ap (λ (k : SignKind). read_kind c.in-Some.first.at k ∷ read_signs c.in-Some.rest.now) c.in-Int.is)
     (expr_of-Int c.in-Some.first.at c.in_ok-constant-in-Int.field-0 ∙ ap (ExInt c.in-Some.first.at) c.in_ok-constant-in-Int.ensures))
 

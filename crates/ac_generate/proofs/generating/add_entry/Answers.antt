@@ -3,7 +3,7 @@ use Rattle.ac_terms.specs.Terms.{In}
 use Rattle.ac_terms.specs.Defs.{AModule, AnImport, AMark}
 use Rattle.ac_terms.specs.Read.{environment_of, field_of, def_of_code, module_of_code, import_of_code}
 use Rattle.ac_code.specs.ReadCode.{code_of}
-use Rattle.ac_generate.specs.Programs.{fields_generated, field_numbers}
+use Rattle.ac_generate.specs.Generated.{fields_generated, field_numbers}
 use Rattle.ac_generate.proofs.Written.{on_ok}
 use Rattle.ac_generate.proofs.TableLaws.{entry_module, module_generated, nothing_generated, fields_kept}
 use Rattle.ac_generate.proofs.generating.add_entry.Goals as goal

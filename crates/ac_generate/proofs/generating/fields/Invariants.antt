@@ -1,7 +1,7 @@
 use Rattle.std.proofs.Common.{◌≡◌, ◌++◌, map, drop}
 use Rattle.ac_terms.specs.Read.{home_of, field_of}
 use Rattle.ac_code.specs.ReadCode.{code_of, number_of}
-use Rattle.ac_generate.specs.Programs.{fields_generated, field_numbers, KeepsBlocks}
+use Rattle.ac_generate.specs.Generated.{fields_generated, field_numbers, KeepsBlocks}
 use Rattle.ac_generate.proofs.generating.fields.Given as goal
 
 abbrev pub invariant-loop-field : goal.invariant-loop-field

@@ -2,7 +2,7 @@ use Rattle.std.proofs.Common.{◌∙◌, length, sym}
 use Rattle.std.proofs.lemmas.List.{length-map}
 use Rattle.ac_terms.specs.Read.{home_of, expr_of}
 use Rattle.ac_code.specs.ReadCode.{instr_of, block_of, code_of}
-use Rattle.ac_generate.specs.Drafts.{draft_of}
+use Rattle.ac_generate.specs.inner.Drafts.{draft_of}
 use Rattle.ac_generate.proofs.FormLaws.{types_of-Empty}
 use Rattle.ac_generate.proofs.Written.{on_ok}
 use Rattle.ac_generate.proofs.TableLaws.{if_ok, fresh_written, term_stored, term_numbered}

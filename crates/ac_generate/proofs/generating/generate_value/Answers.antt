@@ -4,7 +4,7 @@ use Rattle.ac_terms.specs.Terms.{Main}
 use Rattle.ac_terms.specs.Read.{value_of}
 use Rattle.ac_code.specs.Code.{Return}
 use Rattle.ac_code.specs.ReadCode.{block_of, code_of}
-use Rattle.ac_generate.specs.Drafts.{draft_of}
+use Rattle.ac_generate.specs.inner.Drafts.{draft_of}
 use Rattle.ac_generate.proofs.Written.{on_ok}
 use Rattle.ac_generate.proofs.TableLaws.{if_ok, fresh_written, value_stored, value_numbered}
 use Rattle.ac_generate.proofs.generating.generate_value.Goals as goal

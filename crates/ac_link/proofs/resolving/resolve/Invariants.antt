@@ -3,7 +3,7 @@ use Rattle.ac_types.specs.First.{first_some}
 use Rattle.ac_types.specs.ReadTypes.{resolve_of}
 use Rattle.ac_terms.specs.Read.{import_of_code, environment_of}
 use Rattle.ac_rules.specs.Links.{gives, linked}
-use Rattle.ac_link.specs.Faults.{when_of}
+use Rattle.ac_link.specs.LinkFaults.{when_of}
 use Rattle.ac_link.proofs.resolving.resolve.Given as goal
 
 abbrev pub invariant-loop-atom : goal.invariant-loop-atom

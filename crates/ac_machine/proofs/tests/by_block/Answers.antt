@@ -4,7 +4,7 @@ use Rattle.ac_machine.specs.States.{Run}
 use Rattle.ac_machine.specs.Resumes.{with_block}
 use Rattle.ac_machine.specs.Held.{core}
 use Rattle.ac_machine.specs.Seen.{standing}
-use Rattle.ac_machine.specs.Steps.{entering}
+use Rattle.ac_machine.specs.inner.Steps.{entering}
 use Rattle.ac_machine.proofs.AheadLaws.{on_only, answered_at}
 use Rattle.ac_machine.proofs.tests.by_block.Goals as goal
 

@@ -2,7 +2,7 @@ use Rattle.std.proofs.Common.{◌≡◌, length, map, drop}
 use Rattle.ac_types.specs.Types.{same_all, typs}
 use Rattle.ac_types.specs.ReadTypes.{typ_of}
 use Rattle.ac_terms.specs.Read.{module_of_code}
-use Rattle.ac_modules.specs.Asked.{all_inside}
+use Rattle.ac_modules.specs.inner.Asked.{all_inside}
 use Rattle.ac_modules.proofs.cover.+inside.Given as goal
 
 abbrev pub invariant-are_inside-loop-i : goal.invariant-are_inside-loop-i

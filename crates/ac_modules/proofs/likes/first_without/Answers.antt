@@ -4,7 +4,7 @@ use Rattle.std.proofs.lemmas.Iterator.{YieldsList-from_slice}
 use Rattle.std.proofs.lemmas.Iterator.Search.{position_from_yields_List}
 use Rattle.ac_types.specs.ReadTypes.{typed_of, sig_type_of}
 use Rattle.ac_types.specs.declared.sig.SigType.{SigType}
-use Rattle.ac_modules.specs.Asked.{has_like}
+use Rattle.ac_modules.specs.inner.Asked.{has_like}
 use Rattle.ac_terms.proofs.Places.{first_failing-map}
 use Rattle.ac_modules.proofs.likes.first_without.Goals as goal
 

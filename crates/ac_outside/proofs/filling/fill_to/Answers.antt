@@ -8,9 +8,14 @@ loop-i-init g c = (grind arith, c.requires, grown_none _, λ told. refl, omega a
 pub loop-i-preserved : goal.loop-i-preserved
 loop-i-preserved g c =
     let i = c.loop-i.invariant in
-    let e = c.in-Done.ensures in
-    (grind arith, grind arith, grown_on _ _ _ i.2 e.added.0, λ told. i.3 told ∙ e.moves told, omega (arith, i.4, e.later),
-     g.met.S.Source.passes_on _ _ _ i.5 e.passes)
+    let e = c.in-Done.ensures in (
+      grind arith,
+      grind arith,
+      grown_on _ _ _ i.2 e.added.0,
+      λ told. i.3 told ∙ e.moves told,
+      omega (arith, i.4, e.later),
+      g.met.S.Source.passes_on _ _ _ i.5 e.passes,
+    )
 
 pub returns-then-has-want-clause-filled : goal.returns-then-has-want-clause-filled
 returns-then-has-want-clause-filled g c = (c.loop-i.invariant.2, grind arith)

@@ -5,7 +5,7 @@ use Rattle.ac_syntax.specs.Trees.{DefTree}
 use Rattle.ac_syntax.specs.ReadSigns.{read_signs}
 use Rattle.ac_syntax.specs.ReadTrees.{def_of}
 use Rattle.ac_syntax.proofs.OnStop.{on_syntax_more}
-use Rattle.ac_parser.specs.Parsing.{DefsSoFar}
+use Rattle.ac_parser.specs.inner.ProgramParsing.{DefsSoFar}
 use Rattle.ac_parser.proofs.ProgramSteps.{no_defs_yet, next_def, stuck, end_at, so_far_at}
 use Rattle.ac_parser.proofs.programs.definitions.Goals as goal
 

@@ -1,7 +1,7 @@
 use Rattle.std.proofs.Common.{◌<◌, map, length}
 use Rattle.ac_syntax.specs.ReadSigns.{read_signs}
 use Rattle.ac_syntax.specs.ReadTrees.{def_of}
-use Rattle.ac_parser.specs.Parsing.{DefsSoFar}
+use Rattle.ac_parser.specs.inner.ProgramParsing.{DefsSoFar}
 use Rattle.ac_parser.proofs.programs.definitions.Given as goal
 
 abbrev pub invariant-loop-defs : goal.invariant-loop-defs

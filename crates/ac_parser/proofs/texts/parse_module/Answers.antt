@@ -5,7 +5,7 @@ use Rattle.ac_syntax.specs.Signs.{Sign, signs}
 use Rattle.ac_syntax.specs.Programs.{IsModule}
 use Rattle.ac_syntax.specs.ReadSigns.{read_signs}
 use Rattle.ac_syntax.proofs.OnStop.{on_syntax_more}
-use Rattle.ac_parser.specs.Parsing.{NoTree}
+use Rattle.ac_parser.specs.inner.ProgramParsing.{NoProgramTree}
 use Rattle.ac_parser.specs.Texts.{FaultAt}
 use Rattle.ac_parser.proofs.TextLaws.{fault_of, unread_fault}
 use Rattle.ac_parser.proofs.texts.parse_module.Goals as goal
@@ -19,4 +19,4 @@ pub returns-clause-fault : goal.returns-clause-fault
 returns-clause-fault c =
     let all = ap read_signs c.as_slice-2.ensures.value ∙ c.in_ok-all.ensures ∙ ap signs c.as_slice.ensures in
     fault_of IsModule _ _ _ _ c.in_ok-found.ensures.read (subst (λ (l : List Token). FaultAt l (length c.args.bytes.now) c.in-Err.stop c.fault.result) c.as_slice-in-Err.ensures c.fault.ensures)
-    (on_syntax_more _ (λ (none : NoTree IsModule (read_signs c.as_slice-2.result.now)). subst (λ (l : List Sign). NoTree IsModule l) all none) c.in-Err.ensures.none)
+    (on_syntax_more _ (λ (none : NoProgramTree IsModule (read_signs c.as_slice-2.result.now)). subst (λ (l : List Sign). NoProgramTree IsModule l) all none) c.in-Err.ensures.none)

@@ -5,8 +5,8 @@ use Rattle.ac_syntax.specs.declared.surface.SArm.{SArm}
 use Rattle.ac_syntax.specs.Trees.{trees, arm_trees}
 use Rattle.ac_syntax.specs.ReadTrees.{expr_of, arm_of}
 use Rattle.ac_resolve.specs.declared.flaws.Flaws.{Flaws}
-use Rattle.ac_resolve.specs.Flaws.{flaws, flaws_of_all, arm_flaws, arms_flaws}
-use Rattle.ac_resolve.specs.Scopes.{names_in}
+use Rattle.ac_resolve.specs.inner.Flaws.{flaws, flaws_of_all, arm_flaws, arms_flaws}
+use Rattle.ac_resolve.specs.inner.NameScopes.{names_in}
 use Rattle.ac_resolve.proofs.Leasts.{next_part, last_part, arms_law}
 use Rattle.ac_resolve.proofs.check.+flaws.Goals as goal
 

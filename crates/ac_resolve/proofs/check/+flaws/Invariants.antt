@@ -1,8 +1,8 @@
 use Rattle.std.proofs.Common.{◌≡◌, map, drop}
 use Rattle.ac_syntax.specs.Trees.{trees, arm_trees}
 use Rattle.ac_syntax.specs.ReadTrees.{expr_of, arm_of}
-use Rattle.ac_resolve.specs.Flaws.{joined, flaws_of_all, arms_flaws}
-use Rattle.ac_resolve.specs.Scopes.{names_in}
+use Rattle.ac_resolve.specs.inner.Flaws.{joined, flaws_of_all, arms_flaws}
+use Rattle.ac_resolve.specs.inner.NameScopes.{names_in}
 use Rattle.ac_resolve.proofs.check.+flaws.Given as goal
 
 abbrev pub invariant-all-loop-tree : goal.invariant-all-loop-tree

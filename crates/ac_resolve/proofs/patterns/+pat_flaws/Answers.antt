@@ -3,7 +3,7 @@ use Rattle.ac_syntax.specs.declared.surface.SPat.{SPat}
 use Rattle.ac_syntax.specs.Trees.{pat_trees}
 use Rattle.ac_syntax.specs.ReadTrees.{pat_of}
 use Rattle.ac_resolve.specs.declared.flaws.Flaws.{Flaws}
-use Rattle.ac_resolve.specs.Flaws.{pat_flaws, pats_flaws}
+use Rattle.ac_resolve.specs.inner.Flaws.{pat_flaws, pats_flaws}
 use Rattle.ac_resolve.proofs.Leasts.{next_part, last_part}
 use Rattle.ac_resolve.proofs.patterns.+pat_flaws.Goals as goal
 

@@ -1,7 +1,7 @@
 use Rattle.std.proofs.Common.{◌≡◌, map, drop}
 use Rattle.ac_syntax.specs.Trees.{pat_trees}
 use Rattle.ac_syntax.specs.ReadTrees.{pat_of}
-use Rattle.ac_resolve.specs.Flaws.{joined, pats_flaws}
+use Rattle.ac_resolve.specs.inner.Flaws.{joined, pats_flaws}
 use Rattle.ac_resolve.proofs.patterns.+pat_flaws.Given as goal
 
 abbrev pub invariant-pats_flaws-loop-tree : goal.invariant-pats_flaws-loop-tree

@@ -1,7 +1,7 @@
 use Rattle.std.proofs.Common.{◌≡◌, ◌∙◌, ap, rules, arith, not, length}
 use Rattle.std.specs.Prelude.{is_some}
 use Rattle.ac_types.specs.Types.{Bytes}
-use Rattle.ac_resolve.specs.Names.{binders_to}
+use Rattle.ac_resolve.specs.ScopedNames.{binders_to}
 use Rattle.ac_resolve.proofs.Repeats.{seen_words, has_more, again_more, again_all}
 use Rattle.ac_resolve.proofs.patterns.repeated_name.Goals as goal
 

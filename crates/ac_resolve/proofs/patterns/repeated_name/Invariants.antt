@@ -3,7 +3,7 @@ use Rattle.std.specs.HashSet.{contains}
 use Rattle.std.specs.Cmp.Lexicographic.{pointwise}
 use Rattle.ac_types.specs.Types.{Bytes}
 use Rattle.ac_syntax.specs.ReadTrees.{name_of}
-use Rattle.ac_resolve.specs.Names.{least}
+use Rattle.ac_resolve.specs.ScopedNames.{least}
 use Rattle.ac_resolve.specs.Repeated.{repeated_name}
 use Rattle.ac_resolve.proofs.Repeats.{Has, seen_words}
 use Rattle.ac_resolve.proofs.patterns.repeated_name.Given as goal

@@ -9,7 +9,7 @@ use Rattle.ac_syntax.specs.ReadTrees.{expr_of as tree_of}
 use Rattle.ac_resolve.specs.Counts.{too_many}
 use Rattle.ac_resolve.proofs.Within.{too_many_in_arm, item_within, item_arm_within}
 use Rattle.ac_terms.specs.Read.{expr_of}
-use Rattle.ac_resolve.specs.Scopes.{names_in, read_arm}
+use Rattle.ac_resolve.specs.inner.NameScopes.{names_in, read_arm}
 use Rattle.ac_resolve.proofs.Lists.{built}
 use Rattle.ac_resolve.proofs.Made.{term_made, all_terms, arm_made, all_arms}
 use Rattle.ac_resolve.proofs.term.+term.Goals as goal

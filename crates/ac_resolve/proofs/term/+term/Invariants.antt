@@ -1,6 +1,6 @@
 use Rattle.std.proofs.Common.{◌≡◌, map, take}
 use Rattle.ac_terms.specs.Read.{expr_of}
-use Rattle.ac_resolve.specs.Scopes.{names_in, read_arm}
+use Rattle.ac_resolve.specs.inner.NameScopes.{names_in, read_arm}
 use Rattle.ac_resolve.proofs.Made.{term_made, arm_made}
 use Rattle.ac_resolve.proofs.term.+term.Given as goal
 

@@ -1,7 +1,7 @@
 use Rattle.std.proofs.Common.{◌≡◌, ◌∙◌, ◌<◌, ap, sym, rules, ℕ, Option}
 use Rattle.std.specs.Prelude.{unwrap_or}
 use Rattle.ac_terms.specs.Terms.{Var}
-use Rattle.ac_resolve.specs.Scopes.{names_in}
+use Rattle.ac_resolve.specs.inner.NameScopes.{names_in}
 use Rattle.ac_resolve.proofs.Scoping.{number_fits}
 use Rattle.ac_resolve.proofs.TermLaws.{expr_of-Var}
 use Rattle.ac_resolve.proofs.term.variable.Goals as goal

@@ -3,7 +3,7 @@ use Rattle.ac_syntax.specs.declared.surface.SType.{SType}
 use Rattle.ac_syntax.specs.Trees.{type_trees}
 use Rattle.ac_syntax.specs.ReadTrees.{type_of}
 use Rattle.ac_resolve.specs.declared.flaws.Flaws.{Flaws}
-use Rattle.ac_resolve.specs.Flaws.{names_and_tuples, names_and_tuples_of_all}
+use Rattle.ac_resolve.specs.inner.Flaws.{names_and_tuples, names_and_tuples_of_all}
 use Rattle.ac_resolve.proofs.Leasts.{next_part, last_part}
 use Rattle.ac_resolve.proofs.types.+names_and_tuples.Goals as goal
 

@@ -1,7 +1,7 @@
 use Rattle.std.proofs.Common.{arith}
 use Rattle.ac_terms.specs.Read.{environment_of}
 use Rattle.ac_code.specs.ReadCode.{code_of}
-use Rattle.ac_generate.specs.Programs.{entries_generated}
+use Rattle.ac_generate.specs.Generated.{entries_generated}
 use Rattle.ac_run.proofs.Starts.{next_entry}
 use Rattle.ac_run.proofs.session.entries.Goals as goal
 

@@ -1,7 +1,7 @@
 use Rattle.std.proofs.Common.{◌≡◌, ◌≤◌, length, drop}
 use Rattle.ac_terms.specs.Read.{environment_of}
 use Rattle.ac_code.specs.ReadCode.{code_of}
-use Rattle.ac_generate.specs.Programs.{entries_generated}
+use Rattle.ac_generate.specs.Generated.{entries_generated}
 use Rattle.ac_run.proofs.session.entries.Given as goal
 
 abbrev pub invariant-loop-i : goal.invariant-loop-i

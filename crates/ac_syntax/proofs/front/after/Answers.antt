@@ -1,6 +1,6 @@
 use Rattle.std.proofs.Common.{sym, subst}
 use Rattle.ac_syntax.specs.ReadSigns.{read_signs}
-use Rattle.ac_syntax.specs.Parsing.{SymbolAt}
+use Rattle.ac_syntax.specs.PartParsing.{SymbolAt}
 use Rattle.ac_syntax.specs.declared.sign.Symbol.{Symbol}
 use Rattle.ac_syntax.proofs.SameSymbol.{same_symbol}
 use Rattle.ac_syntax.proofs.front.after.Goals as goal

@@ -3,8 +3,8 @@ use Rattle.std.proofs.lemmas.List.{map-append}
 use Rattle.std.proofs.lemmas.Result.{IfOk-weaker, IfErr-weaker, err_from_is_err_and}
 use Rattle.ac_syntax.specs.Signs.{here}
 use Rattle.ac_syntax.specs.Trees.{TypeTree, TyFun, type_trees, type_height, highest_type}
-use Rattle.ac_syntax.specs.Types.{Whole, IsTypeTree}
-use Rattle.ac_syntax.specs.Parsing.{suffixed_by, TupleOf}
+use Rattle.ac_syntax.specs.TypeForms.{Whole, IsTypeTree}
+use Rattle.ac_syntax.specs.PartParsing.{suffixed_by, TupleOf}
 use Rattle.ac_syntax.specs.ReadSigns.{read_signs}
 use Rattle.ac_syntax.specs.ReadTrees.{type_of}
 use Rattle.ac_syntax.proofs.OnStop.{on_syntax_more, refused}

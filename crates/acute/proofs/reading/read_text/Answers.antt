@@ -1,5 +1,5 @@
 use Rattle.std.proofs.Common.{◌∙◌, sym, ap, subst, rules, arith, take, length, refl, length-append, length-take}
-use Rattle.ac_outside.specs.Outside.{Reads, Contents}
+use Rattle.ac_outside.specs.Outside.{ReadsFrom, Contents}
 use Rattle.ac_outside.specs.declared.traits.Got.TheVariants as got
 use Rattle.acute.proofs.Pieces.{begins_at_all, begins_more, ends_there, is_full, rose_since}
 use Rattle.acute.proofs.reading.read_text.Goals as goal
@@ -23,7 +23,7 @@ loop-len-preserved g c =
       within = search rules;
       later = omega (arith, i.later, b.later c.args.name.now);
       begins = λ told.
-          let r = subst (λ (f : Contents). Reads (got.Bytes c.in-Bytes.count) (f c.args.name.now) c.loop-len.len c.read.new.buf) (i.same told) (b.bytes told) in
+          let r = subst (λ (f : Contents). ReadsFrom (got.Bytes c.in-Bytes.count) (f c.args.name.now) c.loop-len.len c.read.new.buf) (i.same told) (b.bytes told) in
           rw o (begins_more _ _ _ _ _ _ i.len_is (i.begins told) r refl);
       same = λ told. b.same told ∙ i.same told;
     }
@@ -31,7 +31,7 @@ loop-len-preserved g c =
 pub returns-in-End-clause-text : goal.returns-in-End-clause-text
 returns-in-End-clause-text g c = λ told.
     let i = c.loop-len.invariant in
-    let r = subst (λ (f : Contents). Reads got.End (f c.args.name.now) c.loop-len.len c.read.new.buf) (i.same told) (c.in-End.ensures.bytes told) in
+    let r = subst (λ (f : Contents). ReadsFrom got.End (f c.args.name.now) c.loop-len.len c.read.new.buf) (i.same told) (c.in-End.ensures.bytes told) in
     ends_there _ _ _ _ i.len_is i.within (i.begins told) r
 
 pub returns-in-Failed-clause-cause : goal.returns-in-Failed-clause-cause

@@ -1,5 +1,5 @@
 use Rattle.std.proofs.Common.{◌≡◌, ◌≤◌, ◌-◌, length, IsTrue}
-use Rattle.acute.specs.Fronts.{Begins}
+use Rattle.acute.specs.inner.Fronts.{Begins}
 use Rattle.acute.proofs.reading.read_text.Given as goal
 
 abbrev pub invariant-loop-len : goal.invariant-loop-len

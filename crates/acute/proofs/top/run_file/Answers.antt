@@ -1,6 +1,6 @@
 use Rattle.std.proofs.Common.{sym, ap, subst, refl, List, ℕ, Some, Err, IsTrue}
 use Rattle.acute.specs.declared.reading.ReadFault.{ReadFault}
-use Rattle.acute.specs.Fronts.{IsFrontOf}
+use Rattle.acute.specs.inner.Fronts.{IsFrontOf}
 use Rattle.ac_words.specs.Commands.{run}
 use Rattle.acute.proofs.EndingLaws.{end_read_fault, end_early}
 use Rattle.acute.proofs.Pieces.{within_limit}

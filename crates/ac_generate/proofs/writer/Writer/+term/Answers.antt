@@ -4,9 +4,9 @@ use Rattle.ac_types.specs.Types.{Typ, TFun}
 use Rattle.ac_types.specs.ReadTypes.{typ_of}
 use Rattle.ac_terms.specs.Read.{home_of, pattern_of, expr_of}
 use Rattle.ac_terms.specs.Terms.{arms}
-use Rattle.ac_generate.specs.Arms.{arm_of}
-use Rattle.ac_generate.specs.Scopes.{types_of}
-use Rattle.ac_generate.specs.Drafts.{draft_of, place, count, begun, ended, wrote, wrote_arm, end_of}
+use Rattle.ac_generate.specs.inner.Arms.{arm_of}
+use Rattle.ac_generate.specs.inner.CodeScopes.{types_of}
+use Rattle.ac_generate.specs.inner.Drafts.{draft_of, address, count, begun, ended, wrote, wrote_arm, end_of}
 use Rattle.ac_generate.proofs.FormLaws.{types_of-Empty, types_of-Variable, types_of-Variables, arm_fields, lam_is, rec_is, if_is, match_is, try_is}
 use Rattle.ac_generate.proofs.TermLaws.{count_types, plain_written}
 use Rattle.ac_generate.proofs.Written.{on_ok, rec_written, packed_lam_written, packed_rec_written, if_written, match_written, try_written, arm_written, arm_ended}
@@ -22,18 +22,18 @@ arm-returns-clause-ok t c =
     (types_of-Variables c.args.scope c.as_slice.result ∙ ap (λ Ts. reverse Ts ++ G) (ap (map typ_of) c.as_slice.ensures.value ∙ c.in_ok-bound.ensures))
     (count_types _ c.in_ok-bound.bound.items _ (search rules) c.in_ok-bound.ensures)
     c.in_ok-test.ensures.ok c.in_ok-term.ensures c.in_ok-unbind.ensures
-    (draft_of c.hold-2.new.self) (draft_of c.test.new.self) _ (place (draft_of c.hold-2.new.self)) c.in_ok-test.ensures.place c.in_ok-end.ensures.ok refl c.in_ok-test-2.ensures
+    (draft_of c.hold-2.new.self) (draft_of c.test.new.self) _ (address (draft_of c.hold-2.new.self)) c.in_ok-test.ensures.address c.in_ok-end.ensures.ok refl c.in_ok-test-2.ensures
     ∙ ap (λ x. wrote_arm home G x.0 x.1 d) (sym (arm_fields c.args.case.now))
 
-pub arm-returns-clause-place : goal.arm-returns-clause-place
-arm-returns-clause-place t c =
+pub arm-returns-clause-address : goal.arm-returns-clause-address
+arm-returns-clause-address t c =
     let G = types_of c.args.scope.now in
     let d = draft_of c.args.self.now in
     arm_ended (home_of c.args.home) G _ (pattern_of c.args.case.now.pat) (expr_of c.args.case.now.body) d _ _ _ c.len.result
     (types_of-Variables c.args.scope c.as_slice.result ∙ ap (λ Ts. reverse Ts ++ G) (ap (map typ_of) c.as_slice.ensures.value ∙ c.in_ok-bound.ensures))
     (count_types _ c.in_ok-bound.bound.items _ (search rules) c.in_ok-bound.ensures)
-    c.in_ok-test.ensures.ok c.in_ok-term.ensures c.in_ok-unbind.ensures c.in_ok-end.end c.in_ok-end.ensures.place
-    ∙ ap (λ x. end_of x.0 x.1 (place d)) (sym (arm_fields c.args.case.now))
+    c.in_ok-test.ensures.ok c.in_ok-term.ensures c.in_ok-unbind.ensures c.in_ok-end.end c.in_ok-end.ensures.address
+    ∙ ap (λ x. end_of x.0 x.1 (address d)) (sym (arm_fields c.args.case.now))
 
 pub function-returns-in_default : goal.function-returns-in_default
 function-returns-in_default t c = plain_written (home_of c.args.home) c.args.function.now (draft_of c.args.self.now) c.in_default.not-Lam c.in_default.not-Rec
@@ -76,20 +76,20 @@ term-returns-in_ok-id-in-Rec t c =
 pub term-returns-in_ok-term-in-If-3 : goal.term-returns-in_ok-term-in-If-3
 term-returns-in_ok-term-in-If-3 t c =
     if_written (home_of c.args.home) (types_of c.args.scope.now) (expr_of c.deref-in-If.result.now) (expr_of c.deref-in-If-2.result.now) (expr_of c.deref-in-If-3.result.now) (expr_of c.args.term.now) (draft_of c.args.self.now) (draft_of c.term-in-If.new.self) (draft_of c.hold.new.self) (draft_of c.term-in-If-2.new.self) (draft_of c.hold-in-If.new.self) (draft_of c.term-in-If-3.new.self) (draft_of c.set.new.self) (draft_of c.set-in-If.new.self)
-    c.in_ok-to_second-in-If.to_second c.in_ok-to_end-in-If.to_end c.place-second.result c.place-end.result
+    c.in_ok-to_second-in-If.to_second c.in_ok-to_end-in-If.to_end c.address-second.result c.address-end.result
     (if_is _ _ _ _ _ _ _ c.in-If.is c.deref-in-If.ensures c.deref-in-If-2.ensures c.deref-in-If-3.ensures)
-    c.in_ok-term-in-If.ensures c.in_ok-to_second-in-If.ensures.place c.in_ok-to_second-in-If.ensures.ok c.in_ok-term-in-If-2.ensures c.in_ok-to_end-in-If.ensures.place c.in_ok-to_end-in-If.ensures.ok c.place-second.ensures c.in_ok-term-in-If-3.ensures c.place-end.ensures c.set.ensures c.set-in-If.ensures
+    c.in_ok-term-in-If.ensures c.in_ok-to_second-in-If.ensures.address c.in_ok-to_second-in-If.ensures.ok c.in_ok-term-in-If-2.ensures c.in_ok-to_end-in-If.ensures.address c.in_ok-to_end-in-If.ensures.ok c.address-second.ensures c.in_ok-term-in-If-3.ensures c.address-end.ensures c.set.ensures c.set-in-If.ensures
 
 pub term-returns-in_ok-put-in-Match : goal.term-returns-in_ok-put-in-Match
 term-returns-in_ok-put-in-Match t c =
     match_written (home_of c.args.home) (types_of c.args.scope.now) (expr_of c.deref-in-Match.result.now) (expr_of c.args.term.now) (arms (map arm_of c.as_slice-in-Match.result.now)) (draft_of c.args.self.now) (draft_of c.term-in-Match.new.self) (draft_of c.arms.new.self) (draft_of c.put-in-Match.new.self) (draft_of c.land.new.self) c.as_slice-in-Match-2.result.now
     (match_is _ _ _ _ _ c.in-Match.is c.deref-in-Match.ensures c.as_slice-in-Match.ensures)
-    c.in_ok-term-in-Match.ensures c.in_ok-ends-in-Match.ensures.ok (c.as_slice-in-Match-2.ensures.value ∙ c.in_ok-ends-in-Match.ensures.places) c.in_ok-put-in-Match.ensures c.land.ensures
+    c.in_ok-term-in-Match.ensures c.in_ok-ends-in-Match.ensures.ok (c.as_slice-in-Match-2.ensures.value ∙ c.in_ok-ends-in-Match.ensures.addresses) c.in_ok-put-in-Match.ensures c.land.ensures
 
 pub term-returns-in_ok-put-in-Try-2 : goal.term-returns-in_ok-put-in-Try-2
 term-returns-in_ok-put-in-Try-2 t c =
     try_written (home_of c.args.home) (types_of c.args.scope.now) (expr_of c.deref-in-Try.result.now) (expr_of c.args.term.now) (arms (map arm_of c.as_slice-in-Try.result.now)) (draft_of c.args.self.now) (draft_of c.hold-in-Try.new.self) (draft_of c.term-in-Try.new.self) (draft_of c.put-in-Try.new.self) (draft_of c.hold-in-Try-2.new.self) (draft_of c.arms-in-Try.new.self) (draft_of c.put-in-Try-2.new.self) (draft_of c.land-in-Try.new.self) (draft_of c.set-in-Try.new.self) (draft_of c.set-in-Try-2.new.self)
-    c.in_ok-to_handler-in-Try.to_handler c.in_ok-to_end-in-Try.to_end c.place-handler.result c.place-end-in-Try.result c.as_slice-in-Try-2.result.now
+    c.in_ok-to_handler-in-Try.to_handler c.in_ok-to_end-in-Try.to_end c.address-handler.result c.address-end-in-Try.result c.as_slice-in-Try-2.result.now
     (try_is _ _ _ _ _ c.in-Try.is c.deref-in-Try.ensures c.as_slice-in-Try.ensures)
-    c.in_ok-to_handler-in-Try.ensures.place c.in_ok-to_handler-in-Try.ensures.ok c.in_ok-term-in-Try.ensures c.in_ok-put-in-Try.ensures c.in_ok-to_end-in-Try.ensures.place c.in_ok-to_end-in-Try.ensures.ok c.place-handler.ensures
-    c.in_ok-ends-in-Try.ensures.ok (c.as_slice-in-Try-2.ensures.value ∙ c.in_ok-ends-in-Try.ensures.places) c.in_ok-put-in-Try-2.ensures c.place-end-in-Try.ensures c.land-in-Try.ensures c.set-in-Try.ensures c.set-in-Try-2.ensures
+    c.in_ok-to_handler-in-Try.ensures.address c.in_ok-to_handler-in-Try.ensures.ok c.in_ok-term-in-Try.ensures c.in_ok-put-in-Try.ensures c.in_ok-to_end-in-Try.ensures.address c.in_ok-to_end-in-Try.ensures.ok c.address-handler.ensures
+    c.in_ok-ends-in-Try.ensures.ok (c.as_slice-in-Try-2.ensures.value ∙ c.in_ok-ends-in-Try.ensures.addresses) c.in_ok-put-in-Try-2.ensures c.address-end-in-Try.ensures c.land-in-Try.ensures c.set-in-Try.ensures c.set-in-Try-2.ensures

@@ -1,9 +1,9 @@
 use Rattle.std.proofs.Common.{◌≡◌, ◌++◌, drop, map}
 use Rattle.ac_terms.specs.Read.{home_of, expr_of, value_of}
 use Rattle.ac_terms.specs.Terms.{exprs, arms, pvalues}
-use Rattle.ac_generate.specs.Arms.{arm_of}
-use Rattle.ac_generate.specs.Scopes.{types_of}
-use Rattle.ac_generate.specs.Drafts.{draft_of, place, wrote_all, wrote_seq, wrote_rest, wrote_arms, ends, wrote_values}
+use Rattle.ac_generate.specs.inner.Arms.{arm_of}
+use Rattle.ac_generate.specs.inner.CodeScopes.{types_of}
+use Rattle.ac_generate.specs.inner.Drafts.{draft_of, address, wrote_all, wrote_seq, wrote_rest, wrote_arms, ends, wrote_values}
 use Rattle.ac_generate.proofs.writer.Writer.+term.Given as goal
 
 abbrev pub invariant-all-loop-term : goal.invariant-all-loop-term
@@ -15,7 +15,7 @@ invariant-parts-loop-part l = wrote_rest (home_of l.home) (types_of l.scope) (ex
 abbrev pub invariant-arms-loop-case : goal.invariant-arms-loop-case
 invariant-arms-loop-case l = record {
   written : wrote_arms (home_of l.home) (types_of l.scope) (arms (map arm_of (drop l.case-index l.cases))) (draft_of l.self) ≡ wrote_arms (home_of l.home) (types_of l.scope) (arms (map arm_of l.cases)) (draft_of l.initial.self);
-  places : l.ends.items ++ ends (arms (map arm_of (drop l.case-index l.cases))) (place (draft_of l.self)) ≡ ends (arms (map arm_of l.cases)) (place (draft_of l.initial.self));
+  addresses : l.ends.items ++ ends (arms (map arm_of (drop l.case-index l.cases))) (address (draft_of l.self)) ≡ ends (arms (map arm_of l.cases)) (address (draft_of l.initial.self));
 }
 
 abbrev pub invariant-values-loop-value : goal.invariant-values-loop-value

@@ -1,5 +1,5 @@
 use Rattle.std.proofs.Common.{◌∙◌, arith}
-use Rattle.ac_generate.specs.Drafts.{draft_of}
+use Rattle.ac_generate.specs.inner.Drafts.{draft_of}
 use Rattle.ac_generate.proofs.TableLaws.{whole_stored, stored_count}
 use Rattle.ac_generate.proofs.writer.Writer.store.Goals as goal
 

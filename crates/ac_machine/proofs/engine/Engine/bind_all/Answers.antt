@@ -1,6 +1,6 @@
 use Rattle.std.proofs.Common.{subst, drop, ◌+◌, List}
 use Rattle.ac_values.specs.declared.node.Value.{Value}
-use Rattle.ac_machine.specs.Steps.{Binding}
+use Rattle.ac_machine.specs.inner.Steps.{Binding}
 use Rattle.ac_machine.proofs.EachLaws.{next_at, drop_past}
 use Rattle.ac_machine.proofs.BindLaws.{binding_start, binding_on, binding_end}
 use Rattle.ac_machine.proofs.engine.Engine.bind_all.Goals as goal

@@ -1,5 +1,5 @@
 use Rattle.std.proofs.Common.{drop}
-use Rattle.ac_machine.specs.Steps.{Binding}
+use Rattle.ac_machine.specs.inner.Steps.{Binding}
 use Rattle.ac_machine.proofs.engine.Engine.bind_all.Given as goal
 
 abbrev pub invariant-loop-value : goal.invariant-loop-value

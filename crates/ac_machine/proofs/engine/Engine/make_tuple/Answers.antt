@@ -6,7 +6,7 @@ use Rattle.ac_values.specs.Values.{MValue, values, values_at}
 use Rattle.ac_values.proofs.ReadLaws.{all_one}
 use Rattle.ac_machine.specs.Machine.{taken, parts}
 use Rattle.ac_machine.specs.Held.{stack_of}
-use Rattle.ac_machine.specs.Steps.{stack_at}
+use Rattle.ac_machine.specs.inner.Steps.{stack_at}
 use Rattle.ac_machine.proofs.TakenLaws.{taken_none, taken_more, stack_more, parts_are}
 use Rattle.ac_machine.proofs.engine.Engine.make_tuple.Goals as goal
 

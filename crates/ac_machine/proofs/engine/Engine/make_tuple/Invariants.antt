@@ -3,7 +3,7 @@ use Rattle.ac_values.specs.Values.{values}
 use Rattle.ac_machine.specs.Machine.{taken}
 use Rattle.ac_machine.specs.Held.{stack_of}
 use Rattle.std.specs.List.{All}
-use Rattle.ac_machine.specs.Steps.{stack_at}
+use Rattle.ac_machine.specs.inner.Steps.{stack_at}
 use Rattle.ac_machine.proofs.engine.Engine.make_tuple.Given as goal
 
 abbrev pub invariant-loop : goal.invariant-loop

@@ -2,11 +2,11 @@
 use Rattle.std.specs.Prelude.{◌≡◌, ℕ, ◌<◌, ◌-◌, Bool, true, false, List, [], ◌∷◌, Option, Some, None}
 use Rattle.ac_syntax.specs.Signs.{Sign, Int, Lower, Fixed}
 use Rattle.ac_syntax.specs.Trees.{NameAt, TypeTree, PatTree, PatWild, PatBool, PatAbsent, PatExn, PatTuple, PatPresent, PatExnOf, pat_tree, pat_trees, pat_height, Tree, tree}
-use Rattle.ac_syntax.specs.Types.{IsType}
+use Rattle.ac_syntax.specs.TypeForms.{IsType}
 use Rattle.ac_syntax.specs.Patterns.{exception_with_string, PatLevel, Pattern, Single, ParsesPat, IsPatTree, IsPattern}
 use Rattle.ac_syntax.specs.Expressions.{begins_atom, front, IsExpr}
 use Rattle.ac_syntax.specs.ReadTrees.{name_of, type_of, pat_of}
-use Rattle.ac_syntax.specs.Parsing.{SymbolAt, LowerAt}
+use Rattle.ac_syntax.specs.PartParsing.{SymbolAt, LowerAt}
 use Rattle.ac_syntax.specs.declared.sign.Symbol.{Symbol}
 use Rattle.ac_syntax.specs.declared.sign.Symbol.TheVariants as symbol
 use Rattle.ac_expressions.specs.declared.binders.Binder.{Binder}
@@ -66,12 +66,12 @@ abbrev pub IsAscribed : Symbol → List Sign → TypeTree → List Sign → Type
 IsAscribed s = Behind symbol.Colon (Before s IsType)
 
 -- lower ':' type, with a symbol behind it
-abbrev pub IsTyped : Symbol → List Sign → NameAt × TypeTree → List Sign → Type 0
-IsTyped s = Then IsName (IsAscribed s)
+abbrev pub IsTypedBinder : Symbol → List Sign → NameAt × TypeTree → List Sign → Type 0
+IsTypedBinder s = Then IsName (IsAscribed s)
 
 -- '(' lower ':' type ')'
 abbrev pub IsArgument : List Sign → NameAt × TypeTree → List Sign → Type 0
-IsArgument = Behind symbol.Open (IsTyped symbol.Close)
+IsArgument = Behind symbol.Open (IsTypedBinder symbol.Close)
 
 -- lower '(' lower ':' type ')' ':' type '='
 abbrev pub IsHead : List Sign → NameAt × ((NameAt × TypeTree) × TypeTree) → List Sign → Type 0

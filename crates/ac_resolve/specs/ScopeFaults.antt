@@ -37,8 +37,8 @@ pub record Elaborates (p : ProgramTree) (main : Expr) : Type 0 where
   pub is : main ≡ main_of p.expr
 
 -- why a program has no term, the first that applies; want of memory is free
-abbrev pub Refuses : ProgramTree → ScopeFault → Type 0
-Refuses p (fault.Unbound at) = first_unbound p.expr ≡ Some at
-Refuses p (fault.Repeated at) = (first_unbound p.expr ≡ None) × (first_repeated p.expr ≡ Some at)
-Refuses p (fault.TooMany count) = (first_unbound p.expr ≡ None) × (first_repeated p.expr ≡ None) × (least_passed p.expr ≡ Some count)
-Refuses p fault.Memory = Unit {0}
+abbrev pub RefusesScopes : ProgramTree → ScopeFault → Type 0
+RefusesScopes p (fault.Unbound at) = first_unbound p.expr ≡ Some at
+RefusesScopes p (fault.Repeated at) = (first_unbound p.expr ≡ None) × (first_repeated p.expr ≡ Some at)
+RefusesScopes p (fault.TooMany count) = (first_unbound p.expr ≡ None) × (first_repeated p.expr ≡ None) × (least_passed p.expr ≡ Some count)
+RefusesScopes p fault.Memory = Unit {0}

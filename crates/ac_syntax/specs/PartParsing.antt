@@ -2,7 +2,7 @@
 use Rattle.std.specs.Prelude.{◌≡◌, ℕ, ◌<◌, ◌≤◌, List, ◌∷◌, Option, Some, None}
 use Rattle.ac_syntax.specs.Signs.{Sign, Lower, Fixed}
 use Rattle.ac_syntax.specs.Trees.{NameAt, TypeTree, TyInt, TyBool, TyStr, TyUnit, TyExn, TyTuple, TyList, TyOpt, TypeTrees, type_tree, type_height, highest_type}
-use Rattle.ac_syntax.specs.Types.{TypeLevel, Whole, Single, ParsesType, ParsesFactors, type_front, IsTypeTree}
+use Rattle.ac_syntax.specs.TypeForms.{TypeLevel, Whole, Single, ParsesType, ParsesFactors, type_front, IsTypeTree}
 use Rattle.ac_syntax.specs.Trees.{SpecTree, SigTree}
 use Rattle.ac_syntax.specs.Programs.{ParsesSpecs, IsSig}
 use Rattle.ac_syntax.specs.declared.fault.ParseFault.{ParseFault}

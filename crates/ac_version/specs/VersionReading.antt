@@ -66,18 +66,18 @@ ReadsConstraint ts (Ranges ranges star) = IsConstraint ts ranges star
 ReadsConstraint ts (Exact name) = ⊥
 
 -- nothing or a dot stands behind a catom
-pub data Behind : List VToken → Type 0 where
-  nothing : Behind []
-  dot : {ts : List VToken} → Behind (Dot ∷ ts)
+pub data VersionBehind : List VToken → Type 0 where
+  nothing : VersionBehind []
+  dot : {ts : List VToken} → VersionBehind (Dot ∷ ts)
 
 -- the longest catom that begins here, so the only one behind which nothing or a dot stands
 pub record RangeRead (ts : List VToken) (r : Range) (rest : List VToken) : Type 0 where
   pub at : RangeAt ts r rest
-  pub only : (q : Range) (other : List VToken) → RangeAt ts q other → Behind other → (q ≡ r) × (other ≡ rest)
+  pub only : (q : Range) (other : List VToken) → RangeAt ts q other → VersionBehind other → (q ≡ r) × (other ≡ rest)
 
 -- no catom begins here behind which nothing or a dot stands
 abbrev pub NoRange : List VToken → Type 0
-NoRange ts = (q : Range) (other : List VToken) → RangeAt ts q other → Behind other → ⊥
+NoRange ts = (q : Range) (other : List VToken) → RangeAt ts q other → VersionBehind other → ⊥
 
 -- behind its ranges a constraint ends, with or without a star
 pub data EndAt : Bool → List VToken → Type 0 where

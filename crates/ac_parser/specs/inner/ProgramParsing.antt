@@ -5,13 +5,13 @@ use Rattle.ac_types.specs.Sigs.{Atom, Constraint, Resolve}
 use Rattle.ac_version.specs.declared.read.VToken.{VToken}
 use Rattle.ac_version.specs.declared.read.VersionFault.{VersionFault}
 use Rattle.ac_version.specs.declared.read.VersionFault.TheVariants as bad
-use Rattle.ac_version.specs.Reading.{ReadsConstraint}
+use Rattle.ac_version.specs.VersionReading.{ReadsConstraint}
 use Rattle.ac_syntax.specs.Signs.{Sign, Str, Lower, Upper, Fixed}
 use Rattle.ac_syntax.specs.Trees.{NameAt, Tree, AbbrevTree, SigTree, WantsTree, WantsVersion, WantsName, DefTree, ProgramTree}
-use Rattle.ac_syntax.specs.Types.{IsType}
+use Rattle.ac_syntax.specs.TypeForms.{IsType}
 use Rattle.ac_syntax.specs.Expressions.{IsExpr}
 use Rattle.ac_syntax.specs.Programs.{IsSig, vtoken_of, VTokens, ParsesVersion, ParsesLike, ParsesDef, ParsesProgram, resolve_of}
-use Rattle.ac_syntax.specs.Parsing.{SymbolAt, NoSymbol}
+use Rattle.ac_syntax.specs.PartParsing.{SymbolAt, NoSymbol}
 use Rattle.ac_syntax.specs.declared.stop.Stop.{Stop}
 use Rattle.ac_syntax.specs.declared.stop.Stop.TheVariants as stop
 use Rattle.ac_syntax.specs.declared.sign.Symbol.TheVariants.{By, Colon, Comma, Equals, NameWord, Struct}
@@ -150,5 +150,5 @@ abbrev pub NoResolve : List Sign → Type 0
 NoResolve ts = (place : Resolve) (rest : List Sign) → ResolveAt ts place rest → ⊥
 
 -- the signs have no tree by this grammar
-abbrev pub NoTree : (List Sign → ProgramTree → Type 0) → List Sign → Type 0
-NoTree Grammar ts = (tree : ProgramTree) → Grammar ts tree → ⊥
+abbrev pub NoProgramTree : (List Sign → ProgramTree → Type 0) → List Sign → Type 0
+NoProgramTree Grammar ts = (tree : ProgramTree) → Grammar ts tree → ⊥

@@ -1,7 +1,7 @@
 -- Lists that share their tails.
 use Rattle.std.specs.Prelude.{ℕ, suc, ◌≡◌, ◌<◌, List, [], ◌∷◌, Option, Some, slice_get, get_or}
 use Rattle.ac_values.specs.declared.chain.Cell.{Cell}
-use Rattle.ac_values.specs.Built.{built}
+use Rattle.ac_values.specs.Building.{built}
 
 abbrev pub list_of : {T : Type 0} → List (List T) → Cell T → List T
 list_of ls c = c.item ∷ get_or ls c.below []

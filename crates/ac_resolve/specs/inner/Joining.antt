@@ -7,7 +7,7 @@ use Rattle.ac_terms.specs.declared.term.Term.{Term}
 use Rattle.ac_syntax.specs.Trees.{TypeTree}
 use Rattle.ac_resolve.specs.Elaboration.{type_in}
 use Rattle.ac_resolve.specs.declared.flaws.Flaws.{Flaws}
-use Rattle.ac_resolve.specs.Flaws.{joined, type_flaws}
+use Rattle.ac_resolve.specs.inner.Flaws.{joined, type_flaws}
 
 pub record Joins (a b : Result Flaws Memory) (f : Flaws) : Type 0 where
   pub first : Flaws
@@ -16,7 +16,7 @@ pub record Joins (a b : Result Flaws Memory) (f : Flaws) : Type 0 where
   pub was_second : b ≡ Ok second
   pub is : f ≡ joined first second
 
-pub record Typed (T U : TypeTree) (a : Result Flaws Memory) (f : Flaws) : Type 0 where
+pub record JoinedTyped (T U : TypeTree) (a : Result Flaws Memory) (f : Flaws) : Type 0 where
   pub inner : Flaws
   pub was : a ≡ Ok inner
   pub is : f ≡ joined (type_flaws T) (joined (type_flaws U) inner)

@@ -3,7 +3,7 @@ use Rattle.std.specs.Prelude.{ℕ, List, [], Option, None}
 use Rattle.ac_types.specs.Types.{Bytes}
 use Rattle.ac_syntax.specs.Trees.{TypeTree, TypeTrees, PatTree, PatTrees, Tree, Trees, ArmTrees}
 use Rattle.ac_resolve.specs.declared.flaws.Flaws.{Flaws}
-use Rattle.ac_resolve.specs.Names.{least}
+use Rattle.ac_resolve.specs.ScopedNames.{least}
 use Rattle.ac_resolve.specs.Elaboration.{variables, bind}
 use Rattle.ac_resolve.specs.Unbound.{unbound_type, unbound_types, unbound_pat, unbound_pats, unbound, unbound_all, unbound_arms}
 use Rattle.ac_resolve.specs.Repeated.{repeated_name, repeated, repeated_all, repeated_arms}

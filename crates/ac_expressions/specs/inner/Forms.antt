@@ -5,7 +5,7 @@ use Rattle.ac_syntax.specs.Trees.{NameAt, TypeTree, PatTree, Tree, ExBool, ExExn
 use Rattle.ac_syntax.specs.Patterns.{IsPattern}
 use Rattle.ac_syntax.specs.Expressions.{Operator, Prim, Consing, Both, Either, operator_of, after_bar, Level, Expr, Part, Binary, Atom, Closed, Parses, front, IsTree}
 use Rattle.ac_syntax.specs.ReadTrees.{expr_of}
-use Rattle.ac_syntax.specs.Parsing.{SymbolAt}
+use Rattle.ac_syntax.specs.PartParsing.{SymbolAt}
 use Rattle.ac_syntax.specs.declared.sign.Symbol.{Symbol}
 use Rattle.ac_syntax.specs.declared.sign.Symbol.TheVariants as symbol
 use Rattle.ac_expressions.specs.declared.build.Parsed.{Parsed}
@@ -15,7 +15,7 @@ use Rattle.ac_expressions.specs.declared.front.Prefix.{Prefix}
 use Rattle.ac_expressions.specs.declared.front.Prefix.TheVariants as prefix
 use Rattle.ac_expressions.specs.declared.keywords.Keyword.{Keyword}
 use Rattle.ac_expressions.specs.declared.keywords.Keyword.TheVariants as keyword
-use Rattle.ac_expressions.specs.Parsing.{Before, Behind, Chain, IsArgument, IsHead, IsLastType, IsTyped, Then}
+use Rattle.ac_expressions.specs.ExpressionParsing.{Before, Behind, Chain, IsArgument, IsHead, IsLastType, IsTypedBinder, Then}
 
 abbrev pub NoTree : ℕ → Level → List Sign → Type 0
 NoTree depth level ts = (e : Tree) (rest : List Sign) → IsTree depth level ts e rest → ⊥
@@ -43,12 +43,12 @@ base_expr symbol.EndOfFile at = Some (ExExn at 5)
 base_expr s at = None
 
 -- the signs begin with an atom that is a leaf
-pub record LeafAt (ts : List Sign) (e : Tree) (rest : List Sign) : Type 0 where
+pub record FormLeafAt (ts : List Sign) (e : Tree) (rest : List Sign) : Type 0 where
   pub parses : Parses Atom Closed ts e rest
   pub leaf : height e ≡ 1
 
-abbrev pub NoLeaf : List Sign → Type 0
-NoLeaf ts = (e : Tree) (rest : List Sign) → Parses Atom Closed ts e rest → ⊥
+abbrev pub NoFormLeaf : List Sign → Type 0
+NoFormLeaf ts = (e : Tree) (rest : List Sign) → Parses Atom Closed ts e rest → ⊥
 
 abbrev pub operator_read : code.Operator → Operator
 operator_read (operator.Prim number) = Prim number
@@ -86,7 +86,7 @@ NoKeyword ts = (k : Keyword) (rest : List Sign) → SymbolAt (keyword_symbol k) 
 
 -- what stands behind the first word of a part, with trees of at most this height
 abbrev pub IsLet : ℕ → List Sign → (NameAt × TypeTree) × (Tree × Tree) → List Sign → Type 0
-IsLet depth = Then (IsTyped symbol.Equals) (Then (Before symbol.In (IsTree depth Expr)) (IsTree depth Expr))
+IsLet depth = Then (IsTypedBinder symbol.Equals) (Then (Before symbol.In (IsTree depth Expr)) (IsTree depth Expr))
 
 abbrev pub let_tree : ℕ → (NameAt × TypeTree) × (Tree × Tree) → Tree
 let_tree at x = ExLet at x.0.0 x.0.1 x.1.0 x.1.1

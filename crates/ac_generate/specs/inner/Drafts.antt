@@ -19,8 +19,8 @@ unfoldable pub draft_of : code.Writer → Draft
 draft_of w = record { first = w.first; instrs = map instr_of w.instrs.items; blocks = map block_of w.finished.items }
 
 -- where the next instruction stands, and the number of the next block
-abbrev pub place : Draft → ℕ
-place d = length d.instrs
+abbrev pub address : Draft → ℕ
+address d = length d.instrs
 
 abbrev pub count : Draft → ℕ
 count d = d.first + length d.blocks
@@ -31,11 +31,11 @@ put i d = record { first = d.first; instrs = d.instrs ++ i ∷ []; blocks = d.bl
 unfoldable pub put_all : List Instr → Draft → Draft
 put_all is d = record { first = d.first; instrs = d.instrs ++ is; blocks = d.blocks }
 
--- another instruction at a place
+-- another instruction at an address
 unfoldable pub set_at : ℕ → Instr → Draft → Draft
 set_at k i d = record { first = d.first; instrs = set d.instrs k i; blocks = d.blocks }
 
--- jumps at some places
+-- jumps at some addresses
 abbrev pub jumps_at : List ℕ → ℕ → Draft → Draft
 jumps_at [] to d = d
 jumps_at (k ∷ ks) to d = jumps_at ks to (set_at k (instr.Jump to) d)
@@ -49,25 +49,25 @@ ended c l G before d = record { first = d.first; instrs = before; blocks = d.blo
 
 -- with the code of a term, of terms, of the parts of a sequence
 unfoldable pub wrote : Home → List Typ → Expr → Draft → Draft
-wrote c G e d = record { first = d.first; instrs = d.instrs ++ code_at e (place d) (count d); blocks = d.blocks ++ blocks c G e (count d) }
+wrote c G e d = record { first = d.first; instrs = d.instrs ++ code_at e (address d) (count d); blocks = d.blocks ++ blocks c G e (count d) }
 
 unfoldable pub wrote_all : Home → List Typ → Exprs → Draft → Draft
-wrote_all c G es d = record { first = d.first; instrs = d.instrs ++ all_code es (place d) (count d); blocks = d.blocks ++ all_blocks c G es (count d) }
+wrote_all c G es d = record { first = d.first; instrs = d.instrs ++ all_code es (address d) (count d); blocks = d.blocks ++ all_blocks c G es (count d) }
 
 unfoldable pub wrote_seq : Home → List Typ → Exprs → Draft → Draft
-wrote_seq c G es d = record { first = d.first; instrs = d.instrs ++ seq_code es (place d) (count d); blocks = d.blocks ++ all_blocks c G es (count d) }
+wrote_seq c G es d = record { first = d.first; instrs = d.instrs ++ seq_code es (address d) (count d); blocks = d.blocks ++ all_blocks c G es (count d) }
 
 unfoldable pub wrote_rest : Home → List Typ → Exprs → Draft → Draft
-wrote_rest c G es d = record { first = d.first; instrs = d.instrs ++ rest_code es (place d) (count d); blocks = d.blocks ++ all_blocks c G es (count d) }
+wrote_rest c G es d = record { first = d.first; instrs = d.instrs ++ rest_code es (address d) (count d); blocks = d.blocks ++ all_blocks c G es (count d) }
 
 -- with the code of an arm, of some arms, whose jumps to the end are still open
 unfoldable pub wrote_arm : Home → List Typ → Pattern → Expr → Draft → Draft
-wrote_arm c G q b d = record { first = d.first; instrs = d.instrs ++ arm_code 0 (arm q b no_arms) (place d) (count d); blocks = d.blocks ++ arm_blocks c G (arm q b no_arms) (count d) }
+wrote_arm c G q b d = record { first = d.first; instrs = d.instrs ++ arm_code 0 (arm q b no_arms) (address d) (count d); blocks = d.blocks ++ arm_blocks c G (arm q b no_arms) (count d) }
 
 unfoldable pub wrote_arms : Home → List Typ → Arms → Draft → Draft
-wrote_arms c G cases d = record { first = d.first; instrs = d.instrs ++ arm_code 0 cases (place d) (count d); blocks = d.blocks ++ arm_blocks c G cases (count d) }
+wrote_arms c G cases d = record { first = d.first; instrs = d.instrs ++ arm_code 0 cases (address d) (count d); blocks = d.blocks ++ arm_blocks c G cases (count d) }
 
--- where the jump of an arm that begins at place p stands, and those of some arms
+-- where the jump of an arm that begins at address p stands, and those of some arms
 abbrev pub end_of : Pattern → Expr → ℕ → ℕ
 end_of q b p = suc p + size b + length (unbind (bound q))
 
