@@ -235,7 +235,8 @@ pub fn fun(alloc: Global, at: u32, binder: Binder, body: Parsed) -> Result<Parse
 pub fn rec(alloc: Global, at: u32, head: Head, body: Parsed) -> Result<Parsed, Memory>
     requires low { body.height < 2 ^ 32 - 1 }
     requires body { measured body }
-    ensures tree { IfOk result (λ x. expr_of x.tree ≡ rec_tree at (head_of head, expr_of body.tree)) }
+    ensures tree { IfOk result (λ x. expr_of x.tree ≡ rec_tree at
+        (head_of head, expr_of body.tree)) }
     ensures height { IfOk result (λ x. measured x) }
 {
     let height = body.height + 1;
