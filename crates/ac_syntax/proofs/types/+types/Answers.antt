@@ -9,7 +9,7 @@ use Rattle.ac_syntax.specs.ReadSigns.{read_signs}
 use Rattle.ac_syntax.specs.ReadTrees.{type_of}
 use Rattle.ac_syntax.proofs.OnStop.{on_syntax_more, refused}
 use Rattle.ac_syntax.proofs.TypeLaws.{type_of-Tuple}
-use Rattle.ac_syntax.proofs.TypeSteps.{SuffixesSoFar, FactorsRead, higher, whole_alone, whole_none, whole_arrow, arrow_none, arrow_high, product_alone, product_none, product_tuple, tuple_none, tuple_high, second_none, next_read, next_none, all_read, highest_next, single_first, suffixed_none, suffixed_alone, next_suffixed, suffix_high, parens_tree, unopened_none, unclosed_none}
+use Rattle.ac_syntax.proofs.TypeSteps.{SuffixesSoFar, FactorsRead, flat_none, higher, whole_alone, whole_none, whole_arrow, arrow_none, arrow_high, product_alone, product_none, product_tuple, tuple_none, tuple_high, second_none, next_read, next_none, all_read, highest_next, single_first, suffixed_none, suffixed_alone, next_suffixed, suffix_high, parens_tree, unopened_none, unclosed_none}
 use Rattle.ac_syntax.proofs.types.+types.Goals as goal
 
 pub product-returns-in_err-first-clause-none : goal.product-returns-in_err-first-clause-none
@@ -35,6 +35,10 @@ pub product-returns-clause-none : goal.product-returns-clause-none
 product-returns-clause-none t c =
     IfErr-weaker c.tuple.result _ _
     (λ e o. on_syntax_more e (tuple_none _ _ _ _ _ c.in_ok-first.ensures.tree c.in-Some.ensures.found) o) c.tuple.ensures.none
+
+pub single-returns-then-depth-eq0-clause-none : goal.single-returns-then-depth-eq0-clause-none
+single-returns-then-depth-eq0-clause-none t c =
+    refused _ _ c.refused_at.ensures (flat_none _ _ _ c.if-depth-eq0.true)
 
 pub single-returns-in_default-after-clause-none : goal.single-returns-in_default-after-clause-none
 single-returns-in_default-after-clause-none t c =
