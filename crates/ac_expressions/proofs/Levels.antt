@@ -1,6 +1,7 @@
 -- The steps of the parsers of operators and applications, over lists of signs.
 use Rattle.std.proofs.Common.{◌≡◌, ◌<◌, ◌≤◌, ◌+◌, ◌-◌, ℕ, zero, suc, max, Bool, true, false, List, [], ◌∷◌, Option, Some, refl, sym, ◌∙◌, ap, subst, arith, if◌then◌else◌}
 use Rattle.std.specs.Prelude.{pos, neg_ℤ}
+use Rattle.ac_types.specs.Primitives as primitives
 use Rattle.ac_syntax.specs.Signs.{Sign, Int, Str, Lower, Upper, Fixed, Other, here}
 use Rattle.ac_syntax.specs.Trees.{Tree, ExInt, ExBool, ExStr, ExUnit, ExExn, ExExnOf, ExTuple, ExNil, ExAbsent, ExPresent, ExCons, ExVar, ExOf, ExFun, ExRec, ExApp, ExLet, ExLetRec, ExIf, ExSeq, ExMatch, ExTry, ExRaise, ExAnd, ExOr, ExOp, ExMarshal, ExUnmarshal, no_trees, tree, height}
 use Rattle.ac_syntax.specs.Expressions.{Operator, Prim, Consing, Both, Either, operator_of, ToLeft, ToRight, Once, side_of, joined, is_bare, Level, Binary, After, Unary, App, Args, Atom, Ending, Closed, Parses, binary, unary, stop, left, right, once, minus, negative, not_, app, some, exn_with_string, applied, no_argument, argument, number, string, true_, false_, unit, exn, var, of_module, parens, tuple, nil, none, match_with, try_with, begins_atom, symbol_front, sign_front, front, IsTree}
@@ -452,15 +453,15 @@ module _ (k : ℕ) (K D : ℕ) (ts : List Sign) (level : suc k ≡ K) where
 
 past_symbol : (k a : ℕ) (t : Symbol) (ts : List Sign) → 1 ≤ k → k ≤ 6 → k < front (Fixed a t ∷ ts) → NoOperator k (Fixed a t ∷ ts) → suc k < front (Fixed a t ∷ ts)
 past_symbol k a Semicolon ts pos' low h none' = omega arith
-past_symbol k a Star ts pos' low h none' = let f : k ≡ 1 → ⊥ = λ e. none' (Prim 2) ts (record { symbol = Star; at = a; is = refl; named = ap (λ (n : ℕ). Some (n, Prim 2)) (sym e) }) in omega arith
-past_symbol k a Slash ts pos' low h none' = let f : k ≡ 1 → ⊥ = λ e. none' (Prim 3) ts (record { symbol = Slash; at = a; is = refl; named = ap (λ (n : ℕ). Some (n, Prim 3)) (sym e) }) in omega arith
-past_symbol k a Mod ts pos' low h none' = let f : k ≡ 1 → ⊥ = λ e. none' (Prim 4) ts (record { symbol = Mod; at = a; is = refl; named = ap (λ (n : ℕ). Some (n, Prim 4)) (sym e) }) in omega arith
-past_symbol k a Plus ts pos' low h none' = let f : k ≡ 2 → ⊥ = λ e. none' (Prim 0) ts (record { symbol = Plus; at = a; is = refl; named = ap (λ (n : ℕ). Some (n, Prim 0)) (sym e) }) in omega arith
-past_symbol k a Minus ts pos' low h none' = let f : k ≡ 2 → ⊥ = λ e. none' (Prim 1) ts (record { symbol = Minus; at = a; is = refl; named = ap (λ (n : ℕ). Some (n, Prim 1)) (sym e) }) in omega arith
-past_symbol k a Caret ts pos' low h none' = let f : k ≡ 2 → ⊥ = λ e. none' (Prim 8) ts (record { symbol = Caret; at = a; is = refl; named = ap (λ (n : ℕ). Some (n, Prim 8)) (sym e) }) in omega arith
+past_symbol k a Star ts pos' low h none' = let f : k ≡ 1 → ⊥ = λ e. none' (Prim primitives.mul) ts (record { symbol = Star; at = a; is = refl; named = ap (λ (n : ℕ). Some (n, Prim primitives.mul)) (sym e) }) in omega arith
+past_symbol k a Slash ts pos' low h none' = let f : k ≡ 1 → ⊥ = λ e. none' (Prim primitives.div) ts (record { symbol = Slash; at = a; is = refl; named = ap (λ (n : ℕ). Some (n, Prim primitives.div)) (sym e) }) in omega arith
+past_symbol k a Mod ts pos' low h none' = let f : k ≡ 1 → ⊥ = λ e. none' (Prim primitives.rem) ts (record { symbol = Mod; at = a; is = refl; named = ap (λ (n : ℕ). Some (n, Prim primitives.rem)) (sym e) }) in omega arith
+past_symbol k a Plus ts pos' low h none' = let f : k ≡ 2 → ⊥ = λ e. none' (Prim primitives.add) ts (record { symbol = Plus; at = a; is = refl; named = ap (λ (n : ℕ). Some (n, Prim primitives.add)) (sym e) }) in omega arith
+past_symbol k a Minus ts pos' low h none' = let f : k ≡ 2 → ⊥ = λ e. none' (Prim primitives.sub) ts (record { symbol = Minus; at = a; is = refl; named = ap (λ (n : ℕ). Some (n, Prim primitives.sub)) (sym e) }) in omega arith
+past_symbol k a Caret ts pos' low h none' = let f : k ≡ 2 → ⊥ = λ e. none' (Prim primitives.concat) ts (record { symbol = Caret; at = a; is = refl; named = ap (λ (n : ℕ). Some (n, Prim primitives.concat)) (sym e) }) in omega arith
 past_symbol k a Cons ts pos' low h none' = let f : k ≡ 3 → ⊥ = λ e. none' Consing ts (record { symbol = Cons; at = a; is = refl; named = ap (λ (n : ℕ). Some (n, Consing)) (sym e) }) in omega arith
-past_symbol k a Equals ts pos' low h none' = let f : k ≡ 4 → ⊥ = λ e. none' (Prim 6) ts (record { symbol = Equals; at = a; is = refl; named = ap (λ (n : ℕ). Some (n, Prim 6)) (sym e) }) in omega arith
-past_symbol k a Less ts pos' low h none' = let f : k ≡ 4 → ⊥ = λ e. none' (Prim 7) ts (record { symbol = Less; at = a; is = refl; named = ap (λ (n : ℕ). Some (n, Prim 7)) (sym e) }) in omega arith
+past_symbol k a Equals ts pos' low h none' = let f : k ≡ 4 → ⊥ = λ e. none' (Prim primitives.eq) ts (record { symbol = Equals; at = a; is = refl; named = ap (λ (n : ℕ). Some (n, Prim primitives.eq)) (sym e) }) in omega arith
+past_symbol k a Less ts pos' low h none' = let f : k ≡ 4 → ⊥ = λ e. none' (Prim primitives.lt) ts (record { symbol = Less; at = a; is = refl; named = ap (λ (n : ℕ). Some (n, Prim primitives.lt)) (sym e) }) in omega arith
 past_symbol k a And ts pos' low h none' = let f : k ≡ 5 → ⊥ = λ e. none' Both ts (record { symbol = And; at = a; is = refl; named = ap (λ (n : ℕ). Some (n, Both)) (sym e) }) in omega arith
 past_symbol k a Or ts pos' low h none' = let f : k ≡ 6 → ⊥ = λ e. none' Either ts (record { symbol = Or; at = a; is = refl; named = ap (λ (n : ℕ). Some (n, Either)) (sym e) }) in omega arith
 past_symbol k a t ts pos' low h none' = omega arith

@@ -1,5 +1,6 @@
 -- What the parsers of patterns and expressions may answer.
 use Rattle.std.specs.Prelude.{◌≡◌, ℕ, ◌<◌, ◌-◌, Bool, true, false, List, [], ◌∷◌, Option, Some, None}
+use Rattle.ac_types.specs.Exceptions as exceptions
 use Rattle.ac_syntax.specs.Signs.{Sign, Int, Lower, Fixed}
 use Rattle.ac_syntax.specs.Trees.{NameAt, TypeTree, PatTree, PatWild, PatBool, PatAbsent, PatExn, PatTuple, PatPresent, PatExnOf, pat_tree, pat_trees, pat_height, Tree, tree}
 use Rattle.ac_syntax.specs.TypeForms.{IsType}
@@ -136,10 +137,10 @@ base_pat symbol.Wild at = Some (PatWild at)
 base_pat symbol.True at = Some (PatBool at true)
 base_pat symbol.False at = Some (PatBool at false)
 base_pat symbol.NoneWord at = Some (PatAbsent at)
-base_pat symbol.NotFound at = Some (PatExn at 2)
-base_pat symbol.DivisionByZero at = Some (PatExn at 3)
-base_pat symbol.MatchFailure at = Some (PatExn at 4)
-base_pat symbol.EndOfFile at = Some (PatExn at 5)
+base_pat symbol.NotFound at = Some (PatExn at exceptions.not_found)
+base_pat symbol.DivisionByZero at = Some (PatExn at exceptions.division_by_zero)
+base_pat symbol.MatchFailure at = Some (PatExn at exceptions.match_failure)
+base_pat symbol.EndOfFile at = Some (PatExn at exceptions.end_of_file)
 base_pat s at = None
 
 -- the signs begin with a pattern that is a leaf

@@ -1,5 +1,6 @@
 -- The forms of expressions, piece by piece.
 use Rattle.std.specs.Prelude.{◌≡◌, ℕ, ◌<◌, ◌-◌, true, false, List, ◌∷◌, Option, Some, None}
+use Rattle.ac_types.specs.Exceptions as exceptions
 use Rattle.ac_syntax.specs.Signs.{Sign, Fixed}
 use Rattle.ac_syntax.specs.Trees.{NameAt, TypeTree, PatTree, Tree, ExBool, ExExn, ExExnOf, ExTuple, ExPresent, ExFun, ExRec, ExLet, ExLetRec, ExIf, ExSeq, ExRaise, ExMarshal, ExUnmarshal, tree, trees, height}
 use Rattle.ac_syntax.specs.Patterns.{IsPattern}
@@ -36,10 +37,10 @@ prefixed (prefix.Exn number) at e = ExExnOf at number e
 abbrev pub base_expr : Symbol → ℕ → Option Tree
 base_expr symbol.True at = Some (ExBool at true)
 base_expr symbol.False at = Some (ExBool at false)
-base_expr symbol.NotFound at = Some (ExExn at 2)
-base_expr symbol.DivisionByZero at = Some (ExExn at 3)
-base_expr symbol.MatchFailure at = Some (ExExn at 4)
-base_expr symbol.EndOfFile at = Some (ExExn at 5)
+base_expr symbol.NotFound at = Some (ExExn at exceptions.not_found)
+base_expr symbol.DivisionByZero at = Some (ExExn at exceptions.division_by_zero)
+base_expr symbol.MatchFailure at = Some (ExExn at exceptions.match_failure)
+base_expr symbol.EndOfFile at = Some (ExExn at exceptions.end_of_file)
 base_expr s at = None
 
 -- the signs begin with an atom that is a leaf
