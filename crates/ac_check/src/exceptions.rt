@@ -14,6 +14,7 @@ ghost use Rattle.ac_check.specs.Checking.{entries_of};
 use crate::scope::Site;
 use crate::seen::seen_type;
 use crate::types::{Base, is_base};
+use ac_types::exceptions::{INVALID_ARGUMENT, RESOLVE_FAILURE, SYS_ERROR};
 use ac_types::{Memory, Ty};
 use std::alloc::Global;
 
@@ -22,7 +23,7 @@ use std::alloc::Global;
 pub fn has_text(number: u8) -> bool
     ensures { result ≡ has_text number }
 {
-    number <= 1 || (6 <= number && number <= 9)
+    number <= INVALID_ARGUMENT || (SYS_ERROR <= number && number <= RESOLVE_FAILURE)
 }
 
 /// Whether there is an exception of that number without a text.
@@ -30,7 +31,7 @@ pub fn has_text(number: u8) -> bool
 pub fn is_bare(number: u8) -> bool
     ensures { result ≡ is_exception number None }
 {
-    number <= 9 && !has_text(number)
+    number <= RESOLVE_FAILURE && !has_text(number)
 }
 
 /// The type of an exception without a text.

@@ -7,6 +7,10 @@ ghost use Rattle.ac_terms.specs.PrimitiveTypes.{primitive_type, by_rules, takes_
 ghost use Rattle.ac_check.specs.Checking.{base_typ, typs_of};
 
 use crate::types::{Base, is_base, tuple_parts};
+use ac_types::primitives::{
+    ADD, CONCAT, DIV, EQ, LENGTH, LT, MUL, NEG, NOT, OF_INT, PRINT_INT, PRINT_STRING, RECEIVE, REM,
+    SEND, SUB, SUB_STRING,
+};
 use ac_types::{Many, Ty};
 
 /// Whether the types are these, in order.
@@ -101,23 +105,23 @@ fn primitive_type(number: u8, args: &[Ty]) -> Option<Ty>
     ensures { option_map typ_of result ≡ primitive_type number (typs_of args.now) }
 {
     match number {
-        0 => of_two(args, Base::Int, Ty::Int),
-        1 => of_two(args, Base::Int, Ty::Int),
-        2 => of_two(args, Base::Int, Ty::Int),
-        3 => of_two(args, Base::Int, Ty::Int),
-        4 => of_two(args, Base::Int, Ty::Int),
-        5 => of_one(args, Base::Int, Ty::Int),
-        6 => comparison_type(args),
-        7 => comparison_type(args),
-        8 => of_two(args, Base::Str, Ty::Str),
-        9 => of_one(args, Base::Bool, Ty::Bool),
-        10 => of_one(args, Base::Int, Ty::Unit),
-        11 => of_one(args, Base::Str, Ty::Unit),
-        12 => of_one(args, Base::Str, Ty::Unit),
-        13 => of_one(args, Base::Unit, Ty::Str),
-        14 => of_one(args, Base::Str, Ty::Int),
-        15 => slice_type(args),
-        16 => of_one(args, Base::Int, Ty::Str),
+        ADD => of_two(args, Base::Int, Ty::Int),
+        SUB => of_two(args, Base::Int, Ty::Int),
+        MUL => of_two(args, Base::Int, Ty::Int),
+        DIV => of_two(args, Base::Int, Ty::Int),
+        REM => of_two(args, Base::Int, Ty::Int),
+        NEG => of_one(args, Base::Int, Ty::Int),
+        EQ => comparison_type(args),
+        LT => comparison_type(args),
+        CONCAT => of_two(args, Base::Str, Ty::Str),
+        NOT => of_one(args, Base::Bool, Ty::Bool),
+        PRINT_INT => of_one(args, Base::Int, Ty::Unit),
+        PRINT_STRING => of_one(args, Base::Str, Ty::Unit),
+        SEND => of_one(args, Base::Str, Ty::Unit),
+        RECEIVE => of_one(args, Base::Unit, Ty::Str),
+        LENGTH => of_one(args, Base::Str, Ty::Int),
+        SUB_STRING => slice_type(args),
+        OF_INT => of_one(args, Base::Int, Ty::Str),
         _ => None,
     }
 }

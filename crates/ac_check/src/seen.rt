@@ -103,7 +103,7 @@ fn has_name(env: &Env, home: Home, name: &Name) -> bool
     }
 }
 
-/// What an abstract type of the place's own home stands for, where it stands for another type.
+/// What an abstract type of the site's own home stands for, where it stands for another type.
 #[tactic(auto, using(ac_types::proofs::SizeLaws::type_laws))]
 fn opened<'a>(site: &'a Site<'a>, name: &'a Name, word: &'a Word) -> Option<&'a Ty>
     requires { length site.now.env.now.entries < 2 ^ 32 }
@@ -118,7 +118,7 @@ fn opened<'a>(site: &'a Site<'a>, name: &'a Name, word: &'a Word) -> Option<&'a 
     }
 }
 
-/// Whether a type as the place's home sees it is another.
+/// Whether a type as the site's home sees it is another.
 #[cycle(compare)]
 #[tactic(auto, using(crate::proofs::SeenLaws::compare_laws))]
 fn is_viewed_as<'a>(written: &'a Ty, ty: &'a Ty, site: &'a Site<'a>) -> bool
@@ -175,7 +175,7 @@ fn are_viewed_as<'a>(written: &'a [Ty], tys: &'a [Ty], site: &'a Site<'a>) -> bo
     true
 }
 
-/// Whether a type that is written is this one for the place's home, and its names are known.
+/// Whether a type that is written is this one for the site's home, and its names are known.
 pub fn is_seen_as<'a>(written: &'a Ty, ty: &'a Ty, site: &'a Site<'a>) -> bool
     requires { length site.now.env.now.entries < 2 ^ 32 }
     ensures { result ≡ has (seen Coloured false (entries_of site.now) (home_of site.now.home)
@@ -184,7 +184,7 @@ pub fn is_seen_as<'a>(written: &'a Ty, ty: &'a Ty, site: &'a Site<'a>) -> bool
     are_known(written, site.env) && is_viewed_as(written, ty, site)
 }
 
-/// A type as the place's home sees it, where that is small.
+/// A type as the site's home sees it, where that is small.
 #[cycle(view)]
 #[tactic(auto, using(crate::proofs::SeenLaws::view_laws))]
 fn viewed<'a>(alloc: Global, ty: &'a Ty, site: &'a Site<'a>) -> Result<Option<Ty>, Memory>
@@ -247,7 +247,7 @@ fn all_viewed<'a>(
     Ok(Some(found))
 }
 
-/// A type that is written, as the place's home sees it, where its names are known and it is small.
+/// A type that is written, as the site's home sees it, where its names are known and it is small.
 pub fn seen_type<'a>(alloc: Global, ty: &'a Ty, site: &'a Site<'a>) -> Result<Option<Ty>, Memory>
     requires { length site.now.env.now.entries < 2 ^ 32 }
     ensures { IfOk result (λ o. option_map typ_of o ≡ kept_in Coloured

@@ -114,8 +114,8 @@ pub fn variables(alloc: Global, tree: &SPat) -> Result<Many<SName>, Memory>
 #[cycle(add_variables)]
 #[tactic(auto, using(crate::proofs::Forms::pat_tree_forms))]
 fn add_variables(alloc: Global, tree: &SPat, found: Many<SName>) -> Result<Many<SName>, Memory>
-    ensures { IfOk result (λ names. map name_of names ≡ map name_of found ++ variables
-        (pat_of tree.now)) }
+    ensures { IfOk result (λ names.
+        map name_of names ≡ map name_of found ++ variables (pat_of tree.now)) }
 {
     match &tree.kind {
         SPatKind::Wild => Ok(found),
@@ -143,8 +143,9 @@ fn add_variables_of_all(
     trees: &[SPat],
     found: Many<SName>,
 ) -> Result<Many<SName>, Memory>
-    ensures { IfOk result (λ names. map name_of names ≡ map name_of found ++ variables_of_all
-        (pat_trees (map pat_of trees.now))) }
+    ensures { IfOk result (λ names.
+        map name_of names
+        ≡ map name_of found ++ variables_of_all (pat_trees (map pat_of trees.now))) }
 {
     let mut names = found;
     for tree in trees {
@@ -156,8 +157,8 @@ fn add_variables_of_all(
 
 /// These names, and behind them this one.
 fn with_name(alloc: Global, found: Many<SName>, name: &SName) -> Result<Many<SName>, Memory>
-    ensures { IfOk result (λ names. map name_of names ≡ map name_of
-        found ++ (name_of name.now ∷ [])) }
+    ensures { IfOk result (λ names.
+        map name_of names ≡ map name_of found ++ (name_of name.now ∷ [])) }
 {
     let mut names = found;
     let at = name.at;

@@ -25,8 +25,7 @@ pub struct RawProgram {
 /// What a program elaborates to, behind the definitions that were there before.
 ///
 /// `Unbound`, `Repeated` and `TooMany` come exactly where they are the first that applies: a name
-/// isn't in scope,
-/// a variable stands twice in one pattern, a count passes its limit.
+/// isn't in scope, a variable stands twice in one pattern, a count passes its limit.
 pub fn elaborate(alloc: Global, s: &Surface, env: &Env) -> Result<RawProgram, ScopeFault>
     requires no_definitions { s.now.defs ≡ [] }
     ensures main { IfOk result (λ p. Elaborates (surface_of s.now) (expr_of p.main)) }

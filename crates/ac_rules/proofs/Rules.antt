@@ -238,5 +238,5 @@ module _ (mode : Mode) (E : Environment) (S : Scope) where
   pub rule-Unmarshal : (A : Typ) (e : Expr) (T : Typ) → HasType mode E S (Unmarshal A e) T → HasType mode E S e TStr × (are_known E A ≡ true) × (view mode E S.home A ≡ T)
   rule-Unmarshal A e T h = let p = ends _ A T h in (has_some _ TStr p.0, p.1, p.2)
 
-  pub rule-Packed : (A : Typ) (v : PValue) (T : Typ) → HasType mode E S (Val A v) T → (holds mode false E v A ≡ true) × (are_known E A ≡ true) × (view mode E S.home A ≡ T)
-  rule-Packed A v T h = ends _ A T h
+  pub rule-Val : (A : Typ) (v : PValue) (T : Typ) → HasType mode E S (Val A v) T → (holds mode false E v A ≡ true) × (are_known E A ≡ true) × (view mode E S.home A ≡ T)
+  rule-Val A v T h = ends _ A T h

@@ -8,82 +8,82 @@ use Rattle.ac_terms.specs.PrimitiveTypes.{Rule}
 use Rattle.ac_terms.specs.Spelling.{type_count}
 
 -- what is read, and the bytes that are left
-abbrev pub Reads : Type 0 → Type 0
-Reads A = Bytes → Option (A × Bytes)
+abbrev pub ReadsPart : Type 0 → Type 0
+ReadsPart A = Bytes → Option (A × Bytes)
 
 -- nothing is read; something else is made of what is read; one thing is read after another
-abbrev pub give : {A : Type 0} → A → Reads A
+abbrev pub give : {A : Type 0} → A → ReadsPart A
 give a bs = Some (a, bs)
 
-abbrev pub one : {A B : Type 0} → (A → B) → Reads A → Reads B
+abbrev pub one : {A B : Type 0} → (A → B) → ReadsPart A → ReadsPart B
 one c f bs = option_map (λ p. (c p.0, p.1)) (f bs)
 
-abbrev pub after : {A B : Type 0} → Reads A → (A → Reads B) → Reads B
+abbrev pub after : {A B : Type 0} → ReadsPart A → (A → ReadsPart B) → ReadsPart B
 after f g bs = option_and_then (λ p. g p.0 p.1) (f bs)
 
-abbrev pub two : {A B C : Type 0} → (A → B → C) → Reads A → Reads B → Reads C
+abbrev pub two : {A B C : Type 0} → (A → B → C) → ReadsPart A → ReadsPart B → ReadsPart C
 two c f g = after f (λ a. one (c a) g)
 
-abbrev pub three : {A B C D : Type 0} → (A → B → C → D) → Reads A → Reads B → Reads C → Reads D
+abbrev pub three : {A B C D : Type 0} → (A → B → C → D) → ReadsPart A → ReadsPart B → ReadsPart C → ReadsPart D
 three c f g h = after f (λ a. two (c a) g h)
 
-abbrev pub pair : {A B : Type 0} → Reads A → Reads B → Reads (A × B)
+abbrev pub pair : {A B : Type 0} → ReadsPart A → ReadsPart B → ReadsPart (A × B)
 pair f g = two (λ a b. (a, b)) f g
 
 -- that many bytes
-abbrev pub cut : ℕ → Reads Bytes
+abbrev pub cut : ℕ → ReadsPart Bytes
 cut zero bs = Some ([], bs)
 cut (suc k) [] = None
 cut (suc k) (b ∷ bs) = option_map (λ p. (b ∷ p.0, p.1)) (cut k bs)
 
 -- so many items, into a list of their own kind
-abbrev pub times : {A L : Type 0} → L → (A → L → L) → Reads A → ℕ → Reads L
+abbrev pub times : {A L : Type 0} → L → (A → L → L) → ReadsPart A → ℕ → ReadsPart L
 times nil cons f zero = give nil
 times nil cons f (suc n) = after f (λ a. one (cons a) (times nil cons f n))
 
-abbrev pub read_list : {A : Type 0} → Reads ℕ → Reads A → Reads (List A)
+abbrev pub read_list : {A : Type 0} → ReadsPart ℕ → ReadsPart A → ReadsPart (List A)
 read_list count f = after count (times [] (λ x xs. x ∷ xs) f)
 
 -- a tag says how to go on
-abbrev pub tagged : {A : Type 0} → List (Reads A) → Reads A
+abbrev pub tagged : {A : Type 0} → List (ReadsPart A) → ReadsPart A
 tagged table [] = None
-tagged table (tag ∷ bs) = option_and_then (λ (g : Reads _). g bs) (slice_get table tag)
+tagged table (tag ∷ bs) = option_and_then (λ (g : ReadsPart _). g bs) (slice_get table tag)
 
-abbrev pub nothing : {A : Type 0} → Reads A
+abbrev pub nothing : {A : Type 0} → ReadsPart A
 nothing bs = None
 
 -- numbers, truth values, words, strings and names
-abbrev pub read_byte : Reads ℕ
+abbrev pub read_byte : ReadsPart ℕ
 read_byte [] = None
 read_byte (b ∷ bs) = Some (b, bs)
 
-abbrev pub read_two : Reads ℕ
+abbrev pub read_two : ReadsPart ℕ
 read_two = one (from_be_bytes w16) (cut 2)
 
-abbrev pub read_four : Reads ℕ
+abbrev pub read_four : ReadsPart ℕ
 read_four = one (from_be_bytes w32) (cut 4)
 
-abbrev pub read_eight : Reads ℤ
+abbrev pub read_eight : ReadsPart ℤ
 read_eight = one (λ (bs : Bytes). cast_signed w64 (from_be_bytes w64 bs)) (cut 8)
 
 abbrev pub bool_of : ℕ → Bool
 bool_of zero = false
 bool_of (suc n) = true
 
-abbrev pub read_truth : Reads Bool
+abbrev pub read_truth : ReadsPart Bool
 read_truth = one bool_of read_byte
 
-abbrev pub read_word : Reads Bytes
+abbrev pub read_word : ReadsPart Bytes
 read_word = after read_byte cut
 
-abbrev pub read_str : Reads Bytes
+abbrev pub read_str : ReadsPart Bytes
 read_str = after read_four cut
 
-abbrev pub read_name : Reads Bytes
+abbrev pub read_name : ReadsPart Bytes
 read_name = cut 32
 
 -- an exception's number says whether a text follows
-abbrev pub with_text : {A : Type 0} → Bool → A → Reads A → Reads A
+abbrev pub with_text : {A : Type 0} → Bool → A → ReadsPart A → ReadsPart A
 with_text true bare f = f
 with_text false bare f = give bare
 
@@ -92,7 +92,7 @@ abbrev pub home_number : ℕ → Home
 home_number zero = Main
 home_number (suc k) = In k
 
-abbrev pub read_home : Reads Home
+abbrev pub read_home : ReadsPart Home
 read_home = one home_number read_two
 
 -- how many arguments a primitive takes
@@ -102,19 +102,19 @@ arity ([] ∷ rest) k = 0
 arity ((r ∷ rs) ∷ rest) zero = type_count r.0
 arity ((r ∷ rs) ∷ rest) (suc k) = arity rest k
 
-abbrev pub many_arms : Reads Pattern → Reads Expr → ℕ → Reads Arms
+abbrev pub many_arms : ReadsPart Pattern → ReadsPart Expr → ℕ → ReadsPart Arms
 many_arms p f zero = give no_arms
 many_arms p f (suc n) = three arm p f (many_arms p f n)
 
 -- versions, constraints and resolvespecs
-abbrev pub read_atom : Reads Atom
+abbrev pub read_atom : ReadsPart Atom
 read_atom bs = tagged (nothing ∷ one Number read_four ∷ give MyName ∷ []) bs
 
-abbrev pub read_range : Reads Range
+abbrev pub read_range : ReadsPart Range
 read_range bs = tagged (nothing ∷ one One read_four ∷ two Between read_four read_four ∷ one UpTo read_four ∷ one From read_four ∷ []) bs
 
-abbrev pub read_constraint : Reads Constraint
+abbrev pub read_constraint : ReadsPart Constraint
 read_constraint bs = tagged (nothing ∷ two Ranges (read_list read_byte read_range) read_truth ∷ one Exact read_name ∷ []) bs
 
-abbrev pub read_resolve : Reads Resolve
+abbrev pub read_resolve : ReadsPart Resolve
 read_resolve bs = tagged (nothing ∷ give StaticLink ∷ give HereAlready ∷ one Uri read_str ∷ []) bs
