@@ -1,5 +1,4 @@
 pub mod Runs
-pub mod FrameLaws
 pub mod Results
 pub mod Follows
 pub mod Inst

@@ -1,5 +1,5 @@
 -- The frames of a channel: each string stands behind its length.
-use Rattle.std.specs.Prelude.{◌≡◌, ◌≤◌, ◌+◌, ℕ, nat_le, cond, List, [], ◌∷◌, ◌++◌, length, take, drop}
+use Rattle.std.specs.Prelude.{◌≡◌, ◌≤◌, ◌+◌, ℕ, nat_le, cond, [], ◌∷◌, ◌++◌, length, take, drop}
 use Rattle.std.specs.Int.{from_be_bytes, to_be_bytes, w32}
 use Rattle.ac_types.specs.Limits.{longest_frame}
 use Rattle.ac_types.specs.Types.{Bytes}

@@ -3,7 +3,7 @@ use Rattle.std.specs.Prelude.{◌≡◌, ◌<◌, ◌≤◌, ℕ, Option, Some, 
 use Rattle.std.specs.Int.{from_be_bytes, w32}
 use Rattle.ac_types.specs.Types.{Bytes}
 use Rattle.ac_types.specs.Limits.{longest_frame}
-use Rattle.ac_outside.specs.Frames.{Frame, Whole, Bad, AtEnd, next_frame}
+use Rattle.ac_outside.specs.Frames.{Whole, Bad, next_frame}
 use Rattle.ac_outside.specs.declared.frames.FrameGot.{FrameGot}
 use Rattle.ac_outside.specs.declared.frames.FrameGot.TheVariants as answers
 use Rattle.ac_outside.specs.declared.frames.Stop.{Stop}

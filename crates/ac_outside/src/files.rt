@@ -2,7 +2,7 @@
 ghost use Rattle.std.specs.Prelude.{◌≡◌, ◌⊎◌, ◌<◌, ◌≤◌, ◌↔◌, ◌++◌, [], true, None, IsTrue, MatchOption, IfSome, OnOk, OnErr, Contains, length};
 ghost use Rattle.ac_outside.specs.Calls.{unused};
 ghost use Rattle.ac_outside.specs.Kept.{bytes_of, StandsAt};
-ghost use Rattle.ac_outside.specs.Outside.{Rose, IsWithin, OthersSame, NeverFall, ReadsFrom, IsShort, Created, Appended, or_empty};
+ghost use Rattle.ac_outside.specs.Outside.{Rose, IsWithin, OthersSame, NeverFall, ReadsFrom, IsShort, Created, Appended, or_empty, risen};
 
 use crate::calls::Calls;
 use crate::taking::take_from;
@@ -115,6 +115,10 @@ impl Files for MemoryFiles {
         ensures later_writes { self.old.writes.failed ≤ self.new.writes.failed }
         ensures fails { (result ≡ Got.Failed) ↔ (Contains self.old.reads.fail self.old.reads.made ⊎
             (bytes_of self.old.files name.now ≡ None)) }
+        ensures made { self.new.reads.made ≡ risen self.old.reads.made }
+        ensures planned { self.new.reads.fail ≡ self.old.reads.fail }
+        ensures writes { self.new.writes ≡ self.old.writes }
+        ensures unchanged { result ≡ Got.Failed → buf.new ≡ buf.old }
     {
         let found = text_of(&self.files, name);
         if !self.reads.next_fails()
@@ -135,6 +139,10 @@ impl Files for MemoryFiles {
         ensures later { self.old.reads.failed ≤ self.new.reads.failed }
         ensures later_writes { self.old.writes.failed ≤ self.new.writes.failed }
         ensures fails { (result ≡ Put.Failed) ↔ Contains self.old.writes.fail self.old.writes.made }
+        ensures made { self.new.writes.made ≡ risen self.old.writes.made }
+        ensures planned { self.new.writes.fail ≡ self.old.writes.fail }
+        ensures reads { self.new.reads ≡ self.old.reads }
+        ensures unchanged { result ≡ Put.Failed → self.new.files ≡ self.old.files }
     {
         if self.writes.next_fails() {
             self.writes.count_failed();
@@ -155,6 +163,10 @@ impl Files for MemoryFiles {
         ensures later { self.old.reads.failed ≤ self.new.reads.failed }
         ensures later_writes { self.old.writes.failed ≤ self.new.writes.failed }
         ensures fails { (result ≡ Put.Failed) ↔ Contains self.old.writes.fail self.old.writes.made }
+        ensures made { self.new.writes.made ≡ risen self.old.writes.made }
+        ensures planned { self.new.writes.fail ≡ self.old.writes.fail }
+        ensures reads { self.new.reads ≡ self.old.reads }
+        ensures unchanged { result ≡ Put.Failed → self.new.files ≡ self.old.files }
     {
         if self.writes.next_fails() {
             self.writes.count_failed();

@@ -21,7 +21,7 @@ mod world;
 pub use calls::Calls;
 pub use files::{MemoryFile, MemoryFiles};
 pub use frames::{FrameGot, Frames};
-pub use laws::frame_back;
+pub use laws::{frame_back, whole_is_frame};
 pub use real::{RealFiles, RealSink};
 pub use sink::{MemorySink, SureSink};
 pub use traits::{Files, Got, Put, Sink, Source, World};

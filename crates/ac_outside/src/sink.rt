@@ -1,6 +1,6 @@
 // Sinks in memory.
 ghost use Rattle.std.specs.Prelude.{◌≡◌, ◌≤◌, ◌↔◌, [], true, Contains};
-ghost use Rattle.ac_outside.specs.Outside.{Rose, Wrote};
+ghost use Rattle.ac_outside.specs.Outside.{Rose, Wrote, risen};
 ghost use Rattle.ac_outside.specs.Calls.{unused};
 
 use crate::calls::Calls;
@@ -56,6 +56,9 @@ impl Sink for MemorySink {
         ensures cause { result ≡ Put.Failed → Rose self.old.writes.failed self.new.writes.failed }
         ensures later { self.old.writes.failed ≤ self.new.writes.failed }
         ensures fails { (result ≡ Put.Failed) ↔ Contains self.old.writes.fail self.old.writes.made }
+        ensures made { self.new.writes.made ≡ risen self.old.writes.made }
+        ensures planned { self.new.writes.fail ≡ self.old.writes.fail }
+        ensures unchanged { result ≡ Put.Failed → self.new.bytes ≡ self.old.bytes }
     {
         if self.writes.next_fails() {
             self.writes.count_failed();

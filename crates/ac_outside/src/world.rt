@@ -2,7 +2,7 @@
 ghost use Rattle.std.specs.Prelude.{◌≡◌, ◌≢◌, ◌≤◌, ◌<◌, ◌↔◌, [], true, Contains, length, refl};
 ghost use Rattle.std.proofs.Common.{◌∙◌};
 ghost use native.Mathlib.Omega.{arith};
-ghost use Rattle.ac_outside.specs.Outside.{Rose, IsWithin, Takes, rest, Wrote};
+ghost use Rattle.ac_outside.specs.Outside.{Rose, IsWithin, Takes, rest, risen, Wrote};
 ghost use Rattle.ac_outside.specs.Calls.{unused};
 ghost use Rattle.ac_outside.specs.Frames.{IsFrame};
 
@@ -207,7 +207,7 @@ impl Source for MemoryWorld {
     ghost passes = { λ a b. (b.world.console ≡ a.world.console) ×
         (b.world.channel ≡ a.world.channel) × (b.writes ≡ a.writes) };
 
-    /// `Failed` comes exactly for the reads that are to fail.
+    /// `Failed` comes exactly for the reads that are to fail, which take nothing.
     fn read(&mut self, buf: &mut [u8]) -> Got
         requires { 0 < length buf.old }
         ensures bound { IsWithin result (length buf.new) }
@@ -219,6 +219,10 @@ impl Source for MemoryWorld {
             (self.new.world.channel ≡ self.old.world.channel) ×
             (self.new.writes ≡ self.old.writes) }
         ensures fails { (result ≡ Got.Failed) ↔ Contains self.old.reads.fail self.old.reads.made }
+        ensures made { self.new.reads.made ≡ risen self.old.reads.made }
+        ensures planned { self.new.reads.fail ≡ self.old.reads.fail }
+        ensures unchanged { result ≡ Got.Failed →
+            (self.new.world ≡ self.old.world) × (buf.new ≡ buf.old) }
     {
         if self.reads.next_fails() {
             self.reads.count_failed();
@@ -253,6 +257,10 @@ impl World for MemoryWorld {
         ensures later { self.old.writes.failed ≤ self.new.writes.failed }
         ensures later_reads { self.old.reads.failed ≤ self.new.reads.failed }
         ensures fails { (result ≡ Put.Failed) ↔ Contains self.old.writes.fail self.old.writes.made }
+        ensures made { self.new.writes.made ≡ risen self.old.writes.made }
+        ensures planned { self.new.writes.fail ≡ self.old.writes.fail }
+        ensures reads { self.new.reads ≡ self.old.reads }
+        ensures unchanged { result ≡ Put.Failed → self.new.world ≡ self.old.world }
     {
         if self.writes.next_fails() {
             self.writes.count_failed();
@@ -271,6 +279,10 @@ impl World for MemoryWorld {
         ensures later { self.old.writes.failed ≤ self.new.writes.failed }
         ensures later_reads { self.old.reads.failed ≤ self.new.reads.failed }
         ensures fails { (result ≡ Put.Failed) ↔ Contains self.old.writes.fail self.old.writes.made }
+        ensures made { self.new.writes.made ≡ risen self.old.writes.made }
+        ensures planned { self.new.writes.fail ≡ self.old.writes.fail }
+        ensures reads { self.new.reads ≡ self.old.reads }
+        ensures unchanged { result ≡ Put.Failed → self.new.world ≡ self.old.world }
     {
         if self.writes.next_fails() {
             self.writes.count_failed();

@@ -1,4 +1,4 @@
-use Rattle.std.proofs.Common.{◌≡◌, ◌<◌, ◌≤◌, ◌∙◌, length, refl, ap, arith}
+use Rattle.std.proofs.Common.{◌∙◌, length, refl, ap, arith}
 use Rattle.ac_outside.proofs.ReaderLaws.{grown_none, grown_on, grown_same}
 use Rattle.ac_outside.proofs.filling.fill_to.Goals as goal
 

@@ -1,4 +1,4 @@
-use Rattle.std.proofs.Common.{◌<◌, ◌≡◌, ◌≤◌, length, refl, arith}
+use Rattle.std.proofs.Common.{◌<◌, length, refl, arith}
 use Rattle.ac_outside.proofs.FrameLaws.{few}
 use Rattle.ac_outside.proofs.frames.ended.Goals as goal
 

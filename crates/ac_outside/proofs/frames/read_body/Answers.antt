@@ -1,4 +1,4 @@
-use Rattle.std.proofs.Common.{◌≡◌, ◌<◌, ◌≤◌, ◌∙◌, length, sym, ap, arith}
+use Rattle.std.proofs.Common.{◌≡◌, ◌<◌, ◌≤◌, ◌∙◌, sym, ap, arith}
 use Rattle.std.specs.Int.{from_be_bytes, w32}
 use Rattle.ac_types.specs.Types.{Bytes}
 use Rattle.ac_types.specs.Limits.{longest_frame}
