@@ -4,9 +4,6 @@
 //! and its operands. A primitive is told by its name. Types and patterns stand in parentheses but
 //! for leaves; a variable of a pattern is its type.
 #![tactic(auto)]
-
-ghost use Rattle.std.specs.Prelude.{◌≡◌, []};
-
 mod instructions;
 mod listing;
 mod patterns;
@@ -18,16 +15,9 @@ use ac_load::{Shelf, load};
 use ac_page::Page;
 use ac_rules::Loaded;
 use ac_terms::Home;
-use ac_types::Many;
 use instructions::write_blocks;
 use std::alloc::Global;
 use std::io::{self, Write};
-
-fn no_shelf(alloc: Global) -> Shelf
-    ensures { result.0 ≡ [] }
-{
-    Shelf(Many::new(alloc))
-}
 
 fn write_code(alloc: Global, listing: &mut Page, loaded: &Loaded) {
     let mut table = CodeTable::new(alloc);
@@ -39,7 +29,7 @@ fn write_code(alloc: Global, listing: &mut Page, loaded: &Loaded) {
 
 fn listing_of(alloc: Global, text: &str) -> Page {
     let mut listing = Page::new(alloc);
-    match load(alloc, text.as_bytes(), &no_shelf(alloc)) {
+    match load(alloc, text.as_bytes(), &Shelf::empty(alloc)) {
         Ok(loaded) => write_code(alloc, &mut listing, &loaded),
         Err(_) => listing.put(b"refused\n"),
     }

@@ -2,8 +2,6 @@
 //! doesn't.
 #![tactic(auto)]
 
-ghost use Rattle.std.specs.Prelude.{◌≡◌, []};
-
 mod parts;
 mod place;
 mod reasons;
@@ -12,7 +10,7 @@ mod untyped;
 mod wants;
 
 use ac_load::{Kind, Shelf, load};
-use ac_types::Many;
+use ac_page::Page;
 use reasons::write_refusal;
 use std::alloc::Global;
 use std::io::{ErrorKind, Write};
@@ -20,15 +18,9 @@ use std::process::ExitCode;
 use std::{env, fs, io};
 use types::write_type;
 
-fn no_shelf(alloc: Global) -> Shelf
-    ensures { result.0 ≡ [] }
-{
-    Shelf(Many::new(alloc))
-}
-
 // Adds what is said of a text, and gives the status.
 fn explain(alloc: Global, page: &mut Page, file: &str, text: &[u8]) -> u8 {
-    match load(alloc, text, &no_shelf(alloc)) {
+    match load(alloc, text, &Shelf::empty(alloc)) {
         Ok(loaded) => {
             page.put(file.as_bytes());
             page.put(b": accepted, of type ");

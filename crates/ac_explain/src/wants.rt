@@ -1,6 +1,7 @@
 // What is asked of each form, so that it has a type.
 
 use ac_syntax::SExprKind;
+use ac_types::primitives::{CONCAT, EQ, LT, NOT};
 
 const TOO_LARGE: &[u8] = b"a type has at most 4,096 parts and a height of at most 100";
 
@@ -34,9 +35,9 @@ pub fn wants(kind: &SExprKind) -> &'static [u8] {
 
 fn operator(number: u8) -> &'static [u8] {
     match number {
-        6 | 7 => b"both sides of `=` and `<` have one type, which is int, bool or string",
-        8 => b"both sides of `^` are strings",
-        9 => b"`not` stands in front of a bool",
+        EQ | LT => b"both sides of `=` and `<` have one type, which is int, bool or string",
+        CONCAT => b"both sides of `^` are strings",
+        NOT => b"`not` stands in front of a bool",
         _ => b"arithmetic is done on ints",
     }
 }

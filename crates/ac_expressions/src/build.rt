@@ -59,7 +59,7 @@ pub fn operator_of(symbol: Symbol) -> Option<(u32, Operator)>
 }
 
 /// Two sides and the operator between them.
-#[tactic(auto, using(crate::proofs::ExprLaws::expr_laws))]
+#[tactic(auto, using(ac_syntax::proofs::ReadLaws::expr_laws))]
 pub fn join(
     alloc: Global,
     at: u32,
@@ -109,7 +109,7 @@ pub fn join(
 }
 
 /// A function applied to an argument.
-#[tactic(auto, using(crate::proofs::ExprLaws::expr_laws))]
+#[tactic(auto, using(ac_syntax::proofs::ReadLaws::expr_laws))]
 pub fn application(
     alloc: Global,
     at: u32,
@@ -132,7 +132,7 @@ pub fn application(
 }
 
 /// An expression with the word that takes it.
-#[tactic(auto, using(crate::proofs::ExprLaws::expr_laws))]
+#[tactic(auto, using(ac_syntax::proofs::ReadLaws::expr_laws))]
 pub fn prefixed_by(alloc: Global, at: u32, prefix: Prefix, item: Parsed) -> Result<Parsed, Memory>
     requires low { item.height < 2 ^ 32 - 1 }
     requires item { measured item }
@@ -156,7 +156,7 @@ pub fn prefixed_by(alloc: Global, at: u32, prefix: Prefix, item: Parsed) -> Resu
 }
 
 /// A `let`.
-#[tactic(auto, using(crate::proofs::ExprLaws::expr_laws))]
+#[tactic(auto, using(ac_syntax::proofs::ReadLaws::expr_laws))]
 pub fn let_in(
     alloc: Global,
     at: u32,
@@ -181,7 +181,7 @@ pub fn let_in(
 }
 
 /// A `let rec`.
-#[tactic(auto, using(crate::proofs::ExprLaws::expr_laws))]
+#[tactic(auto, using(ac_syntax::proofs::ReadLaws::expr_laws))]
 pub fn let_rec(
     alloc: Global,
     at: u32,
@@ -214,7 +214,7 @@ pub fn let_rec(
 }
 
 /// A `fun`.
-#[tactic(auto, using(crate::proofs::ExprLaws::expr_laws))]
+#[tactic(auto, using(ac_syntax::proofs::ReadLaws::expr_laws))]
 pub fn fun(alloc: Global, at: u32, binder: Binder, body: Parsed) -> Result<Parsed, Memory>
     requires low { body.height < 2 ^ 32 - 1 }
     requires body { measured body }
@@ -231,11 +231,12 @@ pub fn fun(alloc: Global, at: u32, binder: Binder, body: Parsed) -> Result<Parse
 }
 
 /// A `rec`.
-#[tactic(auto, using(crate::proofs::ExprLaws::expr_laws))]
+#[tactic(auto, using(ac_syntax::proofs::ReadLaws::expr_laws))]
 pub fn rec(alloc: Global, at: u32, head: Head, body: Parsed) -> Result<Parsed, Memory>
     requires low { body.height < 2 ^ 32 - 1 }
     requires body { measured body }
-    ensures tree { IfOk result (λ x. expr_of x.tree ≡ rec_tree at (head_of head, expr_of body.tree)) }
+    ensures tree { IfOk result (λ x. expr_of x.tree ≡ rec_tree at
+        (head_of head, expr_of body.tree)) }
     ensures height { IfOk result (λ x. measured x) }
 {
     let height = body.height + 1;
@@ -255,7 +256,7 @@ pub fn rec(alloc: Global, at: u32, head: Head, body: Parsed) -> Result<Parsed, M
 }
 
 /// An `if`.
-#[tactic(auto, using(crate::proofs::ExprLaws::expr_laws))]
+#[tactic(auto, using(ac_syntax::proofs::ReadLaws::expr_laws))]
 pub fn if_else(
     alloc: Global,
     at: u32,
@@ -281,7 +282,7 @@ pub fn if_else(
 }
 
 /// A `marshal`.
-#[tactic(auto, using(crate::proofs::ExprLaws::expr_laws))]
+#[tactic(auto, using(ac_syntax::proofs::ReadLaws::expr_laws))]
 pub fn marshal(
     alloc: Global,
     at: u32,
@@ -305,7 +306,7 @@ pub fn marshal(
 }
 
 /// An `unmarshal`.
-#[tactic(auto, using(crate::proofs::ExprLaws::expr_laws))]
+#[tactic(auto, using(ac_syntax::proofs::ReadLaws::expr_laws))]
 pub fn unmarshal(alloc: Global, at: u32, text: Parsed, ty: SType) -> Result<Parsed, Memory>
     requires low { text.height < 2 ^ 32 - 1 }
     requires text { measured text }
@@ -321,7 +322,7 @@ pub fn unmarshal(alloc: Global, at: u32, text: Parsed, ty: SType) -> Result<Pars
 }
 
 /// A `raise`.
-#[tactic(auto, using(crate::proofs::ExprLaws::expr_laws))]
+#[tactic(auto, using(ac_syntax::proofs::ReadLaws::expr_laws))]
 pub fn raise(alloc: Global, at: u32, exception: Parsed, ty: SType) -> Result<Parsed, Memory>
     requires low { exception.height < 2 ^ 32 - 1 }
     requires exception { measured exception }
@@ -337,7 +338,7 @@ pub fn raise(alloc: Global, at: u32, exception: Parsed, ty: SType) -> Result<Par
 }
 
 /// The primitive of this number on one operand.
-#[tactic(auto, using(crate::proofs::ExprLaws::expr_laws))]
+#[tactic(auto, using(ac_syntax::proofs::ReadLaws::expr_laws))]
 pub fn operation(alloc: Global, at: u32, number: u8, operand: Parsed) -> Result<Parsed, Memory>
     requires low { operand.height < 2 ^ 32 - 1 }
     requires operand { measured operand }
@@ -364,7 +365,7 @@ pub fn two(alloc: Global, first: Parsed, second: Parsed) -> Result<Many<SExpr>, 
 }
 
 /// A sequence of parts, of which the highest has this height.
-#[tactic(auto, using(crate::proofs::ExprLaws::expr_laws))]
+#[tactic(auto, using(ac_syntax::proofs::ReadLaws::expr_laws))]
 pub fn sequence(alloc: Global, at: u32, parts: Many<SExpr>, most: u32) -> Result<Parsed, Memory>
     requires low { most < 2 ^ 32 - 1 }
     requires highest { most ≡ highest (trees (map expr_of parts)) }
@@ -378,7 +379,7 @@ pub fn sequence(alloc: Global, at: u32, parts: Many<SExpr>, most: u32) -> Result
 }
 
 /// A tuple of parts, of which the highest has this height.
-#[tactic(auto, using(crate::proofs::ExprLaws::expr_laws))]
+#[tactic(auto, using(ac_syntax::proofs::ReadLaws::expr_laws))]
 pub fn tuple(alloc: Global, at: u32, parts: Many<SExpr>, most: u32) -> Result<Parsed, Memory>
     requires low { most < 2 ^ 32 - 1 }
     requires highest { most ≡ highest (trees (map expr_of parts)) }
@@ -392,7 +393,7 @@ pub fn tuple(alloc: Global, at: u32, parts: Many<SExpr>, most: u32) -> Result<Pa
 }
 
 /// A `match`.
-#[tactic(auto, using(crate::proofs::ExprLaws::expr_laws))]
+#[tactic(auto, using(ac_syntax::proofs::ReadLaws::expr_laws))]
 pub fn match_with(alloc: Global, at: u32, choice: Choice) -> Result<Parsed, Memory>
     requires low { max choice.of.height choice.height < 2 ^ 32 - 1 }
     requires of_tree { measured choice.of }
@@ -409,7 +410,7 @@ pub fn match_with(alloc: Global, at: u32, choice: Choice) -> Result<Parsed, Memo
 }
 
 /// A `try`.
-#[tactic(auto, using(crate::proofs::ExprLaws::expr_laws))]
+#[tactic(auto, using(ac_syntax::proofs::ReadLaws::expr_laws))]
 pub fn try_with(alloc: Global, at: u32, choice: Choice) -> Result<Parsed, Memory>
     requires low { max choice.of.height choice.height < 2 ^ 32 - 1 }
     requires of_tree { measured choice.of }
@@ -426,7 +427,7 @@ pub fn try_with(alloc: Global, at: u32, choice: Choice) -> Result<Parsed, Memory
 }
 
 /// A constant.
-#[tactic(auto, using(crate::proofs::ExprLaws::expr_laws))]
+#[tactic(auto, using(ac_syntax::proofs::ReadLaws::expr_laws))]
 pub fn number(alloc: Global, at: u32, n: i64) -> Result<Parsed, Memory>
     ensures tree { IfOk result (λ x. expr_of x.tree ≡ ExInt at n) }
     ensures height { IfOk result (λ x. measured x) }
@@ -437,7 +438,7 @@ pub fn number(alloc: Global, at: u32, n: i64) -> Result<Parsed, Memory>
 }
 
 /// The empty tuple.
-#[tactic(auto, using(crate::proofs::ExprLaws::expr_laws))]
+#[tactic(auto, using(ac_syntax::proofs::ReadLaws::expr_laws))]
 pub fn unit(alloc: Global, at: u32) -> Result<Parsed, Memory>
     ensures tree { IfOk result (λ x. expr_of x.tree ≡ ExUnit at) }
     ensures height { IfOk result (λ x. measured x) }
@@ -448,7 +449,7 @@ pub fn unit(alloc: Global, at: u32) -> Result<Parsed, Memory>
 }
 
 /// The empty list of a type.
-#[tactic(auto, using(crate::proofs::ExprLaws::expr_laws))]
+#[tactic(auto, using(ac_syntax::proofs::ReadLaws::expr_laws))]
 pub fn nil(alloc: Global, at: u32, ty: SType) -> Result<Parsed, Memory>
     ensures tree { IfOk result (λ x. expr_of x.tree ≡ ExNil at (type_of ty)) }
     ensures height { IfOk result (λ x. measured x) }
@@ -459,7 +460,7 @@ pub fn nil(alloc: Global, at: u32, ty: SType) -> Result<Parsed, Memory>
 }
 
 /// `None` of a type.
-#[tactic(auto, using(crate::proofs::ExprLaws::expr_laws))]
+#[tactic(auto, using(ac_syntax::proofs::ReadLaws::expr_laws))]
 pub fn absent(alloc: Global, at: u32, ty: SType) -> Result<Parsed, Memory>
     ensures tree { IfOk result (λ x. expr_of x.tree ≡ ExAbsent at (type_of ty)) }
     ensures height { IfOk result (λ x. measured x) }

@@ -127,7 +127,8 @@ fn choice<'s, 't>(
     ensures height { IfOk result (λ x. x.0.height ≡ highest_arm (arm_trees (map arm_of x.0.arms))) }
     ensures low { IfOk result (λ x. x.0.height ≤ depth) }
     ensures shorter { IfOk result (λ x. length x.1.now < length signs.now) }
-    ensures none { IfErr result (λ e. OnSyntax e (Nothing (IsChoice depth) (read_signs signs.now))) }
+    ensures none { IfErr result (λ e. OnSyntax e
+        (Nothing (IsChoice depth) (read_signs signs.now))) }
 {
     let (of, behind) = before(alloc, Symbol::With, depth, signs)?;
     let ((arms, height), rest) = arms(alloc, depth, after_bar(behind))?;
@@ -580,7 +581,8 @@ fn let_rec<'s, 't>(
         (expr_of x.0.tree) (read_signs x.1.now)) }
     ensures height { IfOk result (λ x. measured x.0) }
     ensures shorter { IfOk result (λ x. length x.1.now < length signs.now) }
-    ensures none { IfErr result (λ e. OnSyntax e (Nothing (IsLetRec depth) (read_signs signs.now))) }
+    ensures none { IfErr result (λ e. OnSyntax e
+        (Nothing (IsLetRec depth) (read_signs signs.now))) }
 {
     let (head, behind) = function_head(alloc, signs)?;
     let (bound, later) = before(alloc, Symbol::In, depth, behind)?;
@@ -663,7 +665,8 @@ fn marshal<'s, 't>(
         (expr_of x.0.tree) (read_signs x.1.now)) }
     ensures height { IfOk result (λ x. measured x.0) }
     ensures shorter { IfOk result (λ x. length x.1.now < length signs.now) }
-    ensures none { IfErr result (λ e. OnSyntax e (Nothing (IsMarshal depth) (read_signs signs.now))) }
+    ensures none { IfErr result (λ e. OnSyntax e
+        (Nothing (IsMarshal depth) (read_signs signs.now))) }
 {
     let (mark, behind) = atom(alloc, depth, signs)?;
     let (value, later) = atom(alloc, depth, behind)?;

@@ -13,7 +13,7 @@ use ac_types::Word;
 use ac_types::exceptions::{DIVISION_BY_ZERO, END_OF_FILE, MATCH_FAILURE, NOT_FOUND};
 use std::alloc::Global;
 
-#[tactic(auto, using(crate::proofs::ExprLaws::expr_laws))]
+#[tactic(auto, using(ac_syntax::proofs::ReadLaws::expr_laws))]
 fn base_kind(symbol: Symbol) -> Option<SExprKind>
     ensures { (at : ℕ) → MatchOption result (base_expr symbol at ≡ None)
         (λ kind. base_expr symbol at ≡ Some (expr_kind_of kind at)) }

@@ -1,7 +1,7 @@
 -- What doesn't run yet: definitions, marshalling, and the channels.
 use Rattle.std.specs.Prelude.{ℕ, [], ◌∷◌, Option, Some, None, option_and_then}
 use Rattle.std.specs.Option.{option_or}
-use Rattle.ac_syntax.specs.Trees.{Tree, ExExnOf, ExTuple, ExPresent, ExCons, ExOf, ExFun, ExRec, ExApp, ExLet, ExLetRec, ExIf, ExSeq, ExMatch, ExTry, ExRaise, ExAnd, ExOr, ExOp, ExMarshal, ExUnmarshal, Trees, no_trees, tree, ArmTrees, no_arm_trees, arm_tree, DefTree, ModuleDef, ImportDef, MarkDef, ProgramTree}
+use Rattle.ac_syntax.specs.Trees.{Tree, ExInt, ExBool, ExStr, ExUnit, ExExn, ExExnOf, ExTuple, ExNil, ExAbsent, ExPresent, ExCons, ExVar, ExOf, ExFun, ExRec, ExApp, ExLet, ExLetRec, ExIf, ExSeq, ExMatch, ExTry, ExRaise, ExAnd, ExOr, ExOp, ExMarshal, ExUnmarshal, Trees, no_trees, tree, ArmTrees, no_arm_trees, arm_tree, DefTree, ModuleDef, ImportDef, MarkDef, ProgramTree}
 use Rattle.ac_resolve.specs.declared.primitive.Primitive.{Primitive}
 use Rattle.ac_resolve.specs.declared.primitive.Primitive.TheVariants.{Send, Receive}
 use Rattle.ac_resolve.specs.ScopedNames.{primitive}
@@ -35,7 +35,14 @@ abbrev mutual
   unbuilt (ExAnd at a b) = option_or (unbuilt a) (unbuilt b)
   unbuilt (ExOr at a b) = option_or (unbuilt a) (unbuilt b)
   unbuilt (ExOp at number parts) = unbuilt_all parts
-  unbuilt leaf = None
+  unbuilt (ExInt at n) = None
+  unbuilt (ExBool at b) = None
+  unbuilt (ExStr at text) = None
+  unbuilt (ExUnit at) = None
+  unbuilt (ExExn at number) = None
+  unbuilt (ExNil at ty) = None
+  unbuilt (ExAbsent at ty) = None
+  unbuilt (ExVar at x) = None
 
   pub unbuilt_all : Trees → Option ℕ
   unbuilt_all no_trees = None

@@ -19,7 +19,7 @@ fn in_primitive(at: u32, primitive: Option<Primitive>) -> Option<u32>
 }
 
 #[cycle(forms)]
-#[tactic(auto, using(ac_resolve::proofs::TreeLaws::tree_laws))]
+#[tactic(auto, using(ac_syntax::proofs::ReadLaws::expr_laws))]
 fn in_tree(tree: &SExpr) -> Option<u32>
     ensures { result ≡ unbuilt (expr_of tree.now) }
 {
@@ -70,7 +70,7 @@ fn in_trees(all: &[SExpr]) -> Option<u32>
 }
 
 #[cycle(forms)]
-#[tactic(auto, using(ac_resolve::proofs::TreeLaws::tree_laws))]
+#[tactic(auto, using(ac_syntax::proofs::ReadLaws::expr_laws))]
 fn in_arm(arm: &SArm) -> Option<u32>
     ensures { result ≡ unbuilt (arm_of arm.now).1 }
 {

@@ -27,7 +27,8 @@ use std::alloc::Global;
 pub fn load(alloc: Global, program: &[u8], shelf: &Shelf) -> Result<Loaded, Refusal>
     requires few { length shelf.now.0 ≤ 256 }
     ensures accepted { IfOk result (λ l.
-        Accepted program.now (shelf_of shelf.now) (environment_of l.env) (expr_of l.main) (typ_of l.ty)) }
+        Accepted program.now (shelf_of shelf.now) (environment_of l.env) (expr_of l.main)
+        (typ_of l.ty)) }
     ensures loaded { IfOk result (λ l.
         IsLoaded (environment_of l.env) (expr_of l.main) (typ_of l.ty)) }
     ensures alone { IfOk result (λ l. environment_of l.env ≡ []) }

@@ -1,6 +1,9 @@
 // The texts of modules that stand beside a program.
 
+ghost use Rattle.std.specs.Prelude.{◌≡◌, []};
+
 use ac_types::{Many, Text};
+use std::alloc::Global;
 
 /// A text of the shelf.
 #[derive(Drop)]
@@ -14,3 +17,12 @@ pub struct ShelfEntry {
 /// The texts beside a program, in their order.
 #[derive(Drop)]
 pub struct Shelf(pub Many<ShelfEntry>);
+
+impl Shelf {
+    /// A shelf without texts. It takes no memory.
+    pub fn empty(alloc: Global) -> Shelf
+        ensures { result.0 ≡ [] }
+    {
+        Shelf(Many::new(alloc))
+    }
+}

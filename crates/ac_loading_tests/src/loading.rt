@@ -7,14 +7,8 @@ use ac_types::{Many, Memory, Text, Ty, both, ty_eq};
 use std::alloc::Global;
 use std::test::Fail;
 
-fn no_shelf(alloc: Global) -> Shelf
-    ensures { result.0 ≡ [] }
-{
-    Shelf(Many::new(alloc))
-}
-
 fn is_refused(alloc: Global, text: &[u8], kind: Kind) -> bool {
-    match load(alloc, text, &no_shelf(alloc)) {
+    match load(alloc, text, &Shelf::empty(alloc)) {
         Ok(_) => false,
         Err(found) => found == Refusal { part: 0, kind },
     }
@@ -54,7 +48,7 @@ fn is_refused_beside(alloc: Global, text: &[u8], kind: Kind) -> Result<bool, Mem
 }
 
 fn has_type(alloc: Global, text: &[u8], ty: &Ty) -> bool {
-    match load(alloc, text, &no_shelf(alloc)) {
+    match load(alloc, text, &Shelf::empty(alloc)) {
         Ok(loaded) => ty_eq(&loaded.ty, ty),
         Err(_) => false,
     }
@@ -67,6 +61,14 @@ fn repeated(alloc: Global, piece: &[u8], count: u32) -> Result<Text, Fail> {
         text.extend(piece)?;
     }
     Ok(text)
+}
+
+fn crosses<T: Send + Sync>() {}
+
+#[test]
+fn shelves_and_refusals_cross(_rt: HostRuntime) {
+    crosses::<Shelf>();
+    crosses::<Refusal>();
 }
 
 #[test]

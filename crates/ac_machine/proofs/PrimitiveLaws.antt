@@ -12,7 +12,7 @@ use Rattle.ac_types.specs.Types.{Bytes}
 use Rattle.ac_code.specs.Constants.{Const, CPart, same_int}
 use Rattle.ac_values.specs.declared.node.Value.{Value}
 use Rattle.ac_values.specs.Values.{MValue, value_at, values_at}
-use Rattle.ac_values.specs.Readers.{text_in, int_in}
+use Rattle.ac_values.specs.ValueReaders.{text_in, int_in}
 use Rattle.ac_machine.specs.Machine.{part_in}
 
 abbrev pub three : Option Bytes → Option ℤ → Option ℤ → Option Const

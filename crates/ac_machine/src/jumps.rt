@@ -50,7 +50,8 @@ impl Engine {
     /// goes on at address `a`.
     pub fn test(&mut self, pat: &Pat, a: usize) -> Result<Step, Memory>
         requires sound { Sound self.old }
-        ensures { IfOk result (λ s. Does self.new s (tests (pattern_of pat.now) a (core self.old))) }
+        ensures { IfOk result (λ s. Does self.new s
+            (tests (pattern_of pat.now) a (core self.old))) }
     {
         let Some((v, rest)) = self.newest(self.at.stack) else {
             return Ok(Step::Wrong);

@@ -21,7 +21,8 @@ pub fn like_missing(i: &Import) -> Option<u32>
 }
 
 fn first_without(types: &[SigType], like: &[TyField]) -> Option<usize>
-    ensures { result ≡ first_failing (has_like (map typed_of like.now)) (map sig_type_of types.now) }
+    ensures { result ≡ first_failing (has_like (map typed_of like.now))
+        (map sig_type_of types.now) }
 {
     types.iter().position(|x| !has_like(x, like))
 }

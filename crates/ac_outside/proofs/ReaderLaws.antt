@@ -3,10 +3,10 @@ use Rattle.std.proofs.Common.{◌≡◌, ℕ, ◌+◌, ◌<◌, ◌≤◌, [], �
 use Rattle.std.specs.Int.{from_be_bytes, w32}
 use Rattle.std.proofs.lemmas.List.{append-nil}
 use Rattle.ac_types.specs.Types.{Bytes}
-use Rattle.ac_outside.specs.Filling.{Grown}
+use Rattle.ac_outside.specs.inner.Filling.{Grown}
 use Rattle.ac_types.specs.Limits.{longest_frame}
 use Rattle.ac_outside.specs.Frames.{Whole, next_frame}
-use Rattle.ac_outside.specs.Readers.{Refused, Goes}
+use Rattle.ac_outside.specs.FrameReaders.{Refused, Goes}
 use Rattle.ac_outside.specs.declared.frames.FrameGot.TheVariants as answers
 use Rattle.ac_outside.proofs.FrameLaws.{behind, too_long, whole, early}
 

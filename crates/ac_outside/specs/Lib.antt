@@ -1,6 +1,6 @@
 pub mod Calls
-pub mod Filling
 pub mod Frames
 pub mod Kept
 pub mod Outside
-pub mod Readers
+pub mod FrameReaders
+pub mod inner

@@ -1,7 +1,7 @@
 // Bytes of a source, added at the end of a text.
 ghost use Rattle.std.specs.Prelude.{◌≡◌, ◌<◌, ◌≤◌, IsTrue, length};
 ghost use Rattle.ac_outside.specs.Outside.{Rose};
-ghost use Rattle.ac_outside.specs.Filling.{Added, Filled, Moves};
+ghost use Rattle.ac_outside.specs.inner.Filling.{Added, Filled, Moves};
 
 use crate::traits::{Got, Source};
 use ac_types::Text;

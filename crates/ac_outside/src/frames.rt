@@ -3,7 +3,7 @@ ghost use Rattle.std.specs.Prelude.{◌≡◌, ◌≢◌, ◌<◌, ◌≤◌, �
 ghost use Rattle.std.specs.Int.{from_be_bytes, w32};
 ghost use Rattle.ac_types.specs.Types.{Bytes};
 ghost use Rattle.ac_outside.specs.Outside.{Rose};
-ghost use Rattle.ac_outside.specs.Readers.{Keeps, Follows, Receives, IsPart, Goes, Gives, kept, reader, left_by};
+ghost use Rattle.ac_outside.specs.FrameReaders.{Keeps, Follows, Receives, IsPart, Goes, Gives, kept, reader, left_by};
 
 use crate::filling::{Fill, fill_to};
 use crate::traits::Source;
@@ -42,7 +42,7 @@ pub struct Frames {
 }
 
 impl Model for Frames {
-    ghost use Rattle.ac_outside.specs.Readers.{Reader, IsPart, kept, reader};
+    ghost use Rattle.ac_outside.specs.FrameReaders.{Reader, IsPart, kept, reader};
 
     ghost Value = { Reader };
 
@@ -126,7 +126,8 @@ fn read_frame<S: Source>(alloc: Global, part: &mut Part, source: &mut S) -> Fram
     ensures part { IsPart part.new.head.0 part.new.body.0 }
     ensures goes { Goes result (kept part.old) (left_by result (kept part.new)) }
     ensures gives { IsTrue S.told →
-        Gives result (kept part.old ++ S.left source.old) (left_by result (kept part.new)) (S.left source.new) }
+        Gives result (kept part.old ++ S.left source.old) (left_by result (kept part.new))
+        (S.left source.new) }
     ensures cause { result ≡ FrameGot.Failed →
         Rose (S.read_faults source.old) (S.read_faults source.new) }
     ensures later { S.read_faults source.old ≤ S.read_faults source.new }
@@ -166,7 +167,8 @@ fn read_body<S: Source>(alloc: Global, part: &mut Part, source: &mut S) -> Frame
     ensures part { IsPart part.new.head.0 part.new.body.0 }
     ensures goes { Goes result (kept part.old) (left_by result (kept part.new)) }
     ensures gives { IsTrue S.told →
-        Gives result (kept part.old ++ S.left source.old) (left_by result (kept part.new)) (S.left source.new) }
+        Gives result (kept part.old ++ S.left source.old) (left_by result (kept part.new))
+        (S.left source.new) }
     ensures cause { result ≡ FrameGot.Failed →
         Rose (S.read_faults source.old) (S.read_faults source.new) }
     ensures later { S.read_faults source.old ≤ S.read_faults source.new }

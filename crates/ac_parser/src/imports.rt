@@ -73,7 +73,8 @@ fn demand<'s, 't>(
     ensures demand { IfOk result (λ x. OnlyRead DemandAt Anything (read_signs signs.now)
         (wants_of x.0.0, option_map abbrevs_of x.0.1) (read_signs x.1.now)) }
     ensures shorter { IfOk result (λ x. length x.1.now < length signs.now) }
-    ensures none { IfErr result (λ e. OnSyntax e (NoRead DemandAt Anything (read_signs signs.now))) }
+    ensures none { IfErr result (λ e. OnSyntax e
+        (NoRead DemandAt Anything (read_signs signs.now))) }
 {
     if let Some(behind) = after(Symbol::NameWord, signs) {
         let (name, rest) = name_wanted(alloc, behind)?;

@@ -88,7 +88,8 @@ pub fn version<'s, 't>(
     ensures version { IfOk result (λ x. OnlyRead VersionAt Anything (read_signs signs.now)
         (option_map version_of x.0) (read_signs x.1.now)) }
     ensures shorter { IfOk result (λ x. length x.1.now < length signs.now) }
-    ensures none { IfErr result (λ e. OnSyntax e (NoRead VersionAt Anything (read_signs signs.now))) }
+    ensures none { IfErr result (λ e. OnSyntax e
+        (NoRead VersionAt Anything (read_signs signs.now))) }
 {
     let (version, rest) = written(alloc, signs)?;
     let Some(end) = after(Symbol::Equals, rest) else {

@@ -16,7 +16,7 @@ use Rattle.ac_resolve.specs.declared.scope.Scope.TheVariants as scope
 use Rattle.ac_resolve.specs.Elaboration.{bind}
 use Rattle.ac_resolve.specs.inner.NameScopes.{names_in, scope_layer}
 use Rattle.ac_syntax.specs.ReadTrees.{name_of}
-use Rattle.ac_resolve.proofs.TreeLaws.{pat_laws, tree_laws}
+use Rattle.ac_syntax.proofs.ReadLaws.{pat_laws, expr_laws}
 use Rattle.ac_resolve.proofs.Counted.{type_count_of, pat_count_of, tree_count_of, arm_count_of}
 
 pub pattern_out : (p : Pat) → pattern_of p ≡ pattern_layer (map-Pat Pat Pattern pattern_of (out-Pat p))
@@ -51,11 +51,11 @@ pub ruleset type_forms = (type_laws, typ_laws)
 
 pub ruleset pat_tree_forms = (pat_laws, pat_count_of, append_assoc, append-nil)
 
-pub ruleset flaw_forms = (tree_laws, tree_count_of, arm_count_of)
+pub ruleset flaw_forms = (expr_laws, tree_count_of, arm_count_of)
 
 pub ruleset scope_laws = (names_in-Empty, names_in-Inner, names_in-Arm)
 
-pub ruleset arm_forms = (scope_laws, tree_laws)
+pub ruleset arm_forms = (scope_laws, expr_laws)
 
 pub ruleset pattern_forms = (pat_laws, pattern_out, pattern_of-Tuple, pattern_of-Exn, the_lemmas)
 

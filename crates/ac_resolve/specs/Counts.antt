@@ -1,7 +1,7 @@
 -- One more than the least limit that a count passes.
 use Rattle.std.specs.Prelude.{ℕ, suc, List, ◌∷◌, length, Option, Some, None, nat_le, if◌then◌else◌}
 use Rattle.ac_types.specs.Types.{Bytes, Typ, parts, height}
-use Rattle.ac_syntax.specs.Trees.{TypeTree, TyTuple, TyList, TyOpt, TyFun, TypeTrees, no_type_trees, type_tree, PatTree, PatVar, PatTuple, PatCons, PatPresent, PatExnOf, PatTrees, no_pat_trees, pat_tree, Tree, ExExnOf, ExTuple, ExNil, ExAbsent, ExPresent, ExCons, ExFun, ExRec, ExApp, ExLet, ExLetRec, ExIf, ExSeq, ExMatch, ExTry, ExRaise, ExAnd, ExOr, ExOp, ExMarshal, ExUnmarshal, Trees, no_trees, tree, ArmTrees, no_arm_trees, arm_tree}
+use Rattle.ac_syntax.specs.Trees.{TypeTree, TyInt, TyBool, TyStr, TyUnit, TyExn, TyLocal, TyOf, TyTuple, TyList, TyOpt, TyFun, TypeTrees, no_type_trees, type_tree, PatTree, PatWild, PatVar, PatInt, PatBool, PatStr, PatUnit, PatTuple, PatNil, PatCons, PatAbsent, PatPresent, PatExn, PatExnOf, PatTrees, no_pat_trees, pat_tree, Tree, ExInt, ExBool, ExStr, ExUnit, ExExn, ExExnOf, ExTuple, ExNil, ExAbsent, ExPresent, ExCons, ExVar, ExOf, ExFun, ExRec, ExApp, ExLet, ExLetRec, ExIf, ExSeq, ExMatch, ExTry, ExRaise, ExAnd, ExOr, ExOp, ExMarshal, ExUnmarshal, Trees, no_trees, tree, ArmTrees, no_arm_trees, arm_tree}
 use Rattle.ac_resolve.specs.ScopedNames.{least}
 use Rattle.ac_resolve.specs.Elaboration.{type_in, variables, bind}
 
@@ -51,7 +51,13 @@ abbrev mutual
   wide_type (TyList at item) = wide_type item
   wide_type (TyOpt at item) = wide_type item
   wide_type (TyFun at from to) = least (wide_type from) (wide_type to)
-  wide_type leaf = None
+  wide_type (TyInt at) = None
+  wide_type (TyBool at) = None
+  wide_type (TyStr at) = None
+  wide_type (TyUnit at) = None
+  wide_type (TyExn at) = None
+  wide_type (TyLocal at x) = None
+  wide_type (TyOf at m x) = None
 
   pub wide_types : TypeTrees → Option ℕ
   wide_types no_type_trees = None
@@ -68,7 +74,14 @@ abbrev mutual
   large_pat (PatCons at head tail) = least (large_pat head) (large_pat tail)
   large_pat (PatPresent at item) = large_pat item
   large_pat (PatExnOf at number item) = large_pat item
-  large_pat leaf = None
+  large_pat (PatWild at) = None
+  large_pat (PatInt at n) = None
+  large_pat (PatBool at b) = None
+  large_pat (PatStr at text) = None
+  large_pat (PatUnit at) = None
+  large_pat (PatNil at) = None
+  large_pat (PatAbsent at) = None
+  large_pat (PatExn at number) = None
 
   pub large_pats : PatTrees → Option ℕ
   large_pats no_pat_trees = None
@@ -98,7 +111,13 @@ abbrev mutual
   too_many names (ExOp at number parts) = too_many_in_all names parts
   too_many names (ExMarshal at a b T) = least (large_type T) (least (too_many names a) (too_many names b))
   too_many names (ExUnmarshal at a T) = least (large_type T) (too_many names a)
-  too_many names leaf = over scope_limit (length names)
+  too_many names (ExInt at n) = over scope_limit (length names)
+  too_many names (ExBool at b) = over scope_limit (length names)
+  too_many names (ExStr at text) = over scope_limit (length names)
+  too_many names (ExUnit at) = over scope_limit (length names)
+  too_many names (ExExn at number) = over scope_limit (length names)
+  too_many names (ExVar at x) = over scope_limit (length names)
+  too_many names (ExOf at m x) = over scope_limit (length names)
 
   pub too_many_in_all : List Bytes → Trees → Option ℕ
   too_many_in_all names no_trees = None

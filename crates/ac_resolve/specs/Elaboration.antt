@@ -53,7 +53,14 @@ abbrev mutual
   variables (PatCons at head tail) = variables head ++ variables tail
   variables (PatPresent at item) = variables item
   variables (PatExnOf at number item) = variables item
-  variables leaf = []
+  variables (PatWild at) = []
+  variables (PatInt at n) = []
+  variables (PatBool at b) = []
+  variables (PatStr at text) = []
+  variables (PatUnit at) = []
+  variables (PatNil at) = []
+  variables (PatAbsent at) = []
+  variables (PatExn at number) = []
 
   pub variables_of_all : PatTrees → List NameAt
   variables_of_all no_pat_trees = []

@@ -1,7 +1,7 @@
 -- The least place of a variable that stands twice in one pattern, the later time.
 use Rattle.std.specs.Prelude.{ℕ, List, [], ◌∷◌, Option, Some, None}
 use Rattle.ac_types.specs.Types.{Bytes}
-use Rattle.ac_syntax.specs.Trees.{NameAt, Tree, ExExnOf, ExTuple, ExPresent, ExCons, ExFun, ExRec, ExApp, ExLet, ExLetRec, ExIf, ExSeq, ExMatch, ExTry, ExRaise, ExAnd, ExOr, ExOp, ExMarshal, ExUnmarshal, Trees, no_trees, tree, ArmTrees, no_arm_trees, arm_tree}
+use Rattle.ac_syntax.specs.Trees.{NameAt, Tree, ExInt, ExBool, ExStr, ExUnit, ExExn, ExExnOf, ExTuple, ExNil, ExAbsent, ExPresent, ExCons, ExVar, ExOf, ExFun, ExRec, ExApp, ExLet, ExLetRec, ExIf, ExSeq, ExMatch, ExTry, ExRaise, ExAnd, ExOr, ExOp, ExMarshal, ExUnmarshal, Trees, no_trees, tree, ArmTrees, no_arm_trees, arm_tree}
 use Rattle.ac_resolve.specs.ScopedNames.{binders_to, least}
 use Rattle.ac_resolve.specs.Elaboration.{variables}
 
@@ -36,7 +36,15 @@ abbrev mutual
   repeated (ExOp at number parts) = repeated_all parts
   repeated (ExMarshal at a b T) = least (repeated a) (repeated b)
   repeated (ExUnmarshal at a T) = repeated a
-  repeated leaf = None
+  repeated (ExInt at n) = None
+  repeated (ExBool at b) = None
+  repeated (ExStr at text) = None
+  repeated (ExUnit at) = None
+  repeated (ExExn at number) = None
+  repeated (ExNil at ty) = None
+  repeated (ExAbsent at ty) = None
+  repeated (ExVar at x) = None
+  repeated (ExOf at m x) = None
 
   pub repeated_all : Trees → Option ℕ
   repeated_all no_trees = None

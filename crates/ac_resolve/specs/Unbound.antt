@@ -1,7 +1,7 @@
 -- The least place of a name that isn't in scope.
 use Rattle.std.specs.Prelude.{ℕ, List, ◌∷◌, Option, Some, None}
 use Rattle.ac_types.specs.Types.{Bytes}
-use Rattle.ac_syntax.specs.Trees.{NameAt, TypeTree, TyLocal, TyOf, TyTuple, TyList, TyOpt, TyFun, TypeTrees, no_type_trees, type_tree, PatTree, PatVar, PatTuple, PatCons, PatPresent, PatExnOf, PatTrees, no_pat_trees, pat_tree, Tree, ExExnOf, ExTuple, ExNil, ExAbsent, ExPresent, ExCons, ExVar, ExOf, ExFun, ExRec, ExApp, ExLet, ExLetRec, ExIf, ExSeq, ExMatch, ExTry, ExRaise, ExAnd, ExOr, ExOp, ExMarshal, ExUnmarshal, Trees, no_trees, tree, ArmTrees, no_arm_trees, arm_tree}
+use Rattle.ac_syntax.specs.Trees.{NameAt, TypeTree, TyInt, TyBool, TyStr, TyUnit, TyExn, TyLocal, TyOf, TyTuple, TyList, TyOpt, TyFun, TypeTrees, no_type_trees, type_tree, PatTree, PatWild, PatVar, PatInt, PatBool, PatStr, PatUnit, PatTuple, PatNil, PatCons, PatAbsent, PatPresent, PatExn, PatExnOf, PatTrees, no_pat_trees, pat_tree, Tree, ExInt, ExBool, ExStr, ExUnit, ExExn, ExExnOf, ExTuple, ExNil, ExAbsent, ExPresent, ExCons, ExVar, ExOf, ExFun, ExRec, ExApp, ExLet, ExLetRec, ExIf, ExSeq, ExMatch, ExTry, ExRaise, ExAnd, ExOr, ExOp, ExMarshal, ExUnmarshal, Trees, no_trees, tree, ArmTrees, no_arm_trees, arm_tree}
 use Rattle.ac_resolve.specs.declared.primitive.Primitive.{Primitive}
 use Rattle.ac_resolve.specs.ScopedNames.{binders_to, entry_of, standard, least}
 use Rattle.ac_resolve.specs.Elaboration.{variables, bind}
@@ -15,7 +15,11 @@ abbrev mutual
   unbound_type (TyList at item) = unbound_type item
   unbound_type (TyOpt at item) = unbound_type item
   unbound_type (TyFun at from to) = least (unbound_type from) (unbound_type to)
-  unbound_type leaf = None
+  unbound_type (TyInt at) = None
+  unbound_type (TyBool at) = None
+  unbound_type (TyStr at) = None
+  unbound_type (TyUnit at) = None
+  unbound_type (TyExn at) = None
 
   pub unbound_types : TypeTrees → Option ℕ
   unbound_types no_type_trees = None
@@ -28,7 +32,14 @@ abbrev mutual
   unbound_pat (PatCons at head tail) = least (unbound_pat head) (unbound_pat tail)
   unbound_pat (PatPresent at item) = unbound_pat item
   unbound_pat (PatExnOf at number item) = unbound_pat item
-  unbound_pat leaf = None
+  unbound_pat (PatWild at) = None
+  unbound_pat (PatInt at n) = None
+  unbound_pat (PatBool at b) = None
+  unbound_pat (PatStr at text) = None
+  unbound_pat (PatUnit at) = None
+  unbound_pat (PatNil at) = None
+  unbound_pat (PatAbsent at) = None
+  unbound_pat (PatExn at number) = None
 
   pub unbound_pats : PatTrees → Option ℕ
   unbound_pats no_pat_trees = None
@@ -69,7 +80,11 @@ abbrev mutual
   unbound names (ExOp at number parts) = unbound_all names parts
   unbound names (ExMarshal at a b T) = least (unbound_type T) (least (unbound names a) (unbound names b))
   unbound names (ExUnmarshal at a T) = least (unbound_type T) (unbound names a)
-  unbound names constant = None
+  unbound names (ExInt at n) = None
+  unbound names (ExBool at b) = None
+  unbound names (ExStr at text) = None
+  unbound names (ExUnit at) = None
+  unbound names (ExExn at number) = None
 
   pub unbound_all : List Bytes → Trees → Option ℕ
   unbound_all names no_trees = None

@@ -48,7 +48,7 @@ fn of_module(alloc: Global, owner: &SName, name: &SName) -> Result<Term, Memory>
 }
 
 /// The primitive that a tree names.
-#[tactic(auto, using(crate::proofs::TreeLaws::tree_laws))]
+#[tactic(auto, using(ac_syntax::proofs::ReadLaws::expr_laws))]
 fn primitive_at(tree: &SExpr) -> Option<Primitive>
     ensures { result ≡ primitive_at (tree_of tree.now) }
 {

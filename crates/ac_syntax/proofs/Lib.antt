@@ -4,6 +4,7 @@ pub mod SigSteps
 pub mod LeftOver
 pub mod OnStop
 pub mod Exceptions
+pub mod ReadLaws
 pub mod SameSymbol
 pub mod Depth
 pub mod TypeLaws

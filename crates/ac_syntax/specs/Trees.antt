@@ -144,7 +144,13 @@ abbrev mutual
   type_height (TyList at item) = type_height item + 1
   type_height (TyOpt at item) = type_height item + 1
   type_height (TyFun at from to) = max (type_height from) (type_height to) + 1
-  type_height leaf = 1
+  type_height (TyInt at) = 1
+  type_height (TyBool at) = 1
+  type_height (TyStr at) = 1
+  type_height (TyUnit at) = 1
+  type_height (TyExn at) = 1
+  type_height (TyLocal at x) = 1
+  type_height (TyOf at m x) = 1
 
   pub highest_type : TypeTrees → ℕ
   highest_type no_type_trees = 0
@@ -156,7 +162,15 @@ abbrev mutual
   pat_height (PatCons at head tail) = max (pat_height head) (pat_height tail) + 1
   pat_height (PatPresent at item) = pat_height item + 1
   pat_height (PatExnOf at number item) = pat_height item + 1
-  pat_height leaf = 1
+  pat_height (PatWild at) = 1
+  pat_height (PatVar at name T) = 1
+  pat_height (PatInt at n) = 1
+  pat_height (PatBool at b) = 1
+  pat_height (PatStr at text) = 1
+  pat_height (PatUnit at) = 1
+  pat_height (PatNil at) = 1
+  pat_height (PatAbsent at) = 1
+  pat_height (PatExn at number) = 1
 
   pub highest_pat : PatTrees → ℕ
   highest_pat no_pat_trees = 0
@@ -183,7 +197,15 @@ abbrev mutual
   height (ExOp at number parts) = highest parts + 1
   height (ExMarshal at mark value ty) = max (height mark) (height value) + 1
   height (ExUnmarshal at text ty) = height text + 1
-  height leaf = 1
+  height (ExInt at n) = 1
+  height (ExBool at b) = 1
+  height (ExStr at text) = 1
+  height (ExUnit at) = 1
+  height (ExExn at number) = 1
+  height (ExNil at ty) = 1
+  height (ExAbsent at ty) = 1
+  height (ExVar at x) = 1
+  height (ExOf at m x) = 1
 
   pub highest : Trees → ℕ
   highest no_trees = 0

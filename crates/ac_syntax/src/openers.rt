@@ -55,7 +55,8 @@ fn open_after(count: u32, token: &Token) -> u32
 
 /// The place of the first opener at which more than 200 are unclosed. Takes no memory.
 pub fn deep(tokens: &[Token]) -> Option<u32>
-    ensures { MatchOption result (IsShallow (signs tokens.now)) (λ at. IsDeep (signs tokens.now) at) }
+    ensures { MatchOption result (IsShallow (signs tokens.now)) (λ at.
+        IsDeep (signs tokens.now) at) }
 {
     let mut count = 0;
     for token in tokens {

@@ -18,7 +18,8 @@ use std::alloc::Global;
 /// The spec behind a `type`.
 fn type_spec<'s, 't>(alloc: Global, signs: &'s [Sign<'t>]) -> Result<(SSpec, &'s [Sign<'t>]), Stop>
     ensures spec { IfOk result (λ x. (a : ℕ) →
-        SpecAt (Fixed a Symbol.TypeWord ∷ read_signs signs.now) (spec_of x.0) (read_signs x.1.now)) }
+        SpecAt (Fixed a Symbol.TypeWord ∷ read_signs signs.now) (spec_of x.0)
+        (read_signs x.1.now)) }
     ensures shorter { IfOk result (λ x. length x.1.now < length signs.now) }
     ensures none { IfErr result (λ e. OnSyntax e ((a : ℕ) →
         NoSpecs (Fixed a Symbol.TypeWord ∷ read_signs signs.now))) }
@@ -70,7 +71,8 @@ fn spec<'s, 't>(alloc: Global, signs: &'s [Sign<'t>]) -> Result<(SSpec, &'s [Sig
 
 /// The signature at the front.
 pub fn sig<'s, 't>(alloc: Global, signs: &'s [Sign<'t>]) -> Result<(SSig, &'s [Sign<'t>]), Stop>
-    ensures sig { IfOk result (λ x. IsSig (read_signs signs.now) (sig_of x.0) (read_signs x.1.now)) }
+    ensures sig { IfOk result (λ x. IsSig (read_signs signs.now) (sig_of x.0)
+        (read_signs x.1.now)) }
     ensures shorter { IfOk result (λ x. length x.1.now < length signs.now) }
     ensures none { IfErr result (λ e. OnSyntax e (NoSig (read_signs signs.now))) }
 {

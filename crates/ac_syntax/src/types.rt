@@ -114,7 +114,8 @@ fn qualified<'s, 't>(
 ) -> Result<Option<(SType, &'s [Sign<'t>])>, Memory>
     ensures found { IfOk result (λ o. MatchOption o
         (NoLeaf (Upper at word.now ∷ read_signs signs.now))
-        (λ x. LeafAt (Upper at word.now ∷ read_signs signs.now) (type_of x.0) (read_signs x.1.now))) }
+        (λ x. LeafAt (Upper at word.now ∷ read_signs signs.now) (type_of x.0)
+        (read_signs x.1.now))) }
     ensures shorter { IfOk result (λ o. IfSome o (λ x. length x.1.now < length signs.now)) }
 {
     let Some(behind) = after(Symbol::Dot, signs) else {

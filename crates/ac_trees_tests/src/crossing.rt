@@ -1,12 +1,13 @@
 // Trees whose values may cross to another thread.
 
 use ac_terms::{Env, Exn, Home, Packet, Pat, Term};
-use ac_types::{Constraint, Resolve, Sig, Ty, Version};
+use ac_types::{Constraint, Resolve, Sig, Text, Ty, Version};
 
 fn crosses<T: Send + Sync>() {}
 
 #[test]
 fn types_and_signatures_cross(_rt: HostRuntime) {
+    crosses::<Text>();
     crosses::<Ty>();
     crosses::<Sig>();
     crosses::<Version>();

@@ -5,7 +5,7 @@ use Rattle.ac_values.specs.declared.node.Value.{Value}
 use Rattle.std.proofs.lemmas.List.{reverse-append}
 use Rattle.std.specs.List.{All}
 use Rattle.std.proofs.lemmas.List.Elements.{All-append}
-use Rattle.ac_values.specs.Readers.{opened, entry, without}
+use Rattle.ac_values.specs.ValueReaders.{opened, entry, without}
 
 pub opened_more : (t a b : MValue) → opened t ≡ Some (a, b) → t ≡ MMore a b
 opened_more (MMore x y) a b e = let h : (x, y) ≡ (a, b) = cc in ap (λ (p : MValue × MValue). MMore p.0 p.1) h

@@ -1,6 +1,6 @@
 pub mod Below
 pub mod Building
 pub mod Fits
-pub mod Readers
+pub mod ValueReaders
 pub mod Values
 pub mod inner

@@ -2,7 +2,7 @@
 ghost use Rattle.std.specs.Prelude.{◌≡◌, ◌<◌, ℕ, length, MatchOption, Some, None, true, false};
 ghost use Rattle.std.specs.List.{All};
 ghost use Rattle.ac_values.specs.Values.{stands, values, values_at};
-ghost use Rattle.ac_values.specs.Readers.{opened, entry, int_in, bool_in, closure_in, text_in, without, cons_in, present_in, tuple_in, exn_with, exn_without, is_unit, is_nil, is_absent};
+ghost use Rattle.ac_values.specs.ValueReaders.{opened, entry, int_in, bool_in, closure_in, text_in, without, cons_in, present_in, tuple_in, exn_with, exn_without, is_unit, is_nil, is_absent};
 
 use crate::node::{Node, Value};
 use crate::store::Store;

@@ -1,5 +1,5 @@
 use Rattle.std.proofs.Common.{◌≡◌, ◌≤◌, ◌++◌, IsTrue, length}
-use Rattle.ac_outside.specs.Filling.{Grown}
+use Rattle.ac_outside.specs.inner.Filling.{Grown}
 use Rattle.ac_outside.proofs.filling.fill_to.Given as goal
 
 abbrev pub invariant-loop-i : goal.invariant-loop-i

@@ -1,6 +1,6 @@
 use Rattle.std.proofs.Common.{◌≡◌, ◌-◌}
 use Rattle.ac_values.specs.Values.{stands}
-use Rattle.ac_values.specs.Readers.{entry}
+use Rattle.ac_values.specs.ValueReaders.{entry}
 use Rattle.ac_values.proofs.read.entry.Given as goal
 
 abbrev pub invariant-loop : goal.invariant-loop

@@ -1,6 +1,6 @@
 use Rattle.std.proofs.Common.{◌≡◌, ◌-◌, ◌<◌, length}
 use Rattle.ac_values.specs.Values.{stands}
-use Rattle.ac_values.specs.Readers.{without}
+use Rattle.ac_values.specs.ValueReaders.{without}
 use Rattle.ac_values.proofs.read.without.Given as goal
 
 abbrev pub invariant-loop : goal.invariant-loop
