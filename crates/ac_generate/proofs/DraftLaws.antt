@@ -109,9 +109,9 @@ module _ (c : Home) (G : List Typ) where
   unfolding wrote
   wrote_Unmarshal T e d = sym (put_more _ _ _ d)
 
-  pub wrote_Packed : (T : Typ) (v : PValue) (d : Draft) → wrote c G (Val T v) d ≡ wrote_value v d
+  pub wrote_Val : (T : Typ) (v : PValue) (d : Draft) → wrote c G (Val T v) d ≡ wrote_value v d
   unfolding wrote wrote_value
-  wrote_Packed T v d = refl
+  wrote_Val T v d = refl
 
   pub wrote_Seq : (es : Exprs) (d : Draft) → wrote c G (Seq es) d ≡ wrote_seq c G es d
   unfolding wrote wrote_seq
@@ -283,7 +283,7 @@ wrote_next_value v vs d =
     sym (further (λ p. all_value_code vs) (all_value_blocks vs) (value_code v n) (value_blocks v n) d (address d + length (value_code v n)) (n + value_lambdas v) refl (ap (λ k. n + k) (value_block_count v n)))
 
 -- the equations of the forms
-pub ruleset draft_laws = (wrote_Int, wrote_Boolean, wrote_Str, wrote_Unit, wrote_Exn, wrote_ExnOf, wrote_Tuple, wrote_Nil, wrote_Empty, wrote_Present, wrote_Cons, wrote_Var, wrote_Own, wrote_Ref, wrote_Lam, wrote_Rec, wrote_App, wrote_Let, wrote_Seq, wrote_Raise, wrote_Prim, wrote_Marshal, wrote_Unmarshal, wrote_Packed)
+pub ruleset draft_laws = (wrote_Int, wrote_Boolean, wrote_Str, wrote_Unit, wrote_Exn, wrote_ExnOf, wrote_Tuple, wrote_Nil, wrote_Empty, wrote_Present, wrote_Cons, wrote_Var, wrote_Own, wrote_Ref, wrote_Lam, wrote_Rec, wrote_App, wrote_Let, wrote_Seq, wrote_Raise, wrote_Prim, wrote_Marshal, wrote_Unmarshal, wrote_Val)
 
 pub ruleset list_laws = (wrote_none, wrote_next, wrote_no_parts, wrote_first, wrote_no_rest, wrote_later)
 

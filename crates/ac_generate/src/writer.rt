@@ -47,7 +47,7 @@ impl Writer {
     }
 
     /// Where the next instruction stands.
-    #[tactic(auto, unfolding(crate::specs::Drafts::draft_of))]
+    #[tactic(auto, unfolding(crate::specs::inner::Drafts::draft_of))]
     pub fn address(&self) -> usize
         ensures { result ≡ address (draft_of self.now) }
     {
@@ -55,7 +55,7 @@ impl Writer {
     }
 
     /// Writes an instruction.
-    #[tactic(auto, using(crate::proofs::WriterLaws::writer_laws), unfolding(crate::specs::Drafts::draft_of, crate::specs::Drafts::put))]
+    #[tactic(auto, using(crate::proofs::WriterLaws::writer_laws), unfolding(crate::specs::inner::Drafts::draft_of, crate::specs::inner::Drafts::put))]
     pub fn put(&mut self, instr: Instr) -> Result<(), Memory>
         ensures { OnOk result (draft_of self.new ≡ put (instr_of instr) (draft_of self.old)) }
     {
@@ -74,7 +74,7 @@ impl Writer {
     }
 
     /// Puts another instruction at an address that is written.
-    #[tactic(auto, using(crate::proofs::WriterLaws::writer_laws), unfolding(crate::specs::Drafts::draft_of, crate::specs::Drafts::set_at))]
+    #[tactic(auto, using(crate::proofs::WriterLaws::writer_laws), unfolding(crate::specs::inner::Drafts::draft_of, crate::specs::inner::Drafts::set_at))]
     pub fn set(&mut self, at: usize, instr: Instr)
         ensures { draft_of self.new ≡ set_at at (instr_of instr) (draft_of self.old) }
     {
@@ -175,7 +175,7 @@ impl Writer {
     }
 
     /// Begins another block, and gives the instructions of the one before.
-    #[tactic(auto, unfolding(crate::specs::Drafts::draft_of, crate::specs::Drafts::begun))]
+    #[tactic(auto, unfolding(crate::specs::inner::Drafts::draft_of, crate::specs::inner::Drafts::begun))]
     pub fn begin(&mut self) -> Vec<Instr>
         ensures before { map instr_of result.items ≡ (draft_of self.old).instrs }
         ensures after { draft_of self.new ≡ begun (draft_of self.old) }
@@ -184,7 +184,7 @@ impl Writer {
     }
 
     /// Ends the block of a lambda, goes on with the one before, and gives the number of the block.
-    #[tactic(auto, using(crate::proofs::WriterLaws::writer_laws), unfolding(crate::specs::Drafts::draft_of, crate::specs::Drafts::ended))]
+    #[tactic(auto, using(crate::proofs::WriterLaws::writer_laws), unfolding(crate::specs::inner::Drafts::draft_of, crate::specs::inner::Drafts::ended))]
     pub fn end(
         &mut self,
         before: Vec<Instr>,
@@ -204,7 +204,7 @@ impl Writer {
     }
 
     /// The number of the next finished block.
-    #[tactic(auto, unfolding(crate::specs::Drafts::draft_of))]
+    #[tactic(auto, unfolding(crate::specs::inner::Drafts::draft_of))]
     fn number(&self) -> Result<CodeId, Memory>
         ensures { IfOk result (λ id. id.0 ≡ count (draft_of self.now)) }
     {

@@ -16,7 +16,7 @@ use Rattle.ac_terms.specs.TermTyping.{last_of}
 use Rattle.ac_rules.specs.Views.{Mode, Plain, Coloured, view, type_of_entry, representation, opened, unsealed, head, rounds, has_name, opens, is_known, are_known}
 use Rattle.ac_rules.specs.Typing.{Scope, bind, bind_all, all_of, HasType, type_of, seen, holds, all_hold, each_holds, tuple_parts, list_item, option_item, is_function, is_function_home, is_home, types_of, arm_types, variables, variables_of_all, are_all, one_of, a_list, an_option, value_in}
 use Rattle.ac_rules.specs.Coherent.{IsCoherent}
-use Rattle.ac_rules.proofs.Rules.{then_some, rule-Int, rule-Boolean, rule-Str, rule-Unit, rule-Exn, rule-ExnOf, rule-Tuple, rule-expr, rule-Nil, rule-Empty, rule-Present, rule-Cons, rule-Var, rule-Own, rule-Ref, rule-Lam, rule-App, rule-If, rule-Let, rule-Rec, rule-Seq, rule-Match, rule-Try, rule-Raise, rule-Prim, rule-Marshal, rule-Unmarshal, rule-Packed, has_some, agree_some, also_some, joined_some, function_home}
+use Rattle.ac_rules.proofs.Rules.{then_some, rule-Int, rule-Boolean, rule-Str, rule-Unit, rule-Exn, rule-ExnOf, rule-Tuple, rule-expr, rule-Nil, rule-Empty, rule-Present, rule-Cons, rule-Var, rule-Own, rule-Ref, rule-Lam, rule-App, rule-If, rule-Let, rule-Rec, rule-Seq, rule-Match, rule-Try, rule-Raise, rule-Prim, rule-Marshal, rule-Unmarshal, rule-Val, has_some, agree_some, also_some, joined_some, function_home}
 use Rattle.ac_rules.proofs.EarlierLaws.{found_keeps}
 use Rattle.ac_terms.proofs.AllLaws.{all_left, all_right}
 use Rattle.ac_rules.proofs.BareLaws.{known_has}
@@ -500,7 +500,7 @@ module _ (E : Environment) (coherent : IsCoherent E) (known : KnownTypes E) (mod
         let p = rule-Unmarshal Coloured E S A e T h in
         (ap low (sym p.2) ∙ low_seen S.home A p.1, at_type (r S.home e) S.home (lows S.vars) _ _ (lower_str E mode) (rebuilt_typed e S TStr (both_true _ _ s).1 p.0 o), p.1)
     rebuilt_typed (Val A v) S T s h o =
-        let p = rule-Packed Coloured E S A v T h in
+        let p = rule-Val Coloured E S A v T h in
         let q : low T ≡ view mode E S.home A = ap low (sym p.2) ∙ low_seen S.home A p.1 in
         (q, subst (λ X. ValueTyped mode E (rebuilt mode E S.home A v) S.home X) (sym q) (rebuilt_ok v S.home A p.1 o (both_true _ _ s).1 p.0), p.1)
     rebuilt_typed (Evaluated A v) S T s h o = absurd (true≢false (sym s))

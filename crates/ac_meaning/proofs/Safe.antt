@@ -7,7 +7,7 @@ use Rattle.ac_types.specs.Types.{Bytes, Typ, TInt, TBool, TStr, TUnit, TExn, TTu
 use Rattle.ac_terms.specs.Terms.{Home, Prim, Value, VInt, VBool, VStr, VUnit, VTuple, Values, no_values, value}
 use Rattle.ac_terms.specs.Defs.{Environment}
 use Rattle.ac_terms.specs.PrimitiveTypes.{Rule, arithmetic, comparison, by_rules, primitives, primitive_type}
-use Rattle.ac_types.specs.Limits.{longest_frame}
+use Rattle.ac_types.specs.Limits.{longest_string}
 use Rattle.ac_code.specs.Constants.{Const, CInt, CBool, CStr, CUnit, CPart, Answer, Gives, Prints, Sends, Receives, Fails, NoSense, Meaning, meaning, applied, sum, difference, product, quotient, remainder, negation, equal, less, joined, opposite, print_int, print_string, send, receive, size, sub_string, of_int, part, meanings, same_int, division_by_zero, invalid_argument}
 use Rattle.ac_rules.specs.Views.{Mode}
 use Rattle.ac_rules.specs.Coherent.{IsCoherent}
@@ -192,7 +192,7 @@ each_answers =
                     (ints less TBool (λ x y. refl), (bools less TBool (λ x y. refl), (strs less TBool (λ x y. refl), tt))),
                     (
                       (two, tt),
-                      (strs joined TStr (λ x y. tested (nat_le (length x + length y) longest_frame) TStr (Gives (CStr (x ++ y))) (invalid_argument (codes "string")) refl tt), tt),
+                      (strs joined TStr (λ x y. tested (nat_le (length x + length y) longest_string) TStr (Gives (CStr (x ++ y))) (invalid_argument (codes "string")) refl tt), tt),
                       (
                         (one, tt),
                         (a_bool opposite TBool (λ x. refl), tt),

@@ -14,7 +14,7 @@ use Rattle.ac_types.specs.Types.{Bytes}
 use Rattle.ac_terms.specs.Terms.{Value, VInt, VBool, VStr, VUnit, VTuple, Values, no_values, value}
 use Rattle.ac_terms.specs.PrimitiveTypes.{is_exception}
 use Rattle.ac_terms.specs.Bounds.{is_string, is_integer}
-use Rattle.ac_types.specs.Limits.{longest_frame}
+use Rattle.ac_types.specs.Limits.{longest_string, longest_frame}
 use Rattle.ac_code.specs.Constants.{Const, CInt, CBool, CStr, CUnit, CPart, Answer, Gives, Prints, Sends, Receives, Fails, NoSense, Meaning, One, Two, meanings, meaning, applied, sum, difference, product, quotient, remainder, negation, equal, less, joined, opposite, print_int, print_string, send, receive, size, sub_string, of_int, part, same_int, invalid_argument, division_by_zero}
 use Rattle.ac_meaning.specs.Writes.{Print, Send}
 use Rattle.ac_meaning.specs.Worlds.{World}
@@ -130,7 +130,7 @@ less_within _ _ h k = tt
 
 joined_within : MeaningWithin (Two joined)
 joined_within (CStr s) (CStr t) h k =
-    tested (nat_le (length s + length t) longest_frame) (Gives (CStr (s ++ t))) (invalid_argument (codes "string"))
+    tested (nat_le (length s + length t) longest_string) (Gives (CStr (s ++ t))) (invalid_argument (codes "string"))
     (λ e. ap (λ n. nat_le n 1048576) (length-append s t) ∙ e) (λ e. (refl, refl))
 joined_within _ _ h k = tt
 

@@ -19,7 +19,7 @@ use Rattle.ac_terms.specs.Parts.{Portion, OfType, OfRef, OfHome, Captured, patte
 use Rattle.ac_terms.specs.Bounds.{is_four, is_width, takes, fits_term, fit_terms, fit_arms, fits_value, fit_values, has_small_types}
 use Rattle.ac_rules.specs.Views.{Mode, Coloured, view, opened_at_home, opens, head}
 use Rattle.ac_rules.specs.Typing.{Scope, bind, bind_all, all_of, HasType, type_of, seen, types_of, arm_types, variables, holds, all_hold, each_holds, kept_in, tuple_parts, list_item, option_item, is_function, is_function_home}
-use Rattle.ac_rules.proofs.Rules.{then_some, rule-ExnOf, rule-Tuple, rule-expr, rule-Present, rule-Cons, rule-Lam, rule-App, rule-If, rule-Let, rule-Rec, rule-Seq, rule-Match, rule-Try, rule-Raise, rule-Prim, rule-Marshal, rule-Unmarshal, rule-Packed, agree_some, also_some}
+use Rattle.ac_rules.proofs.Rules.{then_some, rule-ExnOf, rule-Tuple, rule-expr, rule-Present, rule-Cons, rule-Lam, rule-App, rule-If, rule-Let, rule-Rec, rule-Seq, rule-Match, rule-Try, rule-Raise, rule-Prim, rule-Marshal, rule-Unmarshal, rule-Val, agree_some, also_some}
 use Rattle.ac_meaning.specs.Laws.{is_source, are_source, arms_are_source}
 use Rattle.ac_meaning.specs.Rebuilding.{parts_of, item_of, argument_of, result_of, at_abstract, sealed, rebuilt, all_rebuilt, list_rebuilt, rebuilt_term, rebuilt_terms, rebuilt_arms}
 use Rattle.ac_meaning.proofs.Sources.{left, middle}
@@ -241,7 +241,7 @@ module _ (mode : Mode) (F : Environment) where
           ((p.0, m.0), term_within b e S TStr c (rule-Unmarshal Coloured E S A e T h).0 p.1 m.1)
       term_within b (Val A v) S T c h w s =
           let m = one_small A (Captured ∷ value_parts v) s in
-          ((middle _ _ _ w, m.0), value_within v A c A (rule-Packed Coloured E S A v T h).0 (both_true _ _ w).1 m.1)
+          ((middle _ _ _ w, m.0), value_within v A c A (rule-Val Coloured E S A v T h).0 (both_true _ _ w).1 m.1)
       term_within b (Evaluated A v) S T c h w s = absurd (true≢false (sym w))
       term_within b (Bracket d A e) S T c h w s = absurd (true≢false (sym w))
 

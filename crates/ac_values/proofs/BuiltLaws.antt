@@ -1,6 +1,6 @@
 -- Laws of tables that are made from lists.
-use Rattle.std.specs.Prelude.{ℕ, ◌≡◌, ◌<◌, ◌+◌, List, [], ◌∷◌, ◌++◌, length, get_or, suc, zero, Option, Some, None, slice_get, refl}
-use Rattle.std.proofs.Common.{sym, ◌∙◌, ap, subst, append_assoc, length-append, arith}
+use Rattle.std.specs.Prelude.{ℕ, ◌≡◌, ◌<◌, ◌+◌, List, [], ◌∷◌, ◌++◌, length, get_or, suc, zero, Some, slice_get, refl}
+use Rattle.std.proofs.Common.{sym, ◌∙◌, subst, length-append, arith}
 use Rattle.std.proofs.Math.Seq.{get_or-append_seam}
 use Rattle.std.proofs.Math.ListN.{get_or-append}
 use Rattle.ac_values.specs.Building.{built}

@@ -1,7 +1,6 @@
 -- Laws of lists that share their tails.
-use Rattle.std.proofs.Common.{◌≡◌, ◌⊎◌, inl, inr, ℕ, zero, suc, ◌<◌, ◌≤◌, ◌+◌, List, [], ◌∷◌, ◌++◌, Option, Some, None, slice_get, length, get_or, refl, sym, ◌∙◌, ap, ap₂, arith, length-append, zero-add, subst}
+use Rattle.std.proofs.Common.{◌≡◌, ◌⊎◌, inl, inr, ℕ, zero, suc, ◌<◌, ◌≤◌, ◌+◌, List, [], ◌∷◌, ◌++◌, Some, None, slice_get, length, get_or, refl, sym, ap, arith, length-append, subst}
 use Rattle.ac_values.specs.declared.chain.Cell.{Cell}
-use Rattle.ac_values.specs.Building.{built}
 use Rattle.ac_values.proofs.BuiltLaws.{built-push, length-built, built-keeps, built-at}
 use Rattle.ac_values.specs.inner.Chains.{list_of, lists, AreEarlier}
 

@@ -1,6 +1,6 @@
 -- Laws of lists of values.
-use Rattle.std.proofs.Common.{Bool, length, List, [], ◌∷◌, ◌++◌, reverse, ◌≡◌, ℕ, zero, suc, ◌<◌, ◌≤◌, ◌+◌, ◌-◌, Option, Some, None, refl, sym, ◌∙◌, ap, ap₂, arith, subst}
-use Rattle.ac_values.specs.Values.{MValue, MInt, MBool, MStr, MUnit, MExn, MExnOf, MTuple, MNil, MCons, MAbsent, MPresent, MClosure, MEnd, MMore, MValues, also, value_at, values_at}
+use Rattle.std.proofs.Common.{List, [], ◌∷◌, ◌++◌, reverse, ◌≡◌, ℕ, zero, suc, ◌<◌, ◌+◌, ◌-◌, Some, None, refl, sym, ap, ap₂, arith, subst}
+use Rattle.ac_values.specs.Values.{MValue, MInt, MBool, MStr, MUnit, MExn, MExnOf, MTuple, MNil, MCons, MAbsent, MPresent, MClosure, MEnd, MMore, also, value_at, values_at}
 use Rattle.ac_values.specs.declared.node.Value.{Value}
 use Rattle.std.proofs.lemmas.List.{reverse-append}
 use Rattle.std.specs.List.{All}

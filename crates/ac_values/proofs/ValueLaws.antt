@@ -1,5 +1,5 @@
 -- Laws of what numbers stand for.
-use Rattle.std.proofs.Common.{◌≡◌, ℕ, zero, suc, ◌<◌, ◌≤◌, ◌+◌, List, [], ◌∷◌, ◌++◌, Option, Some, None, slice_get, length, get_or, refl, sym, ◌∙◌, ap, ap₂, arith, length-append, zero-add, subst}
+use Rattle.std.proofs.Common.{◌≡◌, ℕ, zero, suc, ◌<◌, ◌≤◌, ◌+◌, List, [], ◌∷◌, ◌++◌, Some, None, slice_get, length, refl, sym, ◌∙◌, ap, ap₂, arith, zero-add, subst}
 use Rattle.std.specs.List.{All}
 use Rattle.std.proofs.Math.Seq.{get_or-append_seam}
 use Rattle.std.proofs.Math.ListN.{get_or-append}
@@ -7,10 +7,9 @@ use Rattle.std.proofs.lemmas.List.{get_or_past}
 use Rattle.ac_values.specs.declared.node.Node.{Node}
 use Rattle.ac_values.specs.declared.node.Value.{Value}
 use Rattle.ac_values.specs.declared.node.Node.TheVariants.{Int, Bool, Str, Unit as UnitNode, Exn, Tuple, Nil, Cons, Absent, Present, Closure, EnvEnd, EnvCons}
-use Rattle.ac_values.specs.Building.{built}
-use Rattle.ac_values.proofs.BuiltLaws.{built-push, length-built, built-keeps, built-at}
+use Rattle.ac_values.proofs.BuiltLaws.{built-push, length-built, built-at}
 use Rattle.ac_values.specs.Below.{Below, IsOrdered}
-use Rattle.ac_values.specs.Values.{MValue, MUnit, MTuple, MExnOf, MCons, MPresent, MClosure, MMore, MValues, also, value_at, values_at, value_of, values, stands}
+use Rattle.ac_values.specs.Values.{MValue, MUnit, MTuple, MExnOf, MCons, MPresent, MClosure, MMore, also, value_at, values_at, value_of, values, stands}
 
 abbrev pub Agree : List MValue → List MValue → ℕ → Type 0
 Agree ts us n = (k : ℕ) → k < n → value_at ts k ≡ value_at us k

@@ -1,5 +1,5 @@
 -- Which values a pattern fits, and what its variables then are.
-use Rattle.std.specs.Prelude.{◌≡◌, ◌<◌, length, ℕ, ℤ, Bool, true, false, nat_eq, List, [], ◌∷◌, Option, Some, None, option_and_then}
+use Rattle.std.specs.Prelude.{◌≡◌, ◌<◌, length, Bool, true, false, nat_eq, List, [], ◌∷◌, Option, Some, None, option_and_then}
 use Rattle.std.specs.List.{All}
 use Rattle.ac_types.specs.Types.{same_bytes}
 use Rattle.ac_code.specs.Constants.{same_int, same_bool}

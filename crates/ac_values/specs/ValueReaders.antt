@@ -1,7 +1,7 @@
 -- What machine values are, and parts of lists of them.
 use Rattle.std.specs.Prelude.{ℕ, ℤ, zero, suc, Bool, true, false, Option, Some, None}
 use Rattle.ac_types.specs.Types.{Bytes}
-use Rattle.ac_values.specs.Values.{MValue, MInt, MBool, MStr, MUnit, MExn, MExnOf, MTuple, MNil, MCons, MAbsent, MPresent, MClosure, MEnd, MMore, MValues, nothing, also}
+use Rattle.ac_values.specs.Values.{MValue, MInt, MBool, MStr, MUnit, MExn, MExnOf, MTuple, MNil, MCons, MAbsent, MPresent, MClosure, MMore, MValues}
 
 -- the newest of a list, and the rest
 abbrev pub opened : MValue → Option (MValue × MValue)

@@ -1,5 +1,5 @@
 -- What a number of a store stands for.
-use Rattle.std.specs.Prelude.{ℕ, ℤ, ◌≡◌, ◌<◌, Bool, List, [], ◌∷◌, ◌++◌, Option, Some, None, get_or, length, map}
+use Rattle.std.specs.Prelude.{ℕ, ℤ, Bool, List, [], ◌∷◌, Some, None, get_or}
 use Rattle.ac_values.specs.declared.node.Node.{Node}
 use Rattle.ac_values.specs.declared.node.Value.{Value}
 use Rattle.ac_values.specs.declared.node.Node.TheVariants.{Int, Bool as BoolNode, Str, Unit as UnitNode, Exn, Tuple, Nil, Cons, Absent, Present, Closure, EnvEnd, EnvCons}

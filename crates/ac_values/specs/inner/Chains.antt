@@ -1,5 +1,5 @@
 -- Lists that share their tails.
-use Rattle.std.specs.Prelude.{ℕ, suc, ◌≡◌, ◌<◌, List, [], ◌∷◌, Option, Some, slice_get, get_or}
+use Rattle.std.specs.Prelude.{ℕ, suc, ◌≡◌, ◌<◌, List, [], ◌∷◌, Some, slice_get, get_or}
 use Rattle.ac_values.specs.declared.chain.Cell.{Cell}
 use Rattle.ac_values.specs.Building.{built}
 
