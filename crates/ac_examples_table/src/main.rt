@@ -5,10 +5,9 @@
 //! how the program ended, with the status of `acute`.
 #![tactic(auto)]
 
-ghost use Rattle.std.specs.Prelude.{◌≡◌, []};
 ghost use Rattle.ac_types.specs.ReadTypes.{typ_of};
 ghost use Rattle.ac_terms.specs.Read.{environment_of, expr_of};
-ghost use Rattle.ac_meaning.specs.Laws.{IsTypedProgram};
+ghost use Rattle.ac_meaning.specs.Loads.{IsLoaded};
 
 mod listing;
 
@@ -17,17 +16,11 @@ use ac_outside::{SureWorld, World};
 use ac_page::Page;
 use ac_rules::Loaded;
 use ac_run::{RunEnd, Session};
-use ac_types::{Many, Memory, Text};
+use ac_types::{Memory, Text};
 use listing::{write_exception, write_printed};
 use std::alloc::Global;
 use std::fs;
 use std::io::{self, Write};
-
-fn no_shelf(alloc: Global) -> Shelf
-    ensures { result.0 ≡ [] }
-{
-    Shelf(Many::new(alloc))
-}
 
 fn write_end(listing: &mut Page, end: &RunEnd) {
     match end {
@@ -53,14 +46,16 @@ fn run_in<W: World>(
     steps: u64,
     world: &mut W,
 ) -> Result<RunEnd, Memory>
-    requires { IsTypedProgram (environment_of loaded.env) (expr_of loaded.main) (typ_of loaded.ty) }
+    requires loaded { IsLoaded (environment_of loaded.env) (expr_of loaded.main)
+        (typ_of loaded.ty) }
 {
     let mut session = Session::new(alloc, loaded, steps, false)?;
     Ok(session.run(world))
 }
 
 fn write_run(alloc: Global, listing: &mut Page, loaded: Loaded, steps: u64)
-    requires { IsTypedProgram (environment_of loaded.env) (expr_of loaded.main) (typ_of loaded.ty) }
+    requires loaded { IsLoaded (environment_of loaded.env) (expr_of loaded.main)
+        (typ_of loaded.ty) }
 {
     let mut world = SureWorld::new(alloc, Text::new(alloc));
     match run_in(alloc, loaded, steps, &mut world) {
@@ -74,7 +69,7 @@ fn write_run(alloc: Global, listing: &mut Page, loaded: Loaded, steps: u64)
 
 fn listing_of(alloc: Global, text: &[u8], steps: u64) -> Page {
     let mut listing = Page::new(alloc);
-    match load(alloc, text, &no_shelf(alloc)) {
+    match load(alloc, text, &Shelf::empty(alloc)) {
         Ok(loaded) => write_run(alloc, &mut listing, loaded, steps),
         Err(_) => listing.put(b"refused, status 1\n"),
     }

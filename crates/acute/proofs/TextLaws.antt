@@ -9,7 +9,7 @@ use Rattle.ac_meaning.specs.Acts.{Outcome, Returned, Raised, Spent, Stuck}
 use Rattle.ac_meaning.specs.Laws.{IsTypedProgram, bare_end, writes_of}
 use Rattle.ac_meaning.proofs.Admitted.{arrives}
 use Rattle.ac_meaning.proofs.BareEndings.{ends_alike, one_bare_end}
-use Rattle.ac_load.specs.Loading.{Shelved, Accepted, IsRefused}
+use Rattle.ac_load.specs.Loading.{ShelfText, Accepted, IsRefused}
 use Rattle.ac_load.specs.declared.kind.Kind.{Kind}
 use Rattle.ac_load.proofs.TextLaws.{not_both, one_term, runs}
 use Rattle.acute.specs.declared.status.Status.{Status}
@@ -48,13 +48,13 @@ one_answer m n {E = E} {e = e} {T = T} {steps = steps} {o = o} {p = p} typed end
     sym (given_bare steps o) ∙ ap (given_by steps) same ∙ given_bare steps p
 
 -- the text is refused
-record IsRefusal (text : List ℕ) (shelf : List Shelved) (a : Answer) : Type 0 where
+record IsRefusal (text : List ℕ) (shelf : List ShelfText) (a : Answer) : Type 0 where
   kind : Kind
   refused : IsRefused text shelf 0 kind
   is : a ≡ answer REFUSED [] (kind_line kind)
 
 -- the text has a program, which ends so
-record IsRun (mode : Mode) (text : List ℕ) (shelf : List Shelved) (steps : ℕ) (a : Answer) : Type 0 where
+record IsRun (mode : Mode) (text : List ℕ) (shelf : List ShelfText) (steps : ℕ) (a : Answer) : Type 0 where
   env : Environment
   term : Expr
   type : Typ
@@ -63,7 +63,7 @@ record IsRun (mode : Mode) (text : List ℕ) (shelf : List Shelved) (steps : ℕ
   ends : EndsWithin mode steps env term outcome
   is : a ≡ given_by steps outcome
 
-cases : {mode : Mode} {text : List ℕ} {shelf : List Shelved} {steps : ℕ} {a : Answer} → Means mode text shelf steps a → IsRefusal text shelf a ⊎ IsRun mode text shelf steps a
+cases : {mode : Mode} {text : List ℕ} {shelf : List ShelfText} {steps : ℕ} {a : Answer} → Means mode text shelf steps a → IsRefusal text shelf a ⊎ IsRun mode text shelf steps a
 cases (refused k x) = inl (record { kind = k; refused = x; is = refl })
 cases (finished E e T v z y h) = inr (record { env = E; term = e; type = T; outcome = Returned v z; accepted = y; ends = h; is = refl })
 cases (uncaught E e T x z y h) = inr (record { env = E; term = e; type = T; outcome = Raised x z; accepted = y; ends = h; is = refl })
@@ -75,23 +75,23 @@ Alike a b = (a.status ≡ b.status) × (a.writes ≡ b.writes)
 same_answer : {a b : Answer} → a ≡ b → Alike a b
 same_answer is = (ap (λ (x : Answer). x.status) is, ap (λ (x : Answer). x.writes) is)
 
-refused_alike : {text : List ℕ} {shelf : List Shelved} {a b : Answer} → IsRefusal text shelf a → IsRefusal text shelf b → Alike a b
+refused_alike : {text : List ℕ} {shelf : List ShelfText} {a b : Answer} → IsRefusal text shelf a → IsRefusal text shelf b → Alike a b
 refused_alike r s =
     let left = same_answer r.is in
     let right = same_answer s.is in
     (left.0 ∙ sym right.0, left.1 ∙ sym right.1)
 
-run_alike : (m n : Mode) {text : List ℕ} {shelf : List Shelved} {steps : ℕ} {a b : Answer} → IsRun m text shelf steps a → IsRun n text shelf steps b → Alike a b
+run_alike : (m n : Mode) {text : List ℕ} {shelf : List ShelfText} {steps : ℕ} {a b : Answer} → IsRun m text shelf steps a → IsRun n text shelf steps b → Alike a b
 run_alike m n {steps = steps} r s =
     let one = one_term r.accepted s.accepted in
     let moved = subst (λ (e : Expr). EndsWithin m steps s.env e r.outcome) one.1 (subst (λ (E : Environment). EndsWithin m steps E r.term r.outcome) one.0 r.ends) in
     same_answer (r.is ∙ one_answer m n (runs s.accepted) moved s.ends ∙ sym s.is)
 
-alike : (m n : Mode) {text : List ℕ} {shelf : List Shelved} {steps : ℕ} {a b : Answer} → IsRefusal text shelf a ⊎ IsRun m text shelf steps a → IsRefusal text shelf b ⊎ IsRun n text shelf steps b → Alike a b
+alike : (m n : Mode) {text : List ℕ} {shelf : List ShelfText} {steps : ℕ} {a b : Answer} → IsRefusal text shelf a ⊎ IsRun m text shelf steps a → IsRefusal text shelf b ⊎ IsRun n text shelf steps b → Alike a b
 alike m n (inl r) (inl s) = refused_alike r s
 alike m n (inl r) (inr s) = absurd (not_both r.refused s.accepted)
 alike m n (inr r) (inl s) = absurd (not_both s.refused r.accepted)
 alike m n (inr r) (inr s) = run_alike m n r s
 
-pub one : (m n : Mode) {text : List ℕ} {shelf : List Shelved} {steps : ℕ} {a b : Answer} → Means m text shelf steps a → Means n text shelf steps b → (a.status ≡ b.status) × (a.writes ≡ b.writes)
+pub one : (m n : Mode) {text : List ℕ} {shelf : List ShelfText} {steps : ℕ} {a b : Answer} → Means m text shelf steps a → Means n text shelf steps b → (a.status ≡ b.status) × (a.writes ≡ b.writes)
 one m n a b = alike m n (cases a) (cases b)

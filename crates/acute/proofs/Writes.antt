@@ -6,9 +6,8 @@ use Rattle.std.proofs.lemmas.List.{append-nil}
 use Rattle.std.proofs.lemmas.Grind.{flat_map-append}
 use Rattle.ac_outside.specs.Outside.{Extends}
 use Rattle.ac_meaning.specs.Writes.{Write, Print, Send, Console, piece, written}
-use Rattle.ac_run.specs.Sessions as session
-use Rattle.ac_run.specs.Sessions.{Streams, streams, with_writes, Begun}
-use Rattle.acute.specs.Streams.{Writing, Whole, Part, StopsIn}
+use Rattle.ac_run.specs.Sessions.{Streams, streams, with_writes, Begun, StopsIn, StopsBehind}
+use Rattle.acute.specs.Streams.{Writing, Whole, Part, Interrupted}
 
 -- all of it is a prefix of it
 pub all_of : (old new bytes : List ℕ) → new ≡ old ++ bytes → Extends old new bytes
@@ -46,8 +45,8 @@ begun_on : (output : Writing) (before : List Write) (w : Write) → Begun w (wit
 begun_on output before (Print s) b = b.0
 begun_on output before (Send s) b = all_of _ _ [] (b.0 ∙ sym (append-nil (output.old ++ written Console before)))
 
-pub stops_on : (output : Writing) (writes : List Write) → session.StopsIn output.told writes (old_streams output) (new_streams output) → StopsIn output writes
-stops_on output writes s = record {
+pub interrupted_on : (output : Writing) (writes : List Write) → StopsIn output.told writes (old_streams output) (new_streams output) → Interrupted output writes
+interrupted_on output writes s = record {
   before = s.before;
   write = s.write;
   after = s.after;
@@ -58,12 +57,16 @@ stops_on output writes s = record {
 written_more : (before after : List Write) → written Console (before ++ after) ≡ written Console before ++ written Console after
 written_more before after = flat_map-append (piece Console) before after
 
-pub part_in : (output : Writing) (writes : List Write) → session.StopsIn output.told writes (old_streams output) (new_streams output) → Part output (written Console writes)
+part_in : (output : Writing) (writes : List Write) → StopsIn output.told writes (old_streams output) (new_streams output) → Part output (written Console writes)
 part_in output writes s told =
     let all : written Console writes ≡ written Console s.before ++ (piece Console s.write ++ written Console s.after) = ap (written Console) s.order ∙ written_more s.before (s.write ∷ s.after) in
     rw all (behind output.old output.new (written Console s.before) (piece Console s.write ++ written Console s.after) (more_of _ _ (piece Console s.write) (written Console s.after) (begun_on output s.before s.write (s.begun told))))
 
-pub part_behind : (output : Writing) (writes : List Write) → session.StopsBehind output.told writes (old_streams output) (new_streams output) → Part output (written Console writes)
+part_behind : (output : Writing) (writes : List Write) → StopsBehind output.told writes (old_streams output) (new_streams output) → Part output (written Console writes)
 part_behind output writes s told =
     let all : written Console writes ≡ written Console s.before ++ written Console s.after = ap (written Console) s.order ∙ written_more s.before s.after in
     rw all (more_of _ _ (written Console s.before) (written Console s.after) (all_of _ _ _ (ap (λ (t : Streams). t.console) (s.made told))))
+
+pub part_of : (output : Writing) (writes : List Write) → StopsIn output.told writes (old_streams output) (new_streams output) ⊎ StopsBehind output.told writes (old_streams output) (new_streams output) → Part output (written Console writes)
+part_of output writes (inl stops) = part_in output writes stops
+part_of output writes (inr stops) = part_behind output writes stops

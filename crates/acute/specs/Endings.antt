@@ -7,7 +7,7 @@ use Rattle.ac_rules.specs.Views.{Mode}
 use Rattle.ac_meaning.specs.Writes.{Console, written}
 use Rattle.acute.specs.declared.status.Status.{Status}
 use Rattle.acute.specs.declared.status.TheConstants.Status.{OUT_OF_MEMORY, READ_FAULT, WRITE_FAULT, WORDS_REFUSED}
-use Rattle.acute.specs.Streams.{Reading, Writing, IsTextOf, Whole, Part, StopsIn, words_line, read_line, write_line, memory_line}
+use Rattle.acute.specs.Streams.{Reading, Writing, IsTextOf, Whole, Part, Interrupted, words_line, read_line, write_line, memory_line}
 use Rattle.acute.specs.Meaning.{Answer, answer, Means}
 
 -- the words as bytes
@@ -42,7 +42,7 @@ pub data Ended (request : Option Request) (files : List ℕ → Reading) (output
   -- by a read that failed: nothing was written on output
   read_fault : ReadFailed request files → Whole output [] → Said errors read_line READ_FAULT end → Ended request files output errors end
   -- by a write on output that failed
-  write_fault : (a : Answer) → Gives request files a → Rose output.before output.after → StopsIn output a.writes → Said errors write_line WRITE_FAULT end → Ended request files output errors end
+  write_fault : (a : Answer) → Gives request files a → Rose output.before output.after → Interrupted output a.writes → Said errors write_line WRITE_FAULT end → Ended request files output errors end
   -- for want of memory, with nothing written on output
   no_memory_yet : Whole output [] → Said errors memory_line OUT_OF_MEMORY end → Ended request files output errors end
   -- for want of memory, in a run or after it

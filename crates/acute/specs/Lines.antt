@@ -1,17 +1,10 @@
 -- The lines on errors of a program that has ended with an exception, and of one that has spent its budget.
-use Rattle.std.specs.Prelude.{ℕ, ◌+◌, ◌/◌, ◌%◌, ◌==◌, ◌&&◌, nat_lt, nat_le, if◌then◌else◌, List, [], ◌∷◌, ◌++◌, Option, Some, None, codes, slice_index_or}
+use Rattle.std.specs.Prelude.{ℕ, ◌+◌, ◌/◌, ◌%◌, ◌==◌, ◌&&◌, nat_lt, nat_le, if◌then◌else◌, List, [], ◌∷◌, ◌++◌, Option, Some, None, codes}
 use Rattle.std.specs.List.{flat_map}
 use Rattle.std.specs.Fmt.{decimal}
 use Rattle.ac_types.specs.Types.{Bytes}
+use Rattle.ac_types.specs.Exceptions.{exception_name}
 use Rattle.ac_meaning.specs.Worlds.{Exception}
-
--- the exceptions, by their numbers
-abbrev pub exception_names : List Bytes
-exception_names =
-    codes "Failure" ∷ codes "Invalid_argument" ∷ codes "Not_found" ∷ codes "Division_by_zero" ∷ codes "Match_failure" ∷ codes "End_of_file" ∷ codes "Sys_error" ∷ codes "Marshal_failure" ∷ codes "Unmarshal_failure" ∷ codes "Resolve_failure" ∷ []
-
-abbrev pub exception_name : ℕ → Bytes
-exception_name number = slice_index_or exception_names number []
 
 -- a digit to the base 16, with lower-case letters
 abbrev pub hex_digit : ℕ → ℕ

@@ -8,7 +8,7 @@ use Rattle.ac_meaning.specs.Writes.{Write}
 use Rattle.ac_meaning.specs.Worlds.{Exception, World}
 use Rattle.ac_meaning.specs.Acts.{Outcome, Returned, Raised, Spent}
 use Rattle.ac_meaning.specs.Reduction.{Ends}
-use Rattle.ac_load.specs.Loading.{Shelved, Accepted, IsRefused}
+use Rattle.ac_load.specs.Loading.{ShelfText, Accepted, IsRefused}
 use Rattle.ac_load.specs.declared.kind.Kind.{Kind}
 use Rattle.acute.specs.declared.status.Status.{Status}
 use Rattle.acute.specs.declared.status.TheConstants.Status.{FINISHED, REFUSED, UNCAUGHT, SPENT}
@@ -29,7 +29,7 @@ abbrev pub EndsWithin : Mode → ℕ → Environment → Expr → Outcome Value 
 EndsWithin mode steps E e o = Ends mode E e [] false steps o
 
 -- a text beside a shelf is refused, or its program ends with a value, with an exception, or in front of an application too many
-pub data Means (mode : Mode) (text : List ℕ) (shelf : List Shelved) (steps : ℕ) : Answer → Type 0 where
+pub data Means (mode : Mode) (text : List ℕ) (shelf : List ShelfText) (steps : ℕ) : Answer → Type 0 where
   refused : (kind : Kind) → IsRefused text shelf 0 kind → Means mode text shelf steps (answer REFUSED [] (kind_line kind))
   finished : (E : Environment) (e : Expr) (T : Typ) (v : Value) (z : World) → Accepted text shelf E e T → EndsWithin mode steps E e (Returned v z) → Means mode text shelf steps (answer FINISHED z.writes [])
   uncaught : (E : Environment) (e : Expr) (T : Typ) (x : Exception) (z : World) → Accepted text shelf E e T → EndsWithin mode steps E e (Raised x z) → Means mode text shelf steps (answer UNCAUGHT z.writes (uncaught_line x))

@@ -41,7 +41,7 @@ abbrev pub Part : Writing → List ℕ → Type 0
 Part stream bytes = IsTrue stream.told → Extends stream.old stream.new bytes
 
 -- one of these writes was begun, after all those before it, and none came after it
-pub record StopsIn (output : Writing) (writes : List Write) : Type 0 where
+pub record Interrupted (output : Writing) (writes : List Write) : Type 0 where
   pub before : List Write
   pub write : Write
   pub after : List Write

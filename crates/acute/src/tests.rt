@@ -1,5 +1,6 @@
 // The top call over files and streams in memory.
-use crate::top::{Status, acute};
+use crate::status::Status;
+use crate::top::acute;
 use ac_outside::{MemoryFile, MemoryFiles, MemorySink};
 use ac_types::{Many, Text};
 use std::alloc::Global;

@@ -24,7 +24,6 @@ use ac_outside::{Files, Put, Sink};
 use ac_rules::Loaded;
 use ac_run::{RunEnd, Session};
 use ac_terms::Exn;
-use ac_types::Many;
 use ac_words::{Command, Run};
 use std::alloc::{AllocError, Global};
 
@@ -104,16 +103,10 @@ fn run_text<O: Sink, E: Sink>(
         (writing E.told E.written E.faults errors.old errors.new)
         result }
 {
-    match load(alloc, text, &no_shelf(alloc)) {
+    match load(alloc, text, &Shelf::empty(alloc)) {
         Ok(loaded) => run_program(alloc, loaded, steps, output, errors),
         Err(refusal) => refuse(alloc, refusal.kind, errors),
     }
-}
-
-fn no_shelf(alloc: Global) -> Shelf
-    ensures { result.0 ≡ [] }
-{
-    Shelf(Many::new(alloc))
 }
 
 // Runs the program of a text.
@@ -124,7 +117,8 @@ fn run_program<O: Sink, E: Sink>(
     output: &mut O,
     errors: &mut E,
 ) -> Status
-    requires loaded { IsLoaded (environment_of loaded.env) (expr_of loaded.main) (typ_of loaded.ty) }
+    requires loaded { IsLoaded (environment_of loaded.env) (expr_of loaded.main)
+        (typ_of loaded.ty) }
     ensures { (text : List ℕ) → Accepted text [] (environment_of loaded.env) (expr_of loaded.main)
         (typ_of loaded.ty) →
         (request : Option Request) (files : List ℕ → Reading) →
@@ -149,7 +143,8 @@ fn run_program<O: Sink, E: Sink>(
 // Writes the line of a refusal.
 fn refuse<E: Sink>(alloc: Global, kind: Kind, errors: &mut E) -> Status
     ensures { let stream = writing E.told E.written E.faults errors.old errors.new
-        in Said stream (kind_line kind) (kind_status kind) result ⊎ Said stream memory_line OUT_OF_MEMORY result }
+        in Said stream (kind_line kind) (kind_status kind) result ⊎
+        Said stream memory_line OUT_OF_MEMORY result }
 {
     match refusal::line(kind, alloc) {
         Ok(line) => say(errors, line.as_bytes(), refusal::status(kind)),
@@ -160,7 +155,8 @@ fn refuse<E: Sink>(alloc: Global, kind: Kind, errors: &mut E) -> Status
 // Writes the line of an exception.
 fn tell_uncaught<E: Sink>(alloc: Global, exn: &Exn, errors: &mut E) -> Status
     ensures { let stream = writing E.told E.written E.faults errors.old errors.new
-        in Said stream (uncaught_line (exn_of exn.now)) UNCAUGHT result ⊎ Said stream memory_line OUT_OF_MEMORY result }
+        in Said stream (uncaught_line (exn_of exn.now)) UNCAUGHT result ⊎
+        Said stream memory_line OUT_OF_MEMORY result }
 {
     match uncaught::line(alloc, exn) {
         Ok(line) => say(errors, line.as_slice(), Status::UNCAUGHT),
@@ -171,7 +167,8 @@ fn tell_uncaught<E: Sink>(alloc: Global, exn: &Exn, errors: &mut E) -> Status
 // Writes the line of a budget that is spent.
 fn tell_spent<E: Sink>(alloc: Global, budget: u64, errors: &mut E) -> Status
     ensures { let stream = writing E.told E.written E.faults errors.old errors.new
-        in Said stream (spent_line budget) SPENT result ⊎ Said stream memory_line OUT_OF_MEMORY result }
+        in Said stream (spent_line budget) SPENT result ⊎
+        Said stream memory_line OUT_OF_MEMORY result }
 {
     match spent_line(alloc, budget) {
         Ok(line) => say(errors, line.as_bytes(), Status::SPENT),
@@ -194,7 +191,8 @@ fn no_memory<E: Sink>(errors: &mut E) -> Status
 
 // Writes a line on errors, before an end with this status.
 fn say<E: Sink>(errors: &mut E, line: &[u8], status: Status) -> Status
-    ensures { Said (writing E.told E.written E.faults errors.old errors.new) line.now status result }
+    ensures { Said (writing E.told E.written E.faults errors.old errors.new) line.now status
+        result }
 {
     match errors.write(line) {
         Put::Done => status,

@@ -2,9 +2,10 @@
 ghost use Rattle.std.specs.Prelude.{◌≡◌, ◌<◌, ◌++◌, IfOk, OnOk};
 ghost use Rattle.std.specs.List.{flat_map};
 ghost use Rattle.ac_meaning.specs.ReadExn.{exn_of};
-ghost use Rattle.acute.specs.Lines.{exception_name, hex_digit, escaped, literal, uncaught_line};
+ghost use Rattle.acute.specs.Lines.{hex_digit, escaped, literal, uncaught_line};
 
 use ac_terms::Exn;
+use ac_types::exceptions::exception_name;
 use ac_types::{Memory, Text};
 use std::alloc::Global;
 
@@ -13,32 +14,13 @@ pub fn line(alloc: Global, exn: &Exn) -> Result<Text, Memory>
     ensures { IfOk result (λ line. line.0 ≡ uncaught_line (exn_of exn.now)) }
 {
     let mut line = Text::from_slice(alloc, b"uncaught: ")?;
-    line.extend(name_of(exn.number))?;
+    line.extend(exception_name(exn.number))?;
     if let Some(text) = &exn.text {
         line.extend(b" ")?;
         add_literal(&mut line, text.as_slice())?;
     }
     line.extend(b"\n")?;
     Ok(line)
-}
-
-// The name of an exception, by its number.
-fn name_of(number: u8) -> &'static [u8]
-    ensures { result.now ≡ exception_name number }
-{
-    match number {
-        0 => b"Failure",
-        1 => b"Invalid_argument",
-        2 => b"Not_found",
-        3 => b"Division_by_zero",
-        4 => b"Match_failure",
-        5 => b"End_of_file",
-        6 => b"Sys_error",
-        7 => b"Marshal_failure",
-        8 => b"Unmarshal_failure",
-        9 => b"Resolve_failure",
-        _ => b"",
-    }
 }
 
 // Adds bytes as a string literal.

@@ -31,6 +31,8 @@ struct SinkWorld<'a, O: Sink, K: Named> {
 }
 
 impl<O: Sink, K: Named> Source for SinkWorld<'_, O, K> {
+    ghost use Rattle.std.proofs.Common.{refl, ◌∙◌};
+
     ghost told = { O.told };
 
     ghost left = { λ _. [] };
@@ -42,6 +44,10 @@ impl<O: Sink, K: Named> Source for SinkWorld<'_, O, K> {
     fn read(&mut self, _buf: &mut [u8]) -> Got {
         Got::End
     }
+
+    ghost passes_none = { λ _. refl };
+
+    ghost passes_on = { λ _ _ _ first second. second ∙ first };
 }
 
 impl<O: Sink, K: Named> World for SinkWorld<'_, O, K> {
