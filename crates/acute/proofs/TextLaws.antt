@@ -42,8 +42,8 @@ given_bare steps (Spent z) = refl
 given_bare steps Stuck = refl
 
 -- so it is the same in both modes
-pub one_answer : (m n : Mode) {E : Environment} {e : Expr} {T : Typ} {steps : ℕ} {o p : Outcome Value} → IsTypedProgram E e T → EndsWithin m steps E e o → EndsWithin n steps E e p → given_by steps o ≡ given_by steps p
-one_answer m n {E = E} {e = e} {T = T} {steps = steps} {o = o} {p = p} typed ends others =
+pub one_answer : (m n : Mode) (steps : ℕ) {E : Environment} {e : Expr} {T : Typ} {o p : Outcome Value} → IsTypedProgram E e T → EndsWithin m steps E e o → EndsWithin n steps E e p → given_by steps o ≡ given_by steps p
+one_answer m n steps {E = E} {e = e} {T = T} {o = o} {p = p} typed ends others =
     let same : bare_end o ≡ bare_end p = one_bare_end E e [] false steps (bare_end o) (bare_end p) (ends_alike arrives E e T typed m [] false steps o ends) (ends_alike arrives E e T typed n [] false steps p others) in
     sym (given_bare steps o) ∙ ap (given_by steps) same ∙ given_bare steps p
 
@@ -85,7 +85,7 @@ run_alike : (m n : Mode) {text : List ℕ} {shelf : List ShelfText} {steps : ℕ
 run_alike m n {steps = steps} r s =
     let one = one_term r.accepted s.accepted in
     let moved = subst (λ (e : Expr). EndsWithin m steps s.env e r.outcome) one.1 (subst (λ (E : Environment). EndsWithin m steps E r.term r.outcome) one.0 r.ends) in
-    same_answer (r.is ∙ one_answer m n (runs s.accepted) moved s.ends ∙ sym s.is)
+    same_answer (r.is ∙ one_answer m n steps (runs s.accepted) moved s.ends ∙ sym s.is)
 
 alike : (m n : Mode) {text : List ℕ} {shelf : List ShelfText} {steps : ℕ} {a b : Answer} → IsRefusal text shelf a ⊎ IsRun m text shelf steps a → IsRefusal text shelf b ⊎ IsRun n text shelf steps b → Alike a b
 alike m n (inl r) (inl s) = refused_alike r s

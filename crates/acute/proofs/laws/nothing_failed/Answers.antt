@@ -13,7 +13,7 @@ use Rattle.acute.proofs.laws.nothing_failed.Goals as goal
 same_bytes : (b c : List ℕ) → Some b ≡ Some c → b ≡ c
 same_bytes b c e = cc
 
-module _ {errors : Writing} {end : Status} (e : Rose errors.before errors.after → ⊥) (m : end ≡ OUT_OF_MEMORY → ⊥) where
+module _ (errors : Writing) {end : Status} (e : Rose errors.before errors.after → ⊥) (m : end ≡ OUT_OF_MEMORY → ⊥) where
   said_wholly : {line : List ℕ} {status end' : Status} → end' ≡ end → Said errors line status end' → end ≡ status
   said_wholly same (said w) = sym same
   said_wholly same (failed rose p) = absurd (e rose)
@@ -26,14 +26,14 @@ module _ {errors : Writing} {end : Status} (e : Rose errors.before errors.after 
 complete : {name : List ℕ} {steps : ℕ} {files : List ℕ → Reading} {output errors : Writing} {end : Status} → Ended (Some (run name steps)) files output errors end → IsTrue (files name).told
     → (Rose (files name).before (files name).after → ⊥) → (Rose output.before output.after → ⊥) → (Rose errors.before errors.after → ⊥) → (end ≡ OUT_OF_MEMORY → ⊥)
     → (bytes : List ℕ) → (files name).bytes ≡ Some bytes → (mode : Mode) (a : Answer) → Means mode (take 1048577 bytes) [] steps a → end ≡ a.status
-complete {steps = steps} (done b g w v) told r o e m bytes is mode a means =
-    let t = g.1.0 told in
-    let same = same_bytes _ _ (sym t.1.0 ∙ is) in
-    said_if_any e m b.line b.status v ∙ (one mode mode (subst (λ (l : List ℕ). Means mode l [] steps b) (t.1.1 ∙ ap (λ (l : List ℕ). take 1048577 l) same) (g.1.1 mode)) means).0
+complete {steps = steps} {errors = errors} (done b g w v) told r o e m bytes is mode a means =
+    let t = g.1 told in
+    let same = same_bytes _ _ (sym t.1 ∙ is) in
+    said_if_any errors e m b.line b.status v ∙ (one mode mode (subst (λ (l : List ℕ). Means mode l [] steps b) (t.2 ∙ ap (λ (l : List ℕ). take 1048577 l) same) (g.2 mode)) means).0
 complete (read_fault f w v) told r o e m bytes is mode a means = absurd (r f)
 complete (write_fault b g rose w v) told r o e m bytes is mode a means = absurd (o rose)
-complete (no_memory_yet w v) told r o e m bytes is mode a means = absurd (m (said_wholly e m refl v))
-complete (no_memory_left b g w v) told r o e m bytes is mode a means = absurd (m (said_wholly e m refl v))
+complete {errors = errors} (no_memory_yet w v) told r o e m bytes is mode a means = absurd (m (said_wholly errors e m refl v))
+complete {errors = errors} (no_memory_left b g w v) told r o e m bytes is mode a means = absurd (m (said_wholly errors e m refl v))
 
 pub returns : goal.returns
 returns c = λ name steps files output errors status ended. complete ended
