@@ -11,7 +11,7 @@ use Rattle.ac_machine.specs.declared.pause.Pause.TheVariants as answers
 use Rattle.ac_machine.specs.States.{Core, Ask, MState, Run, Paused, Stuck, given}
 use Rattle.ac_machine.specs.Machine.{exec, after}
 use Rattle.ac_machine.specs.Resumes.{Wait, Standing, At, Waits, paused_at, awaits, resumed}
-use Rattle.ac_machine.specs.Held.{core, Sound}
+use Rattle.ac_machine.specs.Held.{core}
 use Rattle.ac_machine.specs.Seen.{MachineSeen, standing, ask_of}
 use Rattle.ac_machine.specs.inner.Steps.{Does, Goes, StopsThere}
 use Rattle.ac_machine.specs.Runs.{IsPaused, Pauses, Reaches, Stopped, Went}
