@@ -1,12 +1,12 @@
 -- How the parts of a call come together to its end.
-use Rattle.std.proofs.Common.{◌≡◌, ◌⊎◌, inl, inr, List, [], ◌∷◌, Option, refl, sym, ◌∙◌, IsTrue}
+use Rattle.std.proofs.Common.{◌≡◌, ◌⊎◌, inl, inr, List, [], ◌∷◌, Option, sym, ◌∙◌}
 use Rattle.std.proofs.lemmas.List.{append-nil}
 use Rattle.std.specs.Prelude.{ℕ}
 use Rattle.ac_words.specs.Commands.{Request}
 use Rattle.ac_meaning.specs.Writes.{Console, written}
 use Rattle.acute.specs.declared.status.Status.{Status}
 use Rattle.acute.specs.declared.status.TheConstants.Status.{READ_FAULT, OUT_OF_MEMORY}
-use Rattle.acute.specs.Streams.{Reading, Writing, Whole, Part, memory_line, read_line}
+use Rattle.acute.specs.Streams.{Reading, Writing, Whole, memory_line, read_line}
 use Rattle.acute.specs.Meaning.{Answer, answer}
 use Rattle.acute.specs.Endings.{Gives, ReadFailed, Ended, done, read_fault, no_memory_yet, no_memory_left, Said, SaidIfAny}
 use Rattle.acute.proofs.Writes.{all_of}

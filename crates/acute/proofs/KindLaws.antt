@@ -2,7 +2,7 @@
 use Rattle.std.proofs.Common.{ℕ, List, [], Option, ◌⊎◌, inl, inr, refl}
 use Rattle.ac_words.specs.Commands.{Request}
 use Rattle.ac_rules.specs.Views.{Mode}
-use Rattle.ac_load.specs.Loading.{ShelfText, IsRefused, Says}
+use Rattle.ac_load.specs.Loading.{IsRefused, Says}
 use Rattle.ac_load.specs.declared.kind.Kind.{Kind}
 use Rattle.ac_load.specs.declared.kind.Kind.TheVariants.{TooLong, Lexical, TooDeep, Syntax, Unbuilt, Unbound, Repeated, TooMany, IllTyped, Memory}
 use Rattle.acute.specs.declared.status.Status.{Status}

@@ -4,7 +4,6 @@ use Rattle.ac_types.specs.Types.{Typ}
 use Rattle.ac_terms.specs.Terms.{Expr, Value}
 use Rattle.ac_terms.specs.Defs.{Environment}
 use Rattle.ac_rules.specs.Views.{Mode}
-use Rattle.ac_meaning.specs.BareTerms.{BareValue}
 use Rattle.ac_meaning.specs.Acts.{Outcome, Returned, Raised, Spent, Stuck}
 use Rattle.ac_meaning.specs.Laws.{IsTypedProgram, bare_end, writes_of}
 use Rattle.ac_meaning.proofs.Admitted.{arrives}

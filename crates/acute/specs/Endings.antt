@@ -1,5 +1,5 @@
 -- How a call ends: what the words ask for where nothing fails, and what a fault leaves of that.
-use Rattle.std.specs.Prelude.{◌≡◌, ℕ, IsTrue, List, [], ◌∷◌, Option, Some, None, map, string_bytes, String}
+use Rattle.std.specs.Prelude.{◌≡◌, ℕ, List, [], ◌∷◌, Option, Some, None, map, string_bytes, String}
 use Rattle.std.specs.declared.alloc.Global.{Global}
 use Rattle.ac_outside.specs.Outside.{Rose}
 use Rattle.ac_words.specs.Commands.{Request, run}
