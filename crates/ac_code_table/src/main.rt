@@ -4,6 +4,7 @@
 //! and its operands. A primitive is told by its name. Types and patterns stand in parentheses but
 //! for leaves; a variable of a pattern is its type.
 #![tactic(auto)]
+
 mod instructions;
 mod listing;
 mod patterns;
