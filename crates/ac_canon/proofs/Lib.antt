@@ -1,0 +1,7 @@
+pub mod EntryForms
+pub mod Joins
+pub mod Lists
+pub mod PatternForms
+pub mod TermForms
+pub mod TypeForms
+pub mod ValueForms

@@ -1,0 +1,20 @@
+//! The canonical spellings of types, terms and definitions.
+//!
+//! What is put is the same whatever spells types and references: how they are spelled is a
+//! parameter, `Spelling`, and `ByName` is that of canonical texts. A term, a type and a pattern
+//! are gone through by recursion, whose depth is their height; the parts of a list by a loop.
+#![tactic(auto)]
+
+mod counts;
+mod defs;
+mod patterns;
+mod sigs;
+mod spelling;
+mod terms;
+mod types;
+mod values;
+
+pub use defs::{def_text, has_text, put_import, put_module};
+pub use spelling::{ByName, Spelling};
+pub use terms::{put_term, put_value, term_bytes};
+pub use types::{put_type, type_bytes};

@@ -1,0 +1,359 @@
+// The bytes of terms, arms and packed values.
+
+ghost use Rattle.std.specs.Prelude.{◌≡◌, ◌++◌, ◌∷◌, map, length, OnOk, IfOk};
+ghost use Rattle.ac_types.specs.ReadTypes.{typ_of};
+ghost use Rattle.ac_terms.specs.Terms.{exprs, arms, pvalues};
+ghost use Rattle.ac_terms.specs.Read.{environment_of, bytes_of, expr_of, value_of};
+ghost use Rattle.ac_terms.specs.Spelling.{four, two, word, term_bytes};
+ghost use Rattle.ac_terms.specs.SpelledBy.{pattern_bytes, term_bytes as term_by, all_term_bytes, arm_bytes, value_bytes, all_value_bytes};
+ghost use Rattle.ac_canon.specs.Canon.{kept};
+ghost use Rattle.ac_canon.specs.inner.Arms.{arm_of};
+
+use crate::counts::{
+    put_bool, put_byte, put_count_u8, put_count_u16, put_count_u32, put_int, put_number,
+    put_string, put_word,
+};
+use crate::patterns::put_pattern;
+use crate::spelling::{ByName, Spelling};
+use crate::values::{put_exn, put_home};
+use ac_bytes::Out;
+use ac_terms::{Arm, Env, PVal, Term};
+use ac_types::{Memory, Text, Ty, Word};
+use std::alloc::Global;
+
+/// The bytes of a term, its references spelled by the names that their entries keep. `Err` also
+/// where a count does not fit its width, which is past the bounds.
+pub fn term_bytes(alloc: Global, env: &Env, t: &Term) -> Result<Text, Memory>
+    ensures { IfOk result (λ x. bytes_of x ≡
+        term_bytes (kept (environment_of env.now)) (expr_of t.now)) }
+{
+    let mut out = Out::new(alloc);
+    put_term(&mut out, &ByName { env }, t)?;
+    Ok(out.into_text())
+}
+
+/// Puts a term.
+#[cycle(term)]
+#[tactic(auto, using(crate::proofs::ValueForms::term_laws))]
+pub fn put_term<S: Spelling>(out: &mut Out, spelling: &S, term: &Term) -> Result<(), Memory>
+    ensures { OnOk result (out.new ≡ out.old ++
+        term_by (S.spelled_type spelling.now) (S.spelled_reference spelling.now)
+        (expr_of term.now)) }
+{
+    match term {
+        Term::Int(n) => put_int(out, 0x01, *n),
+        Term::Bool(b) => put_bool(out, 0x02, *b),
+        Term::Str(text) => put_string(out, 0x03, text),
+        Term::Unit => out.put_u8(0x04),
+        Term::ExnVal(number, text) => {
+            put_byte(out, 0x05, *number)?;
+            match text {
+                None => Ok(()),
+                Some(text) => put_term(out, spelling, text),
+            }
+        }
+        Term::Tuple(parts) => put_tuple(out, spelling, parts.as_slice()),
+        Term::Nil(ty) => put_tagged_type(out, spelling, 0x07, ty),
+        Term::Empty(ty) => put_tagged_type(out, spelling, 0x08, ty),
+        Term::Present(inner) => put_one(out, spelling, 0x09, inner),
+        Term::Cons(head, tail) => {
+            put_one(out, spelling, 0x0A, head)?;
+            put_term(out, spelling, tail)
+        }
+        Term::Var(i) => put_number(out, 0x0B, *i),
+        Term::Own(field) => put_number(out, 0x0C, *field),
+        Term::Ref(entry, field) => put_field_of(out, spelling, *entry, field),
+        Term::Lam(ty, body) => put_typed(out, spelling, 0x0E, body, ty),
+        Term::Rec(from, to, body) => put_recursive(out, spelling, body, from, to),
+        Term::App(function, argument) => {
+            put_one(out, spelling, 0x10, function)?;
+            put_term(out, spelling, argument)
+        }
+        Term::Let(ty, bound, body) => {
+            put_typed(out, spelling, 0x11, bound, ty)?;
+            put_term(out, spelling, body)
+        }
+        Term::If(test, so, otherwise) => {
+            put_one(out, spelling, 0x12, test)?;
+            put_term(out, spelling, so)?;
+            put_term(out, spelling, otherwise)
+        }
+        Term::Seq(parts) => put_sequence(out, spelling, parts.as_slice()),
+        Term::Match(of, cases) => {
+            put_one(out, spelling, 0x14, of)?;
+            put_cases(out, spelling, cases.as_slice())
+        }
+        Term::Try(of, cases) => {
+            put_one(out, spelling, 0x15, of)?;
+            put_cases(out, spelling, cases.as_slice())
+        }
+        Term::Raise(ty, inner) => put_typed(out, spelling, 0x16, inner, ty),
+        Term::Prim(number, args) => put_primitive(out, spelling, *number, args.as_slice()),
+        Term::Marshal(ty, mark, inner) => {
+            put_typed(out, spelling, 0x18, mark, ty)?;
+            put_term(out, spelling, inner)
+        }
+        Term::Unmarshal(ty, inner) => put_typed(out, spelling, 0x19, inner, ty),
+        Term::Val(ty, value) => put_captured(out, spelling, value, ty),
+    }
+}
+
+// Puts a type behind a tag.
+#[tactic(auto, using(crate::proofs::Joins::joins))]
+fn put_tagged_type<S: Spelling>(out: &mut Out, spelling: &S, tag: u8, ty: &Ty) -> Result<(), Memory>
+    ensures { OnOk result (out.new ≡ out.old ++ tag ∷
+        S.spelled_type spelling.now (typ_of ty.now)) }
+{
+    out.put_u8(tag)?;
+    spelling.put_type(out, ty)
+}
+
+// Puts a value of a signature, by its definition and its name.
+#[tactic(auto, using(crate::proofs::Joins::joins))]
+fn put_field_of<S: Spelling>(
+    out: &mut Out,
+    spelling: &S,
+    entry: u32,
+    field: &Word,
+) -> Result<(), Memory>
+    ensures { OnOk result (out.new ≡ out.old ++ 0x0D ∷
+        S.spelled_reference spelling.now entry ++ word field.now) }
+{
+    out.put_u8(0x0D)?;
+    spelling.put_reference(out, entry)?;
+    put_word(out, field)
+}
+
+// Puts a term behind a tag.
+#[cycle(term)]
+#[tactic(auto, using(crate::proofs::Joins::joins))]
+fn put_one<S: Spelling>(out: &mut Out, spelling: &S, tag: u8, a: &Term) -> Result<(), Memory>
+    ensures { OnOk result (out.new ≡ out.old ++ tag ∷
+        term_by (S.spelled_type spelling.now) (S.spelled_reference spelling.now)
+        (expr_of a.now)) }
+{
+    out.put_u8(tag)?;
+    put_term(out, spelling, a)
+}
+
+// Puts a type and a term behind a tag.
+#[cycle(term)]
+#[tactic(auto, using(crate::proofs::Joins::joins))]
+fn put_typed<S: Spelling>(
+    out: &mut Out,
+    spelling: &S,
+    tag: u8,
+    a: &Term,
+    ty: &Ty,
+) -> Result<(), Memory>
+    ensures { OnOk result (out.new ≡ out.old ++ tag ∷
+        S.spelled_type spelling.now (typ_of ty.now) ++
+        term_by (S.spelled_type spelling.now) (S.spelled_reference spelling.now)
+        (expr_of a.now)) }
+{
+    put_tagged_type(out, spelling, tag, ty)?;
+    put_term(out, spelling, a)
+}
+
+// Puts a recursive function.
+#[cycle(term)]
+#[tactic(auto, using(crate::proofs::Joins::joins))]
+fn put_recursive<S: Spelling>(
+    out: &mut Out,
+    spelling: &S,
+    body: &Term,
+    from: &Ty,
+    to: &Ty,
+) -> Result<(), Memory>
+    ensures { OnOk result (out.new ≡ out.old ++ 0x0F ∷
+        S.spelled_type spelling.now (typ_of from.now) ++
+        S.spelled_type spelling.now (typ_of to.now) ++
+        term_by (S.spelled_type spelling.now) (S.spelled_reference spelling.now)
+        (expr_of body.now)) }
+{
+    put_tagged_type(out, spelling, 0x0F, from)?;
+    spelling.put_type(out, to)?;
+    put_term(out, spelling, body)
+}
+
+// Puts a tuple.
+#[cycle(term)]
+#[tactic(auto, using(crate::proofs::Joins::joins))]
+fn put_tuple<S: Spelling>(out: &mut Out, spelling: &S, parts: &[Term]) -> Result<(), Memory>
+    ensures { OnOk result (out.new ≡ out.old ++ 0x06 ∷ length parts.now ∷
+        all_term_bytes (S.spelled_type spelling.now) (S.spelled_reference spelling.now)
+        (exprs (map expr_of parts.now))) }
+{
+    out.put_u8(0x06)?;
+    put_count_u8(out, parts.len())?;
+    put_terms(out, spelling, parts)
+}
+
+// Puts a sequence.
+#[cycle(term)]
+#[tactic(auto, using(crate::proofs::Joins::joins))]
+fn put_sequence<S: Spelling>(out: &mut Out, spelling: &S, parts: &[Term]) -> Result<(), Memory>
+    ensures { OnOk result (out.new ≡ out.old ++ 0x13 ∷ four (length parts.now) ++
+        all_term_bytes (S.spelled_type spelling.now) (S.spelled_reference spelling.now)
+        (exprs (map expr_of parts.now))) }
+{
+    out.put_u8(0x13)?;
+    put_count_u32(out, parts.len())?;
+    put_terms(out, spelling, parts)
+}
+
+// Puts a primitive with its arguments.
+#[cycle(term)]
+#[tactic(auto, using(crate::proofs::Joins::joins))]
+fn put_primitive<S: Spelling>(
+    out: &mut Out,
+    spelling: &S,
+    number: u8,
+    args: &[Term],
+) -> Result<(), Memory>
+    ensures { OnOk result (out.new ≡ out.old ++ 0x17 ∷ number ∷
+        all_term_bytes (S.spelled_type spelling.now) (S.spelled_reference spelling.now)
+        (exprs (map expr_of args.now))) }
+{
+    put_byte(out, 0x17, number)?;
+    put_terms(out, spelling, args)
+}
+
+// Puts each term.
+#[cycle(term)]
+#[tactic(auto, using(crate::proofs::Joins::joins))]
+fn put_terms<S: Spelling>(out: &mut Out, spelling: &S, terms: &[Term]) -> Result<(), Memory>
+    ensures { OnOk result (out.new ≡ out.old ++
+        all_term_bytes (S.spelled_type spelling.now) (S.spelled_reference spelling.now)
+        (exprs (map expr_of terms.now))) }
+{
+    for term in terms {
+        put_term(out, spelling, term)?;
+    }
+    Ok(())
+}
+
+// Puts how many arms there are, and each.
+#[cycle(term)]
+#[tactic(auto, using(crate::proofs::Joins::joins))]
+fn put_cases<S: Spelling>(out: &mut Out, spelling: &S, cases: &[Arm]) -> Result<(), Memory>
+    ensures { OnOk result (out.new ≡ out.old ++ two (length cases.now) ++
+        arm_bytes (S.spelled_type spelling.now) (S.spelled_reference spelling.now)
+        (arms (map arm_of cases.now))) }
+{
+    put_count_u16(out, cases.len())?;
+    put_arms(out, spelling, cases)
+}
+
+// Puts each arm.
+#[cycle(term)]
+#[tactic(auto, using(crate::proofs::Joins::joins))]
+fn put_arms<S: Spelling>(out: &mut Out, spelling: &S, cases: &[Arm]) -> Result<(), Memory>
+    ensures { OnOk result (out.new ≡ out.old ++
+        arm_bytes (S.spelled_type spelling.now) (S.spelled_reference spelling.now)
+        (arms (map arm_of cases.now))) }
+{
+    for case in cases {
+        put_arm(out, spelling, case)?;
+    }
+    Ok(())
+}
+
+// Puts an arm.
+#[cycle(term)]
+#[tactic(auto, using(crate::proofs::Joins::joins))]
+fn put_arm<S: Spelling>(out: &mut Out, spelling: &S, case: &Arm) -> Result<(), Memory>
+    ensures { OnOk result (out.new ≡ out.old ++
+        pattern_bytes (S.spelled_type spelling.now) (arm_of case.now).0 ++
+        term_by (S.spelled_type spelling.now) (S.spelled_reference spelling.now)
+        (arm_of case.now).1) }
+{
+    put_pattern(out, spelling, &case.pat)?;
+    put_term(out, spelling, &case.body)
+}
+
+// Puts a captured value at its type.
+#[cycle(term)]
+#[tactic(auto, using(crate::proofs::Joins::joins))]
+fn put_captured<S: Spelling>(
+    out: &mut Out,
+    spelling: &S,
+    value: &PVal,
+    ty: &Ty,
+) -> Result<(), Memory>
+    ensures { OnOk result (out.new ≡ out.old ++ 0x1A ∷
+        S.spelled_type spelling.now (typ_of ty.now) ++
+        value_bytes (S.spelled_type spelling.now) (S.spelled_reference spelling.now)
+        (value_of value.now)) }
+{
+    put_tagged_type(out, spelling, 0x1A, ty)?;
+    put_value(out, spelling, value)
+}
+
+/// Puts a packed value.
+#[cycle(term)]
+#[tactic(auto, using(crate::proofs::ValueForms::value_laws))]
+pub fn put_value<S: Spelling>(out: &mut Out, spelling: &S, value: &PVal) -> Result<(), Memory>
+    ensures { OnOk result (out.new ≡ out.old ++
+        value_bytes (S.spelled_type spelling.now) (S.spelled_reference spelling.now)
+        (value_of value.now)) }
+{
+    match value {
+        PVal::Int(n) => put_int(out, 0x01, *n),
+        PVal::Bool(b) => put_bool(out, 0x02, *b),
+        PVal::Str(text) => put_string(out, 0x03, text),
+        PVal::Unit => out.put_u8(0x04),
+        PVal::Exn(exn) => put_exn(out, exn),
+        PVal::Tuple(parts) => put_value_tuple(out, spelling, parts.as_slice()),
+        PVal::List(parts) => put_value_list(out, spelling, parts.as_slice()),
+        PVal::Absent => out.put_u8(0x08),
+        PVal::Present(inner) => {
+            out.put_u8(0x09)?;
+            put_value(out, spelling, inner)
+        }
+        PVal::Fun(home, function) => {
+            put_home(out, *home)?;
+            put_term(out, spelling, function)
+        }
+    }
+}
+
+// Puts a tuple of packed values.
+#[cycle(term)]
+#[tactic(auto, using(crate::proofs::Joins::joins))]
+fn put_value_tuple<S: Spelling>(out: &mut Out, spelling: &S, parts: &[PVal]) -> Result<(), Memory>
+    ensures { OnOk result (out.new ≡ out.old ++ 0x06 ∷ length parts.now ∷
+        all_value_bytes (S.spelled_type spelling.now) (S.spelled_reference spelling.now)
+        (pvalues (map value_of parts.now))) }
+{
+    out.put_u8(0x06)?;
+    put_count_u8(out, parts.len())?;
+    put_values(out, spelling, parts)
+}
+
+// Puts a list of packed values.
+#[cycle(term)]
+#[tactic(auto, using(crate::proofs::Joins::joins))]
+fn put_value_list<S: Spelling>(out: &mut Out, spelling: &S, parts: &[PVal]) -> Result<(), Memory>
+    ensures { OnOk result (out.new ≡ out.old ++ 0x07 ∷ four (length parts.now) ++
+        all_value_bytes (S.spelled_type spelling.now) (S.spelled_reference spelling.now)
+        (pvalues (map value_of parts.now))) }
+{
+    out.put_u8(0x07)?;
+    put_count_u32(out, parts.len())?;
+    put_values(out, spelling, parts)
+}
+
+// Puts each packed value.
+#[cycle(term)]
+#[tactic(auto, using(crate::proofs::Joins::joins))]
+fn put_values<S: Spelling>(out: &mut Out, spelling: &S, values: &[PVal]) -> Result<(), Memory>
+    ensures { OnOk result (out.new ≡ out.old ++
+        all_value_bytes (S.spelled_type spelling.now) (S.spelled_reference spelling.now)
+        (pvalues (map value_of values.now))) }
+{
+    for value in values {
+        put_value(out, spelling, value)?;
+    }
+    Ok(())
+}
