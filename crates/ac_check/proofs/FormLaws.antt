@@ -12,7 +12,7 @@ use Rattle.ac_terms.specs.Defs.{Environment}
 use Rattle.ac_terms.specs.Read.{home_of}
 use Rattle.ac_terms.specs.TermTyping.{has}
 use Rattle.ac_rules.specs.Views.{Coloured}
-use Rattle.ac_rules.specs.Typing.{type_of, variables, joined, seen}
+use Rattle.ac_rules.specs.Typing.{type_of, variables, variables_joined, type_seen}
 use Rattle.ac_check.specs.Checking.{scope_of, arm_type, newest_first}
 use Rattle.ac_check.specs.declared.scope.Site.{Site}
 use Rattle.ac_check.proofs.KeptLaws.{K, kept_is, lam_some, lam_none, rec_none, rec_no_result, rec_some, rec_big, rec_small, let_other, let_same}
@@ -27,7 +27,7 @@ module _ (E : Environment) (p : Site) (v : List Typ) where
   typed G e = type_of Coloured false E (scope_of p G) e
 
   abbrev pub written : Typ → Option Typ
-  written T = seen Coloured false E (home_of p.home) T
+  written T = type_seen Coloured false E (home_of p.home) T
 
   pub function_some : (T A : Typ) (e : Expr) (o : Option Typ) (G : List Typ) → Some A ≡ K (written T) → o ≡ typed G e → G ≡ A ∷ v → K (option_map (TFun A) o) ≡ typed v (Lam T e)
   function_some T A e o G h q g =
@@ -62,16 +62,16 @@ module _ (E : Environment) (p : Site) (v : List Typ) where
   pub binding_some : (T F : Typ) (e b : Expr) (G : List Typ) → Some F ≡ typed v e → true ≡ has (written T) F → G ≡ F ∷ v → typed G b ≡ typed v (Let T e b)
   binding_some T F e b G h q g = ap (λ (H : List Typ). typed H b) g ∙ sym (ap (bound T b) (sym h) ∙ let_same (written T) F (λ A. typed (A ∷ v) b) (sym q))
 
-  joined_nil : (o : Option (List Typ)) → joined (Some []) o ≡ o
+  joined_nil : (o : Option (List Typ)) → variables_joined (Some []) o ≡ o
   joined_nil (Some Us) = ap Some (append-nil Us)
   joined_nil None = refl
 
   abbrev vars : Pattern → Typ → Option (List Typ)
   vars q T = variables Coloured false E (home_of p.home) q T
 
-  found_is : (b : List Ty) (o x : Option (List Typ)) → b ≡ [] → o ≡ joined (Some (newest_first b)) x → o ≡ x
-  found_is b o x n h = h ∙ ap (λ (ts : List Ty). joined (Some (newest_first ts)) x) n ∙ joined_nil x
+  found_is : (b : List Ty) (o x : Option (List Typ)) → b ≡ [] → o ≡ variables_joined (Some (newest_first b)) x → o ≡ x
+  found_is b o x n h = h ∙ ap (λ (ts : List Ty). variables_joined (Some (newest_first ts)) x) n ∙ joined_nil x
 
-  pub body_some : (T : Typ) (q : Pattern) (e : Expr) (b us : List Ty) (G : List Typ) → b ≡ [] → Some (newest_first us) ≡ joined (Some (newest_first b)) (vars q T)
+  pub body_some : (T : Typ) (q : Pattern) (e : Expr) (b us : List Ty) (G : List Typ) → b ≡ [] → Some (newest_first us) ≡ variables_joined (Some (newest_first b)) (vars q T)
       → G ≡ newest_first us ++ v → typed G e ≡ arm_type E (scope_of p v) T q e
   body_some T q e b us G n h g = ap (λ (H : List Typ). typed H e) g ∙ ap (option_and_then (λ (Us : List Typ). typed (Us ++ v) e)) (found_is b (Some (newest_first us)) (vars q T) n h)

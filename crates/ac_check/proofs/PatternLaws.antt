@@ -14,7 +14,7 @@ use Rattle.ac_terms.specs.declared.pat.Pat.{Pat, out-Pat, map-Pat, fold_out-Pat}
 use Rattle.ac_terms.specs.declared.pat.Pat.TheViews.{the_lemmas}
 use Rattle.ac_terms.specs.declared.pat.Pat.TheVariants as code
 use Rattle.ac_rules.specs.Views.{Coloured}
-use Rattle.ac_rules.specs.Typing.{variables, variables_of_all, joined, tuple_parts, list_item, option_item}
+use Rattle.ac_rules.specs.Typing.{variables, variables_of_all, variables_joined, tuple_parts, list_item, option_item}
 use Rattle.ac_check.specs.Checking.{newest_first, typs_of}
 use Rattle.ac_check.proofs.PairLaws.{from_item, from_end}
 
@@ -27,15 +27,15 @@ pattern_of-Tuple ps = pattern_out (code.Tuple ps) ∙ ap (λ x. pattern_layer (m
 
 -- what is joined to variables that are there
 
-pub joined_given : (Ts : List Typ) (b : Bool) → joined (Some Ts) (given b (Some [])) ≡ given b (Some Ts)
+pub joined_given : (Ts : List Typ) (b : Bool) → variables_joined (Some Ts) (given b (Some [])) ≡ given b (Some Ts)
 joined_given Ts true = refl
 joined_given Ts false = refl
 
-pub joined_none : (o : Option (List Typ)) → joined o None ≡ None
+pub joined_none : (o : Option (List Typ)) → variables_joined o None ≡ None
 joined_none (Some Ts) = refl
 joined_none None = refl
 
-pub joined_twice : (a b c : Option (List Typ)) → joined (joined a b) c ≡ joined a (joined b c)
+pub joined_twice : (a b c : Option (List Typ)) → variables_joined (variables_joined a b) c ≡ variables_joined a (variables_joined b c)
 joined_twice (Some Ts) (Some Us) (Some Vs) = ap Some (sym (append_assoc Vs Us Ts))
 joined_twice (Some Ts) (Some Us) None = refl
 joined_twice (Some Ts) None c = refl
@@ -59,7 +59,7 @@ module _ (E : Environment) (c : Home) where
   at_nil (TList T) = refl
   at_nil T = refl
 
-  pub at_cons : (p q : Pattern) (T : Typ) → vars (PCons p q) T ≡ elim (list_item T) [ None ↦ None | Some U ↦ joined (vars p U) (vars q T) ]
+  pub at_cons : (p q : Pattern) (T : Typ) → vars (PCons p q) T ≡ elim (list_item T) [ None ↦ None | Some U ↦ variables_joined (vars p U) (vars q T) ]
   at_cons p q (TList T) = refl
   at_cons p q T = refl
 
@@ -80,50 +80,50 @@ module _ (E : Environment) (c : Home) where
   at_text k p T = refl
 
   -- the two parts of a list's pattern, one after the other
-  cons_is : (p q : Pattern) (T U : Typ) (before : List Typ) → Some U ≡ list_item T → joined (Some before) (vars (PCons p q) T) ≡ joined (joined (Some before) (vars p U)) (vars q T)
+  cons_is : (p q : Pattern) (T U : Typ) (before : List Typ) → Some U ≡ list_item T → variables_joined (Some before) (vars (PCons p q) T) ≡ variables_joined (variables_joined (Some before) (vars p U)) (vars q T)
   cons_is p q T U before e =
-      ap (joined (Some before)) (at_cons p q T ∙ ap (λ (o : Option Typ). elim o as (λ x. Option (List Typ)) [ None ↦ None | Some V ↦ joined (vars p V) (vars q T) ]) (sym e))
+      ap (variables_joined (Some before)) (at_cons p q T ∙ ap (λ (o : Option Typ). elim o as (λ x. Option (List Typ)) [ None ↦ None | Some V ↦ variables_joined (vars p V) (vars q T) ]) (sym e))
       ∙ sym (joined_twice (Some before) (vars p U) (vars q T))
 
-  pub cons_none : (p q : Pattern) (T U : Typ) (before : List Typ) → Some U ≡ list_item T → None ≡ joined (Some before) (vars p U) → None ≡ joined (Some before) (vars (PCons p q) T)
-  cons_none p q T U before e h = sym (cons_is p q T U before e ∙ ap (λ (o : Option (List Typ)). joined o (vars q T)) (sym h))
+  pub cons_none : (p q : Pattern) (T U : Typ) (before : List Typ) → Some U ≡ list_item T → None ≡ variables_joined (Some before) (vars p U) → None ≡ variables_joined (Some before) (vars (PCons p q) T)
+  cons_none p q T U before e h = sym (cons_is p q T U before e ∙ ap (λ (o : Option (List Typ)). variables_joined o (vars q T)) (sym h))
 
-  pub cons_some : (p q : Pattern) (T U : Typ) (before found : List Typ) → Some U ≡ list_item T → Some found ≡ joined (Some before) (vars p U)
-      → joined (Some found) (vars q T) ≡ joined (Some before) (vars (PCons p q) T)
-  cons_some p q T U before found e h = ap (λ (o : Option (List Typ)). joined o (vars q T)) h ∙ sym (cons_is p q T U before e)
+  pub cons_some : (p q : Pattern) (T U : Typ) (before found : List Typ) → Some U ≡ list_item T → Some found ≡ variables_joined (Some before) (vars p U)
+      → variables_joined (Some found) (vars q T) ≡ variables_joined (Some before) (vars (PCons p q) T)
+  cons_some p q T U before found e h = ap (λ (o : Option (List Typ)). variables_joined o (vars q T)) h ∙ sym (cons_is p q T U before e)
 
   pub text_some : (k : ℕ) (p : Pattern) (T U : Typ) (before : List Typ) → U ≡ TStr → same TExn T ≡ true → has_text k ≡ true
-      → joined (Some before) (vars p U) ≡ joined (Some before) (vars (PExnOf k p) T)
+      → variables_joined (Some before) (vars p U) ≡ variables_joined (Some before) (vars (PExnOf k p) T)
   text_some k p T U before s e h =
-      ap (joined (Some before)) (ap (vars p) s ∙ sym (at_text k p T ∙ ap (λ (b : Bool). given (b && has_text k) (vars p TStr)) e ∙ ap (λ (b : Bool). given b (vars p TStr)) h))
+      ap (variables_joined (Some before)) (ap (vars p) s ∙ sym (at_text k p T ∙ ap (λ (b : Bool). given (b && has_text k) (vars p TStr)) e ∙ ap (λ (b : Bool). given b (vars p TStr)) h))
 
   pub other_lengths : (ps : List Pat) (ts : List Ty) → (length ps ≡ length ts → ⊥) → vars_of_all ps ts ≡ None
   other_lengths [] [] h = absurd (h refl)
   other_lengths [] (t ∷ ts) h = refl
   other_lengths (p ∷ ps) [] h = refl
-  other_lengths (p ∷ ps) (t ∷ ts) h = ap (joined (vars (pattern_of p) (typ_of t))) (other_lengths ps ts (λ e. h (ap suc e))) ∙ joined_none (vars (pattern_of p) (typ_of t))
+  other_lengths (p ∷ ps) (t ∷ ts) h = ap (variables_joined (vars (pattern_of p) (typ_of t))) (other_lengths ps ts (λ e. h (ap suc e))) ∙ joined_none (vars (pattern_of p) (typ_of t))
 
   next_pattern : (ps : List Pat) (ts : List Ty) (i : ℕ) (p : Pat) (t : Ty) → i < length ps → i < length ts → p ≡ get_or ps i p → t ≡ get_or ts i t
-      → vars_of_all (drop i ps) (drop i ts) ≡ joined (vars (pattern_of p) (typ_of t)) (vars_of_all (drop (i + 1) ps) (drop (i + 1) ts))
+      → vars_of_all (drop i ps) (drop i ts) ≡ variables_joined (vars (pattern_of p) (typ_of t)) (vars_of_all (drop (i + 1) ps) (drop (i + 1) ts))
   next_pattern ps ts i p t h k e d = ap₂ vars_of_all (from_item ps i p h e) (from_item ts i t k d)
 
   module _ (ps : List Pat) (ts : List Ty) (i : ℕ) (p : Pat) (t : Ty) (h : i < length ps) (k : i < length ts) (e : p ≡ get_or ps i p) (d : t ≡ get_or ts i t)
-      (all : Option (List Typ)) (before : List Ty) (so : all ≡ joined (Some (newest_first before)) (vars_of_all (drop i ps) (drop i ts))) where
-    step : all ≡ joined (joined (Some (newest_first before)) (vars (pattern_of p) (typ_of t))) (vars_of_all (drop (i + 1) ps) (drop (i + 1) ts))
+      (all : Option (List Typ)) (before : List Ty) (so : all ≡ variables_joined (Some (newest_first before)) (vars_of_all (drop i ps) (drop i ts))) where
+    step : all ≡ variables_joined (variables_joined (Some (newest_first before)) (vars (pattern_of p) (typ_of t))) (vars_of_all (drop (i + 1) ps) (drop (i + 1) ts))
     step =
-        so ∙ ap (joined (Some (newest_first before))) (next_pattern ps ts i p t h k e d)
+        so ∙ ap (variables_joined (Some (newest_first before))) (next_pattern ps ts i p t h k e d)
         ∙ sym (joined_twice (Some (newest_first before)) (vars (pattern_of p) (typ_of t)) (vars_of_all (drop (i + 1) ps) (drop (i + 1) ts)))
 
-    pub pattern_none : None ≡ joined (Some (newest_first before)) (vars (pattern_of p) (typ_of t)) → all ≡ None
-    pattern_none q = step ∙ ap (λ (o : Option (List Typ)). joined o (vars_of_all (drop (i + 1) ps) (drop (i + 1) ts))) (sym q)
+    pub pattern_none : None ≡ variables_joined (Some (newest_first before)) (vars (pattern_of p) (typ_of t)) → all ≡ None
+    pattern_none q = step ∙ ap (λ (o : Option (List Typ)). variables_joined o (vars_of_all (drop (i + 1) ps) (drop (i + 1) ts))) (sym q)
 
-    pub pattern_some : (us : List Ty) → Some (newest_first us) ≡ joined (Some (newest_first before)) (vars (pattern_of p) (typ_of t))
-        → all ≡ joined (Some (newest_first us)) (vars_of_all (drop (i + 1) ps) (drop (i + 1) ts))
-    pattern_some us q = step ∙ ap (λ (o : Option (List Typ)). joined o (vars_of_all (drop (i + 1) ps) (drop (i + 1) ts))) (sym q)
+    pub pattern_some : (us : List Ty) → Some (newest_first us) ≡ variables_joined (Some (newest_first before)) (vars (pattern_of p) (typ_of t))
+        → all ≡ variables_joined (Some (newest_first us)) (vars_of_all (drop (i + 1) ps) (drop (i + 1) ts))
+    pattern_some us q = step ∙ ap (λ (o : Option (List Typ)). variables_joined o (vars_of_all (drop (i + 1) ps) (drop (i + 1) ts))) (sym q)
 
   pub patterns_all : (ps : List Pat) (ts : List Ty) (i : ℕ) (all : Option (List Typ)) (us : List Ty) → i ≡ length ps → i ≡ length ts
-      → all ≡ joined (Some (newest_first us)) (vars_of_all (drop i ps) (drop i ts)) → all ≡ Some (newest_first us)
-  patterns_all ps ts i all us e d so = so ∙ ap (joined (Some (newest_first us))) (ap₂ vars_of_all (from_end ps i e) (from_end ts i d))
+      → all ≡ variables_joined (Some (newest_first us)) (vars_of_all (drop i ps) (drop i ts)) → all ≡ Some (newest_first us)
+  patterns_all ps ts i all us e d so = so ∙ ap (variables_joined (Some (newest_first us))) (ap₂ vars_of_all (from_end ps i e) (from_end ts i d))
 
 pub ruleset form_laws = (pattern_out, the_lemmas)
 

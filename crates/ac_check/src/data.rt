@@ -6,7 +6,7 @@ ghost use Rattle.ac_types.specs.ReadTypes.{typ_of};
 ghost use Rattle.ac_terms.specs.Read.{home_of};
 ghost use Rattle.ac_terms.specs.TermTyping.{both_same};
 ghost use Rattle.ac_rules.specs.Views.{Coloured};
-ghost use Rattle.ac_rules.specs.Typing.{kept_in, seen, a_list, an_option};
+ghost use Rattle.ac_rules.specs.Typing.{kept_in, type_seen, a_list, an_option};
 ghost use Rattle.ac_check.specs.Checking.{typs_of, entries_of};
 
 use crate::scope::Site;
@@ -88,7 +88,7 @@ fn is_list_of(ty: &Ty, item: &Ty) -> bool
 pub fn nil_type<'a>(alloc: Global, ty: &'a Ty, site: &'a Site<'a>) -> Result<Option<Ty>, Memory>
     requires { length site.now.env.now.entries < 2 ^ 32 }
     ensures { IfOk result (λ o. option_map typ_of o ≡ kept_in Coloured
-        (option_and_then a_list (seen Coloured false (entries_of site.now) (home_of site.now.home)
+        (option_and_then a_list (type_seen Coloured false (entries_of site.now) (home_of site.now.home)
         (typ_of ty.now)))) }
 {
     let Some(seen) = seen_type(alloc, ty, site)? else {
@@ -106,7 +106,7 @@ pub fn nil_type<'a>(alloc: Global, ty: &'a Ty, site: &'a Site<'a>) -> Result<Opt
 pub fn empty_type<'a>(alloc: Global, ty: &'a Ty, site: &'a Site<'a>) -> Result<Option<Ty>, Memory>
     requires { length site.now.env.now.entries < 2 ^ 32 }
     ensures { IfOk result (λ o. option_map typ_of o ≡ kept_in Coloured
-        (option_and_then an_option (seen Coloured false (entries_of site.now)
+        (option_and_then an_option (type_seen Coloured false (entries_of site.now)
         (home_of site.now.home) (typ_of ty.now)))) }
 {
     let Some(seen) = seen_type(alloc, ty, site)? else {

@@ -8,7 +8,7 @@ ghost use Rattle.ac_terms.specs.PrimitiveTypes.{has_text, is_exception};
 ghost use Rattle.ac_terms.specs.Read.{home_of};
 ghost use Rattle.ac_terms.specs.TermTyping.{has};
 ghost use Rattle.ac_rules.specs.Views.{Coloured};
-ghost use Rattle.ac_rules.specs.Typing.{kept_in, seen};
+ghost use Rattle.ac_rules.specs.Typing.{kept_in, type_seen};
 ghost use Rattle.ac_check.specs.Checking.{entries_of};
 
 use crate::scope::Site;
@@ -67,7 +67,7 @@ pub fn raise_type<'a>(
 ) -> Result<Option<Ty>, Memory>
     requires { length site.now.env.now.entries < 2 ^ 32 }
     ensures { IfOk result (λ o. option_map typ_of o ≡ given (has (option_map typ_of inner) TExn)
-        (kept_in Coloured (seen Coloured false (entries_of site.now) (home_of site.now.home)
+        (kept_in Coloured (type_seen Coloured false (entries_of site.now) (home_of site.now.home)
         (typ_of ty.now)))) }
 {
     let Some(inner) = inner else {

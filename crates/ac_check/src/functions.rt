@@ -6,7 +6,7 @@ ghost use Rattle.ac_types.specs.Types.{TFun};
 ghost use Rattle.ac_types.specs.ReadTypes.{typ_of};
 ghost use Rattle.ac_terms.specs.TermTyping.{has};
 ghost use Rattle.ac_rules.specs.Views.{Coloured};
-ghost use Rattle.ac_rules.specs.Typing.{kept_in, applied};
+ghost use Rattle.ac_rules.specs.Typing.{kept_in, type_applied};
 ghost use Rattle.ac_check.specs.Checking.{ends_of, read_ends};
 
 use crate::types::{kept, same_types};
@@ -30,7 +30,7 @@ pub fn function_type(alloc: Global, from: Ty, to: Option<Ty>) -> Result<Option<T
 /// The type of an application, where the function and its argument have these types.
 #[tactic(auto, using(ac_types::proofs::SizeLaws::type_laws))]
 pub fn applied(function: Option<Ty>, argument: Option<Ty>) -> Option<Ty>
-    ensures { option_map typ_of result ≡ applied (option_map typ_of function)
+    ensures { option_map typ_of result ≡ type_applied (option_map typ_of function)
         (option_map typ_of argument) }
 {
     let Some(function) = function else {

@@ -6,7 +6,7 @@ ghost use Rattle.ac_types.specs.ReadTypes.{typ_of};
 ghost use Rattle.ac_terms.specs.Terms.{patterns};
 ghost use Rattle.ac_terms.specs.Read.{pattern_of, home_of};
 ghost use Rattle.ac_rules.specs.Views.{Coloured};
-ghost use Rattle.ac_rules.specs.Typing.{variables, variables_of_all, joined};
+ghost use Rattle.ac_rules.specs.Typing.{variables, variables_of_all, variables_joined};
 ghost use Rattle.ac_check.specs.Checking.{newest_first, typs_of, entries_of};
 
 use crate::exceptions::{has_text, is_bare};
@@ -47,7 +47,8 @@ pub fn variables<'a>(
     before: Many<Ty>,
 ) -> Result<Option<Many<Ty>>, Memory>
     requires { length site.now.env.now.entries < 2 ^ 32 }
-    ensures { IfOk result (λ o. option_map newest_first o ≡ joined (Some (newest_first before))
+    ensures { IfOk result (λ o. option_map newest_first o ≡ variables_joined
+        (Some (newest_first before))
         (variables Coloured false (entries_of site.now) (home_of site.now.home) (pattern_of pat.now)
         (typ_of ty.now))) }
 {
@@ -105,7 +106,8 @@ fn all_variables<'a>(
     before: Many<Ty>,
 ) -> Result<Option<Many<Ty>>, Memory>
     requires { length site.now.env.now.entries < 2 ^ 32 }
-    ensures { IfOk result (λ o. option_map newest_first o ≡ joined (Some (newest_first before))
+    ensures { IfOk result (λ o. option_map newest_first o ≡ variables_joined
+        (Some (newest_first before))
         (variables_of_all Coloured false (entries_of site.now) (home_of site.now.home)
         (patterns (map pattern_of pats.now)) (typs_of tys.now))) }
 {

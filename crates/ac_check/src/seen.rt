@@ -8,7 +8,7 @@ ghost use Rattle.ac_types.specs.ReadTypes.{typ_of, sig_type_of};
 ghost use Rattle.ac_terms.specs.Read.{environment_of, entry_of, home_of};
 ghost use Rattle.ac_terms.specs.TermTyping.{has};
 ghost use Rattle.ac_rules.specs.Views.{Coloured, declares, is_known, are_known, has_name, opened_at_home, view};
-ghost use Rattle.ac_rules.specs.Typing.{kept_in, seen};
+ghost use Rattle.ac_rules.specs.Typing.{kept_in, type_seen};
 ghost use Rattle.ac_check.specs.Checking.{typs_of, entries_of, are_known_in, kept_all};
 
 use crate::data::{list_type, present_type, tuple_type};
@@ -178,7 +178,7 @@ fn are_viewed_as<'a>(written: &'a [Ty], tys: &'a [Ty], site: &'a Site<'a>) -> bo
 /// Whether a type that is written is this one for the site's home, and its names are known.
 pub fn is_seen_as<'a>(written: &'a Ty, ty: &'a Ty, site: &'a Site<'a>) -> bool
     requires { length site.now.env.now.entries < 2 ^ 32 }
-    ensures { result ≡ has (seen Coloured false (entries_of site.now) (home_of site.now.home)
+    ensures { result ≡ has (type_seen Coloured false (entries_of site.now) (home_of site.now.home)
         (typ_of written.now)) (typ_of ty.now) }
 {
     are_known(written, site.env) && is_viewed_as(written, ty, site)
@@ -251,7 +251,7 @@ fn all_viewed<'a>(
 pub fn seen_type<'a>(alloc: Global, ty: &'a Ty, site: &'a Site<'a>) -> Result<Option<Ty>, Memory>
     requires { length site.now.env.now.entries < 2 ^ 32 }
     ensures { IfOk result (λ o. option_map typ_of o ≡ kept_in Coloured
-        (seen Coloured false (entries_of site.now) (home_of site.now.home) (typ_of ty.now))) }
+        (type_seen Coloured false (entries_of site.now) (home_of site.now.home) (typ_of ty.now))) }
 {
     if are_known(ty, site.env) {
         viewed(alloc, ty, site)

@@ -8,7 +8,7 @@ ghost use Rattle.ac_terms.specs.TermTyping.{has, last_of};
 ghost use Rattle.ac_types.specs.First.{given};
 ghost use Rattle.ac_types.specs.Types.{TExn};
 ghost use Rattle.ac_rules.specs.Views.{Coloured};
-ghost use Rattle.ac_rules.specs.Typing.{type_of, types_of, arm_types, one_of, kept_in, seen};
+ghost use Rattle.ac_rules.specs.Typing.{type_of, types_of, arm_types, one_of, kept_in, type_seen};
 ghost use Rattle.ac_check.specs.PlainTerms.{IsPlainTerm, are_plain, arms_plain};
 ghost use Rattle.ac_check.specs.Checking.{Answers, entries_of, scope_of, types_in, typs_of, arm_of, arm_type};
 

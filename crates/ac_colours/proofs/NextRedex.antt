@@ -6,7 +6,7 @@ use Rattle.ac_terms.specs.Terms.{Home, Main, Expr, Int, Boolean, Str, Unit', Exn
 use Rattle.ac_terms.specs.Defs.{Environment}
 use Rattle.ac_rules.specs.Views.{Mode}
 use Rattle.ac_rules.specs.Typing.{is_function}
-use Rattle.ac_meaning.specs.Worlds.{Exception, World, match_failure}
+use Rattle.ac_meaning.specs.Worlds.{Exception, World, match_failure_exn}
 use Rattle.ac_meaning.specs.Acts.{Act, Is, Goes, Turns, Applies, Raises, Wrong, or_raises, within, part, parts, At}
 use Rattle.ac_meaning.specs.Substitution.{inst}
 use Rattle.ac_meaning.specs.Matching.{chosen}
@@ -15,7 +15,7 @@ use Rattle.ac_meaning.specs.Brackets.{is_function_value, bracket_step}
 use Rattle.ac_meaning.specs.References.{own_field, referred}
 use Rattle.ac_meaning.specs.Packing.{marshal_step, unmarshal_step}
 use Rattle.ac_meaning.specs.Reduction.{apply, branch, look, look_all, look_main}
-use Rattle.ac_meaning.specs.Redexes.{Redex, redex, redex_all, stands, crosses}
+use Rattle.ac_meaning.specs.Redexes.{Redex, redex, redex_all, stands_next, crosses}
 use Rattle.ac_meaning.specs.Typed.{Typed, ValueTyped}
 use Rattle.ac_meaning.specs.TypedStates.{IsTyped}
 use Rattle.ac_meaning.proofs.Admitted.{arrives}
@@ -79,7 +79,7 @@ module _ (mode : Mode) (z : World) where
   last_next wrap done o a h k = subst (NextIn (part wrap done a)) (none_else o) (part_next wrap done o None a h (λ v e. k v))
 
   -- a term whose parts are values
-  stand_next : (c : Home) (e : Expr) (a : Act Expr Value) → look mode z c e ≡ a → AtRest a (stands c e) → NextIn a (stands c e)
+  stand_next : (c : Home) (e : Expr) (a : Act Expr Value) → look mode z c e ≡ a → AtRest a (stands_next c e) → NextIn a (stands_next c e)
   stand_next c e a q h = subst (Comes a) (sym q) (own a (record { home = c; term = e }) h)
 
   raised_next : (x : Exception) (o : Option Expr) (r : Act Expr Value) → r ≡ Raises x → Comes {S = Expr} {A = Value} (or_raises x o) r
@@ -126,35 +126,35 @@ module _ (mode : Mode) (z : World) where
         part_next (λ x. Cons x b) (λ v. part (λ y. Cons a y) (λ w. Is (VCons v w)) (look mode z c b)) (redex c a) (redex c b) (look mode z c a) (next a c)
         (λ v q. last_next (λ y. Cons a y) (λ w. Is (VCons v w)) (redex c b) (look mode z c b) (next b c) (λ w. tt))
     next (App f a) c =
-        part_next (λ x. App x a) (λ v. part (λ y. App f y) (λ w. apply c v w) (look mode z c a)) (redex c f) (or_else (redex c a) (stands c (App f a))) (look mode z c f) (next f c)
-        (λ v q. part_next (λ y. App f y) (λ w. apply c v w) (redex c a) (stands c (App f a)) (look mode z c a) (next a c)
-        (λ w r. stand_next c (App f a) (apply c v w) (ap (λ x. parts App f a (apply c) x (look mode z c a)) q ∙ ap (part (λ y. App f y) (λ w. apply c v w)) r) (rest_apply mode z c v w (stands c (App f a)))))
-    next (Let T e b) c = part_next (λ x. Let T x b) (λ v. Goes (inst 0 ((T, v) ∷ []) b)) (redex c e) (stands c (Let T e b)) (look mode z c e) (next e c) (λ v q. stand_next c (Let T e b) (Goes (inst 0 ((T, v) ∷ []) b)) (ap (part (λ x. Let T x b) (λ v. Goes (inst 0 ((T, v) ∷ []) b))) q) tt)
-    next (If e a b) c = part_next (λ x. If x a b) (λ v. branch v a b) (redex c e) (stands c (If e a b)) (look mode z c e) (next e c) (λ v q. stand_next c (If e a b) (branch v a b) (ap (part (λ x. If x a b) (λ v. branch v a b)) q) (rest_branch mode z v a b (stands c (If e a b))))
+        part_next (λ x. App x a) (λ v. part (λ y. App f y) (λ w. apply c v w) (look mode z c a)) (redex c f) (or_else (redex c a) (stands_next c (App f a))) (look mode z c f) (next f c)
+        (λ v q. part_next (λ y. App f y) (λ w. apply c v w) (redex c a) (stands_next c (App f a)) (look mode z c a) (next a c)
+        (λ w r. stand_next c (App f a) (apply c v w) (ap (λ x. parts App f a (apply c) x (look mode z c a)) q ∙ ap (part (λ y. App f y) (λ w. apply c v w)) r) (rest_apply mode z c v w (stands_next c (App f a)))))
+    next (Let T e b) c = part_next (λ x. Let T x b) (λ v. Goes (inst 0 ((T, v) ∷ []) b)) (redex c e) (stands_next c (Let T e b)) (look mode z c e) (next e c) (λ v q. stand_next c (Let T e b) (Goes (inst 0 ((T, v) ∷ []) b)) (ap (part (λ x. Let T x b) (λ v. Goes (inst 0 ((T, v) ∷ []) b))) q) tt)
+    next (If e a b) c = part_next (λ x. If x a b) (λ v. branch v a b) (redex c e) (stands_next c (If e a b)) (look mode z c e) (next e c) (λ v q. stand_next c (If e a b) (branch v a b) (ap (part (λ x. If x a b) (λ v. branch v a b)) q) (rest_branch mode z v a b (stands_next c (If e a b))))
     next (Match e arms) c =
-        part_next (λ x. Match x arms) (λ v. or_raises match_failure (chosen arms v)) (redex c e) (stands c (Match e arms)) (look mode z c e) (next e c)
-        (λ v q. stand_next c (Match e arms) (or_raises match_failure (chosen arms v)) (ap (part (λ x. Match x arms) (λ v. or_raises match_failure (chosen arms v))) q) (rest_or_raises match_failure (chosen arms v) (stands c (Match e arms))))
+        part_next (λ x. Match x arms) (λ v. or_raises match_failure_exn (chosen arms v)) (redex c e) (stands_next c (Match e arms)) (look mode z c e) (next e c)
+        (λ v q. stand_next c (Match e arms) (or_raises match_failure_exn (chosen arms v)) (ap (part (λ x. Match x arms) (λ v. or_raises match_failure_exn (chosen arms v))) q) (rest_or_raises match_failure_exn (chosen arms v) (stands_next c (Match e arms))))
     next (Seq no_exprs) c = tt
     next (Seq (expr e no_exprs)) c = stand_next c (Seq (expr e no_exprs)) (Goes e) refl tt
     next (Seq (expr e (expr d es))) c =
-        part_next (λ x. Seq (expr x (expr d es))) (λ v. Goes (Seq (expr d es))) (redex c e) (stands c (Seq (expr e (expr d es)))) (look mode z c e) (next e c)
+        part_next (λ x. Seq (expr x (expr d es))) (λ v. Goes (Seq (expr d es))) (redex c e) (stands_next c (Seq (expr e (expr d es)))) (look mode z c e) (next e c)
         (λ v q. stand_next c (Seq (expr e (expr d es))) (Goes (Seq (expr d es))) (ap (part (λ x. Seq (expr x (expr d es))) (λ v. Goes (Seq (expr d es)))) q) tt)
-    next (Raise T e) c = part_next (Raise T) thrown (redex c e) (stands c (Raise T e)) (look mode z c e) (next e c) (λ v q. stand_next c (Raise T e) (thrown v) (ap (part (Raise T) thrown) q) (rest_thrown mode z v (stands c (Raise T e))))
+    next (Raise T e) c = part_next (Raise T) thrown (redex c e) (stands_next c (Raise T e)) (look mode z c e) (next e c) (λ v q. stand_next c (Raise T e) (thrown v) (ap (part (Raise T) thrown) q) (rest_thrown mode z v (stands_next c (Raise T e))))
     next (Try e arms) c =
-        then_next (λ x. Try x arms) (λ v. Goes e) (λ x. or_raises x (chosen arms (exception_value x))) (redex c e) (stands c (Try e arms)) (look mode z c e) (next e c)
+        then_next (λ x. Try x arms) (λ v. Goes e) (λ x. or_raises x (chosen arms (exception_value x))) (redex c e) (stands_next c (Try e arms)) (look mode z c e) (next e c)
         (λ v q. stand_next c (Try e arms) (Goes e) (ap (within (λ x. Try x arms) (λ v. Goes e) (λ x. or_raises x (chosen arms (exception_value x)))) q) tt) (λ x r h. raised_next x (chosen arms (exception_value x)) r h)
     next (Prim k es) c =
-        part_next (Prim k) (λ vs. answered spelled z (primitive k vs)) (redex_all c es) (stands c (Prim k es)) (look_all mode z c es) (next_all es c)
-        (λ vs q. stand_next c (Prim k es) (answered spelled z (primitive k vs)) (ap (part (Prim k) (λ vs. answered spelled z (primitive k vs))) q) (rest_answer mode z (primitive k vs) (stands c (Prim k es))))
+        part_next (Prim k) (λ vs. answered spelled z (primitive k vs)) (redex_all c es) (stands_next c (Prim k es)) (look_all mode z c es) (next_all es c)
+        (λ vs q. stand_next c (Prim k es) (answered spelled z (primitive k vs)) (ap (part (Prim k) (λ vs. answered spelled z (primitive k vs))) q) (rest_answer mode z (primitive k vs) (stands_next c (Prim k es))))
     next (Marshal T m e) c =
-        part_next (λ x. Marshal T x e) (λ v. part (λ y. Marshal T m y) (λ w. marshal_step z c T v w) (look mode z c e)) (redex c m) (or_else (redex c e) (stands c (Marshal T m e))) (look mode z c m) (next m c)
-        (λ v q. part_next (λ y. Marshal T m y) (λ w. marshal_step z c T v w) (redex c e) (stands c (Marshal T m e)) (look mode z c e) (next e c)
-        (λ w r. stand_next c (Marshal T m e) (marshal_step z c T v w) (ap (λ x. parts (Marshal T) m e (marshal_step z c T) x (look mode z c e)) q ∙ ap (part (λ y. Marshal T m y) (λ w. marshal_step z c T v w)) r) (rest_marshal mode z c T v w (stands c (Marshal T m e)))))
+        part_next (λ x. Marshal T x e) (λ v. part (λ y. Marshal T m y) (λ w. marshal_step z c T v w) (look mode z c e)) (redex c m) (or_else (redex c e) (stands_next c (Marshal T m e))) (look mode z c m) (next m c)
+        (λ v q. part_next (λ y. Marshal T m y) (λ w. marshal_step z c T v w) (redex c e) (stands_next c (Marshal T m e)) (look mode z c e) (next e c)
+        (λ w r. stand_next c (Marshal T m e) (marshal_step z c T v w) (ap (λ x. parts (Marshal T) m e (marshal_step z c T) x (look mode z c e)) q ∙ ap (part (λ y. Marshal T m y) (λ w. marshal_step z c T v w)) r) (rest_marshal mode z c T v w (stands_next c (Marshal T m e)))))
     next (Unmarshal T e) c =
-        part_next (Unmarshal T) (unmarshal_step mode z c T) (redex c e) (stands c (Unmarshal T e)) (look mode z c e) (next e c)
-        (λ v q. stand_next c (Unmarshal T e) (unmarshal_step mode z c T v) (ap (part (Unmarshal T) (unmarshal_step mode z c T)) q) (rest_unmarshal mode z c T v (stands c (Unmarshal T e))))
-    next (Own f) c = stand_next c (Own f) _ refl (rest_becomes (own_field z.environment c f) (stands c (Own f)))
-    next (Ref j x) c = stand_next c (Ref j x) _ refl (rest_becomes (referred z.environment j x) (stands c (Ref j x)))
+        part_next (Unmarshal T) (unmarshal_step mode z c T) (redex c e) (stands_next c (Unmarshal T e)) (look mode z c e) (next e c)
+        (λ v q. stand_next c (Unmarshal T e) (unmarshal_step mode z c T v) (ap (part (Unmarshal T) (unmarshal_step mode z c T)) q) (rest_unmarshal mode z c T v (stands_next c (Unmarshal T e))))
+    next (Own f) c = stand_next c (Own f) _ refl (rest_becomes (own_field z.environment c f) (stands_next c (Own f)))
+    next (Ref j x) c = stand_next c (Ref j x) _ refl (rest_becomes (referred z.environment j x) (stands_next c (Ref j x)))
     next (Bracket b T e) c = part_next (Bracket b T) (bracket_step mode z.environment b c T) (redex b e) (crosses c (Bracket b T e) (is_function T)) (look mode z b e) (next e b) (λ v q. bracket_next b c T e v (ap (part (Bracket b T) (bracket_step mode z.environment b c T)) q))
     next (Var i) c = tt
     next (Val T v) c = tt

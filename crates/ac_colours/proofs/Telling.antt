@@ -13,7 +13,7 @@ use Rattle.ac_rules.specs.Plain.{where_there, in_front, packed, all_packed, all_
 use Rattle.ac_rules.specs.Coherent.{IsCoherent}
 use Rattle.ac_terms.proofs.AllLaws.{all_left, all_right}
 use Rattle.ac_rules.specs.Growth.{Widening}
-use Rattle.ac_meaning.specs.Typed.{seen, ValueTyped, ValuesTyped}
+use Rattle.ac_meaning.specs.Typed.{as_seen, ValueTyped, ValuesTyped}
 use Rattle.ac_rules.proofs.KnownTypes.{head_known, opened_known}
 use Rattle.ac_rules.proofs.Growth.{head_same, opened_same, bare_same}
 use Rattle.ac_meaning.proofs.Homes.{all_seen, seen_tuple, seen_list, seen_opt, seen_fun, view_again}
@@ -114,10 +114,10 @@ module _ (E : Environment) (coherent : IsCoherent E) where
     data_of (VTuple vs) c T f h = all_data_of vs c h.0 (flat_tuple h.0 (subst Flat h.1 f)) h.2
     data_of (VCons v w) c T f h = let p = subst Flat h.1 f in (data_of v c h.0 (flat_list h.0 p) h.2, data_of w c (TList h.0) p h.3)
     data_of (VPresent v) c T f h = data_of v c h.0 (flat_opt h.0 (subst Flat h.1 f)) h.2
-    data_of (VLam A e) c T f h = flat_fun (seen Coloured E c A) h.0 (subst Flat h.1 f)
-    data_of (VRec A B e) c T f h = flat_fun (seen Coloured E c A) (seen Coloured E c B) (subst Flat h.0 f)
-    data_of (VProxy b A B w) c T f h = flat_fun (seen Coloured E c A) (seen Coloured E c B) (subst Flat h.0 f)
-    data_of (VSeal b n t v) c T f h = data_of v b (seen Coloured E b (TAbs n t)) (flat_seen b (TAbs n t) h.1 (subst Flat h.0 f)) h.4
+    data_of (VLam A e) c T f h = flat_fun (as_seen Coloured E c A) h.0 (subst Flat h.1 f)
+    data_of (VRec A B e) c T f h = flat_fun (as_seen Coloured E c A) (as_seen Coloured E c B) (subst Flat h.0 f)
+    data_of (VProxy b A B w) c T f h = flat_fun (as_seen Coloured E c A) (as_seen Coloured E c B) (subst Flat h.0 f)
+    data_of (VSeal b n t v) c T f h = data_of v b (as_seen Coloured E b (TAbs n t)) (flat_seen b (TAbs n t) h.1 (subst Flat h.0 f)) h.4
     data_of _ c T f h = tt
 
     all_data_of : (vs : Values) (c : Home) (Ts : Typs) → AllFlat Ts → ValuesTyped Coloured E vs c Ts → AreData vs
@@ -139,6 +139,6 @@ told_same E F g b c n t v T h = ap (λ X. at F (has_function X)) (bare_same E F 
     by true q = refl
     by false q =
         let k : is_known E (n, t) ≡ true = and_left (is_known E (n, t)) true h.1 in
-        let d = data_of E g.before v b (seen Coloured E b (TAbs n t)) (flat_seen E g.before b (TAbs n t) h.1 q) h.4 in
+        let d = data_of E g.before v b (as_seen Coloured E b (TAbs n t)) (flat_seen E g.before b (TAbs n t) h.1 q) h.4 in
         let e = packed_same E F g v b (opened E n t) d (opened_known E g.before n t k) in
         ap (λ R. say (plain F b v R)) (opened_same E F g n t k) ∙ ap (λ w. say (given (all_travel w) (Some w))) e

@@ -6,7 +6,7 @@ use Rattle.ac_types.specs.Types.{Bytes}
 use Rattle.ac_syntax.specs.Signs.{Sign, Int, Str, Lower, Upper, Fixed, Other, here}
 use Rattle.ac_syntax.specs.Trees.{NameAt, TypeTree, PatTree, Tree, ExInt, ExStr, ExUnit, ExTuple, ExNil, ExAbsent, ExVar, ExOf, ExSeq, ExMatch, ExTry, Trees, tree, trees, ArmTrees, arm_tree, arm_trees, height, highest, highest_arm}
 use Rattle.ac_syntax.specs.TypeForms.{IsType}
-use Rattle.ac_syntax.specs.Patterns.{exception, IsPattern}
+use Rattle.ac_syntax.specs.Patterns.{exception_sign, IsPattern}
 use Rattle.ac_syntax.specs.Expressions.{Expr, Part, Atom, Ending, Closed, Swallow, Parses, alone, sequence, number, string, true_, false_, unit, exn, var, of_module, parens, tuple, nil, none, match_with, try_with, ParsesParts, last_part, more_parts, ParsesItems, last_item, more_items, ParsesArms, last_arm, more_arms, front, looseness, Stops, IsTree}
 use Rattle.ac_syntax.specs.PartParsing.{SymbolAt, NoSymbol}
 use Rattle.ac_syntax.specs.declared.sign.Symbol.{Symbol}
@@ -577,7 +577,7 @@ base_at a t r e is = nothing_there is
 pub base_leaf : (a : ℕ) (t : Symbol) (ts r : List Sign) (e f : Tree) → ts ≡ Fixed a t ∷ r → base_expr t a ≡ Some e → f ≡ e → FormLeafAt ts f r
 base_leaf a t ts r e f is made same = leaf_at is same (base_at a t r e made)
 
-exception_base : (a k : ℕ) (t : Symbol) → exception t ≡ Some k → base_expr t a ≡ None → ⊥
+exception_base : (a k : ℕ) (t : Symbol) → exception_sign t ≡ Some k → base_expr t a ≡ None → ⊥
 exception_base a k NotFound e f = nothing_there (sym f)
 exception_base a k DivisionByZero e f = nothing_there (sym f)
 exception_base a k MatchFailure e f = nothing_there (sym f)

@@ -9,13 +9,13 @@ use Rattle.ac_syntax.specs.declared.surface.SExprKind.TheFolds.{fold-roll-SExpr,
 use Rattle.ac_syntax.specs.declared.surface.SExprKind.TheViews.{roll-SExpr, roll-SArm}
 use Rattle.ac_syntax.specs.declared.surface.SExprKind.TheVariants as variants
 use Rattle.ac_syntax.specs.Trees.{PatTree, Tree, ExInt, ExStr, ExVar, ExOf, ExExnOf}
-use Rattle.ac_syntax.specs.ReadTrees.{FunTree, name_of, pat_of, expr_of, expr_kind_of, arm_of, fun_of, expr_kind_layer, expr_layer, arm_layer, fun_layer}
+use Rattle.ac_syntax.specs.ReadTrees.{FunTree, name_of, pat_of, expr_of, expr_kind_of, arm_of, fun_of, expr_kind_layer, expr_tree_layer, arm_tree_layer, fun_layer}
 use Rattle.ac_syntax.proofs.ReadLaws.{expr_kind_out, kind_at}
 
 -- an expression that the code makes
 pub expr_of-kind : (at : ℕ) (k : SExprKind) → expr_of (roll-SExpr (record { at = at; kind = k })) ≡ expr_kind_of k at
 unfolding expr_of expr_kind_of arm_of fun_of
-expr_of-kind at k = fold-roll-SExpr (ℕ → Tree) (PatTree × Tree) Tree FunTree expr_kind_layer arm_layer expr_layer fun_layer (record { at = at; kind = k })
+expr_of-kind at k = fold-roll-SExpr (ℕ → Tree) (PatTree × Tree) Tree FunTree expr_kind_layer arm_tree_layer expr_tree_layer fun_layer (record { at = at; kind = k })
 
 pub expr_of-Int : (at : ℕ) (n : ℤ) → expr_of (roll-SExpr (record { at = at; kind = Int n })) ≡ ExInt at n
 expr_of-Int at n = expr_of-kind at (Int n) ∙ ap (λ f. f at) (expr_kind_out (Int n)) ∙ ap (kind_at at) (variants.outs-Int n)
@@ -32,7 +32,7 @@ expr_of-Of at m x = expr_of-kind at (Of m x) ∙ ap (λ f. f at) (expr_kind_out 
 -- an arm that the code makes
 pub arm_of-made : (p : SPat) (e : SExpr) → arm_of (roll-SArm (record { pat = p; body = e })) ≡ (pat_of p, expr_of e)
 unfolding expr_of expr_kind_of arm_of fun_of
-arm_of-made p e = fold-roll-SArm (ℕ → Tree) (PatTree × Tree) Tree FunTree expr_kind_layer arm_layer expr_layer fun_layer (record { pat = p; body = e })
+arm_of-made p e = fold-roll-SArm (ℕ → Tree) (PatTree × Tree) Tree FunTree expr_kind_layer arm_tree_layer expr_tree_layer fun_layer (record { pat = p; body = e })
 
 pub expr_of-ExnOf : (at n : ℕ) (e : SExpr) → expr_of (roll-SExpr (record { at = at; kind = Exn n (Some e) })) ≡ ExExnOf at n (expr_of e)
 expr_of-ExnOf at n e = expr_of-kind at (Exn n (Some e)) ∙ ap (λ f. f at) (expr_kind_out (Exn n (Some e))) ∙ ap (kind_at at) (variants.outs-Exn n (Some e))

@@ -4,7 +4,7 @@ use Rattle.std.specs.Prelude.{pos, neg_ℤ}
 use Rattle.ac_types.specs.Primitives as primitives
 use Rattle.ac_syntax.specs.Signs.{Sign, Int, Str, Lower, Upper, Fixed, Other, here}
 use Rattle.ac_syntax.specs.Trees.{Tree, ExInt, ExBool, ExStr, ExUnit, ExExn, ExExnOf, ExTuple, ExNil, ExAbsent, ExPresent, ExCons, ExVar, ExOf, ExFun, ExRec, ExApp, ExLet, ExLetRec, ExIf, ExSeq, ExMatch, ExTry, ExRaise, ExAnd, ExOr, ExOp, ExMarshal, ExUnmarshal, no_trees, tree, height}
-use Rattle.ac_syntax.specs.Expressions.{Operator, Prim, Consing, Both, Either, operator_of, ToLeft, ToRight, Once, side_of, joined, is_bare, Level, Binary, After, Unary, App, Args, Atom, Ending, Closed, Parses, binary, unary, stop, left, right, once, minus, negative, not_, app, some, exn_with_string, applied, no_argument, argument, number, string, true_, false_, unit, exn, var, of_module, parens, tuple, nil, none, match_with, try_with, begins_atom, symbol_front, sign_front, front, IsTree}
+use Rattle.ac_syntax.specs.Expressions.{Operator, Prim, Consing, Both, Either, operator_of, ToLeft, ToRight, Once, side_of, operator_tree, is_bare, Level, Binary, After, Unary, App, Args, Atom, Ending, Closed, Parses, binary, unary, stop, left, right, once, minus, negative, not_, app, some, exn_with_string, applied, no_argument, argument, number, string, true_, false_, unit, exn, var, of_module, parens, tuple, nil, none, match_with, try_with, begins_atom, symbol_front, sign_front, front, IsTree}
 use Rattle.ac_syntax.specs.PartParsing.{SymbolAt, NoSymbol}
 use Rattle.ac_syntax.specs.declared.sign.Symbol.{Symbol}
 use Rattle.ac_syntax.specs.declared.sign.Symbol.TheVariants.{Semicolon, Minus, Not, SomeWord, Star, Slash, Mod, Plus, Caret, Cons, Equals, Less, And, Or}
@@ -387,7 +387,7 @@ unary_of (unary p) = p
 pub unary_none : (D k : ℕ) (ts : List Sign) → k ≡ 0 → NoTree D Unary ts → NoTree D (Binary k) ts
 unary_none D k ts zero_is none' = subst (λ (n : ℕ). NoTree D (Binary n) ts) (sym zero_is) (λ e s o. none' e s (record { ending = Closed; parses = unary_of o.parses; stops = o.stops; low = o.low }))
 
-pub joined_height : (at : ℕ) (o : Operator) (a b : Tree) → height (joined at o a b) ≡ max (height a) (height b) + 1
+pub joined_height : (at : ℕ) (o : Operator) (a b : Tree) → height (operator_tree at o a b) ≡ max (height a) (height b) + 1
 joined_height at (Prim k) a b = omega arith
 joined_height at Consing a b = omega arith
 joined_height at Both a b = omega arith
@@ -495,7 +495,7 @@ record LeftOf (k at : ℕ) (o : Operator) (a : Tree) (ts : List Sign) (e : Tree)
   b : Tree
   r : List Sign
   first : Parses (Binary k) Closed ts b r
-  later : Parses (After (suc k) at (joined at o a b)) Closed r e s
+  later : Parses (After (suc k) at (operator_tree at o a b)) Closed r e s
 
 left_of : {k at p : ℕ} {j : Ending} {t : Symbol} {o : Operator} {a e : Tree} {ts s : List Sign} → side_of (suc k) ≡ ToLeft → operator_of t ≡ Some (suc k, o) → Parses (After (suc k) at a) j (Fixed p t ∷ ts) e s → suc (suc k) < front s
     → LeftOf k at o a ts e s
@@ -509,13 +509,13 @@ left_of side is (once is' side' p) h = left_once (sym side ∙ side')
 record RightOf (l : Level) (at : ℕ) (o : Operator) (a : Tree) (ts : List Sign) (e : Tree) (s : List Sign) : Type 0 where
   b : Tree
   parses : Parses l Closed ts b s
-  is : e ≡ joined at o a b
+  is : e ≡ operator_tree at o a b
 
 right_of : {k at p : ℕ} {j : Ending} {t : Symbol} {o : Operator} {a e : Tree} {ts s : List Sign} → side_of (suc k) ≡ ToRight → operator_of t ≡ Some (suc k, o) → Parses (After (suc k) at a) j (Fixed p t ∷ ts) e s → suc (suc k) < front s
     → RightOf (Binary (suc k)) at o a ts e s
 right_of {p = p} {t = t} {ts = ts} side is stop h = operator_goes_on p t ts is h
 right_of side is (left is' side' p q) h = left_right (sym side' ∙ side)
-right_of {at = at} {a = a} side is (right {b = b} is' side' p) h = record { b = b; parses = p; is = ap (λ (x : Operator). joined at x a b) (same_operator is' is) }
+right_of {at = at} {a = a} side is (right {b = b} is' side' p) h = record { b = b; parses = p; is = ap (λ (x : Operator). operator_tree at x a b) (same_operator is' is) }
 right_of side is (once is' side' p) h = right_once (sym side ∙ side')
 
 once_of : {k at p : ℕ} {j : Ending} {t : Symbol} {o : Operator} {a e : Tree} {ts s : List Sign} → side_of (suc k) ≡ Once → operator_of t ≡ Some (suc k, o) → Parses (After (suc k) at a) j (Fixed p t ∷ ts) e s → suc (suc k) < front s
@@ -523,17 +523,17 @@ once_of : {k at p : ℕ} {j : Ending} {t : Symbol} {o : Operator} {a e : Tree} {
 once_of {p = p} {t = t} {ts = ts} side is stop h = operator_goes_on p t ts is h
 once_of side is (left is' side' p q) h = left_once (sym side' ∙ side)
 once_of side is (right is' side' p) h = right_once (sym side' ∙ side)
-once_of {at = at} {a = a} side is (once {b = b} is' side' p) h = record { b = b; parses = p; is = ap (λ (x : Operator). joined at x a b) (same_operator is' is) }
+once_of {at = at} {a = a} side is (once {b = b} is' side' p) h = record { b = b; parses = p; is = ap (λ (x : Operator). operator_tree at x a b) (same_operator is' is) }
 
 pub record LeftStep (k K D at : ℕ) (a : Tree) (o : Operator) (ts behind : List Sign) : Type 0 where
   pub refused : NoTree (D - 1) (Binary k) behind → NoTree D (After K at a) ts
   pub high : D ≤ height a → NoTree D (After K at a) ts
-  pub next : (b : Tree) (r : List Sign) → IsTree (D - 1) (Binary k) behind b r → Same D (After K at a) ts (After K at (joined at o a b)) r
+  pub next : (b : Tree) (r : List Sign) → IsTree (D - 1) (Binary k) behind b r → Same D (After K at a) ts (After K at (operator_tree at o a b)) r
 
 pub record RightStep (l : Level) (K D at : ℕ) (a : Tree) (o : Operator) (ts behind : List Sign) : Type 0 where
   pub refused : NoTree (D - 1) l behind → NoTree D (After K at a) ts
   pub high : D ≤ height a → NoTree D (After K at a) ts
-  pub made : (b : Tree) (r : List Sign) → IsTree (D - 1) l behind b r → height a < D → suc K < front r → IsTree D (After K at a) ts (joined at o a b) r
+  pub made : (b : Tree) (r : List Sign) → IsTree (D - 1) l behind b r → height a < D → suc K < front r → IsTree D (After K at a) ts (operator_tree at o a b) r
   pub again : (b : Tree) (r : List Sign) → IsTree (D - 1) l behind b r → (suc K < front r → ⊥) → NoTree D (After K at a) ts
   pub ended : ((b : Tree) (r : List Sign) → IsTree (D - 1) l behind b r → suc K < front r → ⊥) → NoTree D (After K at a) ts
 
@@ -548,7 +548,7 @@ module _ (k D at : ℕ) (a : Tree) (o : Operator) (ts behind : List Sign) (w : O
     left_low : (e : Tree) (s : List Sign) → (v : IsTree D (After (suc k) at a) ts e s) → max (height a) (height (left_here e s v).b) + 1 ≤ D
     left_low e s v =
         let n = left_here e s v in
-        let h : height (joined at o a n.b) ≤ height e = after_height n.later in
+        let h : height (operator_tree at o a n.b) ≤ height e = after_height n.later in
         let low : height e ≤ D = v.low in
         omega (arith, joined_height at o a n.b)
 
@@ -558,7 +558,7 @@ module _ (k D at : ℕ) (a : Tree) (o : Operator) (ts behind : List Sign) (w : O
         let low = left_low e s v in
         record { ending = Closed; parses = n.first; stops = front_stops n.later v.stops; low = omega arith }
 
-    left_next : (b : Tree) (r : List Sign) → IsTree (D - 1) (Binary k) behind b r → Same D (After (suc k) at a) ts (After (suc k) at (joined at o a b)) r
+    left_next : (b : Tree) (r : List Sign) → IsTree (D - 1) (Binary k) behind b r → Same D (After (suc k) at a) ts (After (suc k) at (operator_tree at o a b)) r
     left_next b r p = record {
       back = λ e s v. record { ending = Closed; parses = at_same w.is (left w.named side (closed_binary p.parses) (closed_after v.parses)); stops = v.stops; low = v.low };
       forth = λ e s v.
@@ -566,7 +566,7 @@ module _ (k D at : ℕ) (a : Tree) (o : Operator) (ts behind : List Sign) (w : O
           let d = one_tree (D - 1) (Binary k) _ _ _ _ _ (right_side e s v) p in
           record {
             ending = Closed;
-            parses = at_same (sym d.1) (subst (λ (x : Tree). Parses (After (suc k) at (joined at o a x)) Closed n.r e s) d.0 n.later);
+            parses = at_same (sym d.1) (subst (λ (x : Tree). Parses (After (suc k) at (operator_tree at o a x)) Closed n.r e s) d.0 n.later);
             stops = v.stops;
             low = v.low;
           };

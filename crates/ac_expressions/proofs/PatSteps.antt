@@ -5,7 +5,7 @@ use Rattle.ac_types.proofs.FirstLaws.{some_eq}
 use Rattle.ac_types.specs.Types.{Bytes}
 use Rattle.ac_syntax.specs.Signs.{Sign, Int, Str, Lower, Upper, Fixed, Other, here}
 use Rattle.ac_syntax.specs.Trees.{NameAt, TypeTree, PatTree, PatWild, PatVar, PatInt, PatBool, PatStr, PatUnit, PatTuple, PatNil, PatCons, PatAbsent, PatPresent, PatExn, PatExnOf, PatTrees, no_pat_trees, pat_tree, pat_trees, pat_height, highest_pat}
-use Rattle.ac_syntax.specs.Patterns.{exception, exception_with_string, PatLevel, Pattern, Prefixed, Single, ParsesPat, ParsesPats, no_cons, cons, some, exn_with_string, single, wild, var, number, negative, string, true_, false_, unit, nil, none, exn, parens, tuple, last_pat, more_pats, pat_front, PatStops, IsPatTree}
+use Rattle.ac_syntax.specs.Patterns.{exception_sign, exception_with_string, PatLevel, Pattern, Prefixed, Single, ParsesPat, ParsesPats, no_cons, cons, some, exn_with_string, single, wild, var, number, negative, string, true_, false_, unit, nil, none, exn, parens, tuple, last_pat, more_pats, pat_front, PatStops, IsPatTree}
 use Rattle.ac_syntax.specs.PartParsing.{SymbolAt, NoSymbol}
 use Rattle.ac_syntax.specs.declared.sign.Symbol.{Symbol}
 use Rattle.ac_syntax.specs.declared.sign.Symbol.TheVariants.{Open, Close, OpenSquare, CloseSquare, Comma, Minus, Cons, Wild, True, False, SomeWord, NoneWord, Failure, InvalidArgument, NotFound, DivisionByZero, MatchFailure, EndOfFile, SysError, MarshalFailure, UnmarshalFailure, ResolveFailure}
@@ -14,7 +14,7 @@ use Rattle.ac_syntax.proofs.UniqueTypes.{tail_eq}
 use Rattle.ac_syntax.proofs.UniquePatterns.{symbol_begins_single, begins_single, single_begins, unique_pat}
 use Rattle.ac_expressions.specs.declared.front.Prefix.{Prefix}
 use Rattle.ac_expressions.specs.declared.front.Prefix.TheVariants as prefix
-use Rattle.ac_expressions.specs.ExpressionParsing.{Nothing, Before, last, more, IsTypedBinder, NumberAt, NoNumber, is_lower, IsPrefix, PrefixAt, NoPrefix, NoPat, prefixed_pat, base_pat, PatLeafAt, NoPatLeaf, IsPats, PatTupleOf}
+use Rattle.ac_expressions.specs.ExpressionParsing.{Nothing, Before, last, more, IsTypedBinder, NumberAt, NoNumber, begins_lower, IsPrefix, PrefixAt, NoPrefix, NoPat, prefixed_pat, base_pat, PatLeafAt, NoPatLeaf, IsPats, PatTupleOf}
 use Rattle.ac_expressions.proofs.Readers.{One, ManyRead, AllRead, before, before_none, symbol_none, one_before, before_apart, next_read, next_none, all_read, chain_none}
 
 -- heights
@@ -260,7 +260,7 @@ data Inside (at : ℕ) (ts : List Sign) (p : PatTree) (s : List Sign) : Type 0 w
   closed : (b : ℕ) → ParsesPat Pattern ts p (Fixed b Close ∷ s) → Inside at ts p s
   several : (first : PatTree) (ps : PatTrees) (b : ℕ) (r : List Sign) → ParsesPat Pattern ts first (Fixed b Comma ∷ r) → ParsesPats r ps s → p ≡ PatTuple at (pat_tree first ps) → Inside at ts p s
 
-inside : {at : ℕ} {ts s : List Sign} {p : PatTree} → NoSymbol Close ts → is_lower ts ≡ false → ParsesPat Single (Fixed at Open ∷ ts) p s → Inside at ts p s
+inside : {at : ℕ} {ts s : List Sign} {p : PatTree} → NoSymbol Close ts → begins_lower ts ≡ false → ParsesPat Single (Fixed at Open ∷ ts) p s → Inside at ts p s
 inside no_close no_name (unit {b = b}) = absurd (no_close _ (record { at = b; is = refl }))
 inside no_close no_name (var T) = apart (sym no_name)
 inside no_close no_name (exn e) = nothing_there e
@@ -290,7 +290,7 @@ name_begins_none (no_cons p) = name_begins_none p
 name_begins_none (cons p q) = name_begins_none p
 name_begins_none (single p) = single_not p refl
 
-var_forth : {at : ℕ} {ts s : List Sign} {p : PatTree} → Nothing (IsTypedBinder Close) ts → is_lower ts ≡ true → ParsesPat Single (Fixed at Open ∷ ts) p s → ⊥
+var_forth : {at : ℕ} {ts s : List Sign} {p : PatTree} → Nothing (IsTypedBinder Close) ts → begins_lower ts ≡ true → ParsesPat Single (Fixed at Open ∷ ts) p s → ⊥
 var_forth none' lower unit = apart lower
 var_forth none' lower (exn e) = nothing_there e
 var_forth none' lower (var {b = b} {c = c} {d = d} {x = x} {T = T} t) =
@@ -310,10 +310,10 @@ var_forth none' lower (tuple {ts = Upper a x ∷ ts} p q) = apart lower
 var_forth none' lower (tuple {ts = Fixed a x ∷ ts} p q) = apart lower
 var_forth none' lower (tuple {ts = Other a ∷ ts} p q) = apart lower
 
-pub var_none : (D at : ℕ) (ts : List Sign) → Nothing (IsTypedBinder Close) ts → is_lower ts ≡ true → NoPat D Single (Fixed at Open ∷ ts)
+pub var_none : (D at : ℕ) (ts : List Sign) → Nothing (IsTypedBinder Close) ts → begins_lower ts ≡ true → NoPat D Single (Fixed at Open ∷ ts)
 var_none D at ts none' lower p r o = var_forth none' lower o.parses
 
-module _ (D at : ℕ) (ts : List Sign) (no_close : NoSymbol Close ts) (no_name : is_lower ts ≡ false) where
+module _ (D at : ℕ) (ts : List Sign) (no_close : NoSymbol Close ts) (no_name : begins_lower ts ≡ false) where
   inner_none : {p : PatTree} {s : List Sign} → NoPat D Pattern ts → pat_height p ≤ D → Inside at ts p s → ⊥
   inner_none none' low (closed b q) = none' _ _ (record { parses = q; stops = omega arith; low = low })
   inner_none none' low (several first ps b r q w is) =
@@ -427,7 +427,7 @@ base_at a t r p e = nothing_there e
 pub base_leaf : (a : ℕ) (t : Symbol) (ts r : List Sign) (p q : PatTree) → ts ≡ Fixed a t ∷ r → base_pat t a ≡ Some p → q ≡ p → PatLeafAt ts q r
 base_leaf a t ts r p q is e same = pat_leaf is same (base_at a t r p e)
 
-exception_base : (a k : ℕ) (t : Symbol) → exception t ≡ Some k → base_pat t a ≡ None → ⊥
+exception_base : (a k : ℕ) (t : Symbol) → exception_sign t ≡ Some k → base_pat t a ≡ None → ⊥
 exception_base a k NotFound e f = nothing_there (sym f)
 exception_base a k DivisionByZero e f = nothing_there (sym f)
 exception_base a k MatchFailure e f = nothing_there (sym f)

@@ -105,9 +105,9 @@ pub record LoneNumber (n : ℕ) (ts rest : List Sign) : Type 0 where
 abbrev pub NoLoneNumber : List Sign → Type 0
 NoLoneNumber ts = (n : ℕ) (rest : List Sign) → LoneNumber n ts rest → ⊥
 
-abbrev pub is_lower : List Sign → Bool
-is_lower (Lower a x ∷ ts) = true
-is_lower ts = false
+abbrev pub begins_lower : List Sign → Bool
+begins_lower (Lower a x ∷ ts) = true
+begins_lower ts = false
 
 -- a word that takes one argument: `Some`, or an exception with a string
 abbrev pub IsPrefix : Prefix → Symbol → Type 0

@@ -2,7 +2,7 @@
 
 ghost use Rattle.std.specs.Prelude.{◌≡◌, ◌<◌, ◌-◌, ◌^◌, ◌∷◌, [], max, length, map, IfOk, MatchOption, option_map};
 ghost use Rattle.ac_syntax.specs.Trees.{ExInt, ExUnit, ExNil, ExAbsent, ExApp, ExOp, ExSeq, ExTuple, ExMatch, ExTry, tree, no_trees, trees, arm_trees, height, highest, highest_arm};
-ghost use Rattle.ac_syntax.specs.Expressions.{operator_of, joined};
+ghost use Rattle.ac_syntax.specs.Expressions.{operator_of, operator_tree};
 ghost use Rattle.ac_syntax.specs.ReadTrees.{type_of, expr_of, arm_of};
 ghost use Rattle.ac_expressions.specs.ExpressionParsing.{binder_of, head_of};
 ghost use Rattle.ac_expressions.specs.inner.Forms.{measured, prefixed, operator_read, let_tree, let_rec_tree, fun_tree, rec_tree, if_tree, marshal_tree, unmarshal_tree, raise_tree};
@@ -70,7 +70,7 @@ pub fn join(
     requires low { max left.height right.height < 2 ^ 32 - 1 }
     requires left { measured left }
     requires right { measured right }
-    ensures tree { IfOk result (λ x. expr_of x.tree ≡ joined at (operator_read operator)
+    ensures tree { IfOk result (λ x. expr_of x.tree ≡ operator_tree at (operator_read operator)
         (expr_of left.tree) (expr_of right.tree)) }
     ensures height { IfOk result (λ x. measured x) }
 {

@@ -5,7 +5,7 @@
 ghost use Rattle.std.specs.Prelude.{◌≡◌, ◌<◌, ◌≤◌, ◌-◌, ◌^◌, ◌∷◌, true, suc, length, map, IfOk, IfErr, IfSome, MatchOption};
 ghost use Rattle.ac_syntax.specs.Signs.{Fixed};
 ghost use Rattle.ac_syntax.specs.Trees.{ExApp, arm_trees, height, highest_arm};
-ghost use Rattle.ac_syntax.specs.Expressions.{Expr, Part, Binary, After, Unary, App, Atom, front, ToLeft, ToRight, Once, joined, side_of, IsTree, IsExpr};
+ghost use Rattle.ac_syntax.specs.Expressions.{Expr, Part, Binary, After, Unary, App, Atom, front, ToLeft, ToRight, Once, operator_tree, side_of, IsTree, IsExpr};
 ghost use Rattle.ac_syntax.specs.ReadSigns.{read_signs};
 ghost use Rattle.ac_syntax.specs.ReadTrees.{expr_of, arm_of};
 ghost use Rattle.ac_syntax.specs.PartParsing.{OnSyntax};
@@ -382,7 +382,7 @@ fn right_side<'s, 't>(
     requires small { depth < 2 ^ 32 - 1 }
     requires left { measured left }
     ensures tree { IfOk result (λ x. Made (IsTree depth (Binary level))
-        (joined at (operator_read operator) (expr_of left.tree)) (read_signs signs.now)
+        (operator_tree at (operator_read operator) (expr_of left.tree)) (read_signs signs.now)
         (expr_of x.0.tree) (read_signs x.1.now)) }
     ensures height { IfOk result (λ x. measured x.0) }
     ensures shorter { IfOk result (λ x. length x.1.now < length signs.now) }
@@ -471,7 +471,7 @@ fn compared<'s, 't>(
     requires small { depth < 2 ^ 32 - 1 }
     requires left { measured left }
     ensures tree { IfOk result (λ x. Made (IsLastOperand level depth)
-        (joined at (operator_read operator) (expr_of left.tree)) (read_signs signs.now)
+        (operator_tree at (operator_read operator) (expr_of left.tree)) (read_signs signs.now)
         (expr_of x.0.tree) (read_signs x.1.now)) }
     ensures height { IfOk result (λ x. measured x.0) }
     ensures shorter { IfOk result (λ x. length x.1.now < length signs.now) }

@@ -5,7 +5,7 @@ ghost use Rattle.ac_syntax.specs.Expressions.{begins_atom, symbol_begins_atom, f
 ghost use Rattle.ac_syntax.specs.ReadSigns.{read_signs};
 ghost use Rattle.ac_syntax.specs.ReadTrees.{name_of};
 ghost use Rattle.ac_syntax.specs.PartParsing.{OnSyntax, SymbolAt, NoSymbol};
-ghost use Rattle.ac_expressions.specs.ExpressionParsing.{Nothing, IsName, NumberAt, NoNumber, LoneNumber, NoLoneNumber, is_lower, IsPrefix, PrefixAt, NoPrefix};
+ghost use Rattle.ac_expressions.specs.ExpressionParsing.{Nothing, IsName, NumberAt, NoNumber, LoneNumber, NoLoneNumber, begins_lower, IsPrefix, PrefixAt, NoPrefix};
 
 use ac_syntax::{SName, Sign, SignKind, Stop, Symbol, after, next, next_name, refused_at};
 use ac_types::Memory;
@@ -49,7 +49,7 @@ pub fn name<'s, 't>(alloc: Global, signs: &'s [Sign<'t>]) -> Result<(SName, &'s 
 
 /// Whether a lower name stands here.
 pub fn begins_name(signs: &[Sign<'_>]) -> bool
-    ensures { result ≡ is_lower (read_signs signs.now) }
+    ensures { result ≡ begins_lower (read_signs signs.now) }
 {
     let Some((first, _)) = next(signs) else {
         return false;

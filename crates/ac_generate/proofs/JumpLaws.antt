@@ -8,7 +8,7 @@ use Rattle.ac_code.specs.Code as instr
 use Rattle.ac_code.specs.Code.{Instr, Block}
 use Rattle.ac_generate.specs.Sizes.{lambdas, bound, unbind, size, arm_size}
 use Rattle.ac_generate.specs.Generate.{code, arm_code, blocks, arm_blocks}
-use Rattle.ac_generate.specs.inner.Drafts.{Draft, address, count, put, put_all, set_at, jumps_at, wrote, wrote_arm, wrote_arms, end_of, ends}
+use Rattle.ac_generate.specs.inner.Drafts.{Draft, address, count, put, put_all, set_at, jumps_at, wrote, wrote_arm, wrote_arms, arm_end, ends}
 use Rattle.ac_generate.proofs.SizeLaws.{code_size, arm_code_size, block_count}
 use Rattle.ac_generate.proofs.DraftLaws.{more, more_same, leaf, put_more, put_all_more, further, wrote_more}
 
@@ -84,7 +84,7 @@ wrote_one_arm c G q b d d3 d4 h3 h4 =
     let cb = code b (suc p) n in
     let ub = unbind (bound q) in
     let bb = blocks c (reverse (pattern_types q) ++ G) b n in
-    let next = suc (end_of q b p) in
+    let next = suc (arm_end q b p) in
     let e3 : d3 ≡ more ((open_jump ∷ cb) ++ ub) bb d =
     h3 ∙ ap (λ x. put_all ub (wrote c (reverse (pattern_types q) ++ G) b x)) (leaf open_jump d)
     ∙ ap (put_all ub) (wrote_more c (reverse (pattern_types q) ++ G) b (open_jump ∷ []) [] d (suc p) n (omega arith) (omega arith))
@@ -95,7 +95,7 @@ wrote_one_arm c G q b d d3 d4 h3 h4 =
     ∙ set_more _ [] (cb ++ (ub ++ open_jump ∷ [])) open_jump (instr.Test q next) p bb d refl (omega arith)
     ∙ more_same d _ _ _ _ refl (sym (append-nil bb))
 
-pub arm_address : (c : Home) (G : List Typ) (q : Pattern) (b : Expr) (d : Draft) → address (put_all (unbind (bound q)) (wrote c (reverse (pattern_types q) ++ G) b (put open_jump d))) ≡ end_of q b (address d)
+pub arm_address : (c : Home) (G : List Typ) (q : Pattern) (b : Expr) (d : Draft) → address (put_all (unbind (bound q)) (wrote c (reverse (pattern_types q) ++ G) b (put open_jump d))) ≡ arm_end q b (address d)
 unfolding put put_all wrote
 arm_address c G q b d =
     let p = address d in
@@ -110,7 +110,7 @@ wrote_no_arms c G d = more_same' d where
   more_same' d = ap₂ (λ (x : List Instr) (y : List Block). record { first = d.first; instrs = x; blocks = y }) (append-nil d.instrs) (append-nil d.blocks)
 
 -- the address behind an arm
-pub after_arm : (c : Home) (G : List Typ) (q : Pattern) (b : Expr) (d : Draft) → address (wrote_arm c G q b d) ≡ suc (end_of q b (address d))
+pub after_arm : (c : Home) (G : List Typ) (q : Pattern) (b : Expr) (d : Draft) → address (wrote_arm c G q b d) ≡ suc (arm_end q b (address d))
 unfolding wrote_arm
 after_arm c G q b d = address_more (arm_code 0 (arm q b no_arms) (address d) (count d)) (arm_blocks c G (arm q b no_arms) (count d)) d ∙ omega (arith, arm_code_size 0 (arm q b no_arms) (address d) (count d))
 
@@ -124,7 +124,7 @@ wrote_more_arms c G q b rest d =
     let n = count d in
     let one = arm q b no_arms in
     let bb = blocks c (reverse (pattern_types q) ++ G) b n in
-    further (arm_code 0 rest) (arm_blocks c G rest) (arm_code 0 one p n) (arm_blocks c G one n) d (suc (end_of q b p)) (n + lambdas b)
+    further (arm_code 0 rest) (arm_blocks c G rest) (arm_code 0 one p n) (arm_blocks c G one n) d (suc (arm_end q b p)) (n + lambdas b)
     (omega (arith, arm_code_size 0 one p n)) (omega (arith, length-append bb [], block_count c (reverse (pattern_types q) ++ G) b n))
     ∙ more_same d _ _ _ _ (arm_apart _ open_jump (code b (suc p) n) (unbind (bound q)) _) (append_assoc bb [] _)
 
@@ -138,17 +138,17 @@ landed : (cases : Arms) (to p n : ℕ) (xs ys : List Instr) (bs : List Block) (d
     jumps_at (ends cases p) to (more (xs ++ (arm_code 0 cases p n ++ ys)) bs d) ≡ more (xs ++ (arm_code to cases p n ++ ys)) bs d
 landed no_arms to p n xs ys bs d h = refl
 landed (arm q b rest) to p n xs ys bs d h =
-    let next = suc (end_of q b p) in
+    let next = suc (arm_end q b p) in
     let m = n + lambdas b in
     let cb = code b (suc p) n in
     let ub = unbind (bound q) in
     let test = instr.Test q next in
     let front = xs ++ (test ∷ (cb ++ ub)) in
     let later = arm_code 0 rest next m in
-    let at : end_of q b p ≡ address d + length front = omega (arith, h, length-append xs (test ∷ (cb ++ ub)), length-append cb ub, code_size b (suc p) n) in
+    let at : arm_end q b p ≡ address d + length front = omega (arith, h, length-append xs (test ∷ (cb ++ ub)), length-append cb ub, code_size b (suc p) n) in
     let rests = λ (l : List Instr). sym (append_assoc front (instr.Jump to ∷ []) (l ++ ys)) in
     ap (jumps_at (ends rest next) to) (
-    set_more _ front (later ++ ys) open_jump (instr.Jump to) (end_of q b p) bs d (arm_cut xs test open_jump cb ub later ys) at
+    set_more _ front (later ++ ys) open_jump (instr.Jump to) (arm_end q b p) bs d (arm_cut xs test open_jump cb ub later ys) at
     ∙ more_same d _ _ bs bs (rests later) refl
     )
     ∙ landed rest to next m (front ++ instr.Jump to ∷ []) ys bs d (omega (arith, at, length-append front (instr.Jump to ∷ [])))

@@ -19,11 +19,11 @@ use Rattle.ac_terms.specs.Read.{home_of, field_of, expr_of, def_of_code, entry_o
 use Rattle.ac_code.specs.declared.block.Block as code_block
 use Rattle.ac_code.specs.declared.instr.CodeId.{CodeId}
 use Rattle.ac_code.specs.Code.{Instr, Block, Code}
-use Rattle.ac_code.specs.Table.{Table, appended, cut, placed, with_fields}
-use Rattle.ac_code.specs.ReadCode.{instr_of, block_of, code_of, number_of}
+use Rattle.ac_code.specs.Table.{Table, appended, first_blocks, placed, with_fields}
+use Rattle.ac_code.specs.ReadCode.{instr_of, block_of, code_of, block_id}
 use Rattle.ac_generate.specs.inner.Drafts.{Draft, draft_of, wrote, wrote_value}
 use Rattle.ac_generate.specs.Generate.{code, blocks, value_code, value_blocks}
-use Rattle.ac_generate.specs.Generated.{own_block, ending, with_blocks, generated, number, value_number, fields_generated, field_numbers, entry_generated, KeepsBlocks}
+use Rattle.ac_generate.specs.Generated.{own_block, ending, with_blocks, generated, block_number, value_number, fields_generated, field_numbers, entry_generated, KeepsBlocks}
 use Rattle.ac_generate.proofs.SizeLaws.{block_count, value_block_count}
 
 -- some blocks, and one more
@@ -31,7 +31,7 @@ stored : (t0 t1 : Table) (bs all : List code_block.Block) (b : code_block.Block)
 stored t0 t1 bs all b ha h =
     ap code_of h
     ∙ ap (λ (x : List code_block.Block). code_of (appended x t0)) ha
-    ∙ ap (λ (x : List Block). record { blocks = x; fields = map (map number_of) t0.fields }) (
+    ∙ ap (λ (x : List Block). record { blocks = x; fields = map (map block_id) t0.fields }) (
     map-append block_of t0.blocks (bs ++ b ∷ []) ∙ ap (λ (x : List Block). map block_of t0.blocks ++ x) (map-append block_of bs (b ∷ []))
     )
 
@@ -44,7 +44,7 @@ stored_count n t0 t1 bs all b hn ha h =
     omega (arith, added, whole, same)
 
 -- a table that is cut back to its old blocks is the old one, where only blocks were added
-pub cut_back : (old more new : Table) (n : ℕ) → KeepsBlocks more old → more.fields ≡ old.fields → n ≡ length old.blocks → new ≡ cut n more → new ≡ old
+pub cut_back : (old more new : Table) (n : ℕ) → KeepsBlocks more old → more.fields ≡ old.fields → n ≡ length old.blocks → new ≡ first_blocks n more → new ≡ old
 cut_back old more new n (bs, e) hf hn h =
     h ∙ ap₂ (λ (x : List code_block.Block) (y : List (List CodeId)). record { blocks = x; fields = y }) (ap₂ take hn e ∙ take-append_seam old.blocks bs) hf
 
@@ -108,7 +108,7 @@ module _ (c : Home) (e : Expr) (G : List Typ) (d0 d : Draft) (K : Code) (n : ℕ
       h ∙ ap₂ (λ (x : List Block) (y : List Instr). with_blocks (x ++ own_block c (y ++ i ∷ []) ∷ []) K) wrote_blocks wrote_instrs
       ∙ ap (λ (x : Instr). with_blocks (blocks c [] e (length K.blocks) ++ own_block c (code e 0 (length K.blocks) ++ x ∷ []) ∷ []) K) hi
 
-  pub term_numbered : (k m : ℕ) → m ≡ n → k ≡ m + length d.blocks → k ≡ number e K
+  pub term_numbered : (k m : ℕ) → m ≡ n → k ≡ m + length d.blocks → k ≡ block_number e K
   term_numbered k m hm h = h ∙ ap₂ ◌+◌ (hm ∙ hn) (ap length wrote_blocks ∙ block_count c [] e (length K.blocks))
 
 module _ (v : PValue) (d0 d : Draft) (K : Code) (n : ℕ) (h0 : d0 ≡ fresh n) (hn : n ≡ length K.blocks) (hd : d ≡ wrote_value v d0) where
@@ -136,27 +136,27 @@ field_next c fs i f K K' whole lt is h inv =
     let e : drop i fs ≡ f ∷ rest = drop-cons fs i f lt ∙ ap₂ (λ x k. x ∷ drop k fs) (sym is) (sym (add-one i)) in
     ap (fields_generated c (map field_of rest)) h ∙ ap (λ (l : List code_field.Field). fields_generated c (map field_of l) K) (sym e) ∙ inv
 
-pub number_next : (c : Home) (fs : List code_field.Field) (i : ℕ) (f : code_field.Field) (K K' : Code) (ids new : List CodeId) (id : CodeId) (whole : List ℕ) → i < length fs → f ≡ get_or fs i f → K' ≡ generated c (expr_of f.term) K → id.0 ≡ number (expr_of f.term) K → new ≡ ids ++ id ∷ [] →
-    map number_of ids ++ field_numbers c (map field_of (drop i fs)) K ≡ whole → map number_of new ++ field_numbers c (map field_of (drop (i + 1) fs)) K' ≡ whole
+pub number_next : (c : Home) (fs : List code_field.Field) (i : ℕ) (f : code_field.Field) (K K' : Code) (ids new : List CodeId) (id : CodeId) (whole : List ℕ) → i < length fs → f ≡ get_or fs i f → K' ≡ generated c (expr_of f.term) K → id.0 ≡ block_number (expr_of f.term) K → new ≡ ids ++ id ∷ [] →
+    map block_id ids ++ field_numbers c (map field_of (drop i fs)) K ≡ whole → map block_id new ++ field_numbers c (map field_of (drop (i + 1) fs)) K' ≡ whole
 number_next c fs i f K K' ids new id whole lt is h hid hnew inv =
     let rest = drop (i + 1) fs in
     let e : drop i fs ≡ f ∷ rest = drop-cons fs i f lt ∙ ap₂ (λ x k. x ∷ drop k fs) (sym is) (sym (add-one i)) in
     let grown = generated c (expr_of f.term) K in
-    ap₂ (λ (l : List CodeId) (X : Code). map number_of l ++ field_numbers c (map field_of rest) X) hnew h
-    ∙ ap (λ (l : List ℕ). l ++ field_numbers c (map field_of rest) grown) (map-append number_of ids (id ∷ []))
-    ∙ append_assoc (map number_of ids) (number_of id ∷ []) (field_numbers c (map field_of rest) grown)
-    ∙ ap (λ (k : ℕ). map number_of ids ++ (k ∷ field_numbers c (map field_of rest) grown)) hid
-    ∙ ap (λ (l : List code_field.Field). map number_of ids ++ field_numbers c (map field_of l) K) (sym e) ∙ inv
+    ap₂ (λ (l : List CodeId) (X : Code). map block_id l ++ field_numbers c (map field_of rest) X) hnew h
+    ∙ ap (λ (l : List ℕ). l ++ field_numbers c (map field_of rest) grown) (map-append block_id ids (id ∷ []))
+    ∙ append_assoc (map block_id ids) (block_id id ∷ []) (field_numbers c (map field_of rest) grown)
+    ∙ ap (λ (k : ℕ). map block_id ids ++ (k ∷ field_numbers c (map field_of rest) grown)) hid
+    ∙ ap (λ (l : List code_field.Field). map block_id ids ++ field_numbers c (map field_of l) K) (sym e) ∙ inv
 
 -- the numbers of an entry's fields, kept
-pub placed_map : (i : ℕ) (ids : List CodeId) (fs : List (List CodeId)) → map (map number_of) (placed i ids fs) ≡ placed i (map number_of ids) (map (map number_of) fs)
+pub placed_map : (i : ℕ) (ids : List CodeId) (fs : List (List CodeId)) → map (map block_id) (placed i ids fs) ≡ placed i (map block_id ids) (map (map block_id) fs)
 placed_map zero ids [] = refl
 placed_map zero ids (x ∷ fs) = refl
 placed_map (suc i) ids [] = ap (λ (l : List (List ℕ)). [] ∷ l) (placed_map i ids [])
-placed_map (suc i) ids (x ∷ fs) = ap (λ (l : List (List ℕ)). map number_of x ∷ l) (placed_map i ids fs)
+placed_map (suc i) ids (x ∷ fs) = ap (λ (l : List (List ℕ)). map block_id x ∷ l) (placed_map i ids fs)
 
-pub fields_kept : (i : ℕ) (ids : List CodeId) (t0 t1 t2 : Table) (K : Code) (numbers : List ℕ) → code_of t1 ≡ K → t1.fields ≡ t0.fields → map number_of ids ≡ numbers → t2 ≡ with_fields i ids t1 →
-    code_of t2 ≡ record { blocks = K.blocks; fields = placed i numbers (map (map number_of) t0.fields) }
+pub fields_kept : (i : ℕ) (ids : List CodeId) (t0 t1 t2 : Table) (K : Code) (numbers : List ℕ) → code_of t1 ≡ K → t1.fields ≡ t0.fields → map block_id ids ≡ numbers → t2 ≡ with_fields i ids t1 →
+    code_of t2 ≡ record { blocks = K.blocks; fields = placed i numbers (map (map block_id) t0.fields) }
 fields_kept i ids t0 t1 t2 K numbers hK hf hi h =
     ap code_of h ∙ ap₂ (λ (x : List Block) (y : List (List ℕ)). record { blocks = x; fields = y }) (ap (λ (X : Code). X.blocks) hK)
-    (placed_map i ids t1.fields ∙ ap₂ (λ (x : List ℕ) (y : List (List CodeId)). placed i x (map (map number_of) y)) hi hf)
+    (placed_map i ids t1.fields ∙ ap₂ (λ (x : List ℕ) (y : List (List CodeId)). placed i x (map (map block_id) y)) hi hf)

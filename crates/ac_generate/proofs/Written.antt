@@ -8,7 +8,7 @@ use Rattle.ac_terms.specs.Parts.{pattern_types}
 use Rattle.ac_code.specs.Code as instr
 use Rattle.ac_code.specs.Code.{Instr}
 use Rattle.ac_generate.specs.Sizes.{bound, unbind}
-use Rattle.ac_generate.specs.inner.Drafts.{Draft, address, count, put, put_all, set_at, jumps_at, begun, ended, wrote, wrote_rest, wrote_arm, wrote_arms, end_of, ends, wrote_value}
+use Rattle.ac_generate.specs.inner.Drafts.{Draft, address, count, put, put_all, set_at, jumps_at, begun, ended, wrote, wrote_rest, wrote_arm, wrote_arms, arm_end, ends, wrote_value}
 use Rattle.ac_generate.proofs.DraftLaws.{wrote_Rec, wrote_KLam, wrote_KRec, wrote_later}
 use Rattle.ac_generate.proofs.JumpLaws.{open_jump, wrote_If, wrote_Match, wrote_Try, wrote_one_arm, arm_address}
 
@@ -68,7 +68,7 @@ module _ (c : Home) (G H' : List Typ) (q : Pattern) (b : Expr) (d d1 d2 d3 : Dra
   pub arm_written : (d4 new : Draft) (k next : ℕ) → k ≡ address d → d4 ≡ put open_jump d3 → next ≡ address d4 → new ≡ set_at k (instr.Test q next) d4 → new ≡ wrote_arm c G q b d
   arm_written d4 new k next qk h4 qn hn = hn ∙ ap₂ (λ (m n : ℕ). set_at m (instr.Test q n) d4) qk qn ∙ wrote_one_arm c G q b d d3 d4 body_written h4
 
-  pub arm_ended : (end : ℕ) → end ≡ address d3 → end ≡ end_of q b (address d)
+  pub arm_ended : (end : ℕ) → end ≡ address d3 → end ≡ arm_end q b (address d)
   arm_ended end he = he ∙ ap address body_written ∙ arm_address c G q b d
 
 -- one more part of a sequence

@@ -33,8 +33,8 @@ with_blocks bs K = record { blocks = K.blocks ++ bs; fields = K.fields }
 abbrev pub generated : Home → Expr → Code → Code
 generated c e K = with_blocks (term_blocks c e (length K.blocks)) K
 
-abbrev pub number : Expr → Code → ℕ
-number e K = length K.blocks + lambdas e
+abbrev pub block_number : Expr → Code → ℕ
+block_number e K = length K.blocks + lambdas e
 
 -- the code with a packed value, and the number of its own block
 abbrev pub value_generated : PValue → Code → Code
@@ -50,7 +50,7 @@ fields_generated c (f ∷ fs) K = fields_generated c fs (generated c f.term K)
 
 abbrev pub field_numbers : Home → List Field → Code → List ℕ
 field_numbers c [] K = []
-field_numbers c (f ∷ fs) K = number f.term K ∷ field_numbers c fs (generated c f.term K)
+field_numbers c (f ∷ fs) K = block_number f.term K ∷ field_numbers c fs (generated c f.term K)
 
 -- the code with an entry's fields: only a module has any
 abbrev pub entry_generated : Environment → ℕ → Code → Code

@@ -2,9 +2,9 @@
 
 ghost use Rattle.std.specs.Prelude.{◌≡◌, ◌+◌, ◌++◌, ◌∷◌, [], length, map, OnOk, OnErr, IfOk};
 ghost use Rattle.ac_terms.specs.Read.{home_of, expr_of, value_of, environment_of, field_of};
-ghost use Rattle.ac_code.specs.ReadCode.{instr_of, code_of, number_of};
+ghost use Rattle.ac_code.specs.ReadCode.{instr_of, code_of, block_id};
 ghost use Rattle.ac_generate.specs.inner.Drafts.{draft_of};
-ghost use Rattle.ac_generate.specs.Generated.{own_block, ending, with_blocks, generated, number, value_generated, value_number, fields_generated, field_numbers, entry_generated, KeepsBlocks};
+ghost use Rattle.ac_generate.specs.Generated.{own_block, ending, with_blocks, generated, block_number, value_generated, value_number, fields_generated, field_numbers, entry_generated, KeepsBlocks};
 
 use crate::scope::Scope;
 use crate::writer::Writer;
@@ -25,7 +25,8 @@ pub fn generate(
 ) -> Result<CodeId, Memory>
     ensures ok { OnOk result (code_of table.new ≡ generated (home_of home) (expr_of term.now)
         (code_of table.old)) }
-    ensures number { IfOk result (λ id. id.0 ≡ number (expr_of term.now) (code_of table.old)) }
+    ensures block_number { IfOk result (λ id. id.0 ≡ block_number (expr_of term.now)
+        (code_of table.old)) }
     ensures blocks { KeepsBlocks table.new table.old }
     ensures fields { table.new.fields ≡ table.old.fields }
     ensures err { OnErr result (table.new ≡ table.old) }
@@ -46,7 +47,7 @@ pub fn generate_value(
 ) -> Result<CodeId, Memory>
     ensures ok { OnOk result (code_of table.new ≡ value_generated (value_of value.now)
         (code_of table.old)) }
-    ensures number { IfOk result (λ id. id.0 ≡ value_number (value_of value.now)
+    ensures block_number { IfOk result (λ id. id.0 ≡ value_number (value_of value.now)
         (code_of table.old)) }
     ensures blocks { KeepsBlocks table.new table.old }
     ensures fields { table.new.fields ≡ table.old.fields }
@@ -107,7 +108,7 @@ fn fields(
 ) -> Result<Many<CodeId>, Memory>
     ensures ok { OnOk result (code_of table.new ≡ fields_generated (home_of home)
         (map field_of fields.now) (code_of table.old)) }
-    ensures numbers { IfOk result (λ ids. map number_of ids ≡ field_numbers (home_of home)
+    ensures numbers { IfOk result (λ ids. map block_id ids ≡ field_numbers (home_of home)
         (map field_of fields.now) (code_of table.old)) }
     ensures blocks { KeepsBlocks table.new table.old }
     ensures fields { table.new.fields ≡ table.old.fields }
@@ -137,7 +138,7 @@ impl Writer {
         ensures ok { OnOk result (code_of table.new ≡ with_blocks
             ((draft_of self).blocks ++ own_block (home_of home)
             ((draft_of self).instrs ++ instr_of last ∷ []) ∷ []) (code_of table.old)) }
-        ensures number { IfOk result (λ id. id.0 ≡ length table.old.blocks + length
+        ensures block_number { IfOk result (λ id. id.0 ≡ length table.old.blocks + length
             (draft_of self).blocks) }
         ensures blocks { KeepsBlocks table.new table.old }
         ensures fields { table.new.fields ≡ table.old.fields }

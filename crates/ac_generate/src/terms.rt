@@ -7,7 +7,7 @@ ghost use Rattle.ac_terms.specs.Terms.{exprs, arms, pvalues, KFun};
 ghost use Rattle.ac_terms.specs.Read.{home_of, expr_of, value_of};
 ghost use Rattle.ac_generate.specs.inner.Arms.{arm_of};
 ghost use Rattle.ac_generate.specs.inner.CodeScopes.{types_of};
-ghost use Rattle.ac_generate.specs.inner.Drafts.{draft_of, address, count, begun, ended, wrote, wrote_all, wrote_seq, wrote_arm, wrote_arms, end_of, ends, wrote_value, wrote_values};
+ghost use Rattle.ac_generate.specs.inner.Drafts.{draft_of, address, count, begun, ended, wrote, wrote_all, wrote_seq, wrote_arm, wrote_arms, arm_end, ends, wrote_value, wrote_values};
 
 use crate::scope::{Scope, function_type, variables};
 use crate::writer::Writer;
@@ -233,7 +233,7 @@ impl Writer {
     fn arm(&mut self, home: Home, scope: &Scope, case: &Arm) -> Result<usize, Memory>
         ensures ok { OnOk result (draft_of self.new ≡ wrote_arm (home_of home) (types_of scope.now)
             (arm_of case.now).0 (arm_of case.now).1 (draft_of self.old)) }
-        ensures address { IfOk result (λ at. at ≡ end_of (arm_of case.now).0 (arm_of case.now).1
+        ensures address { IfOk result (λ at. at ≡ arm_end (arm_of case.now).0 (arm_of case.now).1
             (address (draft_of self.old))) }
     {
         let bound = variables(self.alloc, &case.pat)?;

@@ -5,7 +5,7 @@ use Rattle.std.specs.Cmp.Lexicographic.{pointwise, bytes_decides}
 use Rattle.std.proofs.lemmas.Bool.{true≢false}
 use Rattle.std.proofs.lemmas.List.{take-append-drop}
 use Rattle.std.proofs.Math.Numerals.{add-one}
-use Rattle.ac_lexer.specs.Gaps.{Inside, closed, nested, byte, opens, closes}
+use Rattle.ac_lexer.specs.Gaps.{Inside, closed, nested, byte, begins_comment, ends_comment}
 
 -- the text ends the comment that it is inside of, and then those around it
 pub Ends : ℕ → List ℕ → List ℕ → Type 0
@@ -20,7 +20,7 @@ behind_end : {text rest : List ℕ} → Inside (42 ∷ 41 ∷ text) rest → res
 behind_end closed = refl
 behind_end (byte o c x) = absurd (true≢false c)
 
-behind_byte : {b : ℕ} {text rest : List ℕ} → opens (b ∷ text) ≡ false → closes (b ∷ text) ≡ false → Inside (b ∷ text) rest → Inside text rest
+behind_byte : {b : ℕ} {text rest : List ℕ} → begins_comment (b ∷ text) ≡ false → ends_comment (b ∷ text) ≡ false → Inside (b ∷ text) rest → Inside text rest
 behind_byte o c closed = absurd (true≢false c)
 behind_byte o c (nested x y) = absurd (true≢false o)
 behind_byte o c (byte p d x) = x
@@ -42,12 +42,12 @@ out (suc n) text rest x = let i = inner x.1 in (i.0, i.1, (x.0, i.2, x.2))
 
 -- a byte changes nothing
 
-onto : (n b : ℕ) (text rest : List ℕ) → opens (b ∷ text) ≡ false → closes (b ∷ text) ≡ false → Ends n text rest → Ends n (b ∷ text) rest
+onto : (n b : ℕ) (text rest : List ℕ) → begins_comment (b ∷ text) ≡ false → ends_comment (b ∷ text) ≡ false → Ends n text rest → Ends n (b ∷ text) rest
 unfolding Ends
 onto zero b text rest o c x = byte o c x
 onto (suc n) b text rest o c x = (x.0, byte o c x.1, x.2)
 
-past : (n b : ℕ) (text rest : List ℕ) → opens (b ∷ text) ≡ false → closes (b ∷ text) ≡ false → Ends n (b ∷ text) rest → Ends n text rest
+past : (n b : ℕ) (text rest : List ℕ) → begins_comment (b ∷ text) ≡ false → ends_comment (b ∷ text) ≡ false → Ends n (b ∷ text) rest → Ends n text rest
 unfolding Ends
 past zero b text rest o c x = behind_byte o c x
 past (suc n) b text rest o c x = (x.0, behind_byte o c x.1, x.2)
@@ -93,10 +93,10 @@ whole {text} {here} {after} w e z =
     let v = subst (λ (m : ℕ). Within text m here) z w in
     v.forth after (subst (λ (l : List ℕ). Inside l after) (sym e) closed)
 
-pub passed : {text here after : List ℕ} {n b : ℕ} → Within text n here → opens here ≡ false → closes here ≡ false → here ≡ b ∷ after → Within text n after
+pub passed : {text here after : List ℕ} {n b : ℕ} → Within text n here → begins_comment here ≡ false → ends_comment here ≡ false → here ≡ b ∷ after → Within text n after
 passed {text} {here} {after} {n} {b} w o c e = record {
-  forth = λ rest x. w.forth rest (subst (λ (l : List ℕ). Ends n l rest) (sym e) (onto n b after rest (sym (ap opens e) ∙ o) (sym (ap closes e) ∙ c) x));
-  back = λ rest x. past n b after rest (sym (ap opens e) ∙ o) (sym (ap closes e) ∙ c) (subst (λ (l : List ℕ). Ends n l rest) e (w.back rest x));
+  forth = λ rest x. w.forth rest (subst (λ (l : List ℕ). Ends n l rest) (sym e) (onto n b after rest (sym (ap begins_comment e) ∙ o) (sym (ap ends_comment e) ∙ c) x));
+  back = λ rest x. past n b after rest (sym (ap begins_comment e) ∙ o) (sym (ap ends_comment e) ∙ c) (subst (λ (l : List ℕ). Ends n l rest) e (w.back rest x));
 }
 
 pub unfinished : {text here : List ℕ} {n : ℕ} → Within text n here → here ≡ [] → (rest : List ℕ) → Inside text rest → ⊥

@@ -4,7 +4,7 @@ use Rattle.std.specs.Prelude.{codes}
 use Rattle.ac_types.specs.Words.{is_reserved}
 use Rattle.ac_lexer.specs.declared.tokens.TokenKind.TheVariants.{Lower, Upper, Int, Str, Fixed}
 use Rattle.ac_lexer.specs.Gaps.{Inside, closed, nested, byte}
-use Rattle.ac_lexer.specs.Spellings.{value, name_kind, is_name, is_symbol, itself, escape, hex, quote, more, SpellsToken, number, symbol, string, is_within_limits}
+use Rattle.ac_lexer.specs.Spellings.{value, name_kind, is_identifier, is_symbol, itself, escape, hex, quote, more, SpellsToken, number, symbol, string, is_within_limits}
 
 ex_value : value (codes "007") ≡ 7
 ex_value = refl
@@ -28,7 +28,7 @@ ex_wild : name_kind (codes "_") ≡ Fixed (record { 0 = codes "_" })
 unfolding is_reserved
 ex_wild = refl
 
-ex_digit_first : is_name (codes "1x") ≡ false
+ex_digit_first : is_identifier (codes "1x") ≡ false
 ex_digit_first = refl
 
 ex_arrow : SpellsToken (codes "->") (Fixed (record { 0 = codes "->" }))

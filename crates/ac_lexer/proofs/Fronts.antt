@@ -10,8 +10,8 @@ use Rattle.std.proofs.lemmas.Bool.Decides.{nat_tests}
 use Rattle.ac_types.specs.Words.{is_start, is_part}
 use Rattle.ac_lexer.specs.declared.tokens.TokenKind.{TokenKind}
 use Rattle.ac_lexer.specs.declared.tokens.TokenKind.TheVariants.{Int, Str, Fixed}
-use Rattle.ac_lexer.specs.Gaps.{opens}
-use Rattle.ac_lexer.specs.Spellings.{is_digit, value, is_name, name_kind, is_symbol, SymbolBegins, Quoted, SpellsToken, number, name, symbol, string, is_within_limits}
+use Rattle.ac_lexer.specs.Gaps.{begins_comment}
+use Rattle.ac_lexer.specs.Spellings.{is_digit, value, is_identifier, name_kind, is_symbol, SymbolBegins, Quoted, SpellsToken, number, name, symbol, string, is_within_limits}
 use Rattle.ac_lexer.specs.Tokens.{IsLongest, TokenAt, NoToken}
 use Rattle.ac_lexer.proofs.Spelled.{by_digit, by_start, by_quote, by_other, of_symbols, no_empty}
 use Rattle.ac_lexer.proofs.Unique.{same_split, one_kind, same_quoted, quoted_on, quoted_front}
@@ -23,7 +23,7 @@ pub record Longest (text : List ℕ) (kind : TokenKind) (rest : List ℕ) : Type
   pub spelled : SpellsToken front kind
   pub longest : IsLongest text front
 
-pub accepted : {text rest : List ℕ} {kind : TokenKind} → Longest text kind rest → is_within_limits kind ≡ true → opens text ≡ false → TokenAt text kind rest
+pub accepted : {text rest : List ℕ} {kind : TokenKind} → Longest text kind rest → is_within_limits kind ≡ true → begins_comment text ≡ false → TokenAt text kind rest
 accepted x w o = record { front = x.front; split = x.split; spelled = x.spelled; longest = x.longest; within_limits = w; no_comment = o }
 
 pub rejected : {text rest : List ℕ} {kind : TokenKind} → Longest text kind rest → is_within_limits kind ≡ false → NoToken text
@@ -165,7 +165,7 @@ no_symbol_front text b d s q = λ k rest t. nothing_spelled t.front t.spelled (n
 
 -- the tokens that the code answers
 
-module _ (text front rest : List ℕ) (count : ℕ) (front_is : front ≡ take count text) (rest_is : rest ≡ drop count text) (no_comment : opens text ≡ false) where
+module _ (text front rest : List ℕ) (count : ℕ) (front_is : front ≡ take count text) (rest_is : rest ≡ drop count text) (no_comment : begins_comment text ≡ false) where
   pub number_token : is_digit (slice_index text 0) ≡ true → count ≡ prefix_len is_digit text → (n : ℕ) → n ≡ value front → value front < 2 ^ 63 → TokenAt text (Int n) rest
   number_token h count_is n is small =
       let fits : is_within_limits (Int (value front)) ≡ true = lt-ltb (value front) (2 ^ 63) small in
@@ -176,7 +176,7 @@ module _ (text front rest : List ℕ) (count : ℕ) (front_is : front ≡ take c
       let past : is_within_limits (Int (value front)) ≡ false = le-ltb (value front) (2 ^ 63) large in
       rejected (number_front text h) (rw (front_is, count_is) at past)
 
-  pub is_name_of : is_start (slice_index text 0) ≡ true → count ≡ prefix_len is_part text → is_name front ≡ true
+  pub is_name_of : is_start (slice_index text 0) ≡ true → count ≡ prefix_len is_part text → is_identifier front ≡ true
   is_name_of h count_is = rw (front_is, count_is) (run_front is_start is_part start_is_part refl text h)
 
   pub name_token : is_start (slice_index text 0) ≡ true → count ≡ prefix_len is_part text → (kind : TokenKind) → (kind ≡ name_kind front) × (is_within_limits kind ≡ true) → TokenAt text kind rest

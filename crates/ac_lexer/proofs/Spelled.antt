@@ -9,7 +9,7 @@ use Rattle.ac_types.specs.Words.{is_start, is_part}
 use Rattle.ac_lexer.specs.declared.tokens.TokenKind.{TokenKind}
 use Rattle.ac_lexer.specs.declared.tokens.TokenKind.TheVariants.{Int, Str, Fixed}
 use Rattle.ac_lexer.specs.Gaps.{is_separator}
-use Rattle.ac_lexer.specs.Spellings.{is_digit, is_number, value, is_name, name_kind, symbols, is_symbol, Quoted, SpellsToken, number, name, symbol, string}
+use Rattle.ac_lexer.specs.Spellings.{is_digit, is_number, value, is_identifier, name_kind, symbols, is_symbol, Quoted, SpellsToken, number, name, symbol, string}
 
 -- what holds of each of some words holds of each word that is equal to one of them
 pub any_all : (P : List ℕ → Bool) (words : List (List ℕ)) (bytes : List ℕ) → list_any (λ w. bytes_eq w bytes) words ≡ true → list_all P words ≡ true → P bytes ≡ true
@@ -32,7 +32,7 @@ digit_no_start c d s = grind (arith, nat_tests)
 pub first_of_number : (bytes : List ℕ) → is_number bytes ≡ true → is_digit (slice_index bytes 0) ≡ true
 first_of_number bytes h = (and_parts (is_digit (slice_index bytes 0)) (list_all is_digit bytes) h).0
 
-pub first_of_name : (bytes : List ℕ) → is_name bytes ≡ true → is_start (slice_index bytes 0) ≡ true
+pub first_of_name : (bytes : List ℕ) → is_identifier bytes ≡ true → is_start (slice_index bytes 0) ≡ true
 first_of_name bytes h = (and_parts (is_start (slice_index bytes 0)) (list_all is_part bytes) h).0
 
 -- what begins with a digit is a number
@@ -43,7 +43,7 @@ by_digit {bytes} (symbol h) d = absurd (no_symbol is_digit bytes refl h d)
 by_digit (string q) d = absurd (false≢true d)
 
 -- what begins with a letter or `_` is a name
-pub by_start : {bytes : List ℕ} {kind : TokenKind} → SpellsToken bytes kind → is_start (slice_index bytes 0) ≡ true → (is_name bytes ≡ true) × (kind ≡ name_kind bytes)
+pub by_start : {bytes : List ℕ} {kind : TokenKind} → SpellsToken bytes kind → is_start (slice_index bytes 0) ≡ true → (is_identifier bytes ≡ true) × (kind ≡ name_kind bytes)
 by_start {bytes} (number h) s = absurd (digit_no_start (slice_index bytes 0) (first_of_number bytes h) s)
 by_start (name h) s = (h, refl)
 by_start {bytes} (symbol h) s = absurd (no_symbol is_start bytes refl h s)

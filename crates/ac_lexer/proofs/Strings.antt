@@ -1,13 +1,13 @@
 -- How a string is read piece by piece.
 use Rattle.std.proofs.Common.{◌≡◌, ◌+◌, ◌*◌, ℕ, true, List, [], ◌∷◌, ◌++◌, Some, refl, sym, ◌∙◌, ap, subst, append_assoc}
 use Rattle.std.proofs.lemmas.List.{append-nil}
-use Rattle.ac_lexer.specs.Spellings.{is_plain, escaped, hex_value, Piece, itself, escape, hex, Quoted, quote, more}
+use Rattle.ac_lexer.specs.Spellings.{is_plain, escaped_byte, hex_value, Piece, itself, escape, hex, Quoted, quote, more}
 use Rattle.ac_lexer.proofs.Unique.{same_piece, no_piece}
 
 pub plain_piece : (text rest : List ℕ) (c : ℕ) → text ≡ c ∷ rest → true ≡ is_plain c → Piece text c rest
 plain_piece text rest c e h = subst (λ (l : List ℕ). Piece l c rest) (sym e) (itself (sym h))
 
-pub escape_piece : (text rest : List ℕ) (c b : ℕ) → text ≡ c ∷ rest → Some b ≡ escaped c → Piece (92 ∷ text) b rest
+pub escape_piece : (text rest : List ℕ) (c b : ℕ) → text ≡ c ∷ rest → Some b ≡ escaped_byte c → Piece (92 ∷ text) b rest
 escape_piece text rest c b e h = subst (λ (l : List ℕ). Piece (92 ∷ l) b rest) (sym e) (escape (sym h))
 
 pub hex_piece : (text middle rest : List ℕ) (high low m n : ℕ) → text ≡ high ∷ middle → middle ≡ low ∷ rest → Some m ≡ hex_value high → Some n ≡ hex_value low → Piece (92 ∷ 120 ∷ text) (16 * m + n) rest

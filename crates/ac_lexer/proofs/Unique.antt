@@ -6,7 +6,7 @@ use Rattle.ac_lexer.specs.declared.tokens.TokenKind.{TokenKind}
 use Rattle.ac_lexer.specs.declared.tokens.Token.{Token}
 use Rattle.ac_lexer.specs.Gaps.{Inside, closed, nested, byte, Gap, separator, comment, is_separator}
 use Rattle.ac_lexer.specs.Spellings.{Piece, itself, escape, hex, Quoted, quote, more, SpellsToken, number, name, symbol, string}
-use Rattle.ac_lexer.specs.Tokens.{TokenAt, Reads, nothing, gap, token, NothingBegins, Tokens, FailsAt, place}
+use Rattle.ac_lexer.specs.Tokens.{TokenAt, Reads, nothing, gap, token, NothingBegins, Tokens, FailsAt, place_of_rest}
 use Rattle.ac_lexer.proofs.Spelled.{by_digit, by_start, by_quote, by_separator, no_empty, no_symbol, first_of_number, first_of_name}
 
 -- one byte of a string
@@ -121,12 +121,12 @@ after_gap g nothing n = absurd (n.no_gap _ g)
 after_gap {whole} {rest = rest} {tokens = tokens} g (gap h x) n = subst (λ (l : List ℕ). Reads whole l tokens rest) (same_gap h g) x
 after_gap g (token t x) n = absurd (gap_or_token g t)
 
-after_token : {whole text after rest : List ℕ} {kind : TokenKind} {tokens : List Token} → TokenAt text kind after → Reads whole text tokens rest → NothingBegins rest → (later : List Token) × (tokens ≡ record { kind = kind; at = place whole text } ∷ later) × Reads whole after later rest
+after_token : {whole text after rest : List ℕ} {kind : TokenKind} {tokens : List Token} → TokenAt text kind after → Reads whole text tokens rest → NothingBegins rest → (later : List Token) × (tokens ≡ record { kind = kind; at = place_of_rest whole text } ∷ later) × Reads whole after later rest
 after_token t nothing n = absurd (n.no_token _ _ t)
 after_token t (gap g x) n = absurd (gap_or_token g t)
 after_token {whole} {text} {rest = rest} t (token {tokens = later} u x) n =
     let e = same_token u t in
-    (later, ap (λ (k : TokenKind). record { kind = k; at = place whole text } ∷ later) e.0, subst (λ (l : List ℕ). Reads whole l later rest) e.1 x)
+    (later, ap (λ (k : TokenKind). record { kind = k; at = place_of_rest whole text } ∷ later) e.0, subst (λ (l : List ℕ). Reads whole l later rest) e.1 x)
 
 stuck : {whole text rest : List ℕ} {tokens : List Token} → Reads whole text tokens rest → NothingBegins text → (tokens ≡ []) × (rest ≡ text)
 stuck nothing n = (refl, refl)
@@ -139,7 +139,7 @@ same_reads (gap g x) n y m = same_reads x n (after_gap g y m) m
 same_reads {whole} {text} (token {kind = k} t x) n y m =
     let f = after_token t y m in
     let e = same_reads x n f.2 m in
-    (ap (λ (l : List Token). record { kind = k; at = place whole text } ∷ l) e.0 ∙ sym f.1, e.1)
+    (ap (λ (l : List Token). record { kind = k; at = place_of_rest whole text } ∷ l) e.0 ∙ sym f.1, e.1)
 
 no_token_of_nothing : (front rest : List ℕ) (k : TokenKind) → [] ≡ front ++ rest → SpellsToken front k → ⊥
 no_token_of_nothing [] rest k e x = no_empty x
@@ -158,4 +158,4 @@ no_failure text ts at x f =
     absurd (omega (arith, f.some, none))
 
 pub same_place : (text : List ℕ) (at other : ℕ) → FailsAt text at → FailsAt text other → at ≡ other
-same_place text at other f g = f.here ∙ ap (place text) (same_reads f.reads f.nothing_begins g.reads g.nothing_begins).1 ∙ sym g.here
+same_place text at other f g = f.here ∙ ap (place_of_rest text) (same_reads f.reads f.nothing_begins g.reads g.nothing_begins).1 ∙ sym g.here

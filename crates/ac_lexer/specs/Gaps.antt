@@ -7,17 +7,17 @@ abbrev pub is_separator : ℕ → Bool
 is_separator c = c == 32 || c == 9 || c == 13 || c == 10
 
 -- whether a text begins with `(*`, or with `*)`
-abbrev pub opens : List ℕ → Bool
-opens text = starts_with nat_eq text (codes "(*")
+abbrev pub begins_comment : List ℕ → Bool
+begins_comment text = starts_with nat_eq text (codes "(*")
 
-abbrev pub closes : List ℕ → Bool
-closes text = starts_with nat_eq text (codes "*)")
+abbrev pub ends_comment : List ℕ → Bool
+ends_comment text = starts_with nat_eq text (codes "*)")
 
 -- a comment from behind its `(*` on: comments and other bytes up to its `*)`, and `rest` is behind that
 pub data Inside : List ℕ → List ℕ → Type 0 where
   closed : {rest : List ℕ} → Inside (codes "*)" ++ rest) rest
   nested : {text middle rest : List ℕ} → Inside text middle → Inside middle rest → Inside (codes "(*" ++ text) rest
-  byte : {b : ℕ} {text rest : List ℕ} → opens (b ∷ text) ≡ false → closes (b ∷ text) ≡ false → Inside text rest → Inside (b ∷ text) rest
+  byte : {b : ℕ} {text rest : List ℕ} → begins_comment (b ∷ text) ≡ false → ends_comment (b ∷ text) ≡ false → Inside text rest → Inside (b ∷ text) rest
 
 -- the text begins with a separator or a whole comment, and `rest` is behind it
 pub data Gap : List ℕ → List ℕ → Type 0 where

@@ -18,8 +18,8 @@ abbrev pub value : List ℕ → ℕ
 value bytes = fold (λ n c. 10 * n + (c - 48)) 0 bytes
 
 -- a letter or `_`, then letters, digits, `_` and `'`
-abbrev pub is_name : List ℕ → Bool
-is_name bytes = is_start (slice_index bytes 0) && list_all is_part bytes
+abbrev pub is_identifier : List ℕ → Bool
+is_identifier bytes = is_start (slice_index bytes 0) && list_all is_part bytes
 
 -- a reserved word is that word; another name is an identifier, upper where it begins with a letter A to Z
 abbrev pub name_kind : List ℕ → TokenKind
@@ -45,8 +45,8 @@ abbrev pub is_plain : ℕ → Bool
 is_plain c = not (c == 34 || c == 92 || c == 10)
 
 -- the byte that a byte behind a `\` stands for
-abbrev pub escaped : ℕ → Option ℕ
-escaped c =
+abbrev pub escaped_byte : ℕ → Option ℕ
+escaped_byte c =
     if c == 92 then Some 92 else
     if c == 34 then Some 34 else
     if c == 110 then Some 10 else
@@ -63,7 +63,7 @@ hex_value c =
 -- a string's text goes on with this byte, as itself or as an escape, and `rest` is behind it
 pub data Piece : List ℕ → ℕ → List ℕ → Type 0 where
   itself : {c : ℕ} {rest : List ℕ} → is_plain c ≡ true → Piece (c ∷ rest) c rest
-  escape : {c b : ℕ} {rest : List ℕ} → escaped c ≡ Some b → Piece (92 ∷ c ∷ rest) b rest
+  escape : {c b : ℕ} {rest : List ℕ} → escaped_byte c ≡ Some b → Piece (92 ∷ c ∷ rest) b rest
   hex : {high low m n : ℕ} {rest : List ℕ} → hex_value high ≡ Some m → hex_value low ≡ Some n → Piece (92 ∷ 120 ∷ high ∷ low ∷ rest) (16 * m + n) rest
 
 -- a string from behind its first `"` on: these bytes, then a `"`, and `rest` is behind that
@@ -74,7 +74,7 @@ pub data Quoted : List ℕ → List ℕ → List ℕ → Type 0 where
 -- the bytes spell the token, whatever its size
 pub data SpellsToken : List ℕ → TokenKind → Type 0 where
   number : {bytes : List ℕ} → is_number bytes ≡ true → SpellsToken bytes (Int (value bytes))
-  name : {bytes : List ℕ} → is_name bytes ≡ true → SpellsToken bytes (name_kind bytes)
+  name : {bytes : List ℕ} → is_identifier bytes ≡ true → SpellsToken bytes (name_kind bytes)
   symbol : {bytes : List ℕ} → is_symbol bytes ≡ true → SpellsToken bytes (Fixed (record { 0 = bytes }))
   string : {bytes content : List ℕ} → Quoted bytes content [] → SpellsToken (34 ∷ bytes) (Str (record { 0 = content }))
 

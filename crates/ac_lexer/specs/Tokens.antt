@@ -4,7 +4,7 @@ use Rattle.ac_lexer.specs.declared.tokens.Token.{Token}
 use Rattle.ac_lexer.specs.declared.tokens.TokenKind.{TokenKind}
 use Rattle.ac_lexer.specs.declared.tokens.LexFault.{LexFault}
 use Rattle.ac_lexer.specs.declared.tokens.LexFault.TheVariants.{TooLong, Lexical, Memory}
-use Rattle.ac_lexer.specs.Gaps.{Gap, NoGap, opens}
+use Rattle.ac_lexer.specs.Gaps.{Gap, NoGap, begins_comment}
 use Rattle.ac_lexer.specs.Spellings.{SpellsToken, is_within_limits}
 
 -- no longer front of the text spells a token
@@ -18,17 +18,17 @@ pub record TokenAt (text : List ℕ) (kind : TokenKind) (rest : List ℕ) : Type
   pub spelled : SpellsToken front kind
   pub longest : IsLongest text front
   pub within_limits : is_within_limits kind ≡ true
-  pub no_comment : opens text ≡ false
+  pub no_comment : begins_comment text ≡ false
 
 -- how many bytes of the whole text stand before this rest of it
-abbrev pub place : List ℕ → List ℕ → ℕ
-place whole rest = length whole - length rest
+abbrev pub place_of_rest : List ℕ → List ℕ → ℕ
+place_of_rest whole rest = length whole - length rest
 
 -- the text, which is the end of a whole one, is separators, comments and these tokens, and then `rest`
 pub data Reads (whole : List ℕ) : List ℕ → List Token → List ℕ → Type 0 where
   nothing : {text : List ℕ} → Reads whole text [] text
   gap : {text after rest : List ℕ} {tokens : List Token} → Gap text after → Reads whole after tokens rest → Reads whole text tokens rest
-  token : {text after rest : List ℕ} {kind : TokenKind} {tokens : List Token} → TokenAt text kind after → Reads whole after tokens rest → Reads whole text (record { kind = kind; at = place whole text } ∷ tokens) rest
+  token : {text after rest : List ℕ} {kind : TokenKind} {tokens : List Token} → TokenAt text kind after → Reads whole after tokens rest → Reads whole text (record { kind = kind; at = place_of_rest whole text } ∷ tokens) rest
 
 -- the text is these tokens, with separators and comments between
 abbrev pub Tokens : List ℕ → List Token → Type 0
@@ -50,7 +50,7 @@ pub record FailsAt (text : List ℕ) (at : ℕ) : Type 0 where
   pub reads : Reads text text tokens rest
   pub some : 0 < length rest
   pub nothing_begins : NothingBegins rest
-  pub here : at ≡ place text rest
+  pub here : at ≡ place_of_rest text rest
 
 -- how many bytes a text may have
 abbrev pub longest_text : ℕ

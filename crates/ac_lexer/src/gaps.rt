@@ -1,7 +1,7 @@
 // What stands between tokens.
 
 ghost use Rattle.std.specs.Prelude.{◌≡◌, ◌<◌, ◌≤◌, ◌++◌, false, length, codes, List, ℕ, IfSome, MatchOption, IsTrue};
-ghost use Rattle.ac_lexer.specs.Gaps.{is_separator, opens, closes, Inside, Gap, NoGap};
+ghost use Rattle.ac_lexer.specs.Gaps.{is_separator, begins_comment, ends_comment, Inside, Gap, NoGap};
 
 fn is_separator(c: u8) -> bool
     ensures { result ≡ is_separator c }
@@ -11,7 +11,7 @@ fn is_separator(c: u8) -> bool
 
 // What is behind the `(*` that begins the text, if one does.
 fn behind_opening(text: &[u8]) -> Option<&[u8]>
-    ensures { MatchOption result (opens text.now ≡ false)
+    ensures { MatchOption result (begins_comment text.now ≡ false)
         (λ rest. text.now ≡ codes "(*" ++ rest.now) }
 {
     if opens(text) {
@@ -24,7 +24,7 @@ fn behind_opening(text: &[u8]) -> Option<&[u8]>
 
 // What is behind the `*)` that begins the text, if one does.
 fn behind_closing(text: &[u8]) -> Option<&[u8]>
-    ensures { MatchOption result (closes text.now ≡ false)
+    ensures { MatchOption result (ends_comment text.now ≡ false)
         (λ rest. text.now ≡ codes "*)" ++ rest.now) }
 {
     if text.starts_with(b"*)") {
@@ -37,7 +37,7 @@ fn behind_closing(text: &[u8]) -> Option<&[u8]>
 
 /// Whether `(*` begins the text.
 pub(crate) fn opens(text: &[u8]) -> bool
-    ensures value { result ≡ opens text.now }
+    ensures value { result ≡ begins_comment text.now }
     ensures long { IsTrue result → 2 ≤ length text.now }
 {
     text.starts_with(b"(*")

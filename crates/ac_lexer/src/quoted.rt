@@ -1,8 +1,8 @@
 // Strings.
 
 ghost use Rattle.std.specs.Prelude.{◌≡◌, ◌∷◌, ◌<◌, ◌≤◌, length, List, ℕ, IfSome, IfOk, MatchOption, slice_index, false};
-ghost use Rattle.ac_lexer.specs.Gaps.{opens};
-ghost use Rattle.ac_lexer.specs.Spellings.{is_plain, escaped, hex_value, Piece, Quoted};
+ghost use Rattle.ac_lexer.specs.Gaps.{begins_comment};
+ghost use Rattle.ac_lexer.specs.Spellings.{is_plain, escaped_byte, hex_value, Piece, Quoted};
 ghost use Rattle.ac_lexer.specs.Tokens.{TokenAt, NoToken};
 
 use crate::tokens::TokenKind;
@@ -16,7 +16,7 @@ fn is_plain(c: u8) -> bool
 }
 
 fn escaped(c: u8) -> Option<u8>
-    ensures { result ≡ escaped c }
+    ensures { result ≡ escaped_byte c }
 {
     match c {
         b'\\' => Some(b'\\'),

@@ -3,8 +3,8 @@
 ghost use Rattle.std.specs.Prelude.{◌≡◌, ◌<◌, ◌≤◌, ◌^◌, length, take, List, ℕ, IfSome, IfOk, MatchOption, slice_index, true, false, bytes_eq};
 ghost use Rattle.std.specs.List.{prefix_len, list_any};
 ghost use Rattle.ac_types.specs.Words.{is_start, is_part};
-ghost use Rattle.ac_lexer.specs.Gaps.{opens};
-ghost use Rattle.ac_lexer.specs.Spellings.{is_digit, value, is_name, name_kind, is_within_limits, is_symbol, SymbolBegins};
+ghost use Rattle.ac_lexer.specs.Gaps.{begins_comment};
+ghost use Rattle.ac_lexer.specs.Spellings.{is_digit, value, is_identifier, name_kind, is_within_limits, is_symbol, SymbolBegins};
 ghost use Rattle.ac_lexer.specs.Tokens.{TokenAt, NoToken};
 
 use crate::tokens::TokenKind;
@@ -69,7 +69,7 @@ fn value(digits: &[u8]) -> Option<u64>
 /// The number that the text begins with.
 pub(crate) fn number(text: &[u8]) -> Option<(TokenKind, &[u8])>
     requires digit { is_digit (slice_index text.now 0) ≡ true }
-    requires no_comment { opens text.now ≡ false }
+    requires no_comment { begins_comment text.now ≡ false }
     ensures token { MatchOption result (NoToken text.now) (λ x. TokenAt text.now x.0 x.1.now) }
     ensures shorter { IfSome result (λ x. length x.1.now < length text.now) }
 {
@@ -79,7 +79,7 @@ pub(crate) fn number(text: &[u8]) -> Option<(TokenKind, &[u8])>
 
 // What a name is, if it is no longer than names may be.
 fn name_kind(alloc: Global, name: &[u8]) -> Result<Option<TokenKind>, Memory>
-    requires { is_name name.now ≡ true }
+    requires { is_identifier name.now ≡ true }
     ensures { IfOk result (λ o. MatchOption o (is_within_limits (name_kind name.now) ≡ false)
         (λ kind. (kind ≡ name_kind name.now) × (is_within_limits kind ≡ true))) }
 {
@@ -99,7 +99,7 @@ fn name_kind(alloc: Global, name: &[u8]) -> Result<Option<TokenKind>, Memory>
 /// The name that the text begins with.
 pub(crate) fn name(alloc: Global, text: &[u8]) -> Result<Option<(TokenKind, &[u8])>, Memory>
     requires start { is_start (slice_index text.now 0) ≡ true }
-    requires no_comment { opens text.now ≡ false }
+    requires no_comment { begins_comment text.now ≡ false }
     ensures token { IfOk result (λ o. MatchOption o (NoToken text.now)
         (λ x. TokenAt text.now x.0 x.1.now)) }
     ensures shorter { IfOk result (λ o. IfSome o (λ x. length x.1.now < length text.now)) }
@@ -148,7 +148,7 @@ pub(crate) fn symbol(alloc: Global, text: &[u8]) -> Result<Option<(TokenKind, &[
     requires no_digit { is_digit (slice_index text.now 0) ≡ false }
     requires no_start { is_start (slice_index text.now 0) ≡ false }
     requires no_quote { slice_index text.now 0 ≡ 34 → ⊥ }
-    requires no_comment { opens text.now ≡ false }
+    requires no_comment { begins_comment text.now ≡ false }
     ensures token { IfOk result (λ o. MatchOption o (NoToken text.now)
         (λ x. TokenAt text.now x.0 x.1.now)) }
     ensures shorter { IfOk result (λ o. IfSome o (λ x. length x.1.now < length text.now)) }

@@ -9,8 +9,8 @@ use Rattle.ac_rules.specs.Views.{is_known}
 use Rattle.ac_syntax.specs.Trees.{TypeTree, TyTuple, TyList, TyOpt, TyFun, TypeTrees, no_type_trees, type_tree, PatTree, PatVar, PatTuple, PatCons, PatPresent, PatExnOf, PatTrees, no_pat_trees, pat_tree, Tree, ExExnOf, ExTuple, ExNil, ExAbsent, ExPresent, ExCons, ExOf, ExFun, ExRec, ExApp, ExLet, ExLetRec, ExIf, ExSeq, ExMatch, ExTry, ExRaise, ExAnd, ExOr, ExOp, ExMarshal, ExUnmarshal, Trees, no_trees, tree, ArmTrees, no_arm_trees, arm_tree}
 use Rattle.ac_resolve.specs.declared.primitive.Primitive.{Primitive}
 use Rattle.ac_resolve.specs.declared.primitive.Primitive.TheVariants as named
-use Rattle.ac_resolve.specs.ScopedNames.{primitive}
-use Rattle.ac_resolve.specs.Elaboration.{type_in, types_in, pattern_in, patterns_in, variables, bind, primitive_at, value_of, applied, elaborated, elaborated_all, elaborated_arms}
+use Rattle.ac_resolve.specs.ScopedNames.{primitive_named}
+use Rattle.ac_resolve.specs.Elaboration.{type_in, types_in, pattern_in, patterns_in, variables, scope_with, primitive_at, primitive_value, applied_tree, elaborated, elaborated_all, elaborated_arms}
 
 -- each type among some parts mentions nothing
 abbrev Silent : List Portion → Type 0
@@ -75,7 +75,7 @@ mutual
   silent_pats no_pat_trees = tt
   silent_pats (pat_tree p ps) = both_types (pattern_types (pattern_in p)) (all_pattern_types (patterns_in ps)) (silent_pat p) (silent_pats ps)
 
-silent_value : (o : Option Primitive) → Silent (term_parts (value_of o))
+silent_value : (o : Option Primitive) → Silent (term_parts (primitive_value o))
 silent_value (Some named.PrintInt) = (refl, tt)
 silent_value (Some named.PrintString) = (refl, tt)
 silent_value (Some named.Send) = (refl, tt)
@@ -85,7 +85,7 @@ silent_value (Some named.Sub) = (refl, tt)
 silent_value (Some named.OfInt) = (refl, tt)
 silent_value None = tt
 
-silent_applied : (o : Option Primitive) (f a : Expr) → Silent (term_parts f) → Silent (term_parts a) → Silent (term_parts (applied o f a))
+silent_applied : (o : Option Primitive) (f a : Expr) → Silent (term_parts f) → Silent (term_parts a) → Silent (term_parts (applied_tree o f a))
 silent_applied (Some p) f a h k = both (term_parts a) [] k tt
 silent_applied None f a h k = both (term_parts f) (term_parts a) h k
 
@@ -97,7 +97,7 @@ mutual
   silent_tree (ExAbsent at T) names = (silent_type T, tt)
   silent_tree (ExPresent at a) names = silent_tree a names
   silent_tree (ExCons at a b) names = both (term_parts (elaborated names a)) (term_parts (elaborated names b)) (silent_tree a names) (silent_tree b names)
-  silent_tree (ExOf at m x) names = silent_value (primitive m.word x.word)
+  silent_tree (ExOf at m x) names = silent_value (primitive_named m.word x.word)
   silent_tree (ExFun at x T b) names = (silent_type T, silent_tree b (x.word ∷ names))
   silent_tree (ExRec at f x T U b) names = (silent_type T, (silent_type U, silent_tree b (x.word ∷ f.word ∷ names)))
   silent_tree (ExApp at f a) names = silent_applied (primitive_at f) (elaborated names f) (elaborated names a) (silent_tree f names) (silent_tree a names)
@@ -132,7 +132,7 @@ mutual
   silent_arms : (arms : ArmTrees) (names : List Bytes) → Silent (arm_parts (elaborated_arms names arms))
   silent_arms no_arm_trees names = tt
   silent_arms (arm_tree p b arms) names =
-      let inner = bind (variables p) names in
+      let inner = scope_with (variables p) names in
       both (map OfType (pattern_types (pattern_in p)) ++ term_parts (elaborated inner b)) (arm_parts (elaborated_arms names arms))
       (both (map OfType (pattern_types (pattern_in p))) (term_parts (elaborated inner b)) (as_parts (pattern_types (pattern_in p)) (silent_pat p)) (silent_tree b inner))
       (silent_arms arms names)

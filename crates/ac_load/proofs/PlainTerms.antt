@@ -7,9 +7,9 @@ use Rattle.ac_types.proofs.FirstLaws.{none≢some}
 use Rattle.ac_types.proofs.Same.{both_true, and_true}
 use Rattle.ac_terms.specs.Terms.{Expr, ExnOf, Tuple, Present, Cons, Own, Ref, Lam, Rec, App, Let, If, Seq, Match, Try, Raise, Prim, Marshal, Unmarshal, Val, Evaluated, Bracket, Exprs, no_exprs, expr, Arms, no_arms, arm}
 use Rattle.ac_syntax.specs.Trees.{Tree, ExExnOf, ExTuple, ExPresent, ExCons, ExOf, ExFun, ExRec, ExApp, ExLet, ExLetRec, ExIf, ExSeq, ExMatch, ExTry, ExRaise, ExAnd, ExOr, ExOp, ExMarshal, ExUnmarshal, Trees, no_trees, tree, ArmTrees, no_arm_trees, arm_tree}
-use Rattle.ac_resolve.specs.ScopedNames.{primitive}
+use Rattle.ac_resolve.specs.ScopedNames.{primitive_named}
 use Rattle.ac_resolve.specs.declared.primitive.Primitive.{Primitive}
-use Rattle.ac_resolve.specs.Elaboration.{variables, bind, primitive_at, value_of, applied, elaborated, elaborated_all, elaborated_arms}
+use Rattle.ac_resolve.specs.Elaboration.{variables, scope_with, primitive_at, primitive_value, applied_tree, elaborated, elaborated_all, elaborated_arms}
 use Rattle.ac_check.specs.PlainTerms.{is_plain, are_plain, arms_plain}
 use Rattle.ac_meaning.specs.Laws.{is_source, are_source, arms_are_source}
 use Rattle.ac_load.specs.Built.{unbuilt, unbuilt_all, unbuilt_arms}
@@ -18,11 +18,11 @@ both_none : (a b : Option ℕ) → option_or a b ≡ None → (a ≡ None) × (b
 both_none None b h = (refl, h)
 both_none (Some at) b h = absurd (none≢some (sym h))
 
-value_plain : (o : Option Primitive) → is_plain (value_of o) ≡ true
+value_plain : (o : Option Primitive) → is_plain (primitive_value o) ≡ true
 value_plain (Some p) = refl
 value_plain None = refl
 
-applied_plain : (o : Option Primitive) (f a : Expr) → is_plain f ≡ true → is_plain a ≡ true → is_plain (applied o f a) ≡ true
+applied_plain : (o : Option Primitive) (f a : Expr) → is_plain f ≡ true → is_plain a ≡ true → is_plain (applied_tree o f a) ≡ true
 applied_plain (Some p) f a h k = and_true k refl
 applied_plain None f a h k = and_true h k
 
@@ -34,7 +34,7 @@ mutual
   tree_plain (ExCons at a b) names h =
       let parts = both_none (unbuilt a) (unbuilt b) h in
       and_true (tree_plain a names parts.0) (tree_plain b names parts.1)
-  tree_plain (ExOf at m x) names h = value_plain (primitive m.word x.word)
+  tree_plain (ExOf at m x) names h = value_plain (primitive_named m.word x.word)
   tree_plain (ExFun at x T b) names h = tree_plain b (x.word ∷ names) h
   tree_plain (ExRec at f x T U b) names h = tree_plain b (x.word ∷ f.word ∷ names) h
   tree_plain (ExApp at f a) names h =
@@ -79,7 +79,7 @@ mutual
   arm_trees_plain no_arm_trees names h = refl
   arm_trees_plain (arm_tree p b arms) names h =
       let parts = both_none (unbuilt b) (unbuilt_arms arms) h in
-      and_true (tree_plain b (bind (variables p) names) parts.0) (arm_trees_plain arms names parts.1)
+      and_true (tree_plain b (scope_with (variables p) names) parts.0) (arm_trees_plain arms names parts.1)
 
 -- such a term is one of the source
 mutual

@@ -14,8 +14,8 @@ use Rattle.ac_lexer.specs.Tokens.{longest_text}
 use Rattle.ac_syntax.specs.Trees.{TypeTree, TyTuple, TyList, TyOpt, TyFun, TypeTrees, no_type_trees, type_tree, PatTree, PatVar, PatInt, PatStr, PatTuple, PatCons, PatPresent, PatExn, PatExnOf, PatTrees, no_pat_trees, pat_tree, Tree, ExInt, ExBool, ExStr, ExUnit, ExExn, ExExnOf, ExTuple, ExNil, ExAbsent, ExPresent, ExCons, ExVar, ExOf, ExFun, ExRec, ExApp, ExLet, ExLetRec, ExIf, ExSeq, ExMatch, ExTry, ExRaise, ExAnd, ExOr, ExOp, ExMarshal, ExUnmarshal, Trees, no_trees, tree, ArmTrees, no_arm_trees, arm_tree}
 use Rattle.ac_resolve.specs.Counts.{over, width_limit, arms_limit, scope_limit, large_type, wide_type, wide_types, large_pat, large_pats, too_many, too_many_in_all, too_many_in_arms}
 use Rattle.ac_resolve.specs.Counts as counts
-use Rattle.ac_resolve.specs.ScopedNames.{least, binders_to, primitive}
-use Rattle.ac_resolve.specs.Elaboration.{type_in, types_in, pattern_in, patterns_in, variables, bind, primitive_at, value_of, applied, elaborated, elaborated_all, elaborated_arms}
+use Rattle.ac_resolve.specs.ScopedNames.{least, binders_to, primitive_named}
+use Rattle.ac_resolve.specs.Elaboration.{type_in, types_in, pattern_in, patterns_in, variables, scope_with, primitive_at, primitive_value, applied_tree, elaborated, elaborated_all, elaborated_arms}
 use Rattle.ac_resolve.specs.declared.primitive.Primitive.{Primitive}
 use Rattle.ac_resolve.specs.declared.primitive.Primitive.TheVariants as named
 use Rattle.ac_resolve.proofs.Leasts.{none_left, none_right}
@@ -95,7 +95,7 @@ trees_counted : (names : List Bytes) (es : Trees) → term_count (elaborated_all
 trees_counted names no_trees = refl
 trees_counted names (tree e es) = ap suc (trees_counted names es)
 
-arms_counted : (names : List Bytes) (arms : ArmTrees) → arm_count (elaborated_arms names arms) ≡ counts.arm_count arms
+arms_counted : (names : List Bytes) (arms : ArmTrees) → arm_count (elaborated_arms names arms) ≡ counts.arms_written arms
 arms_counted names no_arm_trees = refl
 arms_counted names (arm_tree p b arms) = ap suc (arms_counted names arms)
 
@@ -116,7 +116,7 @@ two_fits : (i m : ℕ) → i ≤ m → m ≤ scope_limit → is_two i ≡ true
 two_fits i m h k = lt-ltb i (2 ^ 16) (omega (arith, h, k))
 
 -- a primitive by itself, and one that is applied
-value_fits : (o : Option Primitive) → fits_term false (value_of o) ≡ true
+value_fits : (o : Option Primitive) → fits_term false (primitive_value o) ≡ true
 value_fits (Some named.PrintInt) = refl
 value_fits (Some named.PrintString) = refl
 value_fits (Some named.Send) = refl
@@ -126,7 +126,7 @@ value_fits (Some named.Sub) = refl
 value_fits (Some named.OfInt) = refl
 value_fits None = refl
 
-applied_fits : (o : Option Primitive) (f a : Expr) → fits_term false f ≡ true → fits_term false a ≡ true → fits_term false (applied o f a) ≡ true
+applied_fits : (o : Option Primitive) (f a : Expr) → fits_term false f ≡ true → fits_term false a ≡ true → fits_term false (applied_tree o f a) ≡ true
 applied_fits (Some named.PrintInt) f a h k = and_true k refl
 applied_fits (Some named.PrintString) f a h k = and_true k refl
 applied_fits (Some named.Send) f a h k = and_true k refl
@@ -159,7 +159,7 @@ mutual
       let w = both (too_many names a) (too_many names b) n in
       and_true (tree_fits a names h.0 w.0) (tree_fits b names h.1 w.1)
   tree_fits (ExVar at x) names h n = two_fits _ (length names) (below x names) (within scope_limit (length names) n)
-  tree_fits (ExOf at m x) names h n = value_fits (primitive m.word x.word)
+  tree_fits (ExOf at m x) names h n = value_fits (primitive_named m.word x.word)
   tree_fits (ExFun at x T b) names h n =
       let w = both (large_type T) (too_many (x.word ∷ names) b) n in
       and_true (written_fits T h.0 w.0) (tree_fits b (x.word ∷ names) h.1 w.1)
@@ -189,15 +189,15 @@ mutual
       let same = trees_counted names parts in
       and_true (and_true (ap (nat_le 2) same ∙ le-leb 2 (counts.tree_count parts) h.0) (ap is_four same ∙ seq_fits (counts.tree_count parts) h.1)) (trees_fit parts names h.2 n)
   tree_fits (ExMatch at a arms) names h n =
-      let w = both (over arms_limit (counts.arm_count arms)) (least (too_many names a) (too_many_in_arms names arms)) n in
+      let w = both (over arms_limit (counts.arms_written arms)) (least (too_many names a) (too_many_in_arms names arms)) n in
       let v = both (too_many names a) (too_many_in_arms names arms) w.1 in
       let same = arms_counted names arms in
-      and_true (and_true (and_true (tree_fits a names h.0 v.0) (arms_fit arms names h.2 v.1)) (ap (nat_le 1) same ∙ le-leb 1 (counts.arm_count arms) h.1)) (ap (λ (k : ℕ). nat_le k 1024) same ∙ few_arms (counts.arm_count arms) w.0)
+      and_true (and_true (and_true (tree_fits a names h.0 v.0) (arms_fit arms names h.2 v.1)) (ap (nat_le 1) same ∙ le-leb 1 (counts.arms_written arms) h.1)) (ap (λ (k : ℕ). nat_le k 1024) same ∙ few_arms (counts.arms_written arms) w.0)
   tree_fits (ExTry at a arms) names h n =
-      let w = both (over arms_limit (counts.arm_count arms)) (least (too_many names a) (too_many_in_arms names arms)) n in
+      let w = both (over arms_limit (counts.arms_written arms)) (least (too_many names a) (too_many_in_arms names arms)) n in
       let v = both (too_many names a) (too_many_in_arms names arms) w.1 in
       let same = arms_counted names arms in
-      and_true (and_true (and_true (tree_fits a names h.0 v.0) (arms_fit arms names h.2 v.1)) (ap (nat_le 1) same ∙ le-leb 1 (counts.arm_count arms) h.1)) (ap (λ (k : ℕ). nat_le k 1024) same ∙ few_arms (counts.arm_count arms) w.0)
+      and_true (and_true (and_true (tree_fits a names h.0 v.0) (arms_fit arms names h.2 v.1)) (ap (nat_le 1) same ∙ le-leb 1 (counts.arms_written arms) h.1)) (ap (λ (k : ℕ). nat_le k 1024) same ∙ few_arms (counts.arms_written arms) w.0)
   tree_fits (ExRaise at a T) names h n =
       let w = both (large_type T) (too_many names a) n in
       and_true (written_fits T h.1 w.0) (tree_fits a names h.0 w.1)
@@ -228,6 +228,6 @@ mutual
   arms_fit : (arms : ArmTrees) (names : List Bytes) → ArmsHave arms → too_many_in_arms names arms ≡ None → fit_arms false (elaborated_arms names arms) ≡ true
   arms_fit no_arm_trees names h n = refl
   arms_fit (arm_tree p b arms) names h n =
-      let w = both (large_pat p) (least (too_many (bind (variables p) names) b) (too_many_in_arms names arms)) n in
-      let v = both (too_many (bind (variables p) names) b) (too_many_in_arms names arms) w.1 in
-      and_true (and_true (pat_fits p h.0 w.0) (tree_fits b (bind (variables p) names) h.1 v.0)) (arms_fit arms names h.2 v.1)
+      let w = both (large_pat p) (least (too_many (scope_with (variables p) names) b) (too_many_in_arms names arms)) n in
+      let v = both (too_many (scope_with (variables p) names) b) (too_many_in_arms names arms) w.1 in
+      and_true (and_true (pat_fits p h.0 w.0) (tree_fits b (scope_with (variables p) names) h.1 v.0)) (arms_fit arms names h.2 v.1)

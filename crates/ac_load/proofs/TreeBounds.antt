@@ -11,13 +11,13 @@ use Rattle.ac_syntax.specs.Trees.{TypeTree, TyTuple, TyList, TyOpt, TyFun, TypeT
 use Rattle.ac_syntax.specs.TypeForms as types
 use Rattle.ac_syntax.specs.TypeForms.{TypeLevel, Suffixes, ParsesType, ParsesFactors, IsType}
 use Rattle.ac_syntax.specs.Patterns as patterns
-use Rattle.ac_syntax.specs.Patterns.{ParsesPat, ParsesPats, PatLevel, IsPattern, exception, exception_with_string}
+use Rattle.ac_syntax.specs.Patterns.{ParsesPat, ParsesPats, PatLevel, IsPattern, exception_sign, exception_with_string}
 use Rattle.ac_syntax.specs.Expressions as expressions
-use Rattle.ac_syntax.specs.Expressions.{Operator, Prim, Consing, Both, Either, operator_of, joined, Level, After, Args, Ending, Parses, ParsesParts, ParsesItems, ParsesArms, after_bar}
+use Rattle.ac_syntax.specs.Expressions.{Operator, Prim, Consing, Both, Either, operator_of, operator_tree, Level, After, Args, Ending, Parses, ParsesParts, ParsesItems, ParsesArms, after_bar}
 use Rattle.ac_syntax.specs.declared.sign.Symbol.{Symbol}
 use Rattle.ac_syntax.specs.declared.sign.Symbol.TheVariants as symbol
 use Rattle.ac_syntax.proofs.Exceptions.{nothing_there}
-use Rattle.ac_resolve.specs.Counts.{type_count, pat_count, tree_count, arm_count}
+use Rattle.ac_resolve.specs.Counts.{type_count, pat_count, tree_count, arms_written}
 use Rattle.ac_load.proofs.SignBounds.{AllFit, Fit, rest_fits, Leaves, here, behind, further, on, left}
 
 -- types
@@ -97,7 +97,7 @@ pub negative_fits : (n : ℕ) → nat_lt n (2 ^ 63) ≡ true → is_integer (neg
 negative_fits zero h = h
 negative_fits (suc n) h = one_less (2 ^ 63) n h
 
-exception_fits : (t : Symbol) {k : ℕ} → exception t ≡ Some k → is_exception k None ≡ true
+exception_fits : (t : Symbol) {k : ℕ} → exception_sign t ≡ Some k → is_exception k None ≡ true
 exception_fits symbol.NotFound e = subst (λ (k : ℕ). is_exception k None ≡ true) (some_eq e) refl
 exception_fits symbol.DivisionByZero e = subst (λ (k : ℕ). is_exception k None ≡ true) (some_eq e) refl
 exception_fits symbol.MatchFailure e = subst (λ (k : ℕ). is_exception k None ≡ true) (some_eq e) refl
@@ -200,8 +200,8 @@ abbrev mutual
   TreeHas (ExLetRec at f x T U a b) = TypeHas T × TypeHas U × TreeHas a × TreeHas b
   TreeHas (ExIf at c a b) = TreeHas c × TreeHas a × TreeHas b
   TreeHas (ExSeq at parts) = (2 ≤ tree_count parts) × (tree_count parts ≤ longest_text + 1) × TreesHave parts
-  TreeHas (ExMatch at a arms) = TreeHas a × (1 ≤ arm_count arms) × ArmsHave arms
-  TreeHas (ExTry at a arms) = TreeHas a × (1 ≤ arm_count arms) × ArmsHave arms
+  TreeHas (ExMatch at a arms) = TreeHas a × (1 ≤ arms_written arms) × ArmsHave arms
+  TreeHas (ExTry at a arms) = TreeHas a × (1 ≤ arms_written arms) × ArmsHave arms
   TreeHas (ExRaise at a T) = TreeHas a × TypeHas T
   TreeHas (ExAnd at a b) = TreeHas a × TreeHas b
   TreeHas (ExOr at a b) = TreeHas a × TreeHas b
@@ -230,7 +230,7 @@ record PartsRead (es : Trees) (ts r : List Sign) : Type 0 where
   leaves : Leaves ts r
 
 record ArmsRead (arms : ArmTrees) (ts r : List Sign) : Type 0 where
-  some : 1 ≤ arm_count arms
+  some : 1 ≤ arms_written arms
   have : ArmsHave arms
   leaves : Leaves ts r
 
@@ -253,7 +253,7 @@ operator_takes symbol.And e = subst (λ (x : ℕ × Operator). TakesTwo x.1) (so
 operator_takes symbol.Or e = subst (λ (x : ℕ × Operator). TakesTwo x.1) (some_eq e) tt
 operator_takes t e = nothing_there e
 
-joined_has : (at : ℕ) (o : Operator) (a b : Tree) → TakesTwo o → TreeHas a → TreeHas b → TreeHas (joined at o a b)
+joined_has : (at : ℕ) (o : Operator) (a b : Tree) → TakesTwo o → TreeHas a → TreeHas b → TreeHas (operator_tree at o a b)
 joined_has at (Prim k) a b t h m = (t, (h, (m, tt)))
 joined_has at Consing a b t h k = (h, k)
 joined_has at Both a b t h k = (h, k)

@@ -8,7 +8,7 @@ use Rattle.ac_machine.specs.declared.engine.Step.{Step}
 use Rattle.ac_machine.specs.declared.engine.Step.TheVariants.{On, Pausing, Wrong}
 use Rattle.ac_machine.specs.declared.pause.Pause.{Pause}
 use Rattle.ac_machine.specs.declared.pause.Pause.TheVariants as answers
-use Rattle.ac_machine.specs.States.{Core, Ask, MState, Run, Paused, Stuck, given}
+use Rattle.ac_machine.specs.States.{Core, Ask, MState, Run, Paused, Stuck, state_given}
 use Rattle.ac_machine.specs.Machine.{exec, after}
 use Rattle.ac_machine.specs.Resumes.{Wait, Standing, At, Waits, paused_at, awaits, resumed}
 use Rattle.ac_machine.specs.Held.{core}
@@ -29,7 +29,7 @@ asks ns (answers.Raised e) h = (_, refl)
 asks ns answers.Spent h = (_, refl)
 asks ns answers.Memory h = absurd (h refl)
 
-not_on : (o : Option Ask) (c d : Core) → Run c ≡ given o (λ a. Paused a d) → ⊥
+not_on : (o : Option Ask) (c d : Core) → Run c ≡ state_given o (λ a. Paused a d) → ⊥
 not_on None c d e = cc
 not_on (Some a) c d e = cc
 
@@ -55,7 +55,7 @@ module _ (E : Environment) (K : Code) where
       (a : Ask) × Reaches E K (At (Run (core old))) (Paused a (core new))
   ends_there old now new p r g h =
       let q = asks new.store p h in
-      (q.0, reaches_next E K (Run (core old)) (core now) (Paused q.0 (core new)) r (g.is ∙ ap (λ (o : Option Ask). given o (λ a. Paused a (core new))) q.1))
+      (q.0, reaches_next E K (Run (core old)) (core now) (Paused q.0 (core new)) r (g.is ∙ ap (λ (o : Option Ask). state_given o (λ a. Paused a (core new))) q.1))
 
   after_paused : (k : ℕ) (a : Ask) (c : Core) → after E K k (Paused a c) ≡ Paused a c
   unfolding after

@@ -3,10 +3,9 @@ use Rattle.std.proofs.Common.{◌≡◌, ℕ, zero, suc, List, [], ◌∷◌, �
 use Rattle.std.specs.Prelude.{position}
 use Rattle.ac_types.specs.Types.{Bytes, same_bytes}
 use Rattle.ac_terms.specs.declared.def.Field as code_field
-use Rattle.ac_terms.specs.Defs.{Field}
+use Rattle.ac_terms.specs.Defs.{Field, field_number}
 use Rattle.ac_terms.specs.Read.{field_of}
 use Rattle.ac_terms.proofs.EnvLaws.{position-map}
-use Rattle.ac_machine.specs.Fields.{field_number}
 
 pub named : (x : Bytes) (fs : List code_field.Field) → field_number x (map field_of fs) ≡ position (λ (f : code_field.Field). same_bytes f.name x) fs
 named x fs = position-map field_of (λ (f : Field). same_bytes f.name x) (λ (f : code_field.Field). same_bytes f.name x) (λ f. refl) fs

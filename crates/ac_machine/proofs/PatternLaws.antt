@@ -12,9 +12,9 @@ use Rattle.ac_terms.specs.declared.pat.Pat.TheViews.{the_lemmas}
 use Rattle.ac_terms.specs.declared.pat.Pat.TheVariants as code
 use Rattle.ac_values.specs.declared.node.Node.{Node}
 use Rattle.ac_values.specs.declared.node.Value.{Value}
-use Rattle.ac_values.specs.Values.{MValue, MInt, MBool, MStr, MExn, MExnOf, MTuple, MUnit, MNil, MAbsent, MCons, MPresent, MMore, stands, values_at, values}
+use Rattle.ac_values.specs.Values.{MValue, MInt, MBool, MStr, MExn, MExnOf, MTuple, MUnit, MNil, MAbsent, MCons, MPresent, MMore, stands_as, values_at, values}
 use Rattle.ac_values.specs.ValueReaders.{int_in, bool_in, text_in, cons_in, present_in, tuple_in, exn_with, exn_without, is_unit, is_nil, is_absent}
-use Rattle.ac_values.specs.Fits.{where_true, bound, all_bound, under, Fitted, Tested}
+use Rattle.ac_values.specs.Fits.{where_true, bound, all_bound, environment_with, Fitted, Tested}
 use Rattle.ac_values.proofs.ReadLaws.{all_one}
 use Rattle.ac_machine.proofs.EachLaws.{next_at}
 
@@ -96,21 +96,21 @@ module _ (ns : List Node) where
   Values vs = All (λ (v : Value). v.0 < length ns) vs
 
   pub fitted_tested : (f : MValue → Option MValue) (vs : List Value) (b : Bool) → Values vs → Tested f b → Fitted ns f vs vs b
-  fitted_tested f vs true h t = (h, λ es. t (under ns vs es))
+  fitted_tested f vs true h t = (h, λ es. t (environment_with ns vs es))
   fitted_tested f vs false h t = t
 
   pub fitted_as : (f g : MValue → Option MValue) (vs ws : List Value) (b : Bool) → ((es : MValue) → f es ≡ g es) → Fitted ns g vs ws b → Fitted ns f vs ws b
-  fitted_as f g vs ws true e h = (h.0, λ es. e (under ns vs es) ∙ h.1 es)
+  fitted_as f g vs ws true e h = (h.0, λ es. e (environment_with ns vs es) ∙ h.1 es)
   fitted_as f g vs ws false e h = λ es. e es ∙ h es
 
-  under_more : (vs : List Value) (v : Value) (es : MValue) → under ns (vs ++ v ∷ []) es ≡ MMore (stands ns v.0) (under ns vs es)
+  under_more : (vs : List Value) (v : Value) (es : MValue) → environment_with ns (vs ++ v ∷ []) es ≡ MMore (stands_as ns v.0) (environment_with ns vs es)
   under_more [] v es = refl
-  under_more (x ∷ vs) v es = under_more vs v (MMore (stands ns x.0) es)
+  under_more (x ∷ vs) v es = under_more vs v (MMore (stands_as ns x.0) es)
 
-  pub fitted_var : (T : Typ) (v : Value) (vs ws : List Value) → v.0 < length ns → Values vs → ws ≡ vs ++ v ∷ [] → Fitted ns (bound (PVar T) (stands ns v.0)) vs ws true
+  pub fitted_var : (T : Typ) (v : Value) (vs ws : List Value) → v.0 < length ns → Values vs → ws ≡ vs ++ v ∷ [] → Fitted ns (bound (PVar T) (stands_as ns v.0)) vs ws true
   fitted_var T v vs ws l h e = (
     subst Values (sym e) (All-append (λ (x : Value). x.0 < length ns) vs (v ∷ []) h (all_one (λ (x : Value). x.0 < length ns) v l)),
-    λ es. ap Some (sym (ap (λ (x : List Value). under ns x es) e ∙ under_more vs v es)),
+    λ es. ap Some (sym (ap (λ (x : List Value). environment_with ns x es) e ∙ under_more vs v es)),
   )
 
   none_then : (g : MValue → Option MValue) (o : Option MValue) → ((es : MValue) → g es ≡ None) → option_and_then g o ≡ None
@@ -127,79 +127,79 @@ module _ (ns : List Node) where
 
   -- the patterns from i on are still to be tried, where those before it fit
   pub record Left (ps : List Pat) (vs us ws : List Value) (i : ℕ) : Type 0 where
-    pub fits : (es : MValue) → all_bound (patterns (map pattern_of ps)) (values_at (values ns) vs) (under ns us es)
-        ≡ all_bound (patterns (map pattern_of (drop i ps))) (values_at (values ns) (drop i vs)) (under ns ws es)
+    pub fits : (es : MValue) → all_bound (patterns (map pattern_of ps)) (values_at (values ns) vs) (environment_with ns us es)
+        ≡ all_bound (patterns (map pattern_of (drop i ps))) (values_at (values ns) (drop i vs)) (environment_with ns ws es)
     pub fails : ((es : MValue) → all_bound (patterns (map pattern_of (drop i ps))) (values_at (values ns) (drop i vs)) es ≡ None) →
         (es : MValue) → all_bound (patterns (map pattern_of ps)) (values_at (values ns) vs) es ≡ None
 
   module _ (ps : List Pat) (vs us ws : List Value) (i : ℕ) (p : Pat) (v : Value) (h : i < length ps) (k : i < length vs) (e : p ≡ get_or ps i p) (d : v ≡ get_or vs i v) (l : Left ps vs us ws i) where
     here : (es : MValue) → all_bound (patterns (map pattern_of (drop i ps))) (values_at (values ns) (drop i vs)) es
-        ≡ option_and_then (all_bound (patterns (map pattern_of (drop (i + 1) ps))) (values_at (values ns) (drop (i + 1) vs))) (bound (pattern_of p) (stands ns v.0) es)
+        ≡ option_and_then (all_bound (patterns (map pattern_of (drop (i + 1) ps))) (values_at (values ns) (drop (i + 1) vs))) (bound (pattern_of p) (stands_as ns v.0) es)
     here es =
         ap₂ (λ (x : List Pat) (y : List Value). all_bound (patterns (map pattern_of x)) (values_at (values ns) y) es)
         (next_at ps i p h ∙ ap (λ (x : Pat). x ∷ drop (i + 1) ps) (sym e)) (next_at vs i v k ∙ ap (λ (x : Value). x ∷ drop (i + 1) vs) (sym d))
 
-    pub left_on : (xs : List Value) → Fitted ns (bound (pattern_of p) (stands ns v.0)) ws xs true → Left ps vs us xs (i + 1)
+    pub left_on : (xs : List Value) → Fitted ns (bound (pattern_of p) (stands_as ns v.0)) ws xs true → Left ps vs us xs (i + 1)
     left_on xs f = record {
-      fits = λ es. l.fits es ∙ here (under ns ws es) ∙ ap (option_and_then (all_bound (patterns (map pattern_of (drop (i + 1) ps))) (values_at (values ns) (drop (i + 1) vs)))) (f.1 es);
-      fails = λ n es. l.fails (λ x. here x ∙ none_then (all_bound (patterns (map pattern_of (drop (i + 1) ps))) (values_at (values ns) (drop (i + 1) vs))) (bound (pattern_of p) (stands ns v.0) x) n) es;
+      fits = λ es. l.fits es ∙ here (environment_with ns ws es) ∙ ap (option_and_then (all_bound (patterns (map pattern_of (drop (i + 1) ps))) (values_at (values ns) (drop (i + 1) vs)))) (f.1 es);
+      fails = λ n es. l.fails (λ x. here x ∙ none_then (all_bound (patterns (map pattern_of (drop (i + 1) ps))) (values_at (values ns) (drop (i + 1) vs))) (bound (pattern_of p) (stands_as ns v.0) x) n) es;
     }
 
-    pub left_not : (xs : List Value) → Fitted ns (bound (pattern_of p) (stands ns v.0)) ws xs false → (es : MValue) → all_bound (patterns (map pattern_of ps)) (values_at (values ns) vs) es ≡ None
+    pub left_not : (xs : List Value) → Fitted ns (bound (pattern_of p) (stands_as ns v.0)) ws xs false → (es : MValue) → all_bound (patterns (map pattern_of ps)) (values_at (values ns) vs) es ≡ None
     left_not xs f es = l.fails (λ x. here x ∙ ap (option_and_then (all_bound (patterns (map pattern_of (drop (i + 1) ps))) (values_at (values ns) (drop (i + 1) vs)))) (f x)) es
 
   pub other_lengths : (ps : List Pat) (vs : List Value) → length ps ≢ length vs → (es : MValue) → all_bound (patterns (map pattern_of ps)) (values_at (values ns) vs) es ≡ None
   other_lengths [] [] h es = absurd (h refl)
   other_lengths [] (v ∷ vs) h es = refl
   other_lengths (p ∷ ps) [] h es = refl
-  other_lengths (p ∷ ps) (v ∷ vs) h es = none_then (all_bound (patterns (map pattern_of ps)) (values_at (values ns) vs)) (bound (pattern_of p) (stands ns v.0) es) (other_lengths ps vs (λ e. h (ap suc e)))
+  other_lengths (p ∷ ps) (v ∷ vs) h es = none_then (all_bound (patterns (map pattern_of ps)) (values_at (values ns) vs)) (bound (pattern_of p) (stands_as ns v.0) es) (other_lengths ps vs (λ e. h (ap suc e)))
 
   module _ (p : Pattern) (v : Value) where
-    pub no_tuple : (ps : Patterns) → p ≡ PTuple ps → tuple_in (stands ns v.0) ≡ None → (es : MValue) → bound p (stands ns v.0) es ≡ None
-    no_tuple ps e f es = ap (λ q. bound q (stands ns v.0) es) e ∙ at_tuple ps (stands ns v.0) es ∙ ap (λ o. found_then o (λ ms. all_bound ps ms es)) f
+    pub no_tuple : (ps : Patterns) → p ≡ PTuple ps → tuple_in (stands_as ns v.0) ≡ None → (es : MValue) → bound p (stands_as ns v.0) es ≡ None
+    no_tuple ps e f es = ap (λ q. bound q (stands_as ns v.0) es) e ∙ at_tuple ps (stands_as ns v.0) es ∙ ap (λ o. found_then o (λ ms. all_bound ps ms es)) f
 
-    pub no_cons : (x y : Pattern) → p ≡ PCons x y → cons_in (stands ns v.0) ≡ None → (es : MValue) → bound p (stands ns v.0) es ≡ None
-    no_cons x y e f es = ap (λ q. bound q (stands ns v.0) es) e ∙ at_cons x y (stands ns v.0) es ∙ ap (λ o. found_then o (λ c. option_and_then (bound y c.1) (bound x c.0 es))) f
+    pub no_cons : (x y : Pattern) → p ≡ PCons x y → cons_in (stands_as ns v.0) ≡ None → (es : MValue) → bound p (stands_as ns v.0) es ≡ None
+    no_cons x y e f es = ap (λ q. bound q (stands_as ns v.0) es) e ∙ at_cons x y (stands_as ns v.0) es ∙ ap (λ o. found_then o (λ c. option_and_then (bound y c.1) (bound x c.0 es))) f
 
-    pub no_present : (x : Pattern) → p ≡ PPresent x → present_in (stands ns v.0) ≡ None → (es : MValue) → bound p (stands ns v.0) es ≡ None
-    no_present x e f es = ap (λ q. bound q (stands ns v.0) es) e ∙ at_present x (stands ns v.0) es ∙ ap (λ o. found_then o (λ a. bound x a es)) f
+    pub no_present : (x : Pattern) → p ≡ PPresent x → present_in (stands_as ns v.0) ≡ None → (es : MValue) → bound p (stands_as ns v.0) es ≡ None
+    no_present x e f es = ap (λ q. bound q (stands_as ns v.0) es) e ∙ at_present x (stands_as ns v.0) es ∙ ap (λ o. found_then o (λ a. bound x a es)) f
 
-    pub no_exn : (k : ℕ) (x : Pattern) → p ≡ PExnOf k x → exn_with (stands ns v.0) ≡ None → (es : MValue) → bound p (stands ns v.0) es ≡ None
-    no_exn k x e f es = ap (λ q. bound q (stands ns v.0) es) e ∙ at_exn_of k x (stands ns v.0) es ∙ ap (λ o. found_then o (λ y. where_true (nat_eq k y.0) (bound x y.1 es))) f
+    pub no_exn : (k : ℕ) (x : Pattern) → p ≡ PExnOf k x → exn_with (stands_as ns v.0) ≡ None → (es : MValue) → bound p (stands_as ns v.0) es ≡ None
+    no_exn k x e f es = ap (λ q. bound q (stands_as ns v.0) es) e ∙ at_exn_of k x (stands_as ns v.0) es ∙ ap (λ o. found_then o (λ y. where_true (nat_eq k y.0) (bound x y.1 es))) f
 
-    pub other_exn : (k j : ℕ) (x : Pattern) (a : Value) → p ≡ PExnOf k x → exn_with (stands ns v.0) ≡ Some (j, stands ns a.0) → nat_eq k j ≡ false → (es : MValue) → bound p (stands ns v.0) es ≡ None
+    pub other_exn : (k j : ℕ) (x : Pattern) (a : Value) → p ≡ PExnOf k x → exn_with (stands_as ns v.0) ≡ Some (j, stands_as ns a.0) → nat_eq k j ≡ false → (es : MValue) → bound p (stands_as ns v.0) es ≡ None
     other_exn k j x a e f n es =
-        ap (λ q. bound q (stands ns v.0) es) e ∙ at_exn_of k x (stands ns v.0) es ∙ ap (λ o. found_then o (λ y. where_true (nat_eq k y.0) (bound x y.1 es))) f
-        ∙ ap (λ t. where_true t (bound x (stands ns a.0) es)) n
+        ap (λ q. bound q (stands_as ns v.0) es) e ∙ at_exn_of k x (stands_as ns v.0) es ∙ ap (λ o. found_then o (λ y. where_true (nat_eq k y.0) (bound x y.1 es))) f
+        ∙ ap (λ t. where_true t (bound x (stands_as ns a.0) es)) n
 
     module _ (us ws : List Value) (b : Bool) where
-      pub tuple_fits : (ps as' : List Pat) (vs bs : List Value) → p ≡ PTuple (patterns (map pattern_of ps)) → as' ≡ ps → bs ≡ vs → tuple_in (stands ns v.0) ≡ Some (values_at (values ns) vs) →
-          Fitted ns (all_bound (patterns (map pattern_of as')) (values_at (values ns) bs)) us ws b → Fitted ns (bound p (stands ns v.0)) us ws b
+      pub tuple_fits : (ps as' : List Pat) (vs bs : List Value) → p ≡ PTuple (patterns (map pattern_of ps)) → as' ≡ ps → bs ≡ vs → tuple_in (stands_as ns v.0) ≡ Some (values_at (values ns) vs) →
+          Fitted ns (all_bound (patterns (map pattern_of as')) (values_at (values ns) bs)) us ws b → Fitted ns (bound p (stands_as ns v.0)) us ws b
       tuple_fits ps as' vs bs e f g t h =
-          fitted_as (bound p (stands ns v.0)) (all_bound (patterns (map pattern_of as')) (values_at (values ns) bs)) us ws b
-          (λ es. ap (λ q. bound q (stands ns v.0) es) e ∙ at_tuple (patterns (map pattern_of ps)) (stands ns v.0) es ∙ ap (λ o. found_then o (λ ms. all_bound (patterns (map pattern_of ps)) ms es)) t
+          fitted_as (bound p (stands_as ns v.0)) (all_bound (patterns (map pattern_of as')) (values_at (values ns) bs)) us ws b
+          (λ es. ap (λ q. bound q (stands_as ns v.0) es) e ∙ at_tuple (patterns (map pattern_of ps)) (stands_as ns v.0) es ∙ ap (λ o. found_then o (λ ms. all_bound (patterns (map pattern_of ps)) ms es)) t
           ∙ sym (ap₂ (λ (x : List Pat) (y : List Value). all_bound (patterns (map pattern_of x)) (values_at (values ns) y) es) f g))
           h
 
-      pub present_fits : (x : Pattern) (a : Value) → p ≡ PPresent x → present_in (stands ns v.0) ≡ Some (stands ns a.0) → Fitted ns (bound x (stands ns a.0)) us ws b → Fitted ns (bound p (stands ns v.0)) us ws b
+      pub present_fits : (x : Pattern) (a : Value) → p ≡ PPresent x → present_in (stands_as ns v.0) ≡ Some (stands_as ns a.0) → Fitted ns (bound x (stands_as ns a.0)) us ws b → Fitted ns (bound p (stands_as ns v.0)) us ws b
       present_fits x a e f h =
-          fitted_as (bound p (stands ns v.0)) (bound x (stands ns a.0)) us ws b
-          (λ es. ap (λ q. bound q (stands ns v.0) es) e ∙ at_present x (stands ns v.0) es ∙ ap (λ o. found_then o (λ a. bound x a es)) f) h
+          fitted_as (bound p (stands_as ns v.0)) (bound x (stands_as ns a.0)) us ws b
+          (λ es. ap (λ q. bound q (stands_as ns v.0) es) e ∙ at_present x (stands_as ns v.0) es ∙ ap (λ o. found_then o (λ a. bound x a es)) f) h
 
-      pub exn_fits : (k j : ℕ) (x : Pattern) (a : Value) → p ≡ PExnOf k x → exn_with (stands ns v.0) ≡ Some (j, stands ns a.0) → nat_eq k j ≡ true → Fitted ns (bound x (stands ns a.0)) us ws b → Fitted ns (bound p (stands ns v.0)) us ws b
+      pub exn_fits : (k j : ℕ) (x : Pattern) (a : Value) → p ≡ PExnOf k x → exn_with (stands_as ns v.0) ≡ Some (j, stands_as ns a.0) → nat_eq k j ≡ true → Fitted ns (bound x (stands_as ns a.0)) us ws b → Fitted ns (bound p (stands_as ns v.0)) us ws b
       exn_fits k j x a e f n h =
-          fitted_as (bound p (stands ns v.0)) (bound x (stands ns a.0)) us ws b
-          (λ es. ap (λ q. bound q (stands ns v.0) es) e ∙ at_exn_of k x (stands ns v.0) es ∙ ap (λ o. found_then o (λ y. where_true (nat_eq k y.0) (bound x y.1 es))) f
-          ∙ ap (λ t. where_true t (bound x (stands ns a.0) es)) n) h
+          fitted_as (bound p (stands_as ns v.0)) (bound x (stands_as ns a.0)) us ws b
+          (λ es. ap (λ q. bound q (stands_as ns v.0) es) e ∙ at_exn_of k x (stands_as ns v.0) es ∙ ap (λ o. found_then o (λ y. where_true (nat_eq k y.0) (bound x y.1 es))) f
+          ∙ ap (λ t. where_true t (bound x (stands_as ns a.0) es)) n) h
 
-    module _ (x y : Pattern) (a c : Value) (us vs : List Value) (e : p ≡ PCons x y) (f : cons_in (stands ns v.0) ≡ Some (stands ns a.0, stands ns c.0)) where
-      both : (es : MValue) → bound p (stands ns v.0) es ≡ option_and_then (bound y (stands ns c.0)) (bound x (stands ns a.0) es)
-      both es = ap (λ q. bound q (stands ns v.0) es) e ∙ at_cons x y (stands ns v.0) es ∙ ap (λ o. found_then o (λ z. option_and_then (bound y z.1) (bound x z.0 es))) f
+    module _ (x y : Pattern) (a c : Value) (us vs : List Value) (e : p ≡ PCons x y) (f : cons_in (stands_as ns v.0) ≡ Some (stands_as ns a.0, stands_as ns c.0)) where
+      both : (es : MValue) → bound p (stands_as ns v.0) es ≡ option_and_then (bound y (stands_as ns c.0)) (bound x (stands_as ns a.0) es)
+      both es = ap (λ q. bound q (stands_as ns v.0) es) e ∙ at_cons x y (stands_as ns v.0) es ∙ ap (λ o. found_then o (λ z. option_and_then (bound y z.1) (bound x z.0 es))) f
 
-      pub cons_fits : (ws : List Value) (b : Bool) → Fitted ns (bound x (stands ns a.0)) us vs true → Fitted ns (bound y (stands ns c.0)) vs ws b → Fitted ns (bound p (stands ns v.0)) us ws b
+      pub cons_fits : (ws : List Value) (b : Bool) → Fitted ns (bound x (stands_as ns a.0)) us vs true → Fitted ns (bound y (stands_as ns c.0)) vs ws b → Fitted ns (bound p (stands_as ns v.0)) us ws b
       cons_fits ws b h k =
-          fitted_as (bound p (stands ns v.0)) (λ es. option_and_then (bound y (stands ns c.0)) (bound x (stands ns a.0) es)) us ws b both
-          (fitted_then (bound x (stands ns a.0)) (bound y (stands ns c.0)) us vs ws b h k)
+          fitted_as (bound p (stands_as ns v.0)) (λ es. option_and_then (bound y (stands_as ns c.0)) (bound x (stands_as ns a.0) es)) us ws b both
+          (fitted_then (bound x (stands_as ns a.0)) (bound y (stands_as ns c.0)) us vs ws b h k)
 
-      pub cons_not : Fitted ns (bound x (stands ns a.0)) us vs false → (es : MValue) → bound p (stands ns v.0) es ≡ None
-      cons_not h es = both es ∙ ap (option_and_then (bound y (stands ns c.0))) (h es)
+      pub cons_not : Fitted ns (bound x (stands_as ns a.0)) us vs false → (es : MValue) → bound p (stands_as ns v.0) es ≡ None
+      cons_not h es = both es ∙ ap (option_and_then (bound y (stands_as ns c.0))) (h es)

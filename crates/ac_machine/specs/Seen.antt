@@ -3,7 +3,7 @@ use Rattle.std.specs.Prelude.{Bool, List, Option, Some, None, option_map}
 use Rattle.ac_types.specs.ReadTypes.{typ_of}
 use Rattle.ac_terms.specs.Read.{home_of, bytes_of}
 use Rattle.ac_values.specs.declared.node.Node.{Node}
-use Rattle.ac_values.specs.Values.{stands}
+use Rattle.ac_values.specs.Values.{stands_as}
 use Rattle.ac_machine.specs.declared.engine.Engine.{Engine}
 use Rattle.ac_machine.specs.declared.pause.Pause as code_pause
 use Rattle.ac_machine.specs.declared.pause.Wait as code_wait
@@ -44,7 +44,7 @@ abbrev pub ask_of : List Node → code_pause.Pause → Option Ask
 ask_of ns (code_pause.Pause.Print text) = Some (AskPrint text.0)
 ask_of ns (code_pause.Pause.Send text) = Some (AskSend text.0)
 ask_of ns code_pause.Pause.Receive = Some AskReceive
-ask_of ns (code_pause.Pause.Marshal mark value ty home) = Some (AskMarshal mark.0 (stands ns value.0) (typ_of ty) (home_of home))
+ask_of ns (code_pause.Pause.Marshal mark value ty home) = Some (AskMarshal mark.0 (stands_as ns value.0) (typ_of ty) (home_of home))
 ask_of ns (code_pause.Pause.Unmarshal text ty) = Some (AskUnmarshal text.0 (typ_of ty))
 ask_of ns code_pause.Pause.Done = Some AskDone
 ask_of ns (code_pause.Pause.Raised e) = Some (AskRaised e.number (option_map bytes_of e.text))

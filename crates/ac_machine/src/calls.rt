@@ -1,10 +1,10 @@
 // Calls and returns.
 
 ghost use Rattle.std.specs.Prelude.{◌≡◌, ◌<◌, length, cond, get_or, [], ◌∷◌, IfOk};
-ghost use Rattle.ac_values.specs.Values.{MMore, stands, values};
+ghost use Rattle.ac_values.specs.Values.{MMore, stands_as, values};
 ghost use Rattle.ac_machine.specs.States.{Run};
 ghost use Rattle.ac_machine.specs.Machine.{applies, returns, going_back};
-ghost use Rattle.ac_machine.specs.Held.{core, frame_of, frames_of, Sound};
+ghost use Rattle.ac_machine.specs.Held.{core, call_frame_of, frames_of, Sound};
 ghost use Rattle.ac_machine.specs.inner.Steps.{Does, Grown, entering};
 
 use crate::engine::{Engine, Frame, Position, Step};
@@ -47,8 +47,8 @@ impl Engine {
         requires function { function.0 < length self.old.store }
         requires env { env.0 < length self.old.store }
         ensures { IfOk result (λ v. Grown self.old self.new v
-            (cond recursive (MMore (stands self.old.store function.0) (stands self.old.store env.0))
-            (stands self.old.store env.0))) }
+            (cond recursive (MMore (stands_as self.old.store function.0) (stands_as self.old.store env.0))
+            (stands_as self.old.store env.0))) }
     {
         if recursive {
             self.add(Node::EnvCons(function, env))
@@ -62,7 +62,7 @@ impl Engine {
         requires sound { Sound self.old }
         requires env { env.0 < length self.old.store }
         ensures { IfOk result (λ s. Does self.new s
-            (Run (entering keeps block.0 (stands self.old.store env.0) (core self.old)))) }
+            (Run (entering keeps block.0 (stands_as self.old.store env.0) (core self.old)))) }
     {
         let frame = Frame {
             block: self.at.block,
@@ -102,7 +102,8 @@ impl Engine {
         requires older { rest < self.old.at.frames }
         requires frame { get_or self.old.frames self.old.at.frames [] ≡ frame ∷ get_or
             self.old.frames rest [] }
-        ensures { Does self.new result (Run (going_back (frame_of (values self.old.store) frame)
+        ensures { Does self.new result (Run (going_back
+            (call_frame_of (values self.old.store) frame)
             (frames_of (values self.old.store) (get_or self.old.frames rest [])) (core self.old))) }
     {
         self.at.block = frame.block;

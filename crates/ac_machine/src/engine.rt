@@ -2,8 +2,8 @@
 
 ghost use Rattle.std.specs.Prelude.{◌≡◌, ◌<◌, length, get_or, IfOk, MatchOption, None, Some};
 ghost use Rattle.ac_values.specs.Below.{Below};
-ghost use Rattle.ac_values.specs.Values.{values, value_of, stands};
-ghost use Rattle.ac_machine.specs.States.{Run, pushed, beginning};
+ghost use Rattle.ac_values.specs.Values.{values, node_value, stands_as};
+ghost use Rattle.ac_machine.specs.States.{Run, push_value, beginning};
 ghost use Rattle.ac_machine.specs.Machine.{newest};
 ghost use Rattle.ac_machine.specs.Held.{core, Sound};
 ghost use Rattle.ac_machine.specs.inner.Steps.{stack_at, Does, Grown};
@@ -103,7 +103,7 @@ impl Engine {
         requires sound { Sound self.old }
         requires parts { Below (length self.old.store) node }
         ensures { IfOk result (λ v. Grown self.old self.new v
-            (value_of (values self.old.store) node)) }
+            (node_value (values self.old.store) node)) }
     {
         let v = self.store.push(node)?;
         Ok(v)
@@ -114,7 +114,7 @@ impl Engine {
         requires sound { Sound self.old }
         requires within { v.0 < length self.old.store }
         ensures does { IfOk result (λ s. Does self.new s
-            (Run (pushed (stands self.old.store v.0) (core self.old)))) }
+            (Run (push_value (stands_as self.old.store v.0) (core self.old)))) }
         ensures on { IfOk result (λ s. s ≡ On) }
     {
         self.at.stack = self.stacks.push(v, self.at.stack)?;
@@ -126,7 +126,7 @@ impl Engine {
         requires sound { Sound self.old }
         requires parts { Below (length self.old.store) node }
         ensures does { IfOk result (λ s. Does self.new s
-            (Run (pushed (value_of (values self.old.store) node) (core self.old)))) }
+            (Run (push_value (node_value (values self.old.store) node) (core self.old)))) }
         ensures on { IfOk result (λ s. s ≡ On) }
     {
         let v = self.add(node)?;
@@ -140,7 +140,7 @@ impl Engine {
         ensures { MatchOption result (newest (stack_at self.now stack) ≡ None)
             (λ p. (p.0.0 < length self.now.store) × (p.1 < length self.now.stacks) ×
             (newest (stack_at self.now stack) ≡ Some
-            (stands self.now.store p.0.0, stack_at self.now p.1))) }
+            (stands_as self.now.store p.0.0, stack_at self.now p.1))) }
     {
         self.stacks.top(stack)
     }

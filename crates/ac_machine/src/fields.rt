@@ -1,13 +1,14 @@
 // The values of fields, which are computed at most once.
 
+ghost use Rattle.ac_terms.specs.Defs.{module_behind, field_number};
 ghost use Rattle.std.specs.Prelude.{◌≡◌, ◌<◌, length, option_map, map, IfOk, OnOk, MatchOption, Some, None, true, false, slice_get, get_or, cond, nat_eq, ℕ, position};
 ghost use Rattle.ac_types.specs.Types.{Bytes, same_bytes};
 ghost use Rattle.ac_terms.specs.Read.{environment_of, home_of, def_of_code, entry_of};
-ghost use Rattle.ac_code.specs.Code.{fields_of};
-ghost use Rattle.ac_code.specs.ReadCode.{code_of, number_of};
-ghost use Rattle.ac_values.specs.Values.{stands};
+ghost use Rattle.ac_code.specs.Code.{module_fields};
+ghost use Rattle.ac_code.specs.ReadCode.{code_of, block_id};
+ghost use Rattle.ac_values.specs.Values.{stands_as};
 ghost use Rattle.ac_machine.specs.States.{Run, keeping};
-ghost use Rattle.ac_machine.specs.Fields.{own_block, ref_block, module_behind, field_number};
+ghost use Rattle.ac_machine.specs.Fields.{block_of_own, ref_block};
 ghost use Rattle.ac_machine.specs.Machine.{pushes_field};
 ghost use Rattle.ac_machine.specs.Held.{core, Sound};
 ghost use Rattle.ac_machine.specs.inner.Steps.{Does, KeepsAll};
@@ -23,7 +24,7 @@ impl Engine {
     pub fn field(&mut self, block: Option<CodeId>) -> Result<Step, Memory>
         requires sound { Sound self.old }
         ensures { IfOk result (λ s. Does self.new s
-            (pushes_field (option_map number_of block) (core self.old))) }
+            (pushes_field (option_map block_id block) (core self.old))) }
     {
         let Some(block) = block else {
             return Ok(Step::Wrong);
@@ -39,7 +40,7 @@ impl Engine {
         requires sound { Sound self.now }
         ensures { MatchOption result ((core self.now).kept block.0 ≡ None)
             (λ v. (v.0 < length self.now.store) ×
-            ((core self.now).kept block.0 ≡ Some (stands self.now.store v.0))) }
+            ((core self.now).kept block.0 ≡ Some (stands_as self.now.store v.0))) }
     {
         let kept = self.kept.as_slice();
         if block.0 < kept.len() {
@@ -55,7 +56,7 @@ impl Engine {
         requires within { v.0 < length self.old.store }
         ensures { OnOk result (KeepsAll self.old self.new
             (record (core self.old) {
-              kept = keeping block.0 (stands self.old.store v.0)
+              kept = keeping block.0 (stands_as self.old.store v.0)
                   (core self.old).kept;
             })) }
     {
@@ -82,7 +83,7 @@ fn keep_at(kept: &mut Vec<Option<Value>>, index: usize, v: Value) -> Result<(), 
 
 /// The block of a field of a home.
 pub fn own_block(table: &CodeTable, home: Home, field: u16) -> Option<CodeId>
-    ensures { option_map number_of result ≡ own_block (code_of table.now) (home_of home) field }
+    ensures { option_map block_id result ≡ block_of_own (code_of table.now) (home_of home) field }
 {
     match home {
         Home::Main => None,
@@ -92,7 +93,7 @@ pub fn own_block(table: &CodeTable, home: Home, field: u16) -> Option<CodeId>
 
 /// The block of the field x of an entry, or of what that is linked to.
 pub fn ref_block(env: &Env, table: &CodeTable, j: u32, x: &Word) -> Option<CodeId>
-    ensures { option_map number_of result ≡ ref_block (environment_of env.now) (code_of table.now) j
+    ensures { option_map block_id result ≡ ref_block (environment_of env.now) (code_of table.now) j
         x.now }
 {
     let module = module_behind(env.entry(j)?, j)?;
@@ -114,7 +115,7 @@ fn module_behind(entry: &Entry, j: u32) -> Option<u32>
 // The number of the field of that name.
 #[tactic(auto, using(crate::proofs::FieldLaws::named))]
 fn field_number(entry: &Entry, x: &Word) -> Option<usize>
-    ensures { result ≡ field_number x.now (fields_of (def_of_code entry.now.def)) }
+    ensures { result ≡ field_number x.now (module_fields (def_of_code entry.now.def)) }
 {
     match &entry.def {
         Def::Module(module) => index_of(&module.fields, x),

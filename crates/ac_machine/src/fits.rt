@@ -4,7 +4,7 @@ ghost use Rattle.std.specs.Prelude.{◌≡◌, ◌<◌, length, IfOk, Option, ma
 ghost use Rattle.std.specs.List.{All};
 ghost use Rattle.ac_terms.specs.Terms.{PInt, PBool, PStr, PUnit, PNil, PAbsent, PExn, patterns};
 ghost use Rattle.ac_terms.specs.Read.{pattern_of};
-ghost use Rattle.ac_values.specs.Values.{stands, values, values_at};
+ghost use Rattle.ac_values.specs.Values.{stands_as, values, values_at};
 ghost use Rattle.ac_values.specs.Fits.{bound, all_bound, Fitted, Tested};
 
 use ac_terms::Pat;
@@ -16,7 +16,7 @@ use ac_values::read::{
 use ac_values::{Store, Value};
 
 fn is_int(store: &Store, v: Value, n: &i64) -> bool
-    ensures { Tested (bound (PInt n.now) (stands store.now v.0)) result }
+    ensures { Tested (bound (PInt n.now) (stands_as store.now v.0)) result }
 {
     match int_in(store, v) {
         None => false,
@@ -25,7 +25,7 @@ fn is_int(store: &Store, v: Value, n: &i64) -> bool
 }
 
 fn is_bool(store: &Store, v: Value, b: bool) -> bool
-    ensures { Tested (bound (PBool b) (stands store.now v.0)) result }
+    ensures { Tested (bound (PBool b) (stands_as store.now v.0)) result }
 {
     match bool_in(store, v) {
         None => false,
@@ -34,7 +34,7 @@ fn is_bool(store: &Store, v: Value, b: bool) -> bool
 }
 
 fn is_text(store: &Store, v: Value, text: &Text) -> bool
-    ensures { Tested (bound (PStr text.now.0) (stands store.now v.0)) result }
+    ensures { Tested (bound (PStr text.now.0) (stands_as store.now v.0)) result }
 {
     match text_in(store, v) {
         None => false,
@@ -43,7 +43,7 @@ fn is_text(store: &Store, v: Value, text: &Text) -> bool
 }
 
 fn is_exn(store: &Store, v: Value, number: u8) -> bool
-    ensures { Tested (bound (PExn number) (stands store.now v.0)) result }
+    ensures { Tested (bound (PExn number) (stands_as store.now v.0)) result }
 {
     match exn_without(store, v) {
         None => false,
@@ -56,7 +56,8 @@ fn is_exn(store: &Store, v: Value, number: u8) -> bool
 pub fn fits(store: &Store, pat: &Pat, v: Value, found: &mut Vec<Value>) -> Result<bool, Memory>
     requires within { v.0 < length store.now }
     requires found { All (λ v. v.0 < length store.now) found.old.items }
-    ensures { IfOk result (λ b. Fitted store.now (bound (pattern_of pat.now) (stands store.now v.0))
+    ensures { IfOk result (λ b. Fitted store.now
+        (bound (pattern_of pat.now) (stands_as store.now v.0))
         found.old.items found.new.items b) }
 {
     match pat {

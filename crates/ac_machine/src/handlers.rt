@@ -3,7 +3,7 @@
 ghost use Rattle.std.specs.Prelude.{◌≡◌, ◌<◌, length, IfOk, MatchOption, option_map, ◌∷◌, get_or, []};
 ghost use Rattle.std.specs.Option.{option_copied};
 ghost use Rattle.ac_terms.specs.Read.{bytes_of};
-ghost use Rattle.ac_values.specs.Values.{stands, values};
+ghost use Rattle.ac_values.specs.Values.{stands_as, values};
 ghost use Rattle.ac_machine.specs.States.{Run};
 ghost use Rattle.ac_machine.specs.Machine.{tries, ends_try, raises, raising, exn_value, exn_in};
 ghost use Rattle.ac_machine.specs.Held.{core, Sound, IsHandler};
@@ -107,7 +107,7 @@ impl Engine {
         requires older { older < length self.old.handlers }
         requires within { v.0 < length self.old.store }
         ensures { IfOk result (λ s. Does self.new s
-            (Run (handling self.old handler older (stands self.old.store v.0)))) }
+            (Run (handling self.old handler older (stands_as self.old.store v.0)))) }
     {
         self.at.block = handler.block;
         self.at.address = handler.address;
@@ -121,8 +121,9 @@ impl Engine {
 
 // The number and the text of the exception that a value is.
 fn exn_in<'a>(store: &'a Store, v: Value) -> Option<(u8, Option<&'a Text>)>
-    ensures { MatchOption result (exn_in (stands store.now v.0) ≡ None)
-        (λ p. exn_in (stands store.now v.0) ≡ Some (p.0, option_map bytes_of (option_copied p.1))) }
+    ensures { MatchOption result (exn_in (stands_as store.now v.0) ≡ None)
+        (λ p. exn_in (stands_as store.now v.0) ≡ Some
+        (p.0, option_map bytes_of (option_copied p.1))) }
 {
     if let Some(number) = exn_without(store, v) {
         return Some((number, None));

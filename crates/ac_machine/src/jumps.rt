@@ -2,7 +2,7 @@
 
 ghost use Rattle.std.specs.Prelude.{◌≡◌, ◌<◌, length, IfOk, OnOk};
 ghost use Rattle.std.specs.List.{All};
-ghost use Rattle.ac_values.specs.Fits.{under};
+ghost use Rattle.ac_values.specs.Fits.{environment_with};
 ghost use Rattle.ac_machine.specs.States.{Run};
 ghost use Rattle.ac_terms.specs.Read.{pattern_of};
 ghost use Rattle.ac_machine.specs.Machine.{jumps, jumps_if_not, tests};
@@ -71,7 +71,7 @@ impl Engine {
         requires sound { Sound self.old }
         requires within { All (λ v. v.0 < length self.old.store) found.now }
         ensures { OnOk result (Goes self.new (Run
-            (record (core self.old) { env = under self.old.store found.now (core self.old).env }))) }
+            (record (core self.old) { env = environment_with self.old.store found.now (core self.old).env }))) }
     {
         for value in found {
             let value = *value;

@@ -5,9 +5,9 @@ ghost use Rattle.ac_terms.specs.Read.{environment_of, bytes_of};
 ghost use Rattle.ac_code.specs.ReadCode.{code_of};
 ghost use Rattle.ac_values.specs.declared.node.Node.{Node};
 ghost use Rattle.ac_values.specs.Below.{Below};
-ghost use Rattle.ac_values.specs.Values.{values, value_of};
-ghost use Rattle.ac_machine.specs.States.{Core, Run, beginning, pushed};
-ghost use Rattle.ac_machine.specs.Resumes.{At, awaits, resumed, paused_at, takes_unit, takes_text, takes_block, takes_raise, with_unit, with_text, with_block, with_raise};
+ghost use Rattle.ac_values.specs.Values.{values, node_value};
+ghost use Rattle.ac_machine.specs.States.{Core, Run, beginning, push_value};
+ghost use Rattle.ac_machine.specs.Resumes.{At, awaits, resumed, paused_at, takes_unit, takes_text, takes_block, takes_raise, with_unit, resumed_text, with_block, with_raise};
 ghost use Rattle.ac_machine.specs.Held.{core, Sound};
 ghost use Rattle.ac_machine.specs.Seen.{standing, stands_at, ask_of};
 ghost use Rattle.ac_machine.specs.Runs.{Pauses, Went};
@@ -109,7 +109,7 @@ impl Machine {
     pub fn resume_text(&mut self, text: Text) -> Result<(), Memory>
         requires { self.old.lost ≡ false → awaits takes_text (standing self.old) ≡ true }
         ensures ok { OnOk result ((self.old.lost ≡ false) × (self.new.lost ≡ false) ×
-            (standing self.new ≡ resumed (with_text text.0) (standing self.old))) }
+            (standing self.new ≡ resumed (resumed_text text.0) (standing self.old))) }
         ensures err { OnErr result (self.new.lost ≡ true) }
     {
         self.resume(Node::Str(text))?;
@@ -120,7 +120,8 @@ impl Machine {
     fn resume(&mut self, node: Node) -> Result<(), Memory>
         requires { Below (length self.old.engine.store) node }
         ensures ok { OnOk result ((self.old.lost ≡ false) × (self.new.lost ≡ false) ×
-            (standing self.new ≡ At (Run (pushed (value_of (values self.old.engine.store) node)
+            (standing self.new ≡ At (Run (push_value
+            (node_value (values self.old.engine.store) node)
             (core self.old.engine))))) }
         ensures err { OnErr result (self.new.lost ≡ true) }
     {

@@ -2,9 +2,9 @@
 
 ghost use Rattle.std.specs.Prelude.{◌≡◌, ◌<◌, length, false, true, IfOk, MatchOption, None, Some, [], ◌-◌};
 ghost use Rattle.ac_terms.specs.PrimitiveTypes.{has_text};
-ghost use Rattle.ac_values.specs.Values.{MNil, MStr, MClosure, MEnd, values, stands};
-ghost use Rattle.ac_machine.specs.States.{Run, pushed};
-ghost use Rattle.ac_machine.specs.Machine.{taken, makes_exn, makes_some, makes_cons, makes_tuple};
+ghost use Rattle.ac_values.specs.Values.{MNil, MStr, MClosure, MEnd, values, stands_as};
+ghost use Rattle.ac_machine.specs.States.{Run, push_value};
+ghost use Rattle.ac_machine.specs.Machine.{newest_taken, makes_exn, makes_some, makes_cons, makes_tuple};
 ghost use Rattle.ac_machine.specs.Held.{core, stack_of, Sound};
 ghost use Rattle.ac_machine.specs.inner.Steps.{stack_at, Does};
 
@@ -26,7 +26,7 @@ impl Engine {
     pub fn push_text(&mut self, text: &Text) -> Result<Step, Memory>
         requires sound { Sound self.old }
         ensures { IfOk result (λ s. Does self.new s
-            (Run (pushed (MStr text.now.0) (core self.old)))) }
+            (Run (push_value (MStr text.now.0) (core self.old)))) }
     {
         let text = text.copy(self.alloc)?;
         self.push_node(Node::Str(text))
@@ -36,7 +36,7 @@ impl Engine {
     pub fn push_closure(&mut self, block: CodeId, recursive: bool) -> Result<Step, Memory>
         requires sound { Sound self.old }
         ensures { IfOk result (λ s. Does self.new s
-            (Run (pushed (MClosure block.0 recursive (core self.old).env) (core self.old)))) }
+            (Run (push_value (MClosure block.0 recursive (core self.old).env) (core self.old)))) }
     {
         let env = self.at.env;
         self.push_node(Node::Closure {
@@ -50,7 +50,7 @@ impl Engine {
     pub fn push_constant(&mut self, block: CodeId, recursive: bool) -> Result<Step, Memory>
         requires sound { Sound self.old }
         ensures { IfOk result (λ s. Does self.new s
-            (Run (pushed (MClosure block.0 recursive MEnd) (core self.old)))) }
+            (Run (push_value (MClosure block.0 recursive MEnd) (core self.old)))) }
     {
         self.push_node(Node::Closure {
             block,

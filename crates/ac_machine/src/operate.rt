@@ -2,7 +2,7 @@
 
 ghost use Rattle.std.specs.Prelude.{◌≡◌, IfOk};
 ghost use Rattle.ac_code.specs.Constants.{meaning, One, Two};
-ghost use Rattle.ac_machine.specs.States.{given};
+ghost use Rattle.ac_machine.specs.States.{state_given};
 ghost use Rattle.ac_machine.specs.Machine.{performs, answers};
 ghost use Rattle.ac_machine.specs.inner.Meant.{answer_of, of_binary, of_unary};
 ghost use Rattle.ac_machine.specs.Held.{core, Sound};
@@ -23,7 +23,7 @@ impl Engine {
     pub fn primitive(&mut self, number: u8) -> Result<Step, Memory>
         requires sound { Sound self.old }
         ensures { IfOk result (λ s. Does self.new s
-            (given (meaning number) (λ m. performs m (core self.old)))) }
+            (state_given (meaning number) (λ m. performs m (core self.old)))) }
     {
         match primitive_of(number) {
             None => Ok(Step::Wrong),

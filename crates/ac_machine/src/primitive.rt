@@ -2,10 +2,10 @@
 
 ghost use Rattle.std.specs.Prelude.{◌≡◌, ◌<◌, length, IfOk, MatchOption, Some, None};
 ghost use Rattle.std.specs.Fmt.{signed_decimal};
-ghost use Rattle.ac_code.specs.Constants.{CInt, CBool, CStr, CUnit, CPart, comes_before, meaning, joined, quotient, remainder, part, invalid_argument};
-ghost use Rattle.ac_values.specs.Values.{stands, values, values_at};
+ghost use Rattle.ac_code.specs.Constants.{CInt, CBool, CStr, CUnit, CPart, comes_before, meaning, concatenated, quotient, remainder, bytes_between, raise_invalid_argument};
+ghost use Rattle.ac_values.specs.Values.{stands_as, values, values_at};
 ghost use Rattle.ac_machine.specs.Machine.{const_in, part_in};
-ghost use Rattle.ac_machine.specs.inner.Meant.{const_of, answer_of, of_binary, of_unary, meant};
+ghost use Rattle.ac_machine.specs.inner.Meant.{constant_meant, answer_of, of_binary, of_unary, meant};
 
 use ac_types::primitives::{
     ADD, CONCAT, DIV, EQ, LENGTH, LT, MUL, NEG, NOT, OF_INT, PRINT_INT, PRINT_STRING, RECEIVE, REM,
@@ -107,8 +107,8 @@ pub fn primitive_of(number: u8) -> Option<Primitive>
 /// The constant that a value is.
 pub fn constant_in<'a>(store: &'a Store, v: Value) -> Option<Constant<'a>>
     requires { v.0 < length store.now }
-    ensures { MatchOption result (const_in (stands store.now v.0) ≡ None)
-        (λ d. const_in (stands store.now v.0) ≡ Some (const_of d)) }
+    ensures { MatchOption result (const_in (stands_as store.now v.0) ≡ None)
+        (λ d. const_in (stands_as store.now v.0) ≡ Some (constant_meant d)) }
 {
     match store.node(v) {
         Some(Node::Int(n)) => Some(Constant::Int(*n)),
@@ -124,7 +124,7 @@ pub fn constant_in<'a>(store: &'a Store, v: Value) -> Option<Constant<'a>>
 #[tactic(auto, using(crate::proofs::PrimitiveLaws::part_three, crate::proofs::PrimitiveLaws::part_other))]
 fn part_in<'a>(store: &'a Store, parts: &Many<Value>) -> Option<Constant<'a>>
     ensures { MatchOption result (part_in (values_at (values store.now) parts.now) ≡ None)
-        (λ d. part_in (values_at (values store.now) parts.now) ≡ Some (const_of d)) }
+        (λ d. part_in (values_at (values store.now) parts.now) ≡ Some (constant_meant d)) }
 {
     if parts.len() != 3 {
         return None;
@@ -144,8 +144,8 @@ pub fn combined(
     first: &Constant<'_>,
     second: &Constant<'_>,
 ) -> Result<Answer, Memory>
-    ensures { IfOk result (λ a. answer_of a ≡ of_binary operator (const_of first.now)
-        (const_of second.now)) }
+    ensures { IfOk result (λ a. answer_of a ≡ of_binary operator (constant_meant first.now)
+        (constant_meant second.now)) }
 {
     match (*first, *second) {
         (Constant::Int(x), Constant::Int(y)) => Ok(of_ints(operator, x, y)),
@@ -223,7 +223,7 @@ fn comes_before(first: &[u8], second: &[u8]) -> bool
 }
 
 fn joined(alloc: Global, x: &[u8], y: &[u8]) -> Result<Answer, Memory>
-    ensures { IfOk result (λ a. answer_of a ≡ joined (CStr x.now) (CStr y.now)) }
+    ensures { IfOk result (λ a. answer_of a ≡ concatenated (CStr x.now) (CStr y.now)) }
 {
     if y.len() > MOST_BYTES || x.len() > MOST_BYTES - y.len() {
         return invalid(alloc, b"string");
@@ -234,14 +234,14 @@ fn joined(alloc: Global, x: &[u8], y: &[u8]) -> Result<Answer, Memory>
 }
 
 fn invalid(alloc: Global, why: &[u8]) -> Result<Answer, Memory>
-    ensures { IfOk result (λ a. answer_of a ≡ invalid_argument why.now) }
+    ensures { IfOk result (λ a. answer_of a ≡ raise_invalid_argument why.now) }
 {
     Ok(Answer::Invalid(Text::from_slice(alloc, why)?))
 }
 
 /// What a primitive of one argument answers.
 pub fn turned(alloc: Global, unary: Unary, constant: &Constant<'_>) -> Result<Answer, Memory>
-    ensures { IfOk result (λ a. answer_of a ≡ of_unary unary (const_of constant.now)) }
+    ensures { IfOk result (λ a. answer_of a ≡ of_unary unary (constant_meant constant.now)) }
 {
     match *constant {
         Constant::Int(n) => of_int(alloc, unary, n),
@@ -310,7 +310,7 @@ fn of_part(
 
 // So many bytes of a string from a start on.
 fn part(alloc: Global, text: &[u8], start: i64, count: i64) -> Result<Answer, Memory>
-    ensures { IfOk result (λ a. answer_of a ≡ part text.now start count) }
+    ensures { IfOk result (λ a. answer_of a ≡ bytes_between text.now start count) }
 {
     if start < 0 || count < 0 {
         return invalid(alloc, b"sub");

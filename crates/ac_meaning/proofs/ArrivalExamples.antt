@@ -19,7 +19,7 @@ use Rattle.ac_meaning.specs.Acts.{State, At, Over, Returned, Raised, iter}
 use Rattle.ac_outside.specs.Frames.{frame_of}
 use Rattle.ac_terms.specs.Spelling.{packet_bytes}
 use Rattle.ac_rules.specs.Packets.{Full}
-use Rattle.ac_meaning.specs.Packing.{packing, landing, Sinks, received, of_cause, unmarshal_failure, resolve_failure}
+use Rattle.ac_meaning.specs.Packing.{packing, landing, Sinks, received, of_cause, unmarshal_failure_exn, resolve_failure_exn}
 use Rattle.ac_meaning.specs.Reduction.{step}
 use Rattle.ac_meaning.proofs.Programs.{number, plus, print_int, print}
 use Rattle.ac_meaning.proofs.PackingExamples.{a_mark, receive}
@@ -125,11 +125,11 @@ get_received n = print_int (App (Ref 0 (codes "get")) (Unmarshal (c_type n) rece
 abbrev gets : Mode → ℕ → Bytes → Option (Bytes × Option Exception)
 gets mode n s = runs mode (behind [] (text_c n) None) (s ∷ []) (get_received n)
 
-pub another_c : gets Coloured 2 with_c ≡ Some ([], Some (unmarshal_failure (codes "type")))
+pub another_c : gets Coloured 2 with_c ≡ Some ([], Some (unmarshal_failure_exn (codes "type")))
 unfolding int_wrap digits is_reserved sha256 digest_bytes hash_after compress rounds schedule first_words packing landing
 another_c = refl
 
-pub another_c_cut : gets Coloured 2 without_c ≡ Some ([], Some (resolve_failure (codes "C")))
+pub another_c_cut : gets Coloured 2 without_c ≡ Some ([], Some (resolve_failure_exn (codes "C")))
 unfolding int_wrap digits is_reserved sha256 digest_bytes hash_after compress rounds schedule first_words packing landing
 another_c_cut = refl
 
@@ -251,16 +251,16 @@ abbrev reading_itself : Def
 reading_itself = AModule (record (number_module (codes "M") (codes "y") (MyName ∷ []) (pos 1)) { fields = record { name = codes "y"; ty = TInt; term = Own 0 } ∷ [] })
 
 -- a field that refers to itself isn't well formed; an entry keeps the name of a packet's module with another text; and there are too many entries
-pub an_ill_formed_definition : landing [] TInt (packet_bytes (record { defs = reading_itself ∷ []; ty = TInt; value = KInt (pos 5) })) ≡ Sinks (unmarshal_failure (codes "definition"))
+pub an_ill_formed_definition : landing [] TInt (packet_bytes (record { defs = reading_itself ∷ []; ty = TInt; value = KInt (pos 5) })) ≡ Sinks (unmarshal_failure_exn (codes "definition"))
 unfolding landing is_reserved sha256 digest_bytes hash_after compress rounds schedule first_words
 an_ill_formed_definition = refl
 
 abbrev with_the_name : Environment
 with_the_name = record { def = text_c 2; name = name_by sha256 [] (text_c 1); seen = Own'; link = None } ∷ []
 
-pub a_clash : received with_the_name TInt (Some (record { defs = text_c 1 ∷ []; ty = TInt; value = KInt (pos 5) })) ≡ Sinks (unmarshal_failure (codes "clash"))
+pub a_clash : received with_the_name TInt (Some (record { defs = text_c 1 ∷ []; ty = TInt; value = KInt (pos 5) })) ≡ Sinks (unmarshal_failure_exn (codes "clash"))
 unfolding sha256 digest_bytes hash_after compress rounds schedule first_words
 a_clash = refl
 
-pub too_many_entries : of_cause [] (Full 65536) ≡ unmarshal_failure (codes "full")
+pub too_many_entries : of_cause [] (Full 65536) ≡ unmarshal_failure_exn (codes "full")
 too_many_entries = refl

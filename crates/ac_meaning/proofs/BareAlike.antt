@@ -10,7 +10,7 @@ use Rattle.ac_rules.specs.Plain.{packed}
 use Rattle.ac_rules.specs.Views.{Mode, is_known}
 use Rattle.ac_terms.proofs.AllLaws.{all_append}
 use Rattle.ac_meaning.proofs.PackedAlike.{packed_alike}
-use Rattle.ac_meaning.specs.Worlds.{Exception, World, match_failure, counted, grown}
+use Rattle.ac_meaning.specs.Worlds.{Exception, World, match_failure_exn, counted, grown}
 use Rattle.ac_rules.specs.Growth.{Grows}
 use Rattle.ac_meaning.specs.Packing.{Packing, Refuses, Packs, Arrival, Unfit, Brings, packing, arrival}
 use Rattle.ac_meaning.specs.Substitution.{Written}
@@ -24,7 +24,7 @@ use Rattle.ac_meaning.proofs.Results.{Result, Fine, Raising, Spending, Wrongly, 
 use Rattle.ac_meaning.proofs.Eval as full
 use Rattle.ac_meaning.proofs.Eval.{crossing, across, own_by, ref_by, answering, fitted, eval, eval_all, eval_rest, eval_arms, calling, depth, packed_as, arrived_as}
 use Rattle.ac_meaning.proofs.BareEval as lean
-use Rattle.ac_meaning.specs.Typed.{seen, Known, Fits, AllFit, Typed, AllTyped, ArmsTyped, ValuesTyped, WrittenTyped}
+use Rattle.ac_meaning.specs.Typed.{as_seen, Known, Fits, AllFit, Typed, AllTyped, ArmsTyped, ValuesTyped, WrittenTyped}
 use Rattle.ac_meaning.proofs.Homes.{seen_fun}
 use Rattle.ac_meaning.proofs.Shapes.{IsOf, shape, fit_typed}
 use Rattle.ac_meaning.proofs.Arrivals.{Arrives}
@@ -137,7 +137,7 @@ across_same mode T x y v z = lift_same (bare_value y) (crossing mode z.environme
 
 module _ (arrives : Arrives) (mode : Mode) where
   abbrev sees : World → Home → Typ → Typ
-  sees z c T = seen mode z.environment c T
+  sees z c T = as_seen mode z.environment c T
 
   abbrev Alike : Home → Result Value → Result BareValue → Type 0
   Alike c r s = Same (bare_value c) r s
@@ -260,7 +260,7 @@ module _ (arrives : Arrives) (mode : Mode) where
           (λ v y g p. rest_alike ts c G h.1.1 us v y (later arrives mode z y g c i) (written_later arrives mode z y g c i us G e) (terms_later arrives mode z y g c i ts G h.1.1 h.1.4))
       alike (Match t arms) c G T us z i e h =
           and t c G h.0 us z c _ _ i e h.1 (alike t c G h.0 us z i e h.1)
-          (λ v y g p. arms_alike arms c G h.0 T us v match_failure y (later arrives mode z y g c i) (written_later arrives mode z y g c i us G e) (arms_later arrives mode z y g c i arms G h.0 T h.2) p)
+          (λ v y g p. arms_alike arms c G h.0 T us v match_failure_exn y (later arrives mode z y g c i) (written_later arrives mode z y g c i us G e) (arms_later arrives mode z y g c i arms G h.0 T h.2) p)
       alike (Try t arms) c G T us z i e h =
           handled_same z.environment (Of mode c T) (bare_value c) (eval mode t apps c us z) (lean.eval (bare c t) bare_apps c (bare_env c us) z) _ _ (is_sound t c G T us z i e h.0) (alike t c G T us z i e h.0)
           (λ x y g. arms_alike arms c G TExn T us (exception_value x) x y (later arrives mode z y g c i) (written_later arrives mode z y g c i us G e) (arms_later arrives mode z y g c i arms G TExn T h.1) refl)

@@ -14,14 +14,14 @@ use Rattle.ac_terms.specs.Bounds.{fits_term, fit_terms, fit_arms, fits_value, fi
 use Rattle.ac_terms.specs.PrimitiveTypes.{Rule, arithmetic, comparison, by_rules, primitives, primitive_type}
 use Rattle.ac_terms.specs.TermTyping.{last_of}
 use Rattle.ac_rules.specs.Views.{Mode, Plain, Coloured, view, type_of_entry, representation, opened, unsealed, head, rounds, has_name, opens, is_known, are_known}
-use Rattle.ac_rules.specs.Typing.{Scope, bind, bind_all, all_of, HasType, type_of, seen, holds, all_hold, each_holds, tuple_parts, list_item, option_item, is_function, is_function_home, is_home, types_of, arm_types, variables, variables_of_all, are_all, one_of, a_list, an_option, value_in}
+use Rattle.ac_rules.specs.Typing.{Scope, bind, bind_all, all_of, HasType, type_of, type_seen, holds, all_hold, each_holds, tuple_parts, list_item, option_item, is_function, is_function_home, is_home, types_of, arm_types, variables, variables_of_all, are_all, one_of, a_list, an_option, value_in}
 use Rattle.ac_rules.specs.Coherent.{IsCoherent}
 use Rattle.ac_rules.proofs.Rules.{then_some, rule-Int, rule-Boolean, rule-Str, rule-Unit, rule-Exn, rule-ExnOf, rule-Tuple, rule-expr, rule-Nil, rule-Empty, rule-Present, rule-Cons, rule-Var, rule-Own, rule-Ref, rule-Lam, rule-App, rule-If, rule-Let, rule-Rec, rule-Seq, rule-Match, rule-Try, rule-Raise, rule-Prim, rule-Marshal, rule-Unmarshal, rule-Val, has_some, agree_some, also_some, joined_some, function_home}
 use Rattle.ac_rules.proofs.EarlierLaws.{found_keeps}
 use Rattle.ac_terms.proofs.AllLaws.{all_left, all_right}
 use Rattle.ac_rules.proofs.BareLaws.{known_has}
 use Rattle.ac_meaning.specs.Laws.{is_source, are_source, arms_are_source}
-use Rattle.ac_meaning.specs.Rebuilding.{parts_of, item_of, argument_of, result_of, home_at, home_of, at_abstract, sealed, rebuilt, all_rebuilt, list_rebuilt, rebuilt_term, rebuilt_terms, rebuilt_arms}
+use Rattle.ac_meaning.specs.Rebuilding.{parts_of, item_of, argument_of, result_of, home_at, home_of_name, at_abstract, sealed, rebuilt, all_rebuilt, list_rebuilt, rebuilt_term, rebuilt_terms, rebuilt_arms}
 use Rattle.ac_meaning.proofs.Sources.{left, middle}
 use Rattle.ac_rules.proofs.KnownTypes.{opened_known, head_known, rounds_still}
 use Rattle.ac_meaning.specs.Typed.{own_type, IsHome, IsLast, HasArm, Fits, AllFit, Typed, AllTyped, ArmsTyped, ValueTyped, ValuesTyped}
@@ -332,7 +332,7 @@ module _ (E : Environment) (coherent : IsCoherent E) (known : KnownTypes E) (mod
 
   -- what is seen in Coloured mode
   abbrev seen_as : Environment → Home → Typ → Option Typ
-  seen_as G c T = seen Coloured false G c T
+  seen_as G c T = type_seen Coloured false G c T
 
   agreed : (c : Home) (T : Typ) (t : Option Typ) → agree t (seen_as E c T) ≡ true → t ≡ Some (view Coloured E c T)
   agreed c T t h =
@@ -345,14 +345,14 @@ module _ (E : Environment) (coherent : IsCoherent E) (known : KnownTypes E) (mod
   has_signature (AnImport m) t k R h = refl
   has_signature (AMark s) t k R h = absurd (none≢some h)
 
-  name_home : (n t : Bytes) → is_known E (n, t) ≡ true → is_home E (home_of mode E n) ≡ true
+  name_home : (n t : Bytes) → is_known E (n, t) ≡ true → is_home E (home_of_name mode E n) ≡ true
   name_home n t h =
       let x = known_has E coherent n t h in
       let p = then_some (λ i. option_and_then (λ (e : Entry). type_of_entry E t e.def e.link) (slice_get E i)) (find_name E n) x.1 x.4 in
       let e = then_some (λ (e : Entry). type_of_entry E t e.def e.link) (slice_get E p.0) x.1 p.2 in
       ap (λ o. is_home E (home_at o)) p.1 ∙ ap (λ o. is_some (option_and_then signature (option_map (λ (y : Entry). y.def) o))) e.1 ∙ has_signature e.0.def t e.0.link x.1 e.2
 
-  name_opens : (m : Mode) (n t : Bytes) → is_known E (n, t) ≡ true → opens m E (home_of mode E n) n ≡ true
+  name_opens : (m : Mode) (n t : Bytes) → is_known E (n, t) ≡ true → opens m E (home_of_name mode E n) n ≡ true
   name_opens Plain n t h = refl
   name_opens Coloured n t h =
       let x = known_has E coherent n t h in
@@ -382,7 +382,7 @@ module _ (E : Environment) (coherent : IsCoherent E) (known : KnownTypes E) (mod
       by : ((d : Home) → IsHome mode E d → ValueTyped mode E (sealed mode E j d (opened E n t) make) d (view mode E d (opened E n t))) → (b : Bool) → opens mode E c n ≡ b → ValueTyped mode E (at_abstract mode E b c n t (λ d U. sealed mode E j d U make)) c (view mode E c (TAbs n t))
       by f true p = subst (λ X. ValueTyped mode E (sealed mode E j c (opened E n t) make) c X) (sym (there c p)) (f c o)
       by f false p =
-          let d = home_of mode E n in
+          let d = home_of_name mode E n in
           let p' = name_opens mode n t known' in
           let o' = name_home n t known' in
           (view_shut E mode c n t p, k, p', p, subst (λ X. ValueTyped mode E (sealed mode E j d (opened E n t) make) d X) (sym (there d p')) (f d o'), o')

@@ -7,7 +7,7 @@ use Rattle.ac_terms.specs.Defs.{Environment, Field}
 use Rattle.ac_rules.specs.Views.{Mode, Coloured}
 use Rattle.ac_meaning.specs.Substitution.{Written}
 use Rattle.ac_rules.specs.Growth.{Widening}
-use Rattle.ac_meaning.specs.Typed.{own_type, seen, Known, IsHome, Fits, AllFit, Typed, AllTyped, ArmsTyped, ValueTyped, ValuesTyped, WrittenTyped}
+use Rattle.ac_meaning.specs.Typed.{own_type, as_seen, Known, IsHome, Fits, AllFit, Typed, AllTyped, ArmsTyped, ValueTyped, ValuesTyped, WrittenTyped}
 use Rattle.ac_meaning.proofs.KnownNames.{known_types}
 use Rattle.ac_rules.proofs.Growth.{known_more, home_more, opens_same, fields_same, view_same, value_more}
 
@@ -17,11 +17,11 @@ module _ (E F : Environment) (g : Widening E F) where
 
 module _ (mode : Mode) (E F : Environment) (g : Widening E F) where
   -- what is seen
-  same : (c : Home) (A : Typ) → IsHome mode E c → Known mode E A → seen mode E c A ≡ seen mode F c A
+  same : (c : Home) (A : Typ) → IsHome mode E c → Known mode E A → as_seen mode E c A ≡ as_seen mode F c A
   same c A h k = sym (view_same E F g mode c A h k)
 
   -- a type that is seen, in an equation
-  still : (c : Home) (A T : Typ) → IsHome mode E c → Known mode E A → T ≡ seen mode E c A → T ≡ seen mode F c A
+  still : (c : Home) (A T : Typ) → IsHome mode E c → Known mode E A → T ≡ as_seen mode E c A → T ≡ as_seen mode F c A
   still c A T h k e = e ∙ same c A h k
 
   mutual
@@ -62,20 +62,20 @@ module _ (mode : Mode) (E F : Environment) (g : Widening E F) where
     typed_more (Ref j x) c G T o h = let known = known_types E g.before in (h.0, value_more E F g j x h.0 h.1, still c h.0 T o (known.values j x h.0 h.1) h.2)
     typed_more (Lam A e) c G T o h =
         let s = same c A o h.3 in
-        (h.0, h.1 ∙ ap (λ X. TFun X h.0) s, subst (λ X. Typed mode F e c (X ∷ G) h.0) s (typed_more e c (seen mode E c A ∷ G) h.0 o h.2), known_more E F g A h.3)
+        (h.0, h.1 ∙ ap (λ X. TFun X h.0) s, subst (λ X. Typed mode F e c (X ∷ G) h.0) s (typed_more e c (as_seen mode E c A ∷ G) h.0 o h.2), known_more E F g A h.3)
     typed_more (Rec A B e) c G T o h =
         let s = same c A o h.2 in
         let r = same c B o h.3 in (
           h.0 ∙ ap₂ TFun s r,
-          subst (λ X. Typed mode F e c (X ∷ TFun X (seen mode F c B) ∷ G) (seen mode F c B)) s
-              (subst (λ Y. Typed mode F e c (seen mode E c A ∷ TFun (seen mode E c A) Y ∷ G) Y) r (typed_more e c (seen mode E c A ∷ TFun (seen mode E c A) (seen mode E c B) ∷ G) (seen mode E c B) o h.1)),
+          subst (λ X. Typed mode F e c (X ∷ TFun X (as_seen mode F c B) ∷ G) (as_seen mode F c B)) s
+              (subst (λ Y. Typed mode F e c (as_seen mode E c A ∷ TFun (as_seen mode E c A) Y ∷ G) Y) r (typed_more e c (as_seen mode E c A ∷ TFun (as_seen mode E c A) (as_seen mode E c B) ∷ G) (as_seen mode E c B) o h.1)),
           known_more E F g A h.2,
           known_more E F g B h.3,
         )
     typed_more (App f a) c G T o h = (h.0, typed_more f c G (TFun h.0 T) o h.1, typed_more a c G h.0 o h.2)
     typed_more (Let A e b) c G T o h =
         let s = same c A o h.2 in
-        (subst (λ X. Typed mode F e c G X) s (typed_more e c G (seen mode E c A) o h.0), subst (λ X. Typed mode F b c (X ∷ G) T) s (typed_more b c (seen mode E c A ∷ G) T o h.1), known_more E F g A h.2)
+        (subst (λ X. Typed mode F e c G X) s (typed_more e c G (as_seen mode E c A) o h.0), subst (λ X. Typed mode F b c (X ∷ G) T) s (typed_more b c (as_seen mode E c A ∷ G) T o h.1), known_more E F g A h.2)
     typed_more (If e a b) c G T o h = (typed_more e c G TBool o h.0, typed_more a c G T o h.1, typed_more b c G T o h.2)
     typed_more (Seq es) c G T o h = (h.0, all_typed_more es c G h.0 o h.1, h.2)
     typed_more (Match e arms) c G T o h = (h.0, typed_more e c G h.0 o h.1, arms_typed_more arms c G h.0 T o h.2, h.3)
@@ -83,12 +83,12 @@ module _ (mode : Mode) (E F : Environment) (g : Widening E F) where
     typed_more (Raise A e) c G T o h = (still c A T o h.2 h.0, typed_more e c G TExn o h.1, known_more E F g A h.2)
     typed_more (Prim k es) c G T o h = (h.0, all_typed_more es c G h.0 o h.1, h.2)
     typed_more (Marshal A m e) c G T o h =
-        (h.0, typed_more m c G TStr o h.1, subst (λ X. Typed mode F e c G X) (same c A o h.3) (typed_more e c G (seen mode E c A) o h.2), known_more E F g A h.3)
+        (h.0, typed_more m c G TStr o h.1, subst (λ X. Typed mode F e c G X) (same c A o h.3) (typed_more e c G (as_seen mode E c A) o h.2), known_more E F g A h.3)
     typed_more (Unmarshal A e) c G T o h = (still c A T o h.2 h.0, typed_more e c G TStr o h.1, known_more E F g A h.2)
     typed_more (Val A v) c G T o h = absurd h
     typed_more (Evaluated A v) c G T o h = (still c A T o h.2 h.0, value_typed_more v c T o h.1, known_more E F g A h.2)
     typed_more (Bracket b A e) c G T o h =
-        (still c A T o h.1 h.0, known_more E F g A h.1, subst (λ X. Typed mode F e b [] X) (same b A h.3 h.1) (typed_more e b [] (seen mode E b A) h.3 h.2), home_more E F g b h.3)
+        (still c A T o h.1 h.0, known_more E F g A h.1, subst (λ X. Typed mode F e b [] X) (same b A h.3 h.1) (typed_more e b [] (as_seen mode E b A) h.3 h.2), home_more E F g b h.3)
 
     pub all_typed_more : (es : Exprs) (c : Home) (G : List Typ) (Ts : Typs) → IsHome mode E c → AllTyped mode E es c G Ts → AllTyped mode F es c G Ts
     all_typed_more no_exprs c G Ts o h = h
@@ -111,24 +111,24 @@ module _ (mode : Mode) (E F : Environment) (g : Widening E F) where
     value_typed_more (VPresent v) c T o h = (h.0, h.1, value_typed_more v c h.0 o h.2)
     value_typed_more (VLam A e) c T o h =
         let s = same c A o h.3 in
-        (h.0, h.1 ∙ ap (λ X. TFun X h.0) s, subst (λ X. Typed mode F e c (X ∷ []) h.0) s (typed_more e c (seen mode E c A ∷ []) h.0 o h.2), known_more E F g A h.3)
+        (h.0, h.1 ∙ ap (λ X. TFun X h.0) s, subst (λ X. Typed mode F e c (X ∷ []) h.0) s (typed_more e c (as_seen mode E c A ∷ []) h.0 o h.2), known_more E F g A h.3)
     value_typed_more (VRec A B e) c T o h =
         let s = same c A o h.2 in
         let r = same c B o h.3 in (
           h.0 ∙ ap₂ TFun s r,
-          subst (λ X. Typed mode F e c (X ∷ TFun X (seen mode F c B) ∷ []) (seen mode F c B)) s
-              (subst (λ Y. Typed mode F e c (seen mode E c A ∷ TFun (seen mode E c A) Y ∷ []) Y) r (typed_more e c (seen mode E c A ∷ TFun (seen mode E c A) (seen mode E c B) ∷ []) (seen mode E c B) o h.1)),
+          subst (λ X. Typed mode F e c (X ∷ TFun X (as_seen mode F c B) ∷ []) (as_seen mode F c B)) s
+              (subst (λ Y. Typed mode F e c (as_seen mode E c A ∷ TFun (as_seen mode E c A) Y ∷ []) Y) r (typed_more e c (as_seen mode E c A ∷ TFun (as_seen mode E c A) (as_seen mode E c B) ∷ []) (as_seen mode E c B) o h.1)),
           known_more E F g A h.2,
           known_more E F g B h.3,
         )
     value_typed_more (VProxy b A B f) c T o h =
-        (h.0 ∙ ap₂ TFun (same c A o h.1) (same c B o h.2), known_more E F g A h.1, known_more E F g B h.2, subst (λ X. ValueTyped mode F f b X) (ap₂ TFun (same b A h.4 h.1) (same b B h.4 h.2)) (value_typed_more f b (TFun (seen mode E b A) (seen mode E b B)) h.4 h.3), home_more E F g b h.4)
+        (h.0 ∙ ap₂ TFun (same c A o h.1) (same c B o h.2), known_more E F g A h.1, known_more E F g B h.2, subst (λ X. ValueTyped mode F f b X) (ap₂ TFun (same b A h.4 h.1) (same b B h.4 h.2)) (value_typed_more f b (TFun (as_seen mode E b A) (as_seen mode E b B)) h.4 h.3), home_more E F g b h.4)
     value_typed_more (VSeal b n t v) c T o h = (
       h.0,
       known_more E F g (TAbs n t) h.1,
       opens_same E F g mode b h.5 n ∙ h.2,
       opens_same E F g mode c o n ∙ h.3,
-      subst (λ X. ValueTyped mode F v b X) (same b (TAbs n t) h.5 h.1) (value_typed_more v b (seen mode E b (TAbs n t)) h.5 h.4),
+      subst (λ X. ValueTyped mode F v b X) (same b (TAbs n t) h.5 h.1) (value_typed_more v b (as_seen mode E b (TAbs n t)) h.5 h.4),
       home_more E F g b h.5,
     )
 
@@ -140,4 +140,4 @@ module _ (mode : Mode) (E F : Environment) (g : Widening E F) where
   written_more [] c G o h = h
   written_more (w ∷ ws) c G o h =
       let s = same c w.0 o h.4 in
-      (h.0, h.1 ∙ ap (λ X. X ∷ h.0) s, subst (λ X. ValueTyped mode F w.1 c X) s (value_typed_more w.1 c (seen mode E c w.0) o h.2), written_more ws c h.0 o h.3, known_more E F g w.0 h.4)
+      (h.0, h.1 ∙ ap (λ X. X ∷ h.0) s, subst (λ X. ValueTyped mode F w.1 c X) s (value_typed_more w.1 c (as_seen mode E c w.0) o h.2), written_more ws c h.0 o h.3, known_more E F g w.0 h.4)

@@ -9,25 +9,25 @@ use Rattle.ac_types.specs.First.{or_else}
 use Rattle.ac_types.specs.Types.{Bytes, Typ, TInt, TBool, TStr, TUnit, TExn, TTuple, TList, TOpt, TFun, TAbs, TMine, Typs, no_types, typ, mentions, mentions_of_all}
 use Rattle.ac_terms.specs.Terms.{Home, Main, In, Pattern, Expr, Int, Boolean, Str, Unit', Exn, ExnOf, Tuple, Nil, Empty, Present, Cons, Var, Own, Ref, Lam, Rec, App, Let, If, Seq, Match, Try, Raise, Prim, Marshal, Unmarshal, Val, Evaluated, Bracket, Exprs, no_exprs, expr, Arms, no_arms, arm, Value, VInt, VBool, VStr, VUnit, VExn, VTuple, VNil, VCons, VAbsent, VPresent, VLam, VRec, VProxy, VSeal, Values, value}
 use Rattle.ac_terms.specs.Defs.{Environment, Field}
-use Rattle.ac_code.specs.Constants.{Const, CInt, CBool, CStr, CUnit, CPart, Answer, Gives, Prints, Sends, Receives, Fails, NoSense, meaning}
+use Rattle.ac_code.specs.Constants.{Const, CInt, CBool, CStr, CUnit, CPart, PrimitiveAnswer, Gives, Prints, Sends, Receives, Fails, NoSense, meaning}
 use Rattle.ac_rules.specs.Plain.{packed}
 use Rattle.ac_rules.specs.Views.{Mode, Coloured, opens, representation, view, is_known}
 use Rattle.ac_rules.specs.Typing.{all_of, fields_of}
 use Rattle.ac_rules.specs.Coherent.{IsCoherent}
 use Rattle.ac_terms.proofs.AllLaws.{all_left, all_right, all_append}
-use Rattle.ac_meaning.specs.Worlds.{Exception, World, match_failure, counted, fresh}
+use Rattle.ac_meaning.specs.Worlds.{Exception, World, match_failure_exn, counted, fresh}
 use Rattle.ac_rules.specs.Growth.{Grows}
 use Rattle.ac_outside.specs.Frames.{Frame, Whole, Bad, AtEnd, next_frame}
 use Rattle.ac_meaning.specs.Acts.{Act, Is, Goes, Turns, Applies, Raises, Wrong, becomes, or_raises, within, part, Spent, State, At, Over, after}
 use Rattle.ac_meaning.specs.Substitution.{Written, inst}
 use Rattle.ac_meaning.specs.Matching.{fit, chosen}
 use Rattle.ac_meaning.specs.PrimitiveSteps.{spelled, primitive, answer_at, answered, sending, receiving, exception_of, exception_value, thrown}
-use Rattle.ac_meaning.specs.Brackets.{enclosed, all_enclosed, is_function_value, inside, unsealed, at_name, bracket_step}
+use Rattle.ac_meaning.specs.Brackets.{enclosed, all_enclosed, is_function_value, inside_seal, unsealed_term, at_name, bracket_step}
 use Rattle.ac_meaning.specs.References.{own_field, referred, Route, Nowhere, Once, Twice, route, routed}
 use Rattle.ac_meaning.specs.Packing.{Packing, Refuses, Packs, packs, packing, Arrival, Unfit, Brings, arrival, brings, marshal_step, unmarshal_step}
 use Rattle.ac_meaning.specs.Reduction.{apply, branch, look, look_all, look_main, step}
 use Rattle.ac_meaning.specs.Laws.{IsTypedProgram}
-use Rattle.ac_meaning.specs.Typed.{seen, Known, IsHome, IsLast, own_type, Fits, Typed, AllTyped, ArmsTyped, ValueTyped, ValuesTyped, WrittenTyped}
+use Rattle.ac_meaning.specs.Typed.{as_seen, Known, IsHome, IsLast, own_type, Fits, Typed, AllTyped, ArmsTyped, ValueTyped, ValuesTyped, WrittenTyped}
 use Rattle.ac_meaning.proofs.Arrivals.{Arrives}
 use Rattle.ac_rules.proofs.Growth.{grows_not, known_more, home_more, view_same}
 use Rattle.ac_meaning.proofs.GrowthTyped.{typed_more, all_typed_more, arms_typed_more}
@@ -85,7 +85,7 @@ module _ (arrives : Arrives) (mode : Mode) where
     AllGood c Ts a = ActOk E (TermsOf c Ts) (ValuesOf c Ts) a
 
     abbrev sees : Home → Typ → Typ
-    sees c T = seen mode E c T
+    sees c T = as_seen mode E c T
 
     abbrev AtHome : Home → Type 0
     AtHome c = IsHome mode E c
@@ -106,10 +106,10 @@ module _ (arrives : Arrives) (mode : Mode) where
     know_more : (F : Environment) → Grows E F → (A : Typ) → IsKnown A → Known mode F A
     know_more F g A h = known_more E F g.extends A h
 
-    sees_more : (F : Environment) (c : Home) → AtHome c → Grows E F → (A : Typ) → IsKnown A → sees c A ≡ seen mode F c A
+    sees_more : (F : Environment) (c : Home) → AtHome c → Grows E F → (A : Typ) → IsKnown A → sees c A ≡ as_seen mode F c A
     sees_more F c i g A k = sym (view_same E F g.extends mode c A i k)
 
-    at_more : (F : Environment) (c : Home) → AtHome c → Grows E F → (A : Typ) → IsKnown A → (e : Expr) → Typed mode F e c [] (sees c A) → Typed mode F e c [] (seen mode F c A)
+    at_more : (F : Environment) (c : Home) → AtHome c → Grows E F → (A : Typ) → IsKnown A → (e : Expr) → Typed mode F e c [] (sees c A) → Typed mode F e c [] (as_seen mode F c A)
     at_more F c i g A k e h = subst (λ X. Typed mode F e c [] X) (sees_more F c i g A k) h
 
     -- a part at type A in the whole at type T
@@ -159,7 +159,7 @@ module _ (arrives : Arrives) (mode : Mode) where
     received_ok (Bad n got) c T h = tt
     received_ok AtEnd c T h = tt
 
-    answer_ok : (a : Answer) (c : Home) (T : Typ) → AnswerOf T a → Good c T (answered spelled z a)
+    answer_ok : (a : PrimitiveAnswer) (c : Home) (T : Typ) → AnswerOf T a → Good c T (answered spelled z a)
     answer_ok (Gives k) c T h = spelled_ok k c T h
     answer_ok (Prints s) c T h = (grows_not E coherent, h)
     answer_ok (Sends s) c T h = sent_ok z.has_channel s c T h
@@ -258,7 +258,7 @@ module _ (arrives : Arrives) (mode : Mode) where
         let d = all_enclosed_ok b c Ts s.1 i r s.4 in
         (expr (enclosed b T s.0) d.0, ap (all_enclosed b (typ T Ts)) s.2 ∙ ap (option_map (expr (enclosed b T s.0))) d.1, (sees c T, all_seen E mode c Ts, refl, enclosed_ok b c T s.0 i l s.3, d.2))
 
-    inside_is : (d : Home) (n t : Bytes) (w : Value) → inside n t (VSeal d n t w) ≡ Some (d, w)
+    inside_is : (d : Home) (n t : Bytes) (w : Value) → inside_seal n t (VSeal d n t w) ≡ Some (d, w)
     inside_is d n t w = ap (λ b. cond b (Some (d, w)) None) (and_true (bytes_refl n) (bytes_refl t))
 
     -- n.t, whose representation is R
@@ -275,11 +275,11 @@ module _ (arrives : Arrives) (mode : Mode) where
         let K = representation_known E coherent n t R r in
         let C = view_open E coherent mode c n t R r k q in
         let D = view_open E coherent mode s.0 n t R r k s.4 in
-        let e : inside n t v ≡ Some (s.0, s.1) = ap (inside n t) s.2 ∙ inside_is s.0 n t s.1 in
-        subst (λ o. Good c (sees c (TAbs n t)) (becomes (unsealed o (Some R)))) (sym e) (C, K, (refl, subst (λ X. ValueTyped mode E s.1 s.0 X) D s.5, K), s.6)
+        let e : inside_seal n t v ≡ Some (s.0, s.1) = ap (inside_seal n t) s.2 ∙ inside_is s.0 n t s.1 in
+        subst (λ o. Good c (sees c (TAbs n t)) (becomes (unsealed_term o (Some R)))) (sym e) (C, K, (refl, subst (λ X. ValueTyped mode E s.1 s.0 X) D s.5, K), s.6)
     name_ok b c n t v R r k false false p q a h =
         let s = shape mode E v b (sees b (TAbs n t)) (TAbs n t) (view_shut E mode b n t p) h in
-        let e : inside n t v ≡ Some (s.0, s.1) = ap (inside n t) s.2 ∙ inside_is s.0 n t s.1 in
+        let e : inside_seal n t v ≡ Some (s.0, s.1) = ap (inside_seal n t) s.2 ∙ inside_is s.0 n t s.1 in
         let it : ValueTyped mode E (VSeal s.0 n t s.1) c (TAbs n t) = (refl, s.3, s.4, q, s.5, s.6) in
         let there : ValueTyped mode E v c (sees c (TAbs n t)) = subst (λ X. ValueTyped mode E v c X) (sym (view_shut E mode c n t q)) (subst (λ x. ValueTyped mode E x c (TAbs n t)) (sym s.2) it) in
         subst (λ o. Good c (sees c (TAbs n t)) (cond (is_some o) (Goes (Evaluated (TAbs n t) v)) Wrong)) (sym e) (refl, there, k)
@@ -351,7 +351,7 @@ module _ (arrives : Arrives) (mode : Mode) where
       kept (If e a b) c T i h =
           one_part c TBool T (λ x. If x a b) (λ v. branch v a b) (look mode z c e) (kept e c TBool i h.0) (λ F s g p. (p, more F c i g a [] T h.1, more F c i g b [] T h.2)) (λ v p. branch_ok c v a b T p h.1 h.2)
       kept (Match e arms) c T i h =
-          one_part c h.0 T (λ x. Match x arms) (λ v. or_raises match_failure (chosen arms v)) (look mode z c e) (kept e c h.0 i h.1) (λ F s g p. (h.0, p, arms_more F c i g arms h.0 T h.2, h.3)) (λ v p. chosen_ok c arms v h.0 T match_failure h.2 p)
+          one_part c h.0 T (λ x. Match x arms) (λ v. or_raises match_failure_exn (chosen arms v)) (look mode z c e) (kept e c h.0 i h.1) (λ F s g p. (h.0, p, arms_more F c i g arms h.0 T h.2, h.3)) (λ v p. chosen_ok c arms v h.0 T match_failure_exn h.2 p)
       kept (Seq no_exprs) c T i h = absurd (subst (λ X. IsLast X T) h.1 h.2)
       kept (Seq (expr e no_exprs)) c T i h =
           let a = h.1 in

@@ -9,9 +9,9 @@ use Rattle.ac_types.specs.First.{first_failing, first_some}
 use Rattle.ac_types.proofs.Same.{both_true, and_true, same_eq, bytes_eq, bytes_refl}
 use Rattle.ac_types.proofs.FirstLaws.{none≢some, some_eq}
 use Rattle.ac_types.specs.Types.{Bytes, same_bytes, Typ, TTuple, TList, TOpt, TFun, TAbs, TMine, Typs, no_types, typ, agree, mentions, mentions_of_all, all_with_each, with_mine, all_with_mine}
-use Rattle.ac_types.specs.Sigs.{Typed_name, Sig_type, Signature, Range, Constraint, Ranges, Exact, under, type_under, is_abstract, stands}
+use Rattle.ac_types.specs.Sigs.{Typed_name, Sig_type, Signature, Range, Constraint, Ranges, Exact, named_type, type_under, is_abstract, stand_in}
 use Rattle.ac_terms.specs.Terms.{Home, In}
-use Rattle.ac_terms.specs.Defs.{Environment, Entry, Field, Module, Import, Def, AModule, AnImport, AMark, signature, module_of, def_of, module_at, name_at, names, find_name}
+use Rattle.ac_terms.specs.Defs.{Environment, Entry, Field, Module, Import, Def, AModule, AnImport, AMark, signature, module_of, def_of, module_at, name_at, names, find_name, module_behind, field_number}
 use Rattle.ac_terms.specs.Names.{text_of_def, text_of_entry, name_by}
 use Rattle.ac_terms.specs.Spelling.{module_bytes, import_bytes, text_of_import}
 use Rattle.ac_terms.specs.Parts.{OfType, sig_types, term_parts}
@@ -19,7 +19,7 @@ use Rattle.ac_terms.proofs.DefBack.{types_of, one_text-one_signature, one_text-o
 use Rattle.ac_rules.specs.Views.{Coloured, view, representation, type_of_entry, import_type, opened_at_home, has_name, is_known, are_known}
 use Rattle.ac_rules.specs.Links.{by_version, MayLink, Link_fault, fault_at, conditions, fails, is_exact, is_equal, has_val_spec, missing_spec, is_like, unlike}
 use Rattle.ac_rules.specs.Typing.{fields_of, value_in}
-use Rattle.ac_rules.specs.Modules.{inside, covers_type, field_named, covers_val, uncovered, mine, all_mine}
+use Rattle.ac_rules.specs.Modules.{inside_struct, covers_type, field_named, covers_val, uncovered, mine, all_mine}
 use Rattle.ac_rules.specs.Coherent.{IsCoherent, link_at}
 use Rattle.ac_version.specs.Versions.{fit}
 use Rattle.ac_rules.proofs.Rules.{map_some, then_some, has_some, agree_some, module_is, none_of, map_none}
@@ -28,7 +28,7 @@ use Rattle.ac_rules.proofs.PartLaws.{AllPass, pass_left, pass_right, pass_under}
 use Rattle.ac_terms.proofs.AllLaws.{all_left, all_right, all_implies, all_append}
 use Rattle.ac_rules.proofs.ViewLaws.{or_none, or_none_left, exact_keeps, keeps_name, exact_not_least, foreign_view}
 use Rattle.ac_rules.proofs.BareLaws.{known_has}
-use Rattle.ac_meaning.specs.References.{module_behind, field_number, target, is_by_version, Once, Twice, through, seen_inside, route}
+use Rattle.ac_meaning.specs.References.{target, is_by_version, Once, Twice, through, seen_inside, route}
 use Rattle.ac_meaning.specs.Typed.{own_type}
 use Rattle.ac_meaning.proofs.Homes.{sees_own, sees_other, opened_is, representation_known, view_open}
 use Rattle.ac_rules.proofs.KnownTypes.{HasValue, has_value, def_there, declared_known, val_early, val_closed}
@@ -83,14 +83,14 @@ spec_at test (x ∷ xs) t o none e = by (spec_at test xs t o q.1) (same_bytes x.
     by more true n r = (x, not_false (test x) q.0, bytes_eq x.name t n, some_eq r)
     by more false n r = more r
 
-val_at : (test : Typed_name → Bool) (xs : List Typed_name) (x : Bytes) (U : Typ) → first_failing test xs ≡ None → under x xs ≡ Some U → (v : Typed_name) × (test v ≡ true) × (v.name ≡ x) × (v.ty ≡ U)
+val_at : (test : Typed_name → Bool) (xs : List Typed_name) (x : Bytes) (U : Typ) → first_failing test xs ≡ None → named_type x xs ≡ Some U → (v : Typed_name) × (test v ≡ true) × (v.name ≡ x) × (v.ty ≡ U)
 val_at test [] x U none e = absurd (none≢some e)
 val_at test (v ∷ xs) x U none e = by (val_at test xs x U q.1) (same_bytes v.name x) refl e
   where
     q : (not (test v) ≡ false) × (position (λ y. not (test y)) xs ≡ None)
     q = no_first (λ y. not (test y)) v xs none
 
-    by : (under x xs ≡ Some U → (w : Typed_name) × (test w ≡ true) × (w.name ≡ x) × (w.ty ≡ U)) → (b : Bool) → same_bytes v.name x ≡ b → elim b as (λ z. Option Typ) [ true ↦ Some v.ty | false ↦ under x xs ] ≡ Some U → (w : Typed_name) × (test w ≡ true) × (w.name ≡ x) × (w.ty ≡ U)
+    by : (named_type x xs ≡ Some U → (w : Typed_name) × (test w ≡ true) × (w.name ≡ x) × (w.ty ≡ U)) → (b : Bool) → same_bytes v.name x ≡ b → elim b as (λ z. Option Typ) [ true ↦ Some v.ty | false ↦ named_type x xs ] ≡ Some U → (w : Typed_name) × (test w ≡ true) × (w.name ≡ x) × (w.ty ≡ U)
     by more true n r = (v, not_false (test v) q.0, bytes_eq v.name x n, some_eq r)
     by more false n r = more r
 
@@ -127,16 +127,16 @@ version_passes k m rs star r =
     (map_none Link_fault.Spec (missing_spec false k.sig m.sig) (or_none_left specs (first_some (likes ∷ [])) b), map_none Link_fault.Like (unlike k m) (or_none_left likes None c))
 
 -- a module covers its signature: a type is there, a manifest one is equal, and so is a value
-covers_manifest : (m : Module) → uncovered m ≡ None → (t : Bytes) (T : Typ) → type_under t m.sig.types ≡ Some (Some T) → under t m.types ≡ Some (inside m T)
+covers_manifest : (m : Module) → uncovered m ≡ None → (t : Bytes) (T : Typ) → type_under t m.sig.types ≡ Some (Some T) → named_type t m.types ≡ Some (inside_struct m T)
 covers_manifest m u t T e =
     let x = spec_at (covers_type m) m.sig.types t (Some T) (or_none_left _ _ u) e in
     let there : covers_type m (record x.0 { manifest = Some T }) ≡ true = ap (λ o. covers_type m (record x.0 { manifest = o })) (sym x.3) ∙ x.1 in
-    ap (λ n. under n m.types) (sym x.2) ∙ has_some (under x.0.name m.types) (inside m T) there
+    ap (λ n. named_type n m.types) (sym x.2) ∙ has_some (named_type x.0.name m.types) (inside_struct m T) there
 
-covers_value : (m : Module) → uncovered m ≡ None → (x : Bytes) (U : Typ) → under x m.sig.vals ≡ Some U → field_named x m.fields ≡ Some (inside m U)
+covers_value : (m : Module) → uncovered m ≡ None → (x : Bytes) (U : Typ) → named_type x m.sig.vals ≡ Some U → field_named x m.fields ≡ Some (inside_struct m U)
 covers_value m u x U e =
     let v = val_at (covers_val m) m.sig.vals x U (map_none _ (first_failing (covers_val m) m.sig.vals) (or_none _ _ u)) e in
-    ap (λ n. field_named n m.fields) (sym v.2) ∙ has_some (field_named v.0.name m.fields) (inside m v.0.ty) v.1 ∙ ap (λ T. Some (inside m T)) v.3
+    ap (λ n. field_named n m.fields) (sym v.2) ∙ has_some (field_named v.0.name m.fields) (inside_struct m v.0.ty) v.1 ∙ ap (λ T. Some (inside_struct m T)) v.3
 
 module _ (E : Environment) (coherent : IsCoherent E) where
   abbrev Early : ℕ → Bytes × Bytes → Bool
@@ -169,23 +169,23 @@ module _ (E : Environment) (coherent : IsCoherent E) where
       one_text-one_types refs e.def w.entry.def w.text (coherent.within_bounds i e.def d) (coherent.within_bounds j w.entry.def q) (x ∙ ap Some same_text) w.has_text
 
   -- the type of the least entry of a name is that of any with a text
-  least_type : (n t : Bytes) (R : Typ) (i : ℕ) (e : Entry) → find_name E n ≡ Some i → slice_get E i ≡ Some e → names e.name n ≡ true → (d : Def) → e.def ≡ d → type_of_entry E t d e.link ≡ Some R → (j : ℕ) (w : HasText j n) → under t (types_of w.entry.def) ≡ Some R
+  least_type : (n t : Bytes) (R : Typ) (i : ℕ) (e : Entry) → find_name E n ≡ Some i → slice_get E i ≡ Some e → names e.name n ≡ true → (d : Def) → e.def ≡ d → type_of_entry E t d e.link ≡ Some R → (j : ℕ) (w : HasText j n) → named_type t (types_of w.entry.def) ≡ Some R
   least_type n t R i e f g k (AModule m) p h j w =
       let x : text_of_def E e.def ≡ Some (module_bytes refs m) = ap (text_of_def E) p in
       let l = one_list i e n (module_bytes refs m) g (names_some e.name n k) x j w in
-      ap (under t) (sym l ∙ ap types_of p) ∙ h
+      ap (named_type t) (sym l ∙ ap types_of p) ∙ h
   least_type n t R i e f g k (AnImport m) p h j w = by m.constraint refl h
     where
-      by : (c : Constraint) → m.constraint ≡ c → import_type E t m c e.link ≡ Some R → under t (types_of w.entry.def) ≡ Some R
+      by : (c : Constraint) → m.constraint ≡ c → import_type E t m c e.link ≡ Some R → named_type t (types_of w.entry.def) ≡ Some R
       by (Ranges rs star) c r =
           let x : text_of_def E e.def ≡ Some (import_bytes m) = ap (text_of_def E) p ∙ ap (λ z. text_of_import z m) c in
           let l = one_list i e n (import_bytes m) g (names_some e.name n k) x j w in
-          ap (under t) (sym l ∙ ap types_of p) ∙ r
+          ap (named_type t) (sym l ∙ ap types_of p) ∙ r
       by (Exact q) c r = absurd (exact_not_least E coherent n q i e m f g k p c)
   least_type n t R i e f g k (AMark s) p h j w = absurd (none≢some h)
 
   -- the representation of a name is the type of each entry of that name that has a text
-  rep_there : (n t : Bytes) (R : Typ) → representation E n t ≡ Some R → (j : ℕ) (w : HasText j n) → under t (types_of w.entry.def) ≡ Some R
+  rep_there : (n t : Bytes) (R : Typ) → representation E n t ≡ Some R → (j : ℕ) (w : HasText j n) → named_type t (types_of w.entry.def) ≡ Some R
   rep_there n t R h j w =
       let p = then_some (λ i. option_and_then (λ (e : Entry). type_of_entry E t e.def e.link) (slice_get E i)) (find_name E n) R h in
       let k = found_keeps E n p.0 p.1 in
@@ -273,11 +273,11 @@ module _ (E : Environment) (coherent : IsCoherent E) where
           no
 
   -- the types of a definition's values and its own types mention no name of it
-  foreign_value : (n : Bytes) (j : ℕ) (w : HasText j n) (s : Signature) (x : Bytes) (U : Typ) → signature w.entry.def ≡ Some s → under x s.vals ≡ Some U → list_all (Foreign j) (mentions U) ≡ true
+  foreign_value : (n : Bytes) (j : ℕ) (w : HasText j n) (s : Signature) (x : Bytes) (U : Typ) → signature w.entry.def ≡ Some s → named_type x s.vals ≡ Some U → list_all (Foreign j) (mentions U) ≡ true
   foreign_value n j w s x U h u =
       let l = least_for n j w in
       let k : name_at E j ≡ Some n = ap (option_and_then (λ (z : Entry). z.name)) w.is_there ∙ w.has_name in
-      foreign_early n l j k U (val_early E coherent l.at l.entry.def l.sig x U (def_there E coherent l.at l.entry l.is_there) l.has_sig (ap (λ (z : Signature). under x z.vals) (one_sig n l j w s h) ∙ u))
+      foreign_early n l j k U (val_early E coherent l.at l.entry.def l.sig x U (def_there E coherent l.at l.entry l.is_there) l.has_sig (ap (λ (z : Signature). named_type x z.vals) (one_sig n l j w s h) ∙ u))
 
   types_early : (i : ℕ) (d : Def) → def_of E i ≡ Some d → AllPass (Early i) (map (λ (t : Typed_name). OfType t.ty) (types_of d))
   types_early i (AModule m) h =
@@ -287,12 +287,12 @@ module _ (E : Environment) (coherent : IsCoherent E) where
   types_early i (AnImport m) h = pass_right (Early i) (map OfType (sig_types m.sig)) (map (λ (t : Typed_name). OfType t.ty) m.like) (coherent.mentions i (AnImport m) h)
   types_early i (AMark s) h = refl
 
-  foreign_type : (n : Bytes) (j : ℕ) (w : HasText j n) (t : Bytes) (R : Typ) → under t (types_of w.entry.def) ≡ Some R → list_all (Foreign j) (mentions R) ≡ true
+  foreign_type : (n : Bytes) (j : ℕ) (w : HasText j n) (t : Bytes) (R : Typ) → named_type t (types_of w.entry.def) ≡ Some R → list_all (Foreign j) (mentions R) ≡ true
   foreign_type n j w t R h =
       let l = least_for n j w in
       let k : name_at E j ≡ Some n = ap (option_and_then (λ (z : Entry). z.name)) w.is_there ∙ w.has_name in
       let same_types = one_list l.at l.entry n l.text l.is_there l.has_name l.has_text j w in
-      foreign_early n l j k R (pass_under (Early l.at) (types_of l.entry.def) t R (types_early l.at l.entry.def (def_there E coherent l.at l.entry l.is_there)) (ap (under t) same_types ∙ h))
+      foreign_early n l j k R (pass_under (Early l.at) (types_of l.entry.def) t R (types_early l.at l.entry.def (def_there E coherent l.at l.entry l.is_there)) (ap (named_type t) same_types ∙ h))
 
   -- what a home sees of a type is known
   mutual
@@ -319,20 +319,20 @@ module _ (E : Environment) (coherent : IsCoherent E) where
   record FieldOf (j : ℕ) (n x : Bytes) (m : Module) (U : Typ) : Type 0 where
     number : ℕ
     found : field_number x (fields_of E (In j)) ≡ Some number
-    own : own_type E (In j) number ≡ Some (inside m U)
-    alike_here : view Coloured E (In j) (inside m U) ≡ view Coloured E (In j) (with_mine (TAbs n) U)
+    own : own_type E (In j) number ≡ Some (inside_struct m U)
+    alike_here : view Coloured E (In j) (inside_struct m U) ≡ view Coloured E (In j) (with_mine (TAbs n) U)
 
   fields_there : (j : ℕ) (m : Module) → def_of E j ≡ Some (AModule m) → fields_of E (In j) ≡ m.fields
   fields_there j m d = ap (λ (o : Option Module). elim o as (λ z. List Field) [ None ↦ [] | Some k ↦ k.fields ]) (ap (option_and_then module_of) d)
 
   abbrev struct_type : Module → Bytes → Typ
-  struct_type m t = elim (under t m.types) [ None ↦ TMine t | Some U ↦ U ]
+  struct_type m t = elim (named_type t m.types) [ None ↦ TMine t | Some U ↦ U ]
 
-  module_field : (j : ℕ) (n : Bytes) (w : HasText j n) (m : Module) → w.entry.def ≡ AModule m → (x : Bytes) (U : Typ) → under x m.sig.vals ≡ Some U → FieldOf j n x m U
+  module_field : (j : ℕ) (n : Bytes) (w : HasText j n) (m : Module) → w.entry.def ≡ AModule m → (x : Bytes) (U : Typ) → named_type x m.sig.vals ≡ Some U → FieldOf j n x m U
   module_field j n w m p x U u =
       let d : def_of E j ≡ Some (AModule m) = def_there E coherent j w.entry w.is_there ∙ ap Some p in
       let e = fields_there j m d in
-      let f = field_at x m.fields (inside m U) (covers_value m (covered j m d) x U u) in
+      let f = field_at x m.fields (inside_struct m U) (covers_value m (covered j m d) x U u) in
       let s : signature w.entry.def ≡ Some m.sig = ap signature p in
       let opens_it : has_name E (In j) n ≡ true = ap (λ o. names o n) (ap (option_and_then (λ (z : Entry). z.name)) w.is_there ∙ w.has_name) ∙ bytes_refl n in
       record {
@@ -344,7 +344,7 @@ module _ (E : Environment) (coherent : IsCoherent E) where
             (λ t abs.
             let known : is_known E (n, t) ≡ true = declared_known E coherent j w.entry m.sig n w.is_there s w.has_name t abs in
             let k = known_has E coherent n t known in
-            let r : under t m.types ≡ Some k.1 = ap (λ z. under t (types_of z)) (sym p) ∙ rep_there n t k.1 k.4 j w in
+            let r : named_type t m.types ≡ Some k.1 = ap (λ z. named_type t (types_of z)) (sym p) ∙ rep_there n t k.1 k.4 j w in
             ap (λ o. view Coloured E (In j) (elim o as (λ z. Typ) [ None ↦ TMine t | Some V ↦ V ])) r ∙ sym (view_open E coherent Coloured (In j) n t k.1 k.4 (and_true {a = is_known E (n, t)} {b = true} known refl) opens_it))
             (λ m t h. refl) U (val_closed E coherent j w.entry.def m.sig x U (def_there E coherent j w.entry w.is_there) s u) (val_early E coherent j w.entry.def m.sig x U (def_there E coherent j w.entry w.is_there) s u);
       }
@@ -359,9 +359,9 @@ module _ (E : Environment) (coherent : IsCoherent E) where
   target_is j x m f h k = ap (option_and_then (λ m. option_map (λ f. (m, f)) (field_number x (fields_of E (In m))))) h ∙ ap (option_map (λ f. (m, f))) k
 
   -- the value x of an entry, from outside
-  value_is : (j : ℕ) (e : Entry) (s : Signature) (n x : Bytes) (V : Typ) → slice_get E j ≡ Some e → signature e.def ≡ Some s → e.name ≡ Some n → under x s.vals ≡ Some V → value_in E j x ≡ Some (with_mine (TAbs n) V)
+  value_is : (j : ℕ) (e : Entry) (s : Signature) (n x : Bytes) (V : Typ) → slice_get E j ≡ Some e → signature e.def ≡ Some s → e.name ≡ Some n → named_type x s.vals ≡ Some V → value_in E j x ≡ Some (with_mine (TAbs n) V)
   value_is j e s n x V g h k u =
-      ap (λ (o : Option Signature). option_and_then (λ T. option_map (λ n. with_mine (TAbs n) T) (name_at E j)) (option_and_then (λ (y : Signature). under x y.vals) o)) (ap (option_and_then signature) (def_there E coherent j e g) ∙ h) ∙
+      ap (λ (o : Option Signature). option_and_then (λ T. option_map (λ n. with_mine (TAbs n) T) (name_at E j)) (option_and_then (λ (y : Signature). named_type x y.vals) o)) (ap (option_and_then signature) (def_there E coherent j e g) ∙ h) ∙
       ap (option_and_then (λ T. option_map (λ n. with_mine (TAbs n) T) (name_at E j))) u ∙
       ap (option_map (λ n. with_mine (TAbs n) V)) (ap (option_and_then (λ (y : Entry). y.name)) g ∙ k)
 
@@ -408,12 +408,12 @@ module _ (E : Environment) (coherent : IsCoherent E) where
           }
 
   -- an import's value that a module has
-  value_there : (exact : Bool) (s w : Signature) (x : Bytes) (U : Typ) → missing_spec exact s w ≡ None → under x w.vals ≡ Some U → (V : Typ) × (under x s.vals ≡ Some V) × (is_equal exact s (Some V) U ≡ true)
+  value_there : (exact : Bool) (s w : Signature) (x : Bytes) (U : Typ) → missing_spec exact s w ≡ None → named_type x w.vals ≡ Some U → (V : Typ) × (named_type x s.vals ≡ Some V) × (is_equal exact s (Some V) U ≡ true)
   value_there exact s w x U none u =
       let v = val_at (has_val_spec exact s) w.vals x U (map_none _ (first_failing (has_val_spec exact s) w.vals) (or_none _ _ none)) u in
-      by (under x s.vals) refl (ap₂ (λ n T. is_equal exact s (under n s.vals) T) (sym v.2) (sym v.3) ∙ v.1)
+      by (named_type x s.vals) refl (ap₂ (λ n T. is_equal exact s (named_type n s.vals) T) (sym v.2) (sym v.3) ∙ v.1)
     where
-      by : (o : Option Typ) → under x s.vals ≡ o → is_equal exact s o U ≡ true → (V : Typ) × (under x s.vals ≡ Some V) × (is_equal exact s (Some V) U ≡ true)
+      by : (o : Option Typ) → named_type x s.vals ≡ o → is_equal exact s o U ≡ true → (V : Typ) × (named_type x s.vals ≡ Some V) × (is_equal exact s (Some V) U ≡ true)
       by None p q = absurd (true≢false (sym q))
       by (Some V) p q = (V, p, q)
 
@@ -422,13 +422,13 @@ module _ (E : Environment) (coherent : IsCoherent E) where
       ap (option_and_then (module_behind j)) g ∙ ap (λ d. elim d as (λ z. Option ℕ) [ AModule y ↦ Some j | AnImport y ↦ e.link | AMark s ↦ None ]) p ∙ sym (ap (option_and_then (λ (y : Entry). y.link)) g) ∙ h
 
   -- what an import's own abstract type stands for in a module is the module's type
-  stands_for : (m : Module) → uncovered m ≡ None → (t : Bytes) (R : Typ) → under t m.types ≡ Some R → inside m (stands m.sig t) ≡ R
+  stands_for : (m : Module) → uncovered m ≡ None → (t : Bytes) (R : Typ) → named_type t m.types ≡ Some R → inside_struct m (stand_in m.sig t) ≡ R
   stands_for m u t R h = by (type_under t m.sig.types) refl
     where
-      own : inside m (TMine t) ≡ R
+      own : inside_struct m (TMine t) ≡ R
       own = ap (λ o. elim o as (λ z. Typ) [ None ↦ TMine t | Some V ↦ V ]) h
 
-      by : (o : Option (Option Typ)) → type_under t m.sig.types ≡ o → inside m (elim o as (λ z. Typ) [ None ↦ TMine t | Some p ↦ elim p as (λ z. Typ) [ None ↦ TMine t | Some T ↦ T ] ]) ≡ R
+      by : (o : Option (Option Typ)) → type_under t m.sig.types ≡ o → inside_struct m (elim o as (λ z. Typ) [ None ↦ TMine t | Some p ↦ elim p as (λ z. Typ) [ None ↦ TMine t | Some T ↦ T ] ]) ≡ R
       by None p = own
       by (Some None) p = own
       by (Some (Some T)) p = some_eq (sym (covers_manifest m u t T p) ∙ h)
@@ -465,7 +465,7 @@ module _ (E : Environment) (coherent : IsCoherent E) where
   foreign_name j n t h = sees_other E (In j) n t (not_true (has_name E (In j) n) h)
 
   -- an import by version and the module that it is linked to
-  module _ (j : ℕ) (v : Entry) (m : Import) (n : Bytes) (g : slice_get E j ≡ Some v) (p : v.def ≡ AnImport m) (k : v.name ≡ Some n) (x : Bytes) (U : Typ) (u : under x m.sig.vals ≡ Some U) where
+  module _ (j : ℕ) (v : Entry) (m : Import) (n : Bytes) (g : slice_get E j ≡ Some v) (p : v.def ≡ AnImport m) (k : v.name ≡ Some n) (x : Bytes) (U : Typ) (u : named_type x m.sig.vals ≡ Some U) where
     by_ranges : (rs : List Range) (star : Bool) → m.constraint ≡ Ranges rs star → IsLinked E j (with_mine (TAbs n) U) (route E j x)
     by_ranges rs star c =
         let d : def_of E j ≡ Some (AnImport m) = def_there E coherent j v g ∙ ap Some p in
@@ -477,7 +477,7 @@ module _ (E : Environment) (coherent : IsCoherent E) where
         let spec = passed.0 in
         let like = passed.1 in
         let V = value_there false k'.sig m.sig x U spec u in
-        let is_V : V.0 ≡ with_mine (stands k'.sig) U = same_eq V.0 (with_mine (stands k'.sig) U) V.2 in
+        let is_V : V.0 ≡ with_mine (stand_in k'.sig) U = same_eq V.0 (with_mine (stand_in k'.sig) U) V.2 in
         let w : HasText j n = record { entry = v; is_there = g; has_name = k; text = import_bytes m; has_text = ap (text_of_def E) p ∙ ap (λ z. text_of_import z m) c } in
         let w' = module_text l.at l.entry l.name k' l.is_there l.has_name l.is_module in
         let F = module_field l.at l.name w' k' l.is_module x V.0 V.1 in
@@ -490,24 +490,24 @@ module _ (E : Environment) (coherent : IsCoherent E) where
         ap (λ o. through true (Some (l.at, F.number)) (Some (with_mine (TAbs n) U)) (option_map (view Coloured E (In l.at)) o)) val_l in
         let own_name : has_name E (In j) n ≡ true = ap (λ o. names o n) (ap (option_and_then (λ (z : Entry). z.name)) g ∙ k) ∙ bytes_refl n in
         let foreign_j = foreign_value n j w m.sig x U sig_j u in
-        let foreign_l = kept_mentions (Foreign l.at) (stands k'.sig) U (subst (λ T. list_all (Foreign l.at) (mentions T) ≡ true) is_V (foreign_value l.name l.at w' k'.sig x V.0 sig_l V.1)) in
-        let across : view Coloured E (In j) (with_mine (TAbs n) U) ≡ view Coloured E (In l.at) (with_mine (λ t. inside k' (stands k'.sig t)) U) =
-        alike E (In j) (In l.at) m.sig (TAbs n) (λ t. inside k' (stands k'.sig t)) (Both j l.at)
+        let foreign_l = kept_mentions (Foreign l.at) (stand_in k'.sig) U (subst (λ T. list_all (Foreign l.at) (mentions T) ≡ true) is_V (foreign_value l.name l.at w' k'.sig x V.0 sig_l V.1)) in
+        let across : view Coloured E (In j) (with_mine (TAbs n) U) ≡ view Coloured E (In l.at) (with_mine (λ t. inside_struct k' (stand_in k'.sig t)) U) =
+        alike E (In j) (In l.at) m.sig (TAbs n) (λ t. inside_struct k' (stand_in k'.sig t)) (Both j l.at)
         (λ t abs.
         let known : is_known E (n, t) ≡ true = declared_known E coherent j v m.sig n g sig_j k t abs in
         let h = known_has E coherent n t known in
-        let liked : under t m.like ≡ Some h.1 = ap (λ z. under t (types_of z)) (sym p) ∙ rep_there n t h.1 h.4 j w in
+        let liked : named_type t m.like ≡ Some h.1 = ap (λ z. named_type t (types_of z)) (sym p) ∙ rep_there n t h.1 h.4 j w in
         let s = spec_at (is_like k' m) m.sig.types t None like (abstract_none (type_under t m.sig.types) abs) in
-        let test : agree (under t k'.types) (under t m.like) ≡ true = ap₂ (λ y o. is_some o || agree (under y k'.types) (under y m.like)) (sym s.2) (sym s.3) ∙ s.1 in
-        let both = agree_some (under t k'.types) (under t m.like) test in
-        let there : under t k'.types ≡ Some h.1 = both.1 ∙ sym both.2 ∙ liked in
+        let test : agree (named_type t k'.types) (named_type t m.like) ≡ true = ap₂ (λ y o. is_some o || agree (named_type y k'.types) (named_type y m.like)) (sym s.2) (sym s.3) ∙ s.1 in
+        let both = agree_some (named_type t k'.types) (named_type t m.like) test in
+        let there : named_type t k'.types ≡ Some h.1 = both.1 ∙ sym both.2 ∙ liked in
         sees_own E (In j) n t own_name ∙ opened_is E coherent n t h.1 h.4 ∙
-        sym (ap (view Coloured E (In l.at)) (stands_for k' (covered l.at k' d') t h.1 there) ∙ foreign_view E (In l.at) h.1 (foreign_type l.name l.at w' t h.1 (ap (λ z. under t (types_of z)) l.is_module ∙ there))))
+        sym (ap (view Coloured E (In l.at)) (stands_for k' (covered l.at k' d') t h.1 there) ∙ foreign_view E (In l.at) h.1 (foreign_type l.name l.at w' t h.1 (ap (λ z. named_type t (types_of z)) l.is_module ∙ there))))
         (λ q t b. let e = both_true (Foreign j (q, t)) (Foreign l.at (q, t)) b in foreign_name j q t e.0 ∙ sym (foreign_name l.at q t e.1)) U
         (val_closed E coherent j v.def m.sig x U (def_there E coherent j v g) sig_j u) (both_foreign j l.at (mentions U) foreign_j foreign_l) in
-        let inside_V : inside k' V.0 ≡ with_mine (λ t. inside k' (stands k'.sig t)) U = ap (inside k') is_V ∙ rewritten_twice (λ t. struct_type k' t) (stands k'.sig) U in
+        let inside_V : inside_struct k' V.0 ≡ with_mine (λ t. inside_struct k' (stand_in k'.sig t)) U = ap (inside_struct k') is_V ∙ rewritten_twice (λ t. struct_type k' t) (stand_in k'.sig) U in
         subst (IsLinked E j (with_mine (TAbs n) U)) (sym way)
-        (refl, view_known (In l.at) (with_mine (TAbs l.name) V.0) ((known_types E coherent).values l.at x (with_mine (TAbs l.name) V.0) val_l), (inside k' V.0, F.own, sym F.alike_here, across ∙ ap (view Coloured E (In l.at)) (sym inside_V)))
+        (refl, view_known (In l.at) (with_mine (TAbs l.name) V.0) ((known_types E coherent).values l.at x (with_mine (TAbs l.name) V.0) val_l), (inside_struct k' V.0, F.own, sym F.alike_here, across ∙ ap (view Coloured E (In l.at)) (sym inside_V)))
 
     by_exact : (q : Bytes) → m.constraint ≡ Exact q → IsLinked E j (with_mine (TAbs n) U) (route E j x)
     by_exact q c =
@@ -527,10 +527,10 @@ module _ (E : Environment) (coherent : IsCoherent E) where
         let val_j = value_is j v m.sig n x U g (ap signature p) k u in
         let way : route E j x ≡ Once l.at F.number (with_mine (TAbs n) U) =
         route_is j x false (Some (l.at, F.number)) (Some (with_mine (TAbs n) U)) (ap (λ o. option_map_or is_by_version o false) d ∙ ap (λ z. not (is_exact z)) c) (target_is j x l.at F.number (behind_import j v m l.at g p l.linked) F.found) val_j in
-        subst (IsLinked E j (with_mine (TAbs n) U)) (sym way) (refl, (inside k' V.0, F.own, F.alike_here ∙ ap₂ (λ y T. view Coloured E (In l.at) (with_mine (TAbs y) T)) same_name is_V))
+        subst (IsLinked E j (with_mine (TAbs n) U)) (sym way) (refl, (inside_struct k' V.0, F.own, F.alike_here ∙ ap₂ (λ y T. view Coloured E (In l.at) (with_mine (TAbs y) T)) same_name is_V))
 
   -- a module's own value
-  by_module : (j : ℕ) (v : Entry) (m : Module) (n : Bytes) → slice_get E j ≡ Some v → v.def ≡ AModule m → v.name ≡ Some n → (x : Bytes) (U : Typ) → under x m.sig.vals ≡ Some U → IsLinked E j (with_mine (TAbs n) U) (route E j x)
+  by_module : (j : ℕ) (v : Entry) (m : Module) (n : Bytes) → slice_get E j ≡ Some v → v.def ≡ AModule m → v.name ≡ Some n → (x : Bytes) (U : Typ) → named_type x m.sig.vals ≡ Some U → IsLinked E j (with_mine (TAbs n) U) (route E j x)
   by_module j v m n g p k x U u =
       let d : def_of E j ≡ Some (AModule m) = def_there E coherent j v g ∙ ap Some p in
       let w = module_text j v n m g k p in
@@ -538,7 +538,7 @@ module _ (E : Environment) (coherent : IsCoherent E) where
       let val_j = value_is j v m.sig n x U g (ap signature p) k u in
       let behind : option_and_then (module_behind j) (slice_get E j) ≡ Some j = ap (option_and_then (module_behind j)) g ∙ ap (λ d. elim d as (λ z. Option ℕ) [ AModule y ↦ Some j | AnImport y ↦ v.link | AMark s ↦ None ]) p in
       let way : route E j x ≡ Once j F.number (with_mine (TAbs n) U) = route_is j x false (Some (j, F.number)) (Some (with_mine (TAbs n) U)) (ap (λ o. option_map_or is_by_version o false) d) (target_is j x j F.number behind F.found) val_j in
-      subst (IsLinked E j (with_mine (TAbs n) U)) (sym way) (refl, (inside m U, F.own, F.alike_here))
+      subst (IsLinked E j (with_mine (TAbs n) U)) (sym way) (refl, (inside_struct m U, F.own, F.alike_here))
 
   linked_values : (j : ℕ) (x : Bytes) (A : Typ) → value_in E j x ≡ Some A → IsLinked E j A (route E j x)
   linked_values j x A h = subst (λ T. IsLinked E j T (route E j x)) v.is_outside (by v.entry.def refl)
@@ -547,11 +547,11 @@ module _ (E : Environment) (coherent : IsCoherent E) where
       v = has_value E coherent j x A h
 
       by_import : (m : Import) → v.entry.def ≡ AnImport m → (c : Constraint) → m.constraint ≡ c → IsLinked E j (with_mine (TAbs v.name) v.ty) (route E j x)
-      by_import m p (Ranges rs star) c = by_ranges j v.entry m v.name v.is_there p v.has_name x v.ty (ap (λ (s : Signature). under x s.vals) (some_eq (sym (ap signature p) ∙ v.has_sig)) ∙ v.has_ty) rs star c
-      by_import m p (Exact q) c = by_exact j v.entry m v.name v.is_there p v.has_name x v.ty (ap (λ (s : Signature). under x s.vals) (some_eq (sym (ap signature p) ∙ v.has_sig)) ∙ v.has_ty) q c
+      by_import m p (Ranges rs star) c = by_ranges j v.entry m v.name v.is_there p v.has_name x v.ty (ap (λ (s : Signature). named_type x s.vals) (some_eq (sym (ap signature p) ∙ v.has_sig)) ∙ v.has_ty) rs star c
+      by_import m p (Exact q) c = by_exact j v.entry m v.name v.is_there p v.has_name x v.ty (ap (λ (s : Signature). named_type x s.vals) (some_eq (sym (ap signature p) ∙ v.has_sig)) ∙ v.has_ty) q c
 
       by : (d : Def) → v.entry.def ≡ d → IsLinked E j (with_mine (TAbs v.name) v.ty) (route E j x)
-      by (AModule m) p = by_module j v.entry m v.name v.is_there p v.has_name x v.ty (ap (λ (s : Signature). under x s.vals) (some_eq (sym (ap signature p) ∙ v.has_sig)) ∙ v.has_ty)
+      by (AModule m) p = by_module j v.entry m v.name v.is_there p v.has_name x v.ty (ap (λ (s : Signature). named_type x s.vals) (some_eq (sym (ap signature p) ∙ v.has_sig)) ∙ v.has_ty)
       by (AnImport m) p = by_import m p m.constraint refl
       by (AMark s) p = absurd (none≢some (sym (ap signature p) ∙ v.has_sig))
 

@@ -24,9 +24,9 @@ use Rattle.ac_meaning.specs.BarePacking.{bare_packed}
 use Rattle.ac_meaning.specs.Packing.{Packing, Refuses, Packs, packs, packing, landing, marshal_step}
 use Rattle.ac_meaning.specs.Reduction.{look, step}
 use Rattle.ac_meaning.specs.Laws.{IsTypedProgram}
-use Rattle.ac_meaning.specs.Typed.{IsHome, Typed, AllTyped, ValueTyped, seen, Known}
+use Rattle.ac_meaning.specs.Typed.{IsHome, Typed, AllTyped, ValueTyped, as_seen, Known}
 use Rattle.ac_meaning.specs.TypedStates.{IsTyped}
-use Rattle.ac_meaning.specs.Redexes.{Redex, redex, redex_all, stands, crosses}
+use Rattle.ac_meaning.specs.Redexes.{Redex, redex, redex_all, stands_next, crosses}
 use Rattle.ac_meaning.specs.ReadBack.{IsReadBack, Marshals}
 use Rattle.ac_meaning.proofs.Homes.{lower}
 use Rattle.ac_meaning.proofs.KnownNames.{known_types}
@@ -75,7 +75,7 @@ module _ (mode : Mode) (E : Environment) where
   or_fine None p h k = k
   or_fine (Some r) p h k = h
 
-  crosses_fine : (c : Home) (e : Expr) (b : Bool) → RedexFine (stands c e) → RedexFine (crosses c e b)
+  crosses_fine : (c : Home) (e : Expr) (b : Bool) → RedexFine (stands_next c e) → RedexFine (crosses c e b)
   crosses_fine c e true h = tt
   crosses_fine c e false h = h
 
@@ -96,23 +96,23 @@ module _ (mode : Mode) (E : Environment) where
     redex_fine (Present e) c T i h w = redex_fine e c h.0 i h.2 w
     redex_fine (Cons a b) c T i h w = or_fine (redex c a) (redex c b) (redex_fine a c h.0 i h.2 w.0) (redex_fine b c (TList h.0) i h.3 w.1)
     redex_fine (App f a) c T i h w =
-        or_fine (redex c f) (or_else (redex c a) (stands c (App f a))) (redex_fine f c (TFun h.0 T) i h.1 w.0) (or_fine (redex c a) (stands c (App f a)) (redex_fine a c h.0 i h.2 w.1) (T, i, h, w))
-    redex_fine (Let A e b) c T i h w = or_fine (redex c e) (stands c (Let A e b)) (redex_fine e c (seen mode E c A) i h.0 w.1) (T, i, h, w)
-    redex_fine (If e a b) c T i h w = or_fine (redex c e) (stands c (If e a b)) (redex_fine e c TBool i h.0 w.0) (T, i, h, w)
-    redex_fine (Match e arms) c T i h w = or_fine (redex c e) (stands c (Match e arms)) (redex_fine e c h.0 i h.1 w.0) (T, i, h, w)
+        or_fine (redex c f) (or_else (redex c a) (stands_next c (App f a))) (redex_fine f c (TFun h.0 T) i h.1 w.0) (or_fine (redex c a) (stands_next c (App f a)) (redex_fine a c h.0 i h.2 w.1) (T, i, h, w))
+    redex_fine (Let A e b) c T i h w = or_fine (redex c e) (stands_next c (Let A e b)) (redex_fine e c (as_seen mode E c A) i h.0 w.1) (T, i, h, w)
+    redex_fine (If e a b) c T i h w = or_fine (redex c e) (stands_next c (If e a b)) (redex_fine e c TBool i h.0 w.0) (T, i, h, w)
+    redex_fine (Match e arms) c T i h w = or_fine (redex c e) (stands_next c (Match e arms)) (redex_fine e c h.0 i h.1 w.0) (T, i, h, w)
     redex_fine (Seq no_exprs) c T i h w = (T, i, h, w)
     redex_fine (Seq (expr e no_exprs)) c T i h w = (T, i, h, w)
-    redex_fine (Seq (expr e (expr d es))) c T i h w = or_fine (redex c e) (stands c (Seq (expr e (expr d es)))) (redex_fine e c h.1.0 i h.1.3 w.1.0) (T, i, h, w)
-    redex_fine (Raise A e) c T i h w = or_fine (redex c e) (stands c (Raise A e)) (redex_fine e c TExn i h.1 w.1) (T, i, h, w)
-    redex_fine (Try e arms) c T i h w = or_fine (redex c e) (stands c (Try e arms)) (redex_fine e c T i h.0 w.0) (T, i, h, w)
-    redex_fine (Prim k es) c T i h w = or_fine (redex_all c es) (stands c (Prim k es)) (all_redex_fine es c h.0 i h.1 w.1) (T, i, h, w)
+    redex_fine (Seq (expr e (expr d es))) c T i h w = or_fine (redex c e) (stands_next c (Seq (expr e (expr d es)))) (redex_fine e c h.1.0 i h.1.3 w.1.0) (T, i, h, w)
+    redex_fine (Raise A e) c T i h w = or_fine (redex c e) (stands_next c (Raise A e)) (redex_fine e c TExn i h.1 w.1) (T, i, h, w)
+    redex_fine (Try e arms) c T i h w = or_fine (redex c e) (stands_next c (Try e arms)) (redex_fine e c T i h.0 w.0) (T, i, h, w)
+    redex_fine (Prim k es) c T i h w = or_fine (redex_all c es) (stands_next c (Prim k es)) (all_redex_fine es c h.0 i h.1 w.1) (T, i, h, w)
     redex_fine (Marshal A m e) c T i h w =
-        or_fine (redex c m) (or_else (redex c e) (stands c (Marshal A m e))) (redex_fine m c TStr i h.1 w.1) (or_fine (redex c e) (stands c (Marshal A m e)) (redex_fine e c (seen mode E c A) i h.2 w.2) (T, i, h, w))
-    redex_fine (Unmarshal A e) c T i h w = or_fine (redex c e) (stands c (Unmarshal A e)) (redex_fine e c TStr i h.1 w.1) (T, i, h, w)
+        or_fine (redex c m) (or_else (redex c e) (stands_next c (Marshal A m e))) (redex_fine m c TStr i h.1 w.1) (or_fine (redex c e) (stands_next c (Marshal A m e)) (redex_fine e c (as_seen mode E c A) i h.2 w.2) (T, i, h, w))
+    redex_fine (Unmarshal A e) c T i h w = or_fine (redex c e) (stands_next c (Unmarshal A e)) (redex_fine e c TStr i h.1 w.1) (T, i, h, w)
     redex_fine (Own f) c T i h w = (T, i, h, w)
     redex_fine (Ref j x) c T i h w = (T, i, h, w)
     redex_fine (Bracket b A e) c T i h w =
-        or_fine (redex b e) (crosses c (Bracket b A e) (is_function A)) (redex_fine e b (seen mode E b A) h.3 h.2 w) (crosses_fine c (Bracket b A e) (is_function A) (T, i, h, w))
+        or_fine (redex b e) (crosses c (Bracket b A e) (is_function A)) (redex_fine e b (as_seen mode E b A) h.3 h.2 w) (crosses_fine c (Bracket b A e) (is_function A) (T, i, h, w))
     redex_fine (Var k) c T i h w = (T, i, h, w)
     redex_fine (Val A v) c T i h w = absurd h
 
@@ -162,13 +162,13 @@ string_fine E mark T v s e = by_mark (mark_at E mark) e
     by_mark (Some m) h = by_parts m (first_fault 500 1048576 0 (packed_heads T v)) refl h
 
 -- a typed value within the bounds
-value_read : (mode : Mode) (z : World) (c : Home) (T : Typ) (mark s : Bytes) (v : Value) → IsCoherent z.environment → Known mode z.environment T → ValueTyped mode z.environment v c (seen mode z.environment c T) → TypeFits T → ValueWithin v →
+value_read : (mode : Mode) (z : World) (c : Home) (T : Typ) (mark s : Bytes) (v : Value) → IsCoherent z.environment → Known mode z.environment T → ValueTyped mode z.environment v c (as_seen mode z.environment c T) → TypeFits T → ValueWithin v →
     packing z T mark (packed z.environment c v T) ≡ Packs s → (F : Environment) → Grows z.environment F → IsReadBack (landing F T s)
 unfolding packing
 value_read mode z c T mark s v i k t w h e F g =
     let E : Environment = z.environment in
     let p : PValue = bare_packed E (bare_value c v) T in
-    let same : p ≡ packed E c v T = packed_alike mode E v c (seen mode E c T) T t in
+    let same : p ≡ packed E c v T = packed_alike mode E v c (as_seen mode E c T) T t in
     let made : marshalled E mark T p ≡ AString s = a_string (marshalled E mark T p) s (ap (λ x. packing z T mark x) same ∙ e) in
     let fits = packed_fits E i v c T 1 h (string_fine E mark T p s made) in
     read_back_later E F g mark T p s (packable mode E i v c T k t w.0 w.1 fits (packed_small E v c T h)) made
@@ -182,8 +182,8 @@ marshal_read mode T z e h U s m F g =
     let t = r.2 in
     let w = r.3 in
     let x = marshal_parts z c U m.mark m.packed s (look mode z c m.mark) (look mode z c m.packed) m.gives in
-    let good : ActOk E (λ G d. Typed mode G d c [] (seen mode E c U)) (λ G d. ValueTyped mode G d c (seen mode E c U)) (look mode z c m.packed) = kept arrives mode z i m.packed c (seen mode E c U) r.1 t.2 in
-    let typed : ValueTyped mode E x.value c (seen mode E c U) = subst (ActOk E (λ G d. Typed mode G d c [] (seen mode E c U)) (λ G d. ValueTyped mode G d c (seen mode E c U))) x.valued good in
+    let good : ActOk E (λ G d. Typed mode G d c [] (as_seen mode E c U)) (λ G d. ValueTyped mode G d c (as_seen mode E c U)) (look mode z c m.packed) = kept arrives mode z i m.packed c (as_seen mode E c U) r.1 t.2 in
+    let typed : ValueTyped mode E x.value c (as_seen mode E c U) = subst (ActOk E (λ G d. Typed mode G d c [] (as_seen mode E c U)) (λ G d. ValueTyped mode G d c (as_seen mode E c U))) x.valued good in
     let within : ValueWithin x.value = subst (ActWithin (Within false) ValueWithin) x.valued (kept_within comes_within mode z i h.1.1 m.packed c w.2) in
     value_read mode z c U x.mark s x.value i t.3 typed w.0 within x.packs_so F g
 

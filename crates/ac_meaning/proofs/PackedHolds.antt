@@ -15,7 +15,7 @@ use Rattle.ac_terms.specs.Spelling.{value_count}
 use Rattle.ac_terms.specs.Parts.{value_parts}
 use Rattle.ac_terms.specs.PrimitiveTypes.{is_exception}
 use Rattle.ac_rules.specs.Views.{Mode, Plain, Coloured, view, head, opens, is_known, are_known}
-use Rattle.ac_rules.specs.Typing.{is_function, is_function_home, all_of, tuple_parts, list_item, option_item, type_of, seen as seen_type, holds, all_hold, each_holds}
+use Rattle.ac_rules.specs.Typing.{is_function, is_function_home, all_of, tuple_parts, list_item, option_item, type_of, type_seen as seen_type, holds, all_hold, each_holds}
 use Rattle.ac_rules.specs.Plain.{stays, where_there, in_front, may_travel, travelling}
 use Rattle.ac_rules.specs.Coherent.{IsCoherent}
 use Rattle.ac_rules.specs.RoundTrip.{IsPackable}

@@ -22,7 +22,7 @@ use Rattle.ac_meaning.specs.Writes.{Print, Send}
 use Rattle.ac_meaning.specs.Worlds.{World, fresh}
 use Rattle.ac_meaning.specs.Acts.{Act, Goes, Raises, At, Over, Returned, iter}
 use Rattle.ac_rules.specs.Plain.{packed}
-use Rattle.ac_meaning.specs.Packing.{packing, landing, marshal_step, bare_marshal_step, unmarshal_step, marshal_failure, unmarshal_failure}
+use Rattle.ac_meaning.specs.Packing.{packing, landing, marshal_step, bare_marshal_step, unmarshal_step, marshal_failure_exn, unmarshal_failure_exn}
 use Rattle.ac_meaning.specs.Reduction.{step}
 use Rattle.ac_meaning.specs.BareTerms.{WUnit, bare, bare_value}
 use Rattle.ac_meaning.specs.BareReduction as lean
@@ -94,30 +94,30 @@ of_nothing = fresh [] [] false
 abbrev opened : Bytes → Act Expr Value
 opened s = unmarshal_step Coloured of_nothing Main TInt (VStr s)
 
-pub no_bytes : opened [] ≡ Raises (unmarshal_failure (codes "format"))
+pub no_bytes : opened [] ≡ Raises (unmarshal_failure_exn (codes "format"))
 unfolding landing
 no_bytes = refl
 
 -- a truth value of 2; another type; a value that isn't of the type
-pub not_a_truth_value : opened (codes "ACUP" ++ 1 ∷ 0 ∷ 0 ∷ 2 ∷ 2 ∷ 2 ∷ []) ≡ Raises (unmarshal_failure (codes "format"))
+pub not_a_truth_value : opened (codes "ACUP" ++ 1 ∷ 0 ∷ 0 ∷ 2 ∷ 2 ∷ 2 ∷ []) ≡ Raises (unmarshal_failure_exn (codes "format"))
 unfolding is_reserved landing
 not_a_truth_value = refl
 
-pub another_type : opened (codes "ACUP" ++ 1 ∷ 0 ∷ 0 ∷ 2 ∷ 2 ∷ 1 ∷ []) ≡ Raises (unmarshal_failure (codes "type"))
+pub another_type : opened (codes "ACUP" ++ 1 ∷ 0 ∷ 0 ∷ 2 ∷ 2 ∷ 1 ∷ []) ≡ Raises (unmarshal_failure_exn (codes "type"))
 unfolding is_reserved landing
 another_type = refl
 
-pub another_value : opened (codes "ACUP" ++ 1 ∷ 0 ∷ 0 ∷ 1 ∷ 2 ∷ 1 ∷ []) ≡ Raises (unmarshal_failure (codes "value"))
+pub another_value : opened (codes "ACUP" ++ 1 ∷ 0 ∷ 0 ∷ 1 ∷ 2 ∷ 1 ∷ []) ≡ Raises (unmarshal_failure_exn (codes "value"))
 unfolding is_reserved landing
 another_value = refl
 
 -- without the mark
-pub no_mark : marshal_step of_nothing Main TInt (VStr (codes "X")) (VInt (pos 5)) ≡ Raises (marshal_failure (codes "mark"))
+pub no_mark : marshal_step of_nothing Main TInt (VStr (codes "X")) (VInt (pos 5)) ≡ Raises (marshal_failure_exn (codes "mark"))
 unfolding packing
 no_mark = refl
 
 -- the mark comes before what can't travel
-pub mark_first : marshal_step of_nothing Main (TFun TInt TInt) (VStr (codes "X")) (VLam TBool (Var 0)) ≡ Raises (marshal_failure (codes "mark"))
+pub mark_first : marshal_step of_nothing Main (TFun TInt TInt) (VStr (codes "X")) (VLam TBool (Var 0)) ≡ Raises (marshal_failure_exn (codes "mark"))
 unfolding packing
 mark_first = refl
 
@@ -144,12 +144,12 @@ increments = increment ++ a_mark (codes "MK") ∷ []
 abbrev foreign : Value
 foreign = VProxy (In 1) b_t b_t (VProxy (In 0) TInt TInt (VLam TInt (Var 0)))
 
-pub a_foreign_function : marshal_step (fresh increments [] false) Main (TFun b_t b_t) (VStr (codes "MK")) foreign ≡ Raises (marshal_failure (codes "function"))
+pub a_foreign_function : marshal_step (fresh increments [] false) Main (TFun b_t b_t) (VStr (codes "MK")) foreign ≡ Raises (marshal_failure_exn (codes "function"))
 unfolding packing
 a_foreign_function = refl
 
 pub a_foreign_function_bare :
-    bare_marshal_step (fresh increments [] false) (TFun b_t b_t) (bare_value Main (VStr (codes "MK"))) (bare_value Main foreign) ≡ Raises (marshal_failure (codes "function"))
+    bare_marshal_step (fresh increments [] false) (TFun b_t b_t) (bare_value Main (VStr (codes "MK"))) (bare_value Main foreign) ≡ Raises (marshal_failure_exn (codes "function"))
 unfolding packing
 a_foreign_function_bare = refl
 

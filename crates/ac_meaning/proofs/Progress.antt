@@ -8,7 +8,7 @@ use Rattle.ac_rules.specs.Plain.{packed}
 use Rattle.ac_rules.specs.Views.{Mode, is_known}
 use Rattle.ac_rules.specs.Coherent.{IsCoherent}
 use Rattle.ac_terms.proofs.AllLaws.{all_append}
-use Rattle.ac_meaning.specs.Worlds.{Exception, World, match_failure, counted}
+use Rattle.ac_meaning.specs.Worlds.{Exception, World, match_failure_exn, counted}
 use Rattle.ac_meaning.specs.Substitution.{Written}
 use Rattle.ac_meaning.specs.Matching.{fit}
 use Rattle.ac_meaning.specs.PrimitiveSteps.{answer_at, primitive, exception_value}
@@ -22,7 +22,7 @@ use Rattle.ac_meaning.proofs.Eval.{with_text, own_by, ref_by, opened, branching,
 use Rattle.ac_meaning.proofs.Arrivals.{Arrives}
 use Rattle.ac_rules.proofs.Growth.{grows_not, known_more, home_more, view_same}
 use Rattle.ac_meaning.proofs.GrowthTyped.{typed_more, all_typed_more, arms_typed_more, value_typed_more, written_more}
-use Rattle.ac_meaning.specs.Typed.{seen, Known, IsHome, IsLast, Typed, AllTyped, ArmsTyped, ValuesTyped, WrittenTyped}
+use Rattle.ac_meaning.specs.Typed.{as_seen, Known, IsHome, IsLast, Typed, AllTyped, ArmsTyped, ValuesTyped, WrittenTyped}
 use Rattle.ac_meaning.proofs.Homes.{seen_fun}
 use Rattle.ac_meaning.proofs.KnownNames.{known_types, fields_typed}
 use Rattle.ac_meaning.proofs.LinkTypes.{coherent-Links}
@@ -45,7 +45,7 @@ module _ (arrives : Arrives) (mode : Mode) where
   Good z c T r = Ok z.environment (Is c T) r
 
   abbrev sees : World → Home → Typ → Typ
-  sees z c T = seen mode z.environment c T
+  sees z c T = as_seen mode z.environment c T
 
   -- what stays as the definitions grow
   module _ (z y : World) (g : Grows z.environment y.environment) (c : Home) (i : At z c) where
@@ -202,8 +202,8 @@ module _ (arrives : Arrives) (mode : Mode) where
           seq_ok z.environment (Is c h.1.0) (Is c T) (eval mode t apps c us z) (λ v. eval_rest mode ts apps c us v) (sound t c G h.1.0 us z i e h.1.3)
           (λ v y g p. rest_sound ts c G h.1.0 h.1.1 T us v y (later z y g c i) (written_later z y g c i us G e) (terms_later z y g c i ts G h.1.1 h.1.4) (subst (λ X. IsLast X T) h.1.2 h.2) p)
       sound (Match t arms) c G T us z i e h =
-          seq_ok z.environment (Is c h.0) (Is c T) (eval mode t apps c us z) (λ v. eval_arms mode arms apps c us v (raise match_failure)) (sound t c G h.0 us z i e h.1)
-          (λ v y g p. arms_sound arms c G h.0 T us v match_failure y (later z y g c i) (written_later z y g c i us G e) (arms_later z y g c i arms G h.0 T h.2) p)
+          seq_ok z.environment (Is c h.0) (Is c T) (eval mode t apps c us z) (λ v. eval_arms mode arms apps c us v (raise match_failure_exn)) (sound t c G h.0 us z i e h.1)
+          (λ v y g p. arms_sound arms c G h.0 T us v match_failure_exn y (later z y g c i) (written_later z y g c i us G e) (arms_later z y g c i arms G h.0 T h.2) p)
       sound (Try t arms) c G T us z i e h =
           then_ok z.environment (Is c T) (Is c T) (eval mode t apps c us z) give (λ x. eval_arms mode arms apps c us (exception_value x) (raise x)) (sound t c G T us z i e h.0) (λ v y g p. (grows_not y.environment g.after, p))
           (λ x y g. arms_sound arms c G TExn T us (exception_value x) x y (later z y g c i) (written_later z y g c i us G e) (arms_later z y g c i arms G TExn T h.1) refl)

@@ -7,7 +7,7 @@ use Rattle.ac_types.specs.Types.{Bytes, TInt, TStr, TList, TFun}
 use Rattle.ac_terms.specs.Terms.{PWild, PVar, PInt, PStr, PTuple, PPresent, PAbsent, PExn, PExnOf, patterns, Expr, Int, Boolean, Str, Unit', Exn, ExnOf, Tuple, Present, Var, Lam, App, Let, If, Seq, Match, Try, Raise, Prim, exprs, arms, VInt, VStr, VUnit, VTuple, VNil, VCons, no_values, value}
 use Rattle.ac_rules.specs.Views.{Plain, Coloured}
 use Rattle.ac_meaning.specs.Writes.{Send}
-use Rattle.ac_meaning.specs.Worlds.{Exception, fresh, match_failure, end_of_file, no_channel, bad_frame}
+use Rattle.ac_meaning.specs.Worlds.{Exception, fresh, match_failure_exn, end_of_file_exn, no_channel, bad_frame}
 use Rattle.ac_meaning.specs.Acts.{At, Over, Returned, Raised, Spent, Stuck, iter}
 use Rattle.ac_meaning.specs.Reduction.{step}
 use Rattle.ac_meaning.proofs.Programs.{after_steps, printed_by, number, plus, minus, over, modulo, print_int, print, then', countdown, total, numbers}
@@ -75,7 +75,7 @@ pub first_arm : after_steps 9 Coloured (Match (Present (number 1)) (arms ((PAbse
 first_arm = refl
 
 -- `match 3 with 4 -> () end`
-pub no_arm : after_steps 3 Coloured (Match (number 3) (arms ((PInt (pos 4), Unit') ∷ []))) 0 ≡ Over (Raised match_failure (printed_by [] 0))
+pub no_arm : after_steps 3 Coloured (Match (number 3) (arms ((PInt (pos 4), Unit') ∷ []))) 0 ≡ Over (Raised match_failure_exn (printed_by [] 0))
 no_arm = refl
 
 -- `IO.print_int (try 1 / 0 with Not_found -> 1 | Division_by_zero -> 2 end)`
@@ -190,5 +190,5 @@ a_short_frame = refl
 pub too_long_a_frame : iter (step Coloured 0) 3 (At receive (fresh [] (0 ∷ 16 ∷ 0 ∷ 1 ∷ []) false)) ≡ Over (Raised bad_frame (fresh [] (0 ∷ 16 ∷ 0 ∷ 1 ∷ []) false))
 too_long_a_frame = refl
 
-pub end_of_input : after_steps 3 Coloured receive 0 ≡ Over (Raised end_of_file (printed_by [] 0))
+pub end_of_input : after_steps 3 Coloured receive 0 ≡ Over (Raised end_of_file_exn (printed_by [] 0))
 end_of_input = refl

@@ -8,7 +8,7 @@ use Rattle.ac_terms.specs.Terms.{Home, Prim, Value, VInt, VBool, VStr, VUnit, VT
 use Rattle.ac_terms.specs.Defs.{Environment}
 use Rattle.ac_terms.specs.PrimitiveTypes.{Rule, arithmetic, comparison, by_rules, primitives, primitive_type}
 use Rattle.ac_types.specs.Limits.{longest_string}
-use Rattle.ac_code.specs.Constants.{Const, CInt, CBool, CStr, CUnit, CPart, Answer, Gives, Prints, Sends, Receives, Fails, NoSense, Meaning, meaning, applied, sum, difference, product, quotient, remainder, negation, equal, less, joined, opposite, print_int, print_string, send, receive, size, sub_string, of_int, part, meanings, same_int, division_by_zero, invalid_argument}
+use Rattle.ac_code.specs.Constants.{Const, CInt, CBool, CStr, CUnit, CPart, PrimitiveAnswer, Gives, Prints, Sends, Receives, Fails, NoSense, Meaning, meaning, primitive_answer, sum, difference, product, quotient, remainder, negation, equal, less, concatenated, opposite, printed_int, printed_string, sent_string, received_string, size, part_of_string, int_as_string, bytes_between, meanings, same_int, raise_division_by_zero, raise_invalid_argument}
 use Rattle.ac_rules.specs.Views.{Mode}
 use Rattle.ac_rules.specs.Coherent.{IsCoherent}
 use Rattle.ac_rules.proofs.Rules.{then_some}
@@ -37,7 +37,7 @@ abbrev pub ConstsOf : Typs → List Const → Type 0
 ConstsOf Ts [] = Ts ≡ no_types
 ConstsOf Ts (k ∷ ks) = (U : Typ) × (Us : Typs) × (Ts ≡ typ U Us) × ConstOf U k × ConstsOf Us ks
 
-abbrev pub AnswerOf : Typ → Answer → Type 0
+abbrev pub AnswerOf : Typ → PrimitiveAnswer → Type 0
 AnswerOf T (Gives k) = ConstOf T k
 AnswerOf T (Prints s) = T ≡ TUnit
 AnswerOf T (Sends s) = T ≡ TUnit
@@ -87,56 +87,56 @@ two_consts ks T U h =
 
 -- what a primitive of a rule answers has the rule's type
 abbrev Answers : Meaning → Rule → Type 0
-Answers m r = (ks : List Const) → ConstsOf r.0 ks → AnswerOf r.1 (applied m ks)
+Answers m r = (ks : List Const) → ConstsOf r.0 ks → AnswerOf r.1 (primitive_answer m ks)
 
 abbrev AllAnswer : Meaning → List Rule → Type 0
 AllAnswer m [] = Unit {0}
 AllAnswer m (r ∷ rs) = Answers m r × AllAnswer m rs
 
-ints : (f : Const → Const → Answer) (U : Typ) → ((x y : ℤ) → AnswerOf U (f (CInt x) (CInt y))) → (ks : List Const) → ConstsOf (typ TInt (typ TInt no_types)) ks → AnswerOf U (applied (Meaning.Two f) ks)
+ints : (f : Const → Const → PrimitiveAnswer) (U : Typ) → ((x y : ℤ) → AnswerOf U (f (CInt x) (CInt y))) → (ks : List Const) → ConstsOf (typ TInt (typ TInt no_types)) ks → AnswerOf U (primitive_answer (Meaning.Two f) ks)
 ints f U h ks k =
     let s = two_consts ks TInt TInt k in
-    subst (λ x. AnswerOf U (applied (Meaning.Two f) x)) (sym (s.2 ∙ ap₂ (λ a b. a ∷ b ∷ []) s.3.1 s.4.1)) (h s.3.0 s.4.0)
+    subst (λ x. AnswerOf U (primitive_answer (Meaning.Two f) x)) (sym (s.2 ∙ ap₂ (λ a b. a ∷ b ∷ []) s.3.1 s.4.1)) (h s.3.0 s.4.0)
 
-bools : (f : Const → Const → Answer) (U : Typ) → ((x y : Bool) → AnswerOf U (f (CBool x) (CBool y))) → (ks : List Const) → ConstsOf (typ TBool (typ TBool no_types)) ks → AnswerOf U (applied (Meaning.Two f) ks)
+bools : (f : Const → Const → PrimitiveAnswer) (U : Typ) → ((x y : Bool) → AnswerOf U (f (CBool x) (CBool y))) → (ks : List Const) → ConstsOf (typ TBool (typ TBool no_types)) ks → AnswerOf U (primitive_answer (Meaning.Two f) ks)
 bools f U h ks k =
     let s = two_consts ks TBool TBool k in
-    subst (λ x. AnswerOf U (applied (Meaning.Two f) x)) (sym (s.2 ∙ ap₂ (λ a b. a ∷ b ∷ []) s.3.1 s.4.1)) (h s.3.0 s.4.0)
+    subst (λ x. AnswerOf U (primitive_answer (Meaning.Two f) x)) (sym (s.2 ∙ ap₂ (λ a b. a ∷ b ∷ []) s.3.1 s.4.1)) (h s.3.0 s.4.0)
 
-strs : (f : Const → Const → Answer) (U : Typ) → ((x y : Bytes) → AnswerOf U (f (CStr x) (CStr y))) → (ks : List Const) → ConstsOf (typ TStr (typ TStr no_types)) ks → AnswerOf U (applied (Meaning.Two f) ks)
+strs : (f : Const → Const → PrimitiveAnswer) (U : Typ) → ((x y : Bytes) → AnswerOf U (f (CStr x) (CStr y))) → (ks : List Const) → ConstsOf (typ TStr (typ TStr no_types)) ks → AnswerOf U (primitive_answer (Meaning.Two f) ks)
 strs f U h ks k =
     let s = two_consts ks TStr TStr k in
-    subst (λ x. AnswerOf U (applied (Meaning.Two f) x)) (sym (s.2 ∙ ap₂ (λ a b. a ∷ b ∷ []) s.3.1 s.4.1)) (h s.3.0 s.4.0)
+    subst (λ x. AnswerOf U (primitive_answer (Meaning.Two f) x)) (sym (s.2 ∙ ap₂ (λ a b. a ∷ b ∷ []) s.3.1 s.4.1)) (h s.3.0 s.4.0)
 
-an_int : (f : Const → Answer) (U : Typ) → ((x : ℤ) → AnswerOf U (f (CInt x))) → (ks : List Const) → ConstsOf (typ TInt no_types) ks → AnswerOf U (applied (Meaning.One f) ks)
-an_int f U h ks k = let s = one_const ks TInt k in subst (λ x. AnswerOf U (applied (Meaning.One f) x)) (sym (s.1 ∙ ap (λ a. a ∷ []) s.2.1)) (h s.2.0)
+an_int : (f : Const → PrimitiveAnswer) (U : Typ) → ((x : ℤ) → AnswerOf U (f (CInt x))) → (ks : List Const) → ConstsOf (typ TInt no_types) ks → AnswerOf U (primitive_answer (Meaning.One f) ks)
+an_int f U h ks k = let s = one_const ks TInt k in subst (λ x. AnswerOf U (primitive_answer (Meaning.One f) x)) (sym (s.1 ∙ ap (λ a. a ∷ []) s.2.1)) (h s.2.0)
 
-a_bool : (f : Const → Answer) (U : Typ) → ((x : Bool) → AnswerOf U (f (CBool x))) → (ks : List Const) → ConstsOf (typ TBool no_types) ks → AnswerOf U (applied (Meaning.One f) ks)
-a_bool f U h ks k = let s = one_const ks TBool k in subst (λ x. AnswerOf U (applied (Meaning.One f) x)) (sym (s.1 ∙ ap (λ a. a ∷ []) s.2.1)) (h s.2.0)
+a_bool : (f : Const → PrimitiveAnswer) (U : Typ) → ((x : Bool) → AnswerOf U (f (CBool x))) → (ks : List Const) → ConstsOf (typ TBool no_types) ks → AnswerOf U (primitive_answer (Meaning.One f) ks)
+a_bool f U h ks k = let s = one_const ks TBool k in subst (λ x. AnswerOf U (primitive_answer (Meaning.One f) x)) (sym (s.1 ∙ ap (λ a. a ∷ []) s.2.1)) (h s.2.0)
 
-a_str : (f : Const → Answer) (U : Typ) → ((x : Bytes) → AnswerOf U (f (CStr x))) → (ks : List Const) → ConstsOf (typ TStr no_types) ks → AnswerOf U (applied (Meaning.One f) ks)
-a_str f U h ks k = let s = one_const ks TStr k in subst (λ x. AnswerOf U (applied (Meaning.One f) x)) (sym (s.1 ∙ ap (λ a. a ∷ []) s.2.1)) (h s.2.0)
+a_str : (f : Const → PrimitiveAnswer) (U : Typ) → ((x : Bytes) → AnswerOf U (f (CStr x))) → (ks : List Const) → ConstsOf (typ TStr no_types) ks → AnswerOf U (primitive_answer (Meaning.One f) ks)
+a_str f U h ks k = let s = one_const ks TStr k in subst (λ x. AnswerOf U (primitive_answer (Meaning.One f) x)) (sym (s.1 ∙ ap (λ a. a ∷ []) s.2.1)) (h s.2.0)
 
 -- an answer under a test
-tested : (b : Bool) (T : Typ) (x y : Answer) → AnswerOf T x → AnswerOf T y → AnswerOf T (cond b x y)
+tested : (b : Bool) (T : Typ) (x y : PrimitiveAnswer) → AnswerOf T x → AnswerOf T y → AnswerOf T (cond b x y)
 tested true T x y h k = h
 tested false T x y h k = k
 
-part_of : (s : Bytes) (i n : ℤ) → AnswerOf TStr (part s i n)
-part_of s (pos i) (pos n) = tested (nat_le (i + n) (length s)) TStr (Gives (CStr (take n (drop i s)))) (invalid_argument (codes "sub")) refl tt
+part_of : (s : Bytes) (i n : ℤ) → AnswerOf TStr (bytes_between s i n)
+part_of s (pos i) (pos n) = tested (nat_le (i + n) (length s)) TStr (Gives (CStr (take n (drop i s)))) (raise_invalid_argument (codes "sub")) refl tt
 part_of s _ _ = tt
 
 -- a string with two ints
 abbrev PartTypes : Typs
 PartTypes = typ TStr (typ TInt (typ TInt no_types))
 
-a_part : (ks : List Const) → ConstsOf (typ (TTuple PartTypes) no_types) ks → AnswerOf TStr (applied (Meaning.One sub_string) ks)
+a_part : (ks : List Const) → ConstsOf (typ (TTuple PartTypes) no_types) ks → AnswerOf TStr (primitive_answer (Meaning.One part_of_string) ks)
 a_part ks k =
     let s = one_const ks (TTuple PartTypes) k in
-    subst (λ x. AnswerOf TStr (applied (Meaning.One sub_string) x)) (sym (s.1 ∙ ap (λ a. a ∷ []) s.2.3)) (part_of s.2.0 s.2.1 s.2.2)
+    subst (λ x. AnswerOf TStr (primitive_answer (Meaning.One part_of_string) x)) (sym (s.1 ∙ ap (λ a. a ∷ []) s.2.3)) (part_of s.2.0 s.2.1 s.2.2)
 
-a_unit : (ks : List Const) → ConstsOf (typ TUnit no_types) ks → AnswerOf TStr (applied (Meaning.One receive) ks)
-a_unit ks k = let s = one_const ks TUnit k in subst (λ x. AnswerOf TStr (applied (Meaning.One receive) x)) (sym (s.1 ∙ ap (λ a. a ∷ []) s.2)) refl
+a_unit : (ks : List Const) → ConstsOf (typ TUnit no_types) ks → AnswerOf TStr (primitive_answer (Meaning.One received_string) ks)
+a_unit ks k = let s = one_const ks TUnit k in subst (λ x. AnswerOf TStr (primitive_answer (Meaning.One received_string) x)) (sym (s.1 ∙ ap (λ a. a ∷ []) s.2)) refl
 
 -- the types of constants
 abbrev ConstType : Typ → Type 0
@@ -177,10 +177,10 @@ each_answers =
           (ints product TInt (λ x y. refl), tt),
           (
             sums,
-            (ints quotient TInt (λ x y. tested (same_int y (pos 0)) TInt division_by_zero (Gives (CInt (int_wrap w64 (int_div x y)))) tt refl), tt),
+            (ints quotient TInt (λ x y. tested (same_int y (pos 0)) TInt raise_division_by_zero (Gives (CInt (int_wrap w64 (int_div x y)))) tt refl), tt),
             (
               sums,
-              (ints remainder TInt (λ x y. tested (same_int y (pos 0)) TInt division_by_zero (Gives (CInt (int_rem x y))) tt refl), tt),
+              (ints remainder TInt (λ x y. tested (same_int y (pos 0)) TInt raise_division_by_zero (Gives (CInt (int_rem x y))) tt refl), tt),
               (
                 (one, tt),
                 (an_int negation TInt (λ x. refl), tt),
@@ -192,19 +192,19 @@ each_answers =
                     (ints less TBool (λ x y. refl), (bools less TBool (λ x y. refl), (strs less TBool (λ x y. refl), tt))),
                     (
                       (two, tt),
-                      (strs joined TStr (λ x y. tested (nat_le (length x + length y) longest_string) TStr (Gives (CStr (x ++ y))) (invalid_argument (codes "string")) refl tt), tt),
+                      (strs concatenated TStr (λ x y. tested (nat_le (length x + length y) longest_string) TStr (Gives (CStr (x ++ y))) (raise_invalid_argument (codes "string")) refl tt), tt),
                       (
                         (one, tt),
                         (a_bool opposite TBool (λ x. refl), tt),
                         (
                           (one, tt),
-                          (an_int print_int TUnit (λ x. refl), tt),
+                          (an_int printed_int TUnit (λ x. refl), tt),
                           (
                             (one, tt),
-                            (a_str print_string TUnit (λ x. refl), tt),
+                            (a_str printed_string TUnit (λ x. refl), tt),
                             (
                               (one, tt),
-                              (a_str send TUnit (λ x. refl), tt),
+                              (a_str sent_string TUnit (λ x. refl), tt),
                               (
                                 (one, tt),
                                 (a_unit, tt),
@@ -216,7 +216,7 @@ each_answers =
                                     (a_part, tt),
                                     (
                                       (one, tt),
-                                      (an_int of_int TStr (λ x. refl), tt),
+                                      (an_int int_as_string TStr (λ x. refl), tt),
                                       tt,
                                     ),
                                   ),
@@ -245,16 +245,16 @@ each_at [] (x ∷ rss) e k rs h = absurd e
 each_at (m ∷ ms) [] e k rs h = absurd e
 
 -- the rule by which arguments have a type
-ruled : (m : Meaning) (rs : List Rule) (Ts : Typs) (T : Typ) → AllConst rs → AllAnswer m rs → by_rules rs Ts ≡ Some T → ConstTypes Ts × ((ks : List Const) → ConstsOf Ts ks → AnswerOf T (applied m ks))
+ruled : (m : Meaning) (rs : List Rule) (Ts : Typs) (T : Typ) → AllConst rs → AllAnswer m rs → by_rules rs Ts ≡ Some T → ConstTypes Ts × ((ks : List Const) → ConstsOf Ts ks → AnswerOf T (primitive_answer m ks))
 ruled m [] Ts T c a h = absurd (none≢some h)
 ruled m (r ∷ rs) Ts T c a h = by (ruled m rs Ts T c.1 a.1) (same_all r.0 Ts) refl h
   where
-    by : (by_rules rs Ts ≡ Some T → ConstTypes Ts × ((ks : List Const) → ConstsOf Ts ks → AnswerOf T (applied m ks))) → (b : Bool) → same_all r.0 Ts ≡ b → elim b as (λ x. Option Typ) [ true ↦ Some r.1 | false ↦ by_rules rs Ts ] ≡ Some T →
-        ConstTypes Ts × ((ks : List Const) → ConstsOf Ts ks → AnswerOf T (applied m ks))
+    by : (by_rules rs Ts ≡ Some T → ConstTypes Ts × ((ks : List Const) → ConstsOf Ts ks → AnswerOf T (primitive_answer m ks))) → (b : Bool) → same_all r.0 Ts ≡ b → elim b as (λ x. Option Typ) [ true ↦ Some r.1 | false ↦ by_rules rs Ts ] ≡ Some T →
+        ConstTypes Ts × ((ks : List Const) → ConstsOf Ts ks → AnswerOf T (primitive_answer m ks))
     by more true p q =
         let e : r.0 ≡ Ts = all_equal r.0 Ts p in
         let f : r.1 ≡ T = some_eq q in
-        (subst ConstTypes e c.0, λ ks k. subst (λ X. AnswerOf X (applied m ks)) f (a.0 ks (subst (λ X. ConstsOf X ks) (sym e) k)))
+        (subst ConstTypes e c.0, λ ks k. subst (λ X. AnswerOf X (primitive_answer m ks)) f (a.0 ks (subst (λ X. ConstsOf X ks) (sym e) k)))
     by more false p q = more q
 
 pub prim_ok : (k : ℕ) (Ts : Typs) (T : Typ) → primitive_type k Ts ≡ Some T → ConstTypes Ts × ((ks : List Const) → ConstsOf Ts ks → AnswerOf T (answer_at (meaning k) (Some ks)))
@@ -343,7 +343,7 @@ module _ (mode : Mode) where
   receive_ok (bad n got) c T z i h = grows_not z.environment i
   receive_ok AtEnd c T z i h = grows_not z.environment i
 
-  pub answer_ok : (a : Answer) (c : Home) (T : Typ) (z : World) → IsCoherent z.environment → AnswerOf T a → Ok z.environment (Of c T) (answering constant a z)
+  pub answer_ok : (a : PrimitiveAnswer) (c : Home) (T : Typ) (z : World) → IsCoherent z.environment → AnswerOf T a → Ok z.environment (Of c T) (answering constant a z)
   answer_ok (Gives k) c T z i h = (grows_not z.environment i, constant_ok mode z.environment k c T h)
   answer_ok (Prints s) c T z i h = (grows_not z.environment i, h)
   answer_ok (Sends s) c T z i h = send_ok z.has_channel s c T z i h

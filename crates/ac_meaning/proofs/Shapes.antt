@@ -10,11 +10,11 @@ use Rattle.ac_rules.specs.Views.{Mode, opens}
 use Rattle.ac_meaning.specs.Substitution.{Written, Slot, Free, Bound, up, slot_in, slot, from_slot, binders, all_binders, inst, inst_all, inst_arms}
 use Rattle.ac_meaning.specs.Matching.{fit, fit_all}
 use Rattle.ac_meaning.specs.Brackets.{is_function_value}
-use Rattle.ac_meaning.specs.Typed.{seen, Known, IsHome, HasArm, Fits, AllFit, Typed, AllTyped, ArmsTyped, ValueTyped, ValuesTyped, WrittenTyped}
+use Rattle.ac_meaning.specs.Typed.{as_seen, Known, IsHome, HasArm, Fits, AllFit, Typed, AllTyped, ArmsTyped, ValueTyped, ValuesTyped, WrittenTyped}
 
 module _ (mode : Mode) (E : Environment) where
   abbrev sees : Home → Typ → Typ
-  sees c T = seen mode E c T
+  sees c T = as_seen mode E c T
 
   abbrev pub IsOf : Home → Typ → Value → Type 0
   IsOf c T v = ValueTyped mode E v c T

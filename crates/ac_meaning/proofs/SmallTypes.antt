@@ -15,7 +15,7 @@ use Rattle.ac_terms.specs.PrimitiveTypes.{Rule, by_rules, primitives, primitive_
 use Rattle.ac_terms.specs.TermTyping.{has, last_of}
 use Rattle.ac_terms.specs.Parts.{OfType, pattern_types, all_pattern_types, term_parts, all_term_parts, arm_parts}
 use Rattle.ac_rules.specs.Views.{Coloured, view, opened_at_home, are_known}
-use Rattle.ac_rules.specs.Typing.{Scope, bind, bind_all, HasType, type_of, seen, types_of, arm_types, variables, variables_of_all, field_type, ref_type, a_list, an_option, are_all, one_of}
+use Rattle.ac_rules.specs.Typing.{Scope, bind, bind_all, HasType, type_of, type_seen, types_of, arm_types, variables, variables_of_all, field_type, ref_type, a_list, an_option, are_all, one_of}
 use Rattle.ac_terms.proofs.AllLaws.{all_append}
 use Rattle.ac_rules.proofs.Rules.{then_some, rule-Int, rule-Boolean, rule-Str, rule-Unit, rule-Exn, rule-ExnOf, rule-Tuple, rule-expr, rule-Nil, rule-Empty, rule-Present, rule-Cons, rule-Lam, rule-App, rule-If, rule-Let, rule-Rec, rule-Seq, rule-Match, rule-Try, rule-Raise, rule-Prim, rule-Marshal, rule-Unmarshal, has_some, joined_some, also_some}
 use Rattle.ac_meaning.specs.Laws.{is_source, are_source, arms_are_source}
@@ -122,8 +122,8 @@ module _ (E : Environment) where
     pattern_small : (c : Home) (p : Pattern) (A : Typ) (Us : List Typ) → variables Coloured false E c p A ≡ Some Us → is_small A ≡ true → list_all is_small (pattern_types p) ≡ true
     pattern_small c PWild A Us h s = refl
     pattern_small c (PVar U) A Us h s =
-        let p = given_some (has (seen Coloured false E c U) A) (Some (A ∷ [])) h in
-        let q = given_some (are_known E U) (Some (view Coloured E c U)) (has_some (seen Coloured false E c U) A p.0) in
+        let p = given_some (has (type_seen Coloured false E c U) A) (Some (A ∷ [])) h in
+        let q = given_some (are_known E U) (Some (view Coloured E c U)) (has_some (type_seen Coloured false E c U) A p.0) in
         and_true {a = is_small U} {b = true} (written_small c U A (some_eq q.1) s) refl
     pattern_small c (PInt n) A Us h s = refl
     pattern_small c (PBool b) A Us h s = refl
@@ -163,10 +163,10 @@ module _ (E : Environment) where
     typed_small (ExnOf k e) S T s h = let t = rule-ExnOf Coloured E S k e T h in (is TExn T t.2 refl, (typed_small e S TStr s t.1).1)
     typed_small (Tuple es) S T s h = let t = rule-Tuple Coloured E S es T h in (kept_small (option_map TTuple (types_of Coloured false E S es)) T h, (all_typed_small es S t.0 s t.1).1)
     typed_small (Nil A) S T s h =
-        let k = kept_small (option_and_then a_list (seen Coloured false E S.home A)) T h in
+        let k = kept_small (option_and_then a_list (type_seen Coloured false E S.home A)) T h in
         (k, first A [] (written_small S.home A T (a_list_is (view Coloured E S.home A) T (rule-Nil Coloured E S A T h).1) k) refl)
     typed_small (Empty A) S T s h =
-        let k = kept_small (option_and_then an_option (seen Coloured false E S.home A)) T h in
+        let k = kept_small (option_and_then an_option (type_seen Coloured false E S.home A)) T h in
         (k, first A [] (written_small S.home A T (an_option_is (view Coloured E S.home A) T (rule-Empty Coloured E S A T h).1) k) refl)
     typed_small (Present e) S T s h = let t = rule-Present Coloured E S e T h in (kept_small (option_map TOpt (type_of Coloured false E S e)) T h, (typed_small e S t.0 s t.1).1)
     typed_small (Cons a b) S T s h =
@@ -180,15 +180,15 @@ module _ (E : Environment) where
     typed_small (Lam A e) S T s h =
         let t = rule-Lam Coloured E S A e T h in
         let V = view Coloured E S.home A in
-        let p = then_some _ (seen Coloured false E S.home A) T h in
+        let p = then_some _ (type_seen Coloured false E S.home A) T h in
         let k = kept_small (option_map (TFun p.0) (type_of Coloured false E (bind p.0 S) e)) T p.2 in
         (k, first A (term_parts e) (written_small S.home A V refl (small_argument V t.1.0 (is T (TFun V t.1.0) (sym t.1.2) k))) (typed_small e (bind V S) t.1.0 s t.1.1).1)
     typed_small (Rec A B e) S T s h =
         let t = rule-Rec Coloured E S A B e T h in
         let V = view Coloured E S.home A in
         let W = view Coloured E S.home B in
-        let p = then_some _ (seen Coloured false E S.home A) T h in
-        let q = then_some _ (seen Coloured false E S.home B) T p.2 in
+        let p = then_some _ (type_seen Coloured false E S.home A) T h in
+        let q = then_some _ (type_seen Coloured false E S.home B) T p.2 in
         let k = kept_small (given (has (type_of Coloured false E (bind p.0 (bind (TFun p.0 q.0) S)) e) q.0) (Some (TFun p.0 q.0))) T q.2 in
         let f = is T (TFun V W) (sym t.3) k in
         (k, first A (OfType B ∷ term_parts e) (written_small S.home A V refl (small_argument V W f)) (first B (term_parts e) (written_small S.home B W refl (small_result V W f)) (typed_small e (bind V (bind (TFun V W) S)) W s t.2).1))
@@ -227,7 +227,7 @@ module _ (E : Environment) where
         (x.0, both (term_parts e) (arm_parts arms) x.1 (arms_typed_small arms S TExn t.1.0 w.1 t.1.1 refl).1)
     typed_small (Raise A e) S T s h =
         let t = rule-Raise Coloured E S A e T h in
-        let k = kept_small (seen Coloured false E S.home A) T (given_some (has (type_of Coloured false E S e) TExn) _ h).1 in
+        let k = kept_small (type_seen Coloured false E S.home A) T (given_some (has (type_of Coloured false E S e) TExn) _ h).1 in
         (k, first A (term_parts e) (written_small S.home A T t.2 k) (typed_small e S TExn s t.0).1)
     typed_small (Prim k es) S T s h = let t = rule-Prim Coloured E S k es T h in (primitive_small k t.0 T t.2, (all_typed_small es S t.0 s t.1).1)
     typed_small (Marshal A a b) S T s h =
@@ -238,7 +238,7 @@ module _ (E : Environment) where
         (is TStr T t.3 refl, first A (term_parts a ++ term_parts b) (written_small S.home A V refl y.0) (both (term_parts a) (term_parts b) (typed_small a S TStr w.0 t.0).1 y.1))
     typed_small (Unmarshal A e) S T s h =
         let t = rule-Unmarshal Coloured E S A e T h in
-        let k = kept_small (seen Coloured false E S.home A) T (given_some (has (type_of Coloured false E S e) TStr) _ h).1 in
+        let k = kept_small (type_seen Coloured false E S.home A) T (given_some (has (type_of Coloured false E S e) TStr) _ h).1 in
         (k, first A (term_parts e) (written_small S.home A T t.2 k) (typed_small e S TStr s t.0).1)
     typed_small (Val A v) S T s h = absurd (true≢false (sym s))
     typed_small (Evaluated A v) S T s h = absurd (true≢false (sym s))

@@ -7,18 +7,18 @@ use Rattle.ac_types.proofs.Same.{and_true, bytes_refl}
 use Rattle.ac_types.proofs.FirstLaws.{none≢some, some_eq}
 use Rattle.ac_types.specs.Types.{Bytes, Typ, TInt, TBool, TStr, TUnit, TExn, TTuple, TList, TOpt, TFun, TAbs, TMine, Typs, no_types, typ, mentions, mentions_of_all, same_bytes}
 use Rattle.ac_terms.specs.Terms.{Home, Main, In, Expr, Int, Boolean, Str, Unit', Exn, ExnOf, Tuple, Nil, Empty, Present, Cons, Own, Ref, Lam, Rec, Prim, Exprs, no_exprs, expr, Value, VInt, VBool, VStr, VUnit, VExn, VTuple, VNil, VCons, VAbsent, VPresent, VProxy, VSeal, Values}
-use Rattle.ac_types.specs.Sigs.{Signature, under}
+use Rattle.ac_types.specs.Sigs.{Signature, named_type}
 use Rattle.ac_terms.specs.Defs.{Environment, Field, Module, module_of, signature, def_of, module_at, signature_at}
 use Rattle.ac_rules.specs.Views.{Mode, Coloured, opens, view, representation, is_known, are_known}
 use Rattle.ac_rules.specs.Typing.{fields_of, value_in, outside}
 use Rattle.ac_rules.specs.Coherent.{IsCoherent}
 use Rattle.ac_rules.proofs.Rules.{then_some, module_home}
 use Rattle.ac_terms.proofs.AllLaws.{all_left, all_right}
-use Rattle.ac_meaning.specs.Brackets.{inside}
+use Rattle.ac_meaning.specs.Brackets.{inside_seal}
 use Rattle.ac_meaning.specs.References.{own_field, Route, Nowhere, Once, Twice, route}
 use Rattle.ac_meaning.proofs.Results.{Pure, Got, Bad, Deep, and_then}
 use Rattle.ac_meaning.proofs.Eval.{Opening, too_deep, crossing_seal, crossing_name, with_type, crossing_list, crossing_option, with_text, as_many, crossing_with, crossing_all, crossing_in, crossing, rank, own_by, ref_by, worth, worth_all, worth_field, opening, place, opened}
-use Rattle.ac_meaning.specs.Typed.{seen, Known, IsHome, own_type, Typed, AllTyped, ValuesTyped}
+use Rattle.ac_meaning.specs.Typed.{as_seen, Known, IsHome, own_type, Typed, AllTyped, ValuesTyped}
 use Rattle.ac_meaning.proofs.Homes.{all_seen, seen_tuple, seen_list, seen_opt, seen_fun, seen_int, seen_bool, seen_str, seen_unit, seen_exn, seen_mine, view_shut, represented, representation_known, view_open, view_again}
 use Rattle.ac_meaning.proofs.FromTypes.{KnownTypes}
 use Rattle.ac_meaning.proofs.Shapes.{IsOf, Shape, shape, values_shape, no_values_shape}
@@ -55,7 +55,7 @@ then_pure P Q Deep f h k = tt
 
 module _ (mode : Mode) (E : Environment) (coherent : IsCoherent E) where
   abbrev sees : Home → Typ → Typ
-  sees c T = seen mode E c T
+  sees c T = as_seen mode E c T
 
   abbrev Of : Home → Typ → Value → Type 0
   Of c T v = IsOf mode E c T v
@@ -114,7 +114,7 @@ module _ (mode : Mode) (E : Environment) (coherent : IsCoherent E) where
   option_ok L A B b c f l m h v k = absurd (true≢false (sym (optional v b A k)))
 
   -- what is inside a seal of a name
-  inside_is : (d : Home) (n t : Bytes) (w : Value) → inside n t (VSeal d n t w) ≡ Some (d, w)
+  inside_is : (d : Home) (n t : Bytes) (w : Value) → inside_seal n t (VSeal d n t w) ≡ Some (d, w)
   inside_is d n t w = ap (λ b. cond b (Some (d, w)) None) (and_true {a = same_bytes n n} {b = same_bytes t t} (bytes_refl n) (bytes_refl t))
 
   -- brackets
@@ -133,12 +133,12 @@ module _ (mode : Mode) (E : Environment) (coherent : IsCoherent E) where
       let r = represented E coherent n t k in
       let C = view_open E coherent mode c n t r.0 r.1 k q in
       let D = view_open E coherent mode s.0 n t r.0 r.1 k s.4 in
-      let e : inside n t v ≡ Some (s.0, s.1) = ap (inside n t) s.2 ∙ inside_is s.0 n t s.1 in
+      let e : inside_seal n t v ≡ Some (s.0, s.1) = ap (inside_seal n t) s.2 ∙ inside_is s.0 n t s.1 in
       subst (λ o. PureOk (Of c (sees c (TAbs n t))) (crossing_seal o (λ d w. next d c n t w))) (sym e)
       (subst (λ X. PureOk (Of c X) (next s.0 c n t s.1)) (sym C) (h n t r.0 r.1 s.0 c s.1 s.6 (at _ _ s.0 s.1 D s.5)))
   name_ok next h b c n t v k false false p q a i =
       let s = looks v b (TAbs n t) (TAbs n t) (view_shut E mode b n t p) i in
-      let e : inside n t v ≡ Some (s.0, s.1) = ap (inside n t) s.2 ∙ inside_is s.0 n t s.1 in
+      let e : inside_seal n t v ≡ Some (s.0, s.1) = ap (inside_seal n t) s.2 ∙ inside_is s.0 n t s.1 in
       let sealed : Of c (TAbs n t) (VSeal s.0 n t s.1) = (refl, s.3, s.4, q, s.5, s.6) in
       subst (λ o. PureOk (Of c (sees c (TAbs n t))) (cond (is_some o) (Got v) Bad)) (sym e)
       (at (TAbs n t) (sees c (TAbs n t)) c v (sym (view_shut E mode c n t q)) (subst (Of c (TAbs n t)) (sym s.2) sealed))
@@ -211,8 +211,8 @@ module _ (mode : Mode) (E : Environment) (coherent : IsCoherent E) where
 
   pub value_home : (j : ℕ) (x : Bytes) (A : Typ) → value_in E j x ≡ Some A → AtHome (In j)
   value_home j x A e =
-      let a = then_some (λ T. outside E j T) (option_and_then (λ (s : Signature). under x s.vals) (signature_at E j)) A e in
-      let b = then_some (λ (s : Signature). under x s.vals) (signature_at E j) a.0 a.1 in
+      let a = then_some (λ T. outside E j T) (option_and_then (λ (s : Signature). named_type x s.vals) (signature_at E j)) A e in
+      let b = then_some (λ (s : Signature). named_type x s.vals) (signature_at E j) a.0 a.1 in
       ap is_some b.1
 
   -- fields

@@ -11,7 +11,7 @@ use Rattle.ac_meaning.specs.Reduction.{step}
 use Rattle.ac_meaning.specs.BareTerms.{bare, WInt}
 use Rattle.ac_meaning.specs.BareReduction as b
 use Rattle.ac_meaning.specs.ReadBack.{Marshals}
-use Rattle.ac_meaning.specs.Packing.{Packing, Refuses, Packs, packing, landing, unmarshal_failure}
+use Rattle.ac_meaning.specs.Packing.{Packing, Refuses, Packs, packing, landing, unmarshal_failure_exn}
 
 -- the mark M, and nothing else
 abbrev marked : Environment
@@ -43,7 +43,7 @@ unfolding packing landing
 bare_there_and_back = refl
 
 -- at another type it is refused
-refused : (mode : Mode) → iter (step mode 0) 2 (At (Unmarshal TStr (Marshal TInt (Str (codes "M")) (Int (pos 7)))) (fresh marked [] false)) ≡ Over (Raised (unmarshal_failure (codes "type")) (fresh marked [] false))
+refused : (mode : Mode) → iter (step mode 0) 2 (At (Unmarshal TStr (Marshal TInt (Str (codes "M")) (Int (pos 7)))) (fresh marked [] false)) ≡ Over (Raised (unmarshal_failure_exn (codes "type")) (fresh marked [] false))
 unfolding packing landing
 refused mode = refl
 

@@ -15,7 +15,7 @@ use Rattle.ac_terms.specs.Terms.{Value, VInt, VBool, VStr, VUnit, VTuple, Values
 use Rattle.ac_terms.specs.PrimitiveTypes.{is_exception}
 use Rattle.ac_terms.specs.Bounds.{is_string, is_integer}
 use Rattle.ac_types.specs.Limits.{longest_string, longest_frame}
-use Rattle.ac_code.specs.Constants.{Const, CInt, CBool, CStr, CUnit, CPart, Answer, Gives, Prints, Sends, Receives, Fails, NoSense, Meaning, One, Two, meanings, meaning, applied, sum, difference, product, quotient, remainder, negation, equal, less, joined, opposite, print_int, print_string, send, receive, size, sub_string, of_int, part, same_int, invalid_argument, division_by_zero}
+use Rattle.ac_code.specs.Constants.{Const, CInt, CBool, CStr, CUnit, CPart, PrimitiveAnswer, Gives, Prints, Sends, Receives, Fails, NoSense, Meaning, One, Two, meanings, meaning, primitive_answer, sum, difference, product, quotient, remainder, negation, equal, less, concatenated, opposite, printed_int, printed_string, sent_string, received_string, size, part_of_string, int_as_string, bytes_between, same_int, raise_invalid_argument, raise_division_by_zero}
 use Rattle.ac_meaning.specs.Writes.{Print, Send}
 use Rattle.ac_meaning.specs.Worlds.{World}
 use Rattle.ac_outside.specs.Frames.{Frame, Whole, Bad, AtEnd, next_frame}
@@ -34,7 +34,7 @@ abbrev ConstsWithin : List Const → Type 0
 ConstsWithin [] = Unit {0}
 ConstsWithin (c ∷ cs) = ConstWithin c × ConstsWithin cs
 
-abbrev AnswerWithin : Answer → Type 0
+abbrev AnswerWithin : PrimitiveAnswer → Type 0
 AnswerWithin (Gives c) = ConstWithin c
 AnswerWithin (Prints s) = is_string s ≡ true
 AnswerWithin (Sends s) = is_string s ≡ true
@@ -85,7 +85,7 @@ rem_within x y h e =
     little (int_rem x y) (omega (arith, a, b))
 
 -- an answer under a test
-tested : (b : Bool) (x y : Answer) → (b ≡ true → AnswerWithin x) → (b ≡ false → AnswerWithin y) → AnswerWithin (cond b x y)
+tested : (b : Bool) (x y : PrimitiveAnswer) → (b ≡ true → AnswerWithin x) → (b ≡ false → AnswerWithin y) → AnswerWithin (cond b x y)
 tested true x y h k = h refl
 tested false x y h k = k refl
 
@@ -105,11 +105,11 @@ product_within (CInt x) (CInt y) h k = wrapped (x *ℤ y)
 product_within _ _ h k = tt
 
 quotient_within : MeaningWithin (Two quotient)
-quotient_within (CInt x) (CInt y) h k = tested (same_int y (pos 0)) division_by_zero (Gives (CInt (int_wrap w64 (int_div x y)))) (λ e. (refl, refl)) (λ e. wrapped (int_div x y))
+quotient_within (CInt x) (CInt y) h k = tested (same_int y (pos 0)) raise_division_by_zero (Gives (CInt (int_wrap w64 (int_div x y)))) (λ e. (refl, refl)) (λ e. wrapped (int_div x y))
 quotient_within _ _ h k = tt
 
 remainder_within : MeaningWithin (Two remainder)
-remainder_within (CInt x) (CInt y) h k = tested (same_int y (pos 0)) division_by_zero (Gives (CInt (int_rem x y))) (λ e. (refl, refl)) (λ e. rem_within x y k e)
+remainder_within (CInt x) (CInt y) h k = tested (same_int y (pos 0)) raise_division_by_zero (Gives (CInt (int_rem x y))) (λ e. (refl, refl)) (λ e. rem_within x y k e)
 remainder_within _ _ h k = tt
 
 negation_within : MeaningWithin (One negation)
@@ -128,9 +128,9 @@ less_within (CBool x) (CBool y) h k = tt
 less_within (CStr x) (CStr y) h k = tt
 less_within _ _ h k = tt
 
-joined_within : MeaningWithin (Two joined)
+joined_within : MeaningWithin (Two concatenated)
 joined_within (CStr s) (CStr t) h k =
-    tested (nat_le (length s + length t) longest_string) (Gives (CStr (s ++ t))) (invalid_argument (codes "string"))
+    tested (nat_le (length s + length t) longest_string) (Gives (CStr (s ++ t))) (raise_invalid_argument (codes "string"))
     (λ e. ap (λ n. nat_le n 1048576) (length-append s t) ∙ e) (λ e. (refl, refl))
 joined_within _ _ h k = tt
 
@@ -145,19 +145,19 @@ digits_short z h = is_at_most (length (signed_decimal z)) 1048576 (let l = digit
     digits (pos m) e = let l = below m (2 ^ 63) e in length_signed_le 20 (pos m) (omega (arith, l)) l
     digits (negsuc m) e = let l = below m (2 ^ 63) e in length_signed_le 20 (negsuc m) (omega (arith, l)) l
 
-print_int_within : MeaningWithin (One print_int)
+print_int_within : MeaningWithin (One printed_int)
 print_int_within (CInt n) h = digits_short n h
 print_int_within _ h = tt
 
-print_string_within : MeaningWithin (One print_string)
+print_string_within : MeaningWithin (One printed_string)
 print_string_within (CStr s) h = h
 print_string_within _ h = tt
 
-send_within : MeaningWithin (One send)
+send_within : MeaningWithin (One sent_string)
 send_within (CStr s) h = h
 send_within _ h = tt
 
-receive_within : MeaningWithin (One receive)
+receive_within : MeaningWithin (One received_string)
 receive_within CUnit h = tt
 receive_within _ h = tt
 
@@ -180,17 +180,17 @@ drop_short zero s = omega arith
 drop_short (suc i) [] = omega arith
 drop_short (suc i) (x ∷ s) = let l = drop_short i s in omega (arith, l)
 
-part_within : (s : Bytes) (i n : ℤ) → is_string s ≡ true → AnswerWithin (part s i n)
+part_within : (s : Bytes) (i n : ℤ) → is_string s ≡ true → AnswerWithin (bytes_between s i n)
 part_within s (pos i) (pos n) h =
-    tested (nat_le (i + n) (length s)) (Gives (CStr (take n (drop i s)))) (invalid_argument (codes "sub"))
+    tested (nat_le (i + n) (length s)) (Gives (CStr (take n (drop i s)))) (raise_invalid_argument (codes "sub"))
     (λ e. bytes_at_most (length (take n (drop i s))) (length s) (let a = take_short n (drop i s) in let b = drop_short i s in omega (arith, a, b)) h) (λ e. (refl, refl))
 part_within s _ _ h = (refl, refl)
 
-sub_within : MeaningWithin (One sub_string)
+sub_within : MeaningWithin (One part_of_string)
 sub_within (CPart s i n) h = part_within s i n h.0
 sub_within _ h = tt
 
-of_int_within : MeaningWithin (One of_int)
+of_int_within : MeaningWithin (One int_as_string)
 of_int_within (CInt n) h = digits_short n h
 of_int_within _ h = tt
 
@@ -207,7 +207,7 @@ meaning_within [] e k m h = absurd (none≢some h)
 meaning_within (x ∷ ms) e zero m h = subst MeaningWithin (some_eq h) e.0
 meaning_within (x ∷ ms) e (suc k) m h = meaning_within ms e.1 k m h
 
-applied_within : (m : Meaning) (cs : List Const) → MeaningWithin m → ConstsWithin cs → AnswerWithin (applied m cs)
+applied_within : (m : Meaning) (cs : List Const) → MeaningWithin m → ConstsWithin cs → AnswerWithin (primitive_answer m cs)
 applied_within (One f) (a ∷ []) h k = h a k.0
 applied_within (Two f) (a ∷ (b ∷ [])) h k = h a b k.0 k.1.0
 applied_within (One f) [] h k = tt
@@ -288,7 +288,7 @@ sent_within : (b : Bool) (s : Bytes) (z : World) → WritesWithin z.writes → i
 sent_within true s z w h = (tt, one_more z.writes (Send s) w h)
 sent_within false s z w h = (refl, refl)
 
-answered_within : (a : Answer) (z : World) → WritesWithin z.writes → AnswerWithin a → Good (answered spelled z a)
+answered_within : (a : PrimitiveAnswer) (z : World) → WritesWithin z.writes → AnswerWithin a → Good (answered spelled z a)
 answered_within (Gives c) z w h = spelled_within c h
 answered_within (Prints s) z w h = (tt, one_more z.writes (Print s) w h)
 answered_within (Sends s) z w h = sent_within z.has_channel s z w h

@@ -15,7 +15,7 @@ use Rattle.ac_terms.specs.Heads.{Head, before, type_heads, pattern_heads, term_h
 use Rattle.ac_terms.specs.Bounds.{is_two, is_four, is_width, is_lambda, fits_home, takes, fits_type, fits_term, fit_terms, fit_arms, fits_value, fit_values}
 use Rattle.ac_terms.proofs.HeadLaws.{spelling, joined, preceded}
 use Rattle.ac_rules.specs.Views.{Coloured, head}
-use Rattle.ac_rules.specs.Typing.{all_of, type_of, seen, tuple_parts, list_item, option_item, is_function, is_function_home}
+use Rattle.ac_rules.specs.Typing.{all_of, type_of, type_seen, tuple_parts, list_item, option_item, is_function, is_function_home}
 use Rattle.ac_rules.specs.Plain.{stays, where_there, in_front, may_travel, travelling}
 use Rattle.ac_rules.specs.Coherent.{IsCoherent}
 use Rattle.ac_rules.proofs.Rules.{map_some, then_some, some_there}
@@ -151,7 +151,7 @@ module _ (E : Environment) (coherent : IsCoherent E) where
       by : (b : Bool) → may_travel E c l T ≡ b → FitsWhere d (elim b as (λ z. PValue) [ true ↦ KFun c l | false ↦ stays ])
       by false q = stays_where d
       by true q =
-          let p = both_true (is_function (head E T) && is_function_home E c) (agree (type_of Coloured true E (all_of E c) l) (seen Coloured true E c (head E T))) q in
+          let p = both_true (is_function (head E T) && is_function_home E c) (agree (type_of Coloured true E (all_of E c) l) (type_seen Coloured true E c (head E T))) q in
           let r = both_true (is_function (head E T)) (is_function_home E c) p.0 in
           λ f.
           let g = fine_rest _ (term_heads two (suc d) l) f in

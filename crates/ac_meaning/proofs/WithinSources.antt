@@ -18,7 +18,7 @@ use Rattle.ac_terms.specs.Spelling.{term_count, arm_count, value_count}
 use Rattle.ac_terms.specs.Parts.{Portion, OfType, OfRef, OfHome, Captured, pattern_types, term_parts, all_term_parts, arm_parts, value_parts, all_value_parts}
 use Rattle.ac_terms.specs.Bounds.{is_four, is_width, takes, fits_term, fit_terms, fit_arms, fits_value, fit_values, has_small_types}
 use Rattle.ac_rules.specs.Views.{Mode, Coloured, view, opened_at_home, opens, head}
-use Rattle.ac_rules.specs.Typing.{Scope, bind, bind_all, all_of, HasType, type_of, seen, types_of, arm_types, variables, holds, all_hold, each_holds, kept_in, tuple_parts, list_item, option_item, is_function, is_function_home}
+use Rattle.ac_rules.specs.Typing.{Scope, bind, bind_all, all_of, HasType, type_of, type_seen, types_of, arm_types, variables, holds, all_hold, each_holds, kept_in, tuple_parts, list_item, option_item, is_function, is_function_home}
 use Rattle.ac_rules.proofs.Rules.{then_some, rule-ExnOf, rule-Tuple, rule-expr, rule-Present, rule-Cons, rule-Lam, rule-App, rule-If, rule-Let, rule-Rec, rule-Seq, rule-Match, rule-Try, rule-Raise, rule-Prim, rule-Marshal, rule-Unmarshal, rule-Val, agree_some, also_some}
 use Rattle.ac_meaning.specs.Laws.{is_source, are_source, arms_are_source}
 use Rattle.ac_meaning.specs.Rebuilding.{parts_of, item_of, argument_of, result_of, at_abstract, sealed, rebuilt, all_rebuilt, list_rebuilt, rebuilt_term, rebuilt_terms, rebuilt_arms}
@@ -101,8 +101,8 @@ kept_small (Some U) T h = let p = given_some (is_small U) (Some U) h in subst (�
 -- a recursive function's type
 rec_small : (E : Environment) (S : Scope) (A B : Typ) (e : Expr) (T : Typ) → HasType Coloured E S (Rec A B e) T → is_small (TFun A B) ≡ true
 rec_small E S A B e T h =
-    let p = then_some _ (seen Coloured false E S.home A) T h in
-    let q = then_some _ (seen Coloured false E S.home B) T p.2 in
+    let p = then_some _ (type_seen Coloured false E S.home A) T h in
+    let q = then_some _ (type_seen Coloured false E S.home B) T p.2 in
     let s : is_small T ≡ true = kept_small (given (has (type_of Coloured false E (bind p.0 (bind (TFun p.0 q.0) S)) e) q.0) (Some (TFun p.0 q.0))) T q.2 in
     small_seen (opened_at_home E S.home) (TFun A B) (subst (λ X. is_small X ≡ true) (sym (rule-Rec Coloured E S A B e T h).3) s)
 

@@ -11,12 +11,12 @@ use Rattle.ac_terms.specs.Defs.{Environment}
 use Rattle.ac_rules.specs.Plain.{packed}
 use Rattle.ac_rules.specs.Views.{Mode, opens, representation}
 use Rattle.ac_rules.specs.Coherent.{IsCoherent}
-use Rattle.ac_meaning.specs.Worlds.{Exception, World, match_failure, counted}
+use Rattle.ac_meaning.specs.Worlds.{Exception, World, match_failure_exn, counted}
 use Rattle.ac_meaning.specs.Acts.{Act, Is, Goes, Turns, Applies, Raises, Wrong, becomes, or_raises, part, State, At, Over, Returned, Raised, Spent, Stuck, after}
 use Rattle.ac_meaning.specs.Substitution.{inst}
 use Rattle.ac_meaning.specs.Matching.{chosen}
 use Rattle.ac_meaning.specs.PrimitiveSteps.{spelled, primitive, answered, exception_of, exception_value, thrown}
-use Rattle.ac_meaning.specs.Brackets.{enclosed, all_enclosed, is_function_value, inside, unsealed, at_name, bracket_step}
+use Rattle.ac_meaning.specs.Brackets.{enclosed, all_enclosed, is_function_value, inside_seal, unsealed_term, at_name, bracket_step}
 use Rattle.ac_meaning.specs.References.{own_field, Route, Nowhere, Once, Twice, route, routed}
 use Rattle.ac_meaning.specs.Packing.{Packing, Refuses, Packs, packs, packing, Arrival, Unfit, Brings, arrival, brings, marshal_step, unmarshal_step}
 use Rattle.ac_meaning.specs.BareTerms.{BareValue}
@@ -41,7 +41,7 @@ pub record ComesWithin : Type 0 where
   pub refused : (z : World) (T : Typ) (mark : Bytes) (v : PValue) (x : Exception) → packing z T mark v ≡ Refuses x → RaisedWithin x
   pub packed : (z : World) (T : Typ) (mark : Bytes) (v : PValue) (s : Bytes) → packing z T mark v ≡ Packs s → is_string s ≡ true
 
-no_text : RaisedWithin match_failure
+no_text : RaisedWithin match_failure_exn
 no_text = (refl, refl)
 
 apply_within : (c : Home) (v w : Value) → ValueWithin v → ValueWithin w → Good (apply c v w)
@@ -88,7 +88,7 @@ abbrev InsideWithin : Option (Home × Value) → Type 0
 InsideWithin None = Unit {0}
 InsideWithin (Some p) = ValueWithin p.1
 
-inside_within : (n t : Bytes) (v : Value) → ValueWithin v → InsideWithin (inside n t v)
+inside_within : (n t : Bytes) (v : Value) → ValueWithin v → InsideWithin (inside_seal n t v)
 inside_within n t (VSeal d m u w) h = by (same_bytes m n && same_bytes u t)
   where
     by : (b : Bool) → InsideWithin (cond b (Some (d, w)) None)
@@ -96,7 +96,7 @@ inside_within n t (VSeal d m u w) h = by (same_bytes m n && same_bytes u t)
     by false = tt
 inside_within n t _ h = tt
 
-unsealed_within : (o : Option (Home × Value)) (R : Option Typ) → InsideWithin o → Good (becomes (unsealed o R))
+unsealed_within : (o : Option (Home × Value)) (R : Option Typ) → InsideWithin o → Good (becomes (unsealed_term o R))
 unsealed_within None R h = tt
 unsealed_within (Some p) None h = tt
 unsealed_within (Some p) (Some T) h = (tt, h)
@@ -112,8 +112,8 @@ stays_within false n t v h = tt
 name_within : (b : Home) (n t : Bytes) (R : Option Typ) (v : Value) (x y : Bool) → ValueWithin v → Good (at_name b n t R v x y)
 name_within b n t R v true true h = opened_within b v R h
 name_within b n t R v true false h = (tt, h)
-name_within b n t R v false true h = unsealed_within (inside n t v) R (inside_within n t v h)
-name_within b n t R v false false h = stays_within (is_some (inside n t v)) n t v h
+name_within b n t R v false true h = unsealed_within (inside_seal n t v) R (inside_within n t v h)
+name_within b n t R v false false h = stays_within (is_some (inside_seal n t v)) n t v h
 
 proxy_within : (s : Bool) (v : Value) → ValueWithin v → Good (cond s (Is v) Wrong)
 proxy_within true v h = h
@@ -211,7 +211,7 @@ module _ (comes : ComesWithin) (mode : Mode) (z : World) (coherent : IsCoherent 
         one_part (λ x. Let T x b) (λ v. Goes (inst 0 ((T, v) ∷ []) b)) (next c e) (kept_within e c h.1) (λ s p. (h.0, p, h.2))
         (λ v p. loosened (inst 0 ((T, v) ∷ []) b) (inst_within true b 0 ((T, v) ∷ []) (h.0, p, tt) h.2))
     kept_within (If e a b) c h = one_part (λ x. If x a b) (λ v. branch v a b) (next c e) (kept_within e c h.0) (λ s p. (p, h.1, h.2)) (λ v p. branch_within v a b h.1 h.2)
-    kept_within (Match e arms) c h = one_part (λ x. Match x arms) (λ v. or_raises match_failure (chosen arms v)) (next c e) (kept_within e c h.0) (λ s p. (p, h.1, h.2)) (λ v p. chosen_within arms v match_failure h.1 p no_text)
+    kept_within (Match e arms) c h = one_part (λ x. Match x arms) (λ v. or_raises match_failure_exn (chosen arms v)) (next c e) (kept_within e c h.0) (λ s p. (p, h.1, h.2)) (λ v p. chosen_within arms v match_failure_exn h.1 p no_text)
     kept_within (Seq no_exprs) c h = tt
     kept_within (Seq (expr e no_exprs)) c h = h.1.0
     kept_within (Seq (expr e (expr d es))) c h = one_part (λ x. Seq (expr x (expr d es))) (λ v. Goes (Seq (expr d es))) (next c e) (kept_within e c h.1.0) (λ s p. (tt, (p, h.1.1))) (λ v p. (tt, h.1.1))

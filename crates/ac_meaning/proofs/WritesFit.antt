@@ -11,7 +11,7 @@ use Rattle.ac_terms.specs.Bounds.{fits_term, is_string}
 use Rattle.ac_rules.specs.Views.{Mode}
 use Rattle.ac_types.specs.Limits.{longest_frame}
 use Rattle.ac_meaning.specs.Writes.{Write, string_of}
-use Rattle.ac_meaning.specs.Worlds.{Exception, World, IsShort, IsException, fresh}
+use Rattle.ac_meaning.specs.Worlds.{Exception, World, IsShortText, IsException, fresh}
 use Rattle.ac_meaning.specs.Acts.{Outcome, Returned, Raised, Spent, Stuck, At, Over}
 use Rattle.ac_meaning.specs.Reduction.{Ends}
 use Rattle.ac_meaning.specs.Laws.{IsTypedProgram, writes_of}
@@ -30,7 +30,7 @@ one_short ws before after w e h = by before (subst WritesWithin e h)
     by [] h = at_most (length (string_of w)) h.0
     by (b ∷ before) h = by before h.1
 
-short_text : (o : Option Bytes) → option_map_or is_string o true ≡ true → IsShort o
+short_text : (o : Option Bytes) → option_map_or is_string o true ≡ true → IsShortText o
 short_text None h = tt
 short_text (Some s) h = at_most (length s) h
 

@@ -34,27 +34,27 @@ is_function_value (VPresent v) = false
 is_function_value (VSeal b n t v) = false
 
 -- what is inside a seal at n.t, with its home
-abbrev pub inside : Bytes → Bytes → Value → Option (Home × Value)
-inside n t (VSeal d m u w) = cond (same_bytes m n && same_bytes u t) (Some (d, w)) None
-inside n t (VInt k) = None
-inside n t (VBool b) = None
-inside n t (VStr s) = None
-inside n t VUnit = None
-inside n t (VExn k s) = None
-inside n t (VTuple vs) = None
-inside n t (VNil T) = None
-inside n t (VCons v w) = None
-inside n t (VAbsent T) = None
-inside n t (VPresent v) = None
-inside n t (VLam T e) = None
-inside n t (VRec T U e) = None
-inside n t (VProxy b T U f) = None
+abbrev pub inside_seal : Bytes → Bytes → Value → Option (Home × Value)
+inside_seal n t (VSeal d m u w) = cond (same_bytes m n && same_bytes u t) (Some (d, w)) None
+inside_seal n t (VInt k) = None
+inside_seal n t (VBool b) = None
+inside_seal n t (VStr s) = None
+inside_seal n t VUnit = None
+inside_seal n t (VExn k s) = None
+inside_seal n t (VTuple vs) = None
+inside_seal n t (VNil T) = None
+inside_seal n t (VCons v w) = None
+inside_seal n t (VAbsent T) = None
+inside_seal n t (VPresent v) = None
+inside_seal n t (VLam T e) = None
+inside_seal n t (VRec T U e) = None
+inside_seal n t (VProxy b T U f) = None
 
 -- a bracket of the seal's home
-abbrev pub unsealed : Option (Home × Value) → Option Typ → Option Expr
-unsealed (Some p) (Some T) = Some (enclosed p.0 T p.1)
-unsealed (Some p) None = None
-unsealed None R = None
+abbrev pub unsealed_term : Option (Home × Value) → Option Typ → Option Expr
+unsealed_term (Some p) (Some T) = Some (enclosed p.0 T p.1)
+unsealed_term (Some p) None = None
+unsealed_term None R = None
 
 -- `Bracket(b, n.t, v)` in a home, where n.t is R, by whether b opens n and whether the home does
 abbrev pub at_name : Home → Bytes → Bytes → Option Typ → Value → Bool → Bool → Act Expr Value
@@ -63,9 +63,9 @@ at_name b n t R v true true = becomes (option_map (λ T. enclosed b T v) R)
 -- b alone does: v is sealed
 at_name b n t R v true false = Goes (Evaluated (TAbs n t) (VSeal b n t v))
 -- the home alone does: the seal is taken off, and its home takes the place of b
-at_name b n t R v false true = becomes (unsealed (inside n t v) R)
+at_name b n t R v false true = becomes (unsealed_term (inside_seal n t v) R)
 -- neither does: the seal stays
-at_name b n t R v false false = cond (is_some (inside n t v)) (Goes (Evaluated (TAbs n t) v)) Wrong
+at_name b n t R v false false = cond (is_some (inside_seal n t v)) (Goes (Evaluated (TAbs n t) v)) Wrong
 
 -- `Bracket(b, T, v)` in home c, by the head of T
 module _ (mode : Mode) (E : Environment) where

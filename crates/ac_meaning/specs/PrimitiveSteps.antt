@@ -2,8 +2,8 @@
 use Rattle.std.specs.Prelude.{ℕ, Bool, true, false, List, [], ◌∷◌, Option, Some, None}
 use Rattle.ac_types.specs.Types.{Bytes}
 use Rattle.ac_terms.specs.Terms.{Expr, Int, Boolean, Str, Unit', Tuple, exprs, Value, VInt, VBool, VStr, VUnit, VExn, VTuple, VNil, VCons, VAbsent, VPresent, VLam, VRec, VProxy, VSeal, Values, no_values, value}
-use Rattle.ac_code.specs.Constants.{Const, CInt, CBool, CStr, CUnit, CPart, Answer, Gives, Prints, Sends, Receives, Fails, NoSense, Meaning, meaning, applied}
-use Rattle.ac_meaning.specs.Worlds.{Exception, World, exception, end_of_file, no_channel, bad_frame, with_write, with_left}
+use Rattle.ac_code.specs.Constants.{Const, CInt, CBool, CStr, CUnit, CPart, PrimitiveAnswer, Gives, Prints, Sends, Receives, Fails, NoSense, Meaning, meaning, primitive_answer}
+use Rattle.ac_meaning.specs.Worlds.{Exception, World, exception, end_of_file_exn, no_channel, bad_frame, with_write, with_left}
 use Rattle.ac_meaning.specs.Writes.{Print, Send}
 use Rattle.ac_outside.specs.Frames.{Frame, Whole, Bad, AtEnd, next_frame}
 use Rattle.ac_meaning.specs.Acts.{Act, Is, Goes, Turns, Raises, Wrong}
@@ -48,12 +48,12 @@ spelled CUnit = Unit'
 spelled (CPart s i n) = Tuple (exprs (Str s ∷ Int i ∷ Int n ∷ []))
 
 -- what a primitive answers of values
-abbrev pub answer_at : Option Meaning → Option (List Const) → Answer
-answer_at (Some m) (Some cs) = applied m cs
+abbrev pub answer_at : Option Meaning → Option (List Const) → PrimitiveAnswer
+answer_at (Some m) (Some cs) = primitive_answer m cs
 answer_at (Some m) None = NoSense
 answer_at None cs = NoSense
 
-abbrev pub primitive : ℕ → Values → Answer
+abbrev pub primitive : ℕ → Values → PrimitiveAnswer
 primitive k vs = answer_at (meaning k) (consts_of vs)
 
 -- what a primitive does, where constants are spelled so
@@ -67,10 +67,10 @@ module _ {T A : Type 0} (spell : Const → T) where
   abbrev pub receiving : Frame → World → Act T A
   receiving (Whole s rest) z = Turns (with_left rest z) (spell (CStr s))
   receiving (Bad n got) z = Raises bad_frame
-  receiving AtEnd z = Raises end_of_file
+  receiving AtEnd z = Raises end_of_file_exn
 
   -- an applied primitive becomes its answer
-  abbrev pub answered : World → Answer → Act T A
+  abbrev pub answered : World → PrimitiveAnswer → Act T A
   answered z (Gives c) = Goes (spell c)
   answered z (Prints s) = Turns (with_write (Print s) z) (spell CUnit)
   answered z (Sends s) = sending z.has_channel s z

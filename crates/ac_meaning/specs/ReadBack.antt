@@ -5,14 +5,14 @@ use Rattle.ac_terms.specs.Terms.{Home, Main, Expr, Str, Marshal}
 use Rattle.ac_rules.specs.Views.{Mode}
 use Rattle.ac_meaning.specs.Worlds.{World}
 use Rattle.ac_meaning.specs.Acts.{Goes}
-use Rattle.ac_meaning.specs.Packing.{Landing, Lands, Sinks, unmarshal_failure, resolve_failure}
+use Rattle.ac_meaning.specs.Packing.{Landing, Lands, Sinks, unmarshal_failure_exn, resolve_failure_exn}
 use Rattle.ac_meaning.specs.Reduction.{look}
 use Rattle.ac_meaning.specs.Redexes.{redex}
 
 -- it lands, or is refused as full or for want of a link
 abbrev pub IsReadBack : Landing → Type 0
 IsReadBack (Lands F v) = Unit {0}
-IsReadBack (Sinks x) = (x ≡ unmarshal_failure (codes "full")) ⊎ ((name : Bytes) × (x ≡ resolve_failure name))
+IsReadBack (Sinks x) = (x ≡ unmarshal_failure_exn (codes "full")) ⊎ ((name : Bytes) × (x ≡ resolve_failure_exn name))
 
 -- what is next in a term of the main program is to marshal at a type, which gives a string
 pub record Marshals (mode : Mode) (z : World) (e : Expr) (T : Typ) (s : Bytes) : Type 0 where

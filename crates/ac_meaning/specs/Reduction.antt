@@ -4,7 +4,7 @@ use Rattle.ac_types.specs.Types.{Bytes, TFun}
 use Rattle.ac_terms.specs.Terms.{Home, Main, Expr, Int, Boolean, Str, Unit', Exn, ExnOf, Tuple, Nil, Empty, Present, Cons, Var, Own, Ref, Lam, Rec, App, Let, If, Seq, Match, Try, Raise, Prim, Marshal, Unmarshal, Val, Evaluated, Bracket, Exprs, no_exprs, expr, Value, VInt, VBool, VStr, VUnit, VExn, VTuple, VNil, VCons, VAbsent, VPresent, VLam, VRec, VProxy, VSeal, Values, no_values, value}
 use Rattle.ac_terms.specs.Defs.{Environment}
 use Rattle.ac_rules.specs.Views.{Mode}
-use Rattle.ac_meaning.specs.Worlds.{World, match_failure, fresh}
+use Rattle.ac_meaning.specs.Worlds.{World, match_failure_exn, fresh}
 use Rattle.ac_meaning.specs.Acts.{Act, Is, Goes, Applies, Wrong, becomes, or_raises, within, part, parts, Outcome, State, At, Over, step_by, Leads}
 use Rattle.ac_meaning.specs.Substitution.{inst}
 use Rattle.ac_meaning.specs.Matching.{chosen}
@@ -73,7 +73,7 @@ module _ (mode : Mode) (z : World) where
     look c (Let T e b) = part (λ e'. Let T e' b) (λ v. Goes (inst 0 ((T, v) ∷ []) b)) (look c e)
     look c (If e a b) = part (λ e'. If e' a b) (λ v. branch v a b) (look c e)
     -- a match in which no arm fits raises an exception of its own
-    look c (Match e arms) = part (λ e'. Match e' arms) (λ v. or_raises match_failure (chosen arms v)) (look c e)
+    look c (Match e arms) = part (λ e'. Match e' arms) (λ v. or_raises match_failure_exn (chosen arms v)) (look c e)
     -- a sequence drops the value of each part but the last, and becomes the last
     look c (Seq no_exprs) = Wrong
     look c (Seq (expr e no_exprs)) = Goes e

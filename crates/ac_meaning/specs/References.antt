@@ -3,7 +3,7 @@ use Rattle.std.specs.Prelude.{ℕ, Bool, true, false, not, List, Option, Some, N
 use Rattle.std.specs.Option.{option_map_or}
 use Rattle.ac_types.specs.Types.{Bytes, Typ, same_bytes}
 use Rattle.ac_terms.specs.Terms.{Home, In, Expr, Bracket}
-use Rattle.ac_terms.specs.Defs.{Environment, Entry, Field, Def, AModule, AnImport, AMark, def_of}
+use Rattle.ac_terms.specs.Defs.{Environment, Entry, Field, Def, AModule, AnImport, AMark, def_of, module_behind, field_number}
 use Rattle.ac_rules.specs.Views.{Coloured, view}
 use Rattle.ac_rules.specs.Links.{is_exact}
 use Rattle.ac_rules.specs.Typing.{fields_of, value_in}
@@ -11,14 +11,6 @@ use Rattle.ac_rules.specs.Typing.{fields_of, value_in}
 -- field f of a home, as a term
 abbrev pub own_field : Environment → Home → ℕ → Option Expr
 own_field E c f = option_map (λ (x : Field). x.term) (slice_get (fields_of E c) f)
-
--- the module that an entry is, or that it is linked to
-abbrev pub module_behind : ℕ → Entry → Option ℕ
-module_behind j e = elim e.def [ AModule m ↦ Some j | AnImport i ↦ e.link | AMark t ↦ None ]
-
--- the number of the field x
-abbrev pub field_number : Bytes → List Field → Option ℕ
-field_number x fs = position (λ (f : Field). same_bytes f.name x) fs
 
 -- where the value x of entry j comes from: a field of a module, by their numbers
 abbrev pub target : Environment → ℕ → Bytes → Option (ℕ × ℕ)

@@ -24,8 +24,8 @@ HasArm no_arms = ⊥
 HasArm (arm p e rest) = Unit {0}
 
 module _ (mode : Mode) (E : Environment) where
-  abbrev pub seen : Home → Typ → Typ
-  seen c T = view mode E c T
+  abbrev pub as_seen : Home → Typ → Typ
+  as_seen c T = view mode E c T
 
   abbrev pub Known : Typ → Type 0
   Known T = are_known E T ≡ true
@@ -37,7 +37,7 @@ module _ (mode : Mode) (E : Environment) where
   abbrev mutual
     pub Fits : Pattern → Home → Typ → List Typ → Type 0
     Fits PWild c A Us = Us ≡ []
-    Fits (PVar U) c A Us = (A ≡ seen c U) × (Us ≡ A ∷ []) × Known U
+    Fits (PVar U) c A Us = (A ≡ as_seen c U) × (Us ≡ A ∷ []) × Known U
     Fits (PInt n) c A Us = (A ≡ TInt) × (Us ≡ [])
     Fits (PBool b) c A Us = (A ≡ TBool) × (Us ≡ [])
     Fits (PStr s) c A Us = (A ≡ TStr) × (Us ≡ [])
@@ -64,28 +64,28 @@ module _ (mode : Mode) (E : Environment) where
     Typed (Exn k) c G T = T ≡ TExn
     Typed (ExnOf k e) c G T = (T ≡ TExn) × Typed e c G TStr
     Typed (Tuple es) c G T = (Ts : Typs) × (T ≡ TTuple Ts) × AllTyped es c G Ts
-    Typed (Nil A) c G T = (B : Typ) × (T ≡ TList B) × (T ≡ seen c A) × Known A
-    Typed (Empty A) c G T = (B : Typ) × (T ≡ TOpt B) × (T ≡ seen c A) × Known A
+    Typed (Nil A) c G T = (B : Typ) × (T ≡ TList B) × (T ≡ as_seen c A) × Known A
+    Typed (Empty A) c G T = (B : Typ) × (T ≡ TOpt B) × (T ≡ as_seen c A) × Known A
     Typed (Present e) c G T = (A : Typ) × (T ≡ TOpt A) × Typed e c G A
     Typed (Cons a b) c G T = (A : Typ) × (T ≡ TList A) × Typed a c G A × Typed b c G (TList A)
     Typed (Var i) c G T = slice_get G i ≡ Some T
-    Typed (Own f) c G T = (A : Typ) × (own_type E c f ≡ Some A) × (T ≡ seen c A)
-    Typed (Ref j x) c G T = (A : Typ) × (value_in E j x ≡ Some A) × (T ≡ seen c A)
-    Typed (Lam A e) c G T = (B : Typ) × (T ≡ TFun (seen c A) B) × Typed e c (seen c A ∷ G) B × Known A
-    Typed (Rec A B e) c G T = (T ≡ TFun (seen c A) (seen c B)) × Typed e c (seen c A ∷ TFun (seen c A) (seen c B) ∷ G) (seen c B) × Known A × Known B
+    Typed (Own f) c G T = (A : Typ) × (own_type E c f ≡ Some A) × (T ≡ as_seen c A)
+    Typed (Ref j x) c G T = (A : Typ) × (value_in E j x ≡ Some A) × (T ≡ as_seen c A)
+    Typed (Lam A e) c G T = (B : Typ) × (T ≡ TFun (as_seen c A) B) × Typed e c (as_seen c A ∷ G) B × Known A
+    Typed (Rec A B e) c G T = (T ≡ TFun (as_seen c A) (as_seen c B)) × Typed e c (as_seen c A ∷ TFun (as_seen c A) (as_seen c B) ∷ G) (as_seen c B) × Known A × Known B
     Typed (App f a) c G T = (A : Typ) × Typed f c G (TFun A T) × Typed a c G A
-    Typed (Let A e b) c G T = Typed e c G (seen c A) × Typed b c (seen c A ∷ G) T × Known A
+    Typed (Let A e b) c G T = Typed e c G (as_seen c A) × Typed b c (as_seen c A ∷ G) T × Known A
     Typed (If e a b) c G T = Typed e c G TBool × Typed a c G T × Typed b c G T
     Typed (Seq es) c G T = (Ts : Typs) × AllTyped es c G Ts × IsLast Ts T
     Typed (Match e arms) c G T = (A : Typ) × Typed e c G A × ArmsTyped arms c G A T × HasArm arms
     Typed (Try e arms) c G T = Typed e c G T × ArmsTyped arms c G TExn T × HasArm arms
-    Typed (Raise A e) c G T = (T ≡ seen c A) × Typed e c G TExn × Known A
+    Typed (Raise A e) c G T = (T ≡ as_seen c A) × Typed e c G TExn × Known A
     Typed (Prim k es) c G T = (Ts : Typs) × AllTyped es c G Ts × (primitive_type k Ts ≡ Some T)
-    Typed (Marshal A m e) c G T = (T ≡ TStr) × Typed m c G TStr × Typed e c G (seen c A) × Known A
-    Typed (Unmarshal A e) c G T = (T ≡ seen c A) × Typed e c G TStr × Known A
+    Typed (Marshal A m e) c G T = (T ≡ TStr) × Typed m c G TStr × Typed e c G (as_seen c A) × Known A
+    Typed (Unmarshal A e) c G T = (T ≡ as_seen c A) × Typed e c G TStr × Known A
     Typed (Val A v) c G T = ⊥
-    Typed (Evaluated A v) c G T = (T ≡ seen c A) × ValueTyped v c T × Known A
-    Typed (Bracket b A e) c G T = (T ≡ seen c A) × Known A × Typed e b [] (seen b A) × IsHome b
+    Typed (Evaluated A v) c G T = (T ≡ as_seen c A) × ValueTyped v c T × Known A
+    Typed (Bracket b A e) c G T = (T ≡ as_seen c A) × Known A × Typed e b [] (as_seen b A) × IsHome b
 
     pub AllTyped : Exprs → Home → List Typ → Typs → Type 0
     AllTyped no_exprs c G Ts = Ts ≡ no_types
@@ -103,14 +103,14 @@ module _ (mode : Mode) (E : Environment) where
     ValueTyped VUnit c T = T ≡ TUnit
     ValueTyped (VExn k s) c T = T ≡ TExn
     ValueTyped (VTuple vs) c T = (Ts : Typs) × (T ≡ TTuple Ts) × ValuesTyped vs c Ts
-    ValueTyped (VNil A) c T = (B : Typ) × (T ≡ TList B) × (T ≡ seen c A) × Known A
+    ValueTyped (VNil A) c T = (B : Typ) × (T ≡ TList B) × (T ≡ as_seen c A) × Known A
     ValueTyped (VCons v w) c T = (A : Typ) × (T ≡ TList A) × ValueTyped v c A × ValueTyped w c (TList A)
-    ValueTyped (VAbsent A) c T = (B : Typ) × (T ≡ TOpt B) × (T ≡ seen c A) × Known A
+    ValueTyped (VAbsent A) c T = (B : Typ) × (T ≡ TOpt B) × (T ≡ as_seen c A) × Known A
     ValueTyped (VPresent v) c T = (A : Typ) × (T ≡ TOpt A) × ValueTyped v c A
-    ValueTyped (VLam A e) c T = (B : Typ) × (T ≡ TFun (seen c A) B) × Typed e c (seen c A ∷ []) B × Known A
-    ValueTyped (VRec A B e) c T = (T ≡ TFun (seen c A) (seen c B)) × Typed e c (seen c A ∷ TFun (seen c A) (seen c B) ∷ []) (seen c B) × Known A × Known B
-    ValueTyped (VProxy b A B f) c T = (T ≡ TFun (seen c A) (seen c B)) × Known A × Known B × ValueTyped f b (TFun (seen b A) (seen b B)) × IsHome b
-    ValueTyped (VSeal b n t v) c T = (T ≡ TAbs n t) × Known (TAbs n t) × (opens mode E b n ≡ true) × (opens mode E c n ≡ false) × ValueTyped v b (seen b (TAbs n t)) × IsHome b
+    ValueTyped (VLam A e) c T = (B : Typ) × (T ≡ TFun (as_seen c A) B) × Typed e c (as_seen c A ∷ []) B × Known A
+    ValueTyped (VRec A B e) c T = (T ≡ TFun (as_seen c A) (as_seen c B)) × Typed e c (as_seen c A ∷ TFun (as_seen c A) (as_seen c B) ∷ []) (as_seen c B) × Known A × Known B
+    ValueTyped (VProxy b A B f) c T = (T ≡ TFun (as_seen c A) (as_seen c B)) × Known A × Known B × ValueTyped f b (TFun (as_seen b A) (as_seen b B)) × IsHome b
+    ValueTyped (VSeal b n t v) c T = (T ≡ TAbs n t) × Known (TAbs n t) × (opens mode E b n ≡ true) × (opens mode E c n ≡ false) × ValueTyped v b (as_seen b (TAbs n t)) × IsHome b
 
     pub ValuesTyped : Values → Home → Typs → Type 0
     ValuesTyped no_values c Ts = Ts ≡ no_types
@@ -119,4 +119,4 @@ module _ (mode : Mode) (E : Environment) where
   -- values written for variables of these types
   abbrev pub WrittenTyped : Written → Home → List Typ → Type 0
   WrittenTyped [] c G = G ≡ []
-  WrittenTyped (w ∷ ws) c G = (H : List Typ) × (G ≡ seen c w.0 ∷ H) × ValueTyped w.1 c (seen c w.0) × WrittenTyped ws c H × Known w.0
+  WrittenTyped (w ∷ ws) c G = (H : List Typ) × (G ≡ as_seen c w.0 ∷ H) × ValueTyped w.1 c (as_seen c w.0) × WrittenTyped ws c H × Known w.0

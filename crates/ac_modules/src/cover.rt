@@ -6,7 +6,7 @@ ghost use Rattle.ac_types.specs.First.{first_failing};
 ghost use Rattle.ac_types.specs.Types.{same, same_all, typs};
 ghost use Rattle.ac_types.specs.ReadTypes.{typ_of, typed_of, sig_type_of};
 ghost use Rattle.ac_terms.specs.Read.{module_of_code};
-ghost use Rattle.ac_rules.specs.Modules.{inside, covers_type, covers_val, uncovered};
+ghost use Rattle.ac_rules.specs.Modules.{inside_struct, covers_type, covers_val, uncovered};
 ghost use Rattle.ac_modules.specs.inner.Asked.{all_inside};
 
 use crate::lookups::field_type;
@@ -71,7 +71,8 @@ fn covers_val(m: &Module, x: &TyField) -> bool
 #[cycle(inside)]
 #[tactic(auto, using(ac_types::proofs::SizeLaws::type_laws))]
 fn is_inside(ty: &Ty, written: &Ty, m: &Module) -> bool
-    ensures { result ≡ same (typ_of ty.now) (inside (module_of_code m.now) (typ_of written.now)) }
+    ensures { result ≡ same (typ_of ty.now) (inside_struct (module_of_code m.now)
+        (typ_of written.now)) }
 {
     match written {
         Ty::Mine(word) => match type_named(m.types.as_slice(), word) {

@@ -31,16 +31,16 @@ pub record IsBad (n g : ℕ) : Type 0 where
   pub is : next_frame bytes ≡ Bad n g
 
 -- the reader after an answer, where it kept these bytes before, whatever its source is
-abbrev pub Goes : FrameGot → Bytes → Reader → Type 0
-Goes (answers.Frame s) kept new = (length s.0 ≤ longest_frame) × (new ≡ Keeps [])
-Goes answers.End kept new = (kept ≡ []) × (new ≡ Keeps [])
-Goes (answers.Bad n g) kept new = IsBad n g × (new ≡ Refused n g)
-Goes answers.Failed kept new = (more : Bytes) × (new ≡ Keeps (kept ++ more))
-Goes answers.Memory kept new = new ≡ Lost
+abbrev pub ReaderGoesOn : FrameGot → Bytes → Reader → Type 0
+ReaderGoesOn (answers.Frame s) taken_bytes new = (length s.0 ≤ longest_frame) × (new ≡ Keeps [])
+ReaderGoesOn answers.End taken_bytes new = (taken_bytes ≡ []) × (new ≡ Keeps [])
+ReaderGoesOn (answers.Bad n g) taken_bytes new = IsBad n g × (new ≡ Refused n g)
+ReaderGoesOn answers.Failed taken_bytes new = (more : Bytes) × (new ≡ Keeps (taken_bytes ++ more))
+ReaderGoesOn answers.Memory taken_bytes new = new ≡ Lost
 
 -- the same of every reader: one that has met no frame, or has lost memory, stays so
 abbrev pub Follows : FrameGot → Reader → Reader → Type 0
-Follows answer (Keeps kept) new = Goes answer kept new
+Follows answer (Keeps taken_bytes) new = ReaderGoesOn answer taken_bytes new
 Follows answer (Refused n g) new = (answer ≡ answers.Bad n g) × (new ≡ Refused n g)
 Follows answer Lost new = (answer ≡ answers.Memory) × (new ≡ Lost)
 
@@ -54,13 +54,13 @@ Gives answers.Memory all new left = Unit {0}
 
 -- the same of every reader: one that has met no frame, or has lost memory, takes nothing
 abbrev pub Receives : FrameGot → Reader → Bytes → Reader → Bytes → Type 0
-Receives answer (Keeps kept) left new now = Gives answer (kept ++ left) new now
+Receives answer (Keeps taken_bytes) left new now = Gives answer (taken_bytes ++ left) new now
 Receives answer (Refused n g) left new now = now ≡ left
 Receives answer Lost left new now = now ≡ left
 
 -- what a part of a frame has: its length's bytes, and those behind it
-abbrev pub kept : Part → Bytes
-kept p = p.head.0 ++ p.body.0
+abbrev pub taken_bytes : Part → Bytes
+taken_bytes p = p.head.0 ++ p.body.0
 
 -- a part of a frame has no more bytes than the frame
 pub record IsPart (head body : Bytes) : Type 0 where

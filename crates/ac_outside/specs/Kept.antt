@@ -28,9 +28,9 @@ pub record Filed : Type 0 where
   pub writes : Calls
 
 -- the bytes of the first file of that name
-abbrev pub bytes_of : List MemoryFile → Contents
-bytes_of [] name = None
-bytes_of (file ∷ files) name = if bytes_eq (string_bytes file.name) name then Some file.bytes.0 else bytes_of files name
+abbrev pub file_contents : List MemoryFile → Contents
+file_contents [] name = None
+file_contents (file ∷ files) name = if bytes_eq (string_bytes file.name) name then Some file.bytes.0 else file_contents files name
 
 -- the first file of that name stands there
 abbrev pub StandsAt : List MemoryFile → List ℕ → ℕ → Type 0

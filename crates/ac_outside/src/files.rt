@@ -1,7 +1,7 @@
 // Files in memory.
 ghost use Rattle.std.specs.Prelude.{◌≡◌, ◌⊎◌, ◌<◌, ◌≤◌, ◌↔◌, ◌++◌, [], true, None, IsTrue, MatchOption, IfSome, OnOk, OnErr, Contains, length};
 ghost use Rattle.ac_outside.specs.Calls.{unused};
-ghost use Rattle.ac_outside.specs.Kept.{bytes_of, StandsAt};
+ghost use Rattle.ac_outside.specs.Kept.{file_contents, StandsAt};
 ghost use Rattle.ac_outside.specs.Outside.{Rose, IsWithin, OthersSame, NeverFall, ReadsFrom, IsShort, Created, Appended, or_empty, risen};
 
 use crate::calls::Calls;
@@ -63,17 +63,17 @@ impl MemoryFiles {
 
     /// The bytes of a name, `None` exactly where there is no such file.
     pub fn bytes(&self, name: &str) -> Option<&Text>
-        ensures { MatchOption result (bytes_of self.now.files name.now ≡ None)
-            (λ text. bytes_of self.now.files name.now ≡ Some text.now.0) }
+        ensures { MatchOption result (file_contents self.now.files name.now ≡ None)
+            (λ text. file_contents self.now.files name.now ≡ Some text.now.0) }
     {
         text_of(&self.files, name)
     }
 }
 
 fn text_of<'a>(files: &'a [MemoryFile], name: &str) -> Option<&'a Text>
-    ensures short { IsShort (bytes_of files.now name.now) }
-    ensures text { MatchOption result (bytes_of files.now name.now ≡ None)
-        (λ text. bytes_of files.now name.now ≡ Some text.now.0) }
+    ensures short { IsShort (file_contents files.now name.now) }
+    ensures text { MatchOption result (file_contents files.now name.now ≡ None)
+        (λ text. file_contents files.now name.now ≡ Some text.now.0) }
 {
     let at = place_of(files, name)?;
     let text = &files[at].bytes;
@@ -83,7 +83,7 @@ fn text_of<'a>(files: &'a [MemoryFile], name: &str) -> Option<&'a Text>
 
 fn place_of(files: &[MemoryFile], name: &str) -> Option<usize>
     ensures within { IfSome result (λ at. at < length files.now) }
-    ensures place { MatchOption result (bytes_of files.now name.now ≡ None)
+    ensures place { MatchOption result (file_contents files.now name.now ≡ None)
         (λ at. StandsAt files.now name.now at) }
 {
     for (i, file) in files.iter().enumerate() {
@@ -97,7 +97,7 @@ fn place_of(files: &[MemoryFile], name: &str) -> Option<usize>
 impl Files for MemoryFiles {
     ghost told = { true };
 
-    ghost contents = { λ s. bytes_of s.files };
+    ghost contents = { λ s. file_contents s.files };
 
     ghost read_faults = { λ s _. s.reads.failed };
 
@@ -107,14 +107,14 @@ impl Files for MemoryFiles {
     fn read(&mut self, name: &str, from: u64, buf: &mut [u8]) -> Got
         requires { 0 < length buf.old }
         ensures bound { IsWithin result (length buf.new) }
-        ensures bytes { ReadsFrom result (bytes_of self.old.files name.now) from buf.new }
+        ensures bytes { ReadsFrom result (file_contents self.old.files name.now) from buf.new }
         ensures same { self.new.files ≡ self.old.files }
-        ensures short { IsShort (bytes_of self.old.files name.now) }
+        ensures short { IsShort (file_contents self.old.files name.now) }
         ensures cause { result ≡ Got.Failed → Rose self.old.reads.failed self.new.reads.failed }
         ensures later { self.old.reads.failed ≤ self.new.reads.failed }
         ensures later_writes { self.old.writes.failed ≤ self.new.writes.failed }
         ensures fails { (result ≡ Got.Failed) ↔ (Contains self.old.reads.fail self.old.reads.made ⊎
-            (bytes_of self.old.files name.now ≡ None)) }
+            (file_contents self.old.files name.now ≡ None)) }
         ensures made { self.new.reads.made ≡ risen self.old.reads.made }
         ensures planned { self.new.reads.fail ≡ self.old.reads.fail }
         ensures writes { self.new.writes ≡ self.old.writes }
@@ -132,9 +132,10 @@ impl Files for MemoryFiles {
 
     /// `Failed` comes exactly for the writes that are to fail, which change nothing.
     fn create(&mut self, name: &str) -> Put
-        ensures bytes { Created result (bytes_of self.old.files name.now)
-            (bytes_of self.new.files name.now) }
-        ensures others { OthersSame name.now (bytes_of self.old.files) (bytes_of self.new.files) }
+        ensures bytes { Created result (file_contents self.old.files name.now)
+            (file_contents self.new.files name.now) }
+        ensures others { OthersSame name.now (file_contents self.old.files)
+            (file_contents self.new.files) }
         ensures cause { result ≡ Put.Failed → Rose self.old.writes.failed self.new.writes.failed }
         ensures later { self.old.reads.failed ≤ self.new.reads.failed }
         ensures later_writes { self.old.writes.failed ≤ self.new.writes.failed }
@@ -156,9 +157,10 @@ impl Files for MemoryFiles {
 
     /// `Failed` comes exactly for the writes that are to fail, which change nothing.
     fn append(&mut self, name: &str, bytes: &[u8]) -> Put
-        ensures bytes { Appended result (bytes_of self.old.files name.now)
-            (bytes_of self.new.files name.now) bytes.now }
-        ensures others { OthersSame name.now (bytes_of self.old.files) (bytes_of self.new.files) }
+        ensures bytes { Appended result (file_contents self.old.files name.now)
+            (file_contents self.new.files name.now) bytes.now }
+        ensures others { OthersSame name.now (file_contents self.old.files)
+            (file_contents self.new.files) }
         ensures cause { result ≡ Put.Failed → Rose self.old.writes.failed self.new.writes.failed }
         ensures later { self.old.reads.failed ≤ self.new.reads.failed }
         ensures later_writes { self.old.writes.failed ≤ self.new.writes.failed }
@@ -181,8 +183,9 @@ impl Files for MemoryFiles {
 
 // Gives a name these bytes, in the place of those that it has.
 fn set(alloc: Global, files: &mut Vec<MemoryFile>, name: &str, bytes: &[u8]) -> Result<(), Memory>
-    ensures ok { OnOk result (bytes_of files.new.items name.now ≡ Some bytes.now) }
-    ensures others { OthersSame name.now (bytes_of files.old.items) (bytes_of files.new.items) }
+    ensures ok { OnOk result (file_contents files.new.items name.now ≡ Some bytes.now) }
+    ensures others { OthersSame name.now (file_contents files.old.items)
+        (file_contents files.new.items) }
     ensures err { OnErr result (files.new.items ≡ files.old.items) }
 {
     let text = Text::from_slice(alloc, bytes)?;
@@ -198,9 +201,10 @@ fn set(alloc: Global, files: &mut Vec<MemoryFile>, name: &str, bytes: &[u8]) -> 
 
 // Adds bytes at the end of what a name has.
 fn add(alloc: Global, files: &mut Vec<MemoryFile>, name: &str, bytes: &[u8]) -> Result<(), Memory>
-    ensures ok { OnOk result (bytes_of files.new.items name.now ≡ Some
-        (or_empty (bytes_of files.old.items name.now) ++ bytes.now)) }
-    ensures others { OthersSame name.now (bytes_of files.old.items) (bytes_of files.new.items) }
+    ensures ok { OnOk result (file_contents files.new.items name.now ≡ Some
+        (or_empty (file_contents files.old.items name.now) ++ bytes.now)) }
+    ensures others { OthersSame name.now (file_contents files.old.items)
+        (file_contents files.new.items) }
     ensures err { OnErr result (files.new.items ≡ files.old.items) }
 {
     let mut text = Text::new(alloc);

@@ -3,7 +3,7 @@ ghost use Rattle.std.specs.Prelude.{◌≡◌, ◌≢◌, ◌<◌, ◌≤◌, �
 ghost use Rattle.std.specs.Int.{from_be_bytes, w32};
 ghost use Rattle.ac_types.specs.Types.{Bytes};
 ghost use Rattle.ac_outside.specs.Outside.{Rose};
-ghost use Rattle.ac_outside.specs.FrameReaders.{Keeps, Follows, Receives, IsPart, Goes, Gives, kept, reader, left_by};
+ghost use Rattle.ac_outside.specs.FrameReaders.{Keeps, Follows, Receives, IsPart, ReaderGoesOn, Gives, taken_bytes, reader, left_by};
 
 use crate::filling::{Fill, fill_to};
 use crate::traits::Source;
@@ -42,11 +42,11 @@ pub struct Frames {
 }
 
 impl Model for Frames {
-    ghost use Rattle.ac_outside.specs.FrameReaders.{Reader, IsPart, kept, reader};
+    ghost use Rattle.ac_outside.specs.FrameReaders.{Reader, IsPart, taken_bytes, reader};
 
     ghost Value = { Reader };
 
-    ghost view = { λ s. reader s.stop (kept s.part) };
+    ghost view = { λ s. reader s.stop (taken_bytes s.part) };
 
     ghost invariant = { λ s. IsPart s.part.head.0 s.part.body.0 };
 }
@@ -124,9 +124,10 @@ fn stop_after(answer: &FrameGot) -> Option<Stop>
 fn read_frame<S: Source>(alloc: Global, part: &mut Part, source: &mut S) -> FrameGot
     requires { IsPart part.old.head.0 part.old.body.0 }
     ensures part { IsPart part.new.head.0 part.new.body.0 }
-    ensures goes { Goes result (kept part.old) (left_by result (kept part.new)) }
+    ensures goes { ReaderGoesOn result (taken_bytes part.old)
+        (left_by result (taken_bytes part.new)) }
     ensures gives { IsTrue S.told →
-        Gives result (kept part.old ++ S.left source.old) (left_by result (kept part.new))
+        Gives result (taken_bytes part.old ++ S.left source.old) (left_by result (taken_bytes part.new))
         (S.left source.new) }
     ensures cause { result ≡ FrameGot.Failed →
         Rose (S.read_faults source.old) (S.read_faults source.new) }
@@ -147,7 +148,7 @@ fn read_frame<S: Source>(alloc: Global, part: &mut Part, source: &mut S) -> Fram
 // What is answered where the bytes end with these of a length.
 fn ended(head: &[u8]) -> FrameGot
     requires { length head.now < 4 }
-    ensures goes { Goes result head.now (left_by result head.now) }
+    ensures goes { ReaderGoesOn result head.now (left_by result head.now) }
     ensures gives { Gives result head.now (left_by result head.now) [] }
     ensures read { result ≢ FrameGot.Failed }
 {
@@ -165,9 +166,10 @@ fn read_body<S: Source>(alloc: Global, part: &mut Part, source: &mut S) -> Frame
     requires part { IsPart part.old.head.0 part.old.body.0 }
     requires head { length part.old.head.0 ≡ 4 }
     ensures part { IsPart part.new.head.0 part.new.body.0 }
-    ensures goes { Goes result (kept part.old) (left_by result (kept part.new)) }
+    ensures goes { ReaderGoesOn result (taken_bytes part.old)
+        (left_by result (taken_bytes part.new)) }
     ensures gives { IsTrue S.told →
-        Gives result (kept part.old ++ S.left source.old) (left_by result (kept part.new))
+        Gives result (taken_bytes part.old ++ S.left source.old) (left_by result (taken_bytes part.new))
         (S.left source.new) }
     ensures cause { result ≡ FrameGot.Failed →
         Rose (S.read_faults source.old) (S.read_faults source.new) }

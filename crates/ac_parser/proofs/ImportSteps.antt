@@ -5,7 +5,7 @@ use Rattle.ac_version.specs.declared.read.VToken.{VToken}
 use Rattle.ac_version.specs.VersionReading.{RangeAt, Ranged, last_range, starred_range, more_ranges, IsConstraint, ranged, ReadsConstraint}
 use Rattle.ac_syntax.specs.Signs.{Sign, Upper, Fixed}
 use Rattle.ac_syntax.specs.Trees.{NameAt, AbbrevTree, SigTree, WantsTree, WantsVersion, WantsName, DefTree, ImportDef}
-use Rattle.ac_syntax.specs.Programs.{IsSig, ParsesAbbrevs, vtoken_of, VTokens, no_vtokens, vtoken_, ParsesLike, no_like, like, resolve_of, ParsesResolve, last_resolve, more_resolve, ParsesDef, import_version, import_name, name_at}
+use Rattle.ac_syntax.specs.Programs.{IsSig, ParsesAbbrevs, vtoken_of, VTokens, no_vtokens, vtoken_, ParsesLike, no_like, like, resolve_sign, ParsesResolve, last_resolve, more_resolve, ParsesDef, import_version, import_name, placed_name}
 use Rattle.ac_syntax.specs.PartParsing.{SymbolAt, NoSymbol}
 use Rattle.ac_syntax.specs.declared.sign.Symbol.TheVariants.{By, Comma, Equals, Import, Like, NameWord, Struct, Version}
 use Rattle.ac_syntax.proofs.Exceptions.{nothing_there, same_value}
@@ -185,10 +185,10 @@ module _ (ts : List Sign) where
 pub nowhere : (ts : List Sign) → ts ≡ [] → NoResolve ts
 nowhere ts is place rest x = nothing_is_none (sym is ∙ x.is)
 
-pub no_place : (ts rest : List Sign) (t : Sign) → ts ≡ t ∷ rest → resolve_of t ≡ None → NoResolve ts
-no_place ts rest t is none place other x = nothing_there (sym (subst (λ (y : Sign). resolve_of y ≡ None) (head_eq (sym is ∙ x.is)) none) ∙ x.looks)
+pub no_place : (ts rest : List Sign) (t : Sign) → ts ≡ t ∷ rest → resolve_sign t ≡ None → NoResolve ts
+no_place ts rest t is none place other x = nothing_there (sym (subst (λ (y : Sign). resolve_sign y ≡ None) (head_eq (sym is ∙ x.is)) none) ∙ x.looks)
 
-pub place_at : (ts rest : List Sign) (t : Sign) (place : Resolve) → ts ≡ t ∷ rest → resolve_of t ≡ Some place → ResolveAt ts place rest
+pub place_at : (ts rest : List Sign) (t : Sign) (place : Resolve) → ts ≡ t ∷ rest → resolve_sign t ≡ Some place → ResolveAt ts place rest
 place_at ts rest t place is e = record { sign = t; is = is; looks = e }
 
 resolves_at : {r s t : List Sign} {a : List Resolve} → r ≡ s → ParsesResolve s a t → ParsesResolve r a t
@@ -204,8 +204,8 @@ pub record PlacesSoFar (ts : List Sign) (done : List Resolve) (rest : List Sign)
   back : (behind : List Sign) (more : List Resolve) (end : List Sign) → SymbolAt Comma rest behind → ParsesResolve behind more end → ParsesResolve ts (done ++ more) end
   forth : (places : List Resolve) (end : List Sign) → ParsesResolve ts places end → NoComma end → LeftPlaces done rest places end
 
-same_place : {t u : Sign} {a b : Resolve} {r s : List Sign} → t ∷ r ≡ u ∷ s → resolve_of t ≡ Some a → resolve_of u ≡ Some b → a ≡ b
-same_place {b = b} is e f = same_value e (subst (λ (y : Sign). resolve_of y ≡ Some b) (sym (head_eq is)) f)
+same_place : {t u : Sign} {a b : Resolve} {r s : List Sign} → t ∷ r ≡ u ∷ s → resolve_sign t ≡ Some a → resolve_sign u ≡ Some b → a ≡ b
+same_place {b = b} is e f = same_value e (subst (λ (y : Sign). resolve_sign y ≡ Some b) (sym (head_eq is)) f)
 
 first_forth : {ts rest end : List Sign} {place : Resolve} {places : List Resolve} → ResolveAt ts place rest → ParsesResolve ts places end → LeftPlaces (place ∷ []) rest places end
 first_forth x (last_resolve e) = all (ap (λ (r : Resolve). r ∷ []) (same_place x.is e x.looks)) (tail_eq x.is)
@@ -276,7 +276,7 @@ record ImportParts (at : ℕ) (ts : List Sign) (d : DefTree) (end : List Sign) :
 
 import_parts : {at : ℕ} {ts end : List Sign} {d : DefTree} → ParsesDef (Fixed at Import ∷ ts) d end → ImportParts at ts d end
 import_parts (import_version {b = b} {c = c} {d = d} {f = f} {x = x} {σ = σ} {vs = vs} {ranges = ranges} {star = star} {like = spec} {by = by} {ts = inner} {r = r} {s = s} {u = u} signed tokens is l p) = record {
-  head = (name_at b x, σ);
+  head = (placed_name b x, σ);
   rest = Fixed d Version ∷ r;
   asked = r;
   demand = (WantsVersion (Ranges ranges star), spec);
@@ -289,10 +289,10 @@ import_parts (import_version {b = b} {c = c} {d = d} {f = f} {x = x} {σ = σ} {
   is = refl;
 }
 import_parts (import_name {b = b} {c = c} {d = d} {f = f} {g = g} {h = h} {i = i} {x = x} {y = y} {σ = σ} {by = by} {ts = inner} {r = r} signed p) = record {
-  head = (name_at b x, σ);
+  head = (placed_name b x, σ);
   rest = Fixed d Version ∷ Fixed f NameWord ∷ Fixed g Equals ∷ Upper h y ∷ Fixed i By ∷ r;
   asked = Fixed f NameWord ∷ Fixed g Equals ∷ Upper h y ∷ Fixed i By ∷ r;
-  demand = (WantsName (name_at h y), None);
+  demand = (WantsName (placed_name h y), None);
   behind = r;
   places = by;
   titled = record { inner = inner; colon = c; is = refl; sig = signed };

@@ -5,7 +5,7 @@ use Rattle.ac_syntax.specs.Signs.{Sign, Lower, Fixed}
 use Rattle.ac_syntax.specs.Trees.{NameAt, TypeTree, Tree, AbbrevTree, SigTree, FieldTree, AbbrevField, ValField, DefTree, ModuleDef}
 use Rattle.ac_syntax.specs.TypeForms.{IsType, Whole}
 use Rattle.ac_syntax.specs.Expressions.{IsExpr}
-use Rattle.ac_syntax.specs.Programs.{ParsesFields, no_fields, type_field, value_field, ParsesAbbrevs, no_abbrevs, abbrev_, ParsesVersion, ParsesDef, module_, name_at}
+use Rattle.ac_syntax.specs.Programs.{ParsesFields, no_fields, type_field, value_field, ParsesAbbrevs, no_abbrevs, abbrev_, ParsesVersion, ParsesDef, module_, placed_name}
 use Rattle.ac_syntax.specs.PartParsing.{SymbolAt, NoSymbol, LowerAt, NoLower, NoType}
 use Rattle.ac_syntax.specs.declared.sign.Symbol.TheVariants.{Colon, End, Equals, Module, Struct, TypeWord, Val}
 use Rattle.ac_syntax.proofs.UniqueTypes.{tail_eq, same_type}
@@ -98,7 +98,7 @@ value_item a ts rest name T e at = record {
 
 value_none : {a : ℕ} {ts end : List Sign} {items : List FieldTree} → NoValue ts → ParsesFields (Fixed a Val ∷ ts) items end → ⊥
 value_none none (value_field {b = b} {c = c} {d = d} {x = x} U f p) =
-    none (name_at b x) _ _ _ (record { inner = _; body = _; colon = c; equals = d; is = refl; ty = U; expr = f })
+    none (placed_name b x) _ _ _ (record { inner = _; body = _; colon = c; equals = d; is = refl; ty = U; expr = f })
 
 module _ (ts : List Sign) where
   no_value : NoValue ts → (a : ℕ) → NoRead ParsesFields Anything (Fixed a Val ∷ ts)
@@ -178,7 +178,7 @@ record ModuleParts (at : ℕ) (ts : List Sign) (d : DefTree) (end : List Sign) :
 
 module_parts : {at : ℕ} {ts end : List Sign} {d : DefTree} → ParsesDef (Fixed at Module ∷ ts) d end → ModuleParts at ts d end
 module_parts (module_ {b = b} {c = c} {d = d} {f = f} {x = x} {σ = σ} {version = version} {fields = fields} {ts = inner} {r = r} {s = s} signed v p) = record {
-  head = (name_at b x, σ);
+  head = (placed_name b x, σ);
   rest = r;
   version = version;
   behind = Fixed f Struct ∷ s;

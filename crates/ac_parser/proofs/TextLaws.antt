@@ -4,7 +4,7 @@ use Rattle.ac_types.specs.Types.{Bytes}
 use Rattle.ac_lexer.specs.declared.tokens.Token.{Token}
 use Rattle.ac_lexer.specs.Tokens.{Tokens, FailsAt, longest_text}
 use Rattle.ac_lexer.proofs.Unique as lexed
-use Rattle.ac_syntax.specs.Signs.{Sign, signs, place}
+use Rattle.ac_syntax.specs.Signs.{Sign, signs, sign_place}
 use Rattle.ac_syntax.specs.Openers.{unclosed, IsShallow, IsDeep}
 use Rattle.ac_syntax.specs.Trees.{ProgramTree}
 use Rattle.ac_syntax.specs.Programs.{IsProgram, IsModule}
@@ -46,8 +46,8 @@ splits (t ∷ a) (u ∷ b) r s x y e = splits_more t u (head_eq e) (splits a b r
 too_soon : {P : Type 0} (a b m : List Sign) (x : Sign) → IsShallow b → 201 ≤ unclosed 0 (a ++ x ∷ []) → b ≡ (a ++ x ∷ []) ++ m → P
 too_soon a b m x shallow deep e = let low : unclosed 0 (a ++ x ∷ []) ≤ 200 = shallow (a ++ x ∷ []) m e in absurd (omega arith)
 
-one_opener : {n m : ℕ} {x y : Sign} {a b : List Sign} → IsShallow a → IsShallow b → 201 ≤ unclosed 0 (a ++ x ∷ []) → 201 ≤ unclosed 0 (b ++ y ∷ []) → n ≡ place x → m ≡ place y → Splits a b x y → n ≡ m
-one_opener p q d f i j (alike e) = i ∙ ap place e ∙ sym j
+one_opener : {n m : ℕ} {x y : Sign} {a b : List Sign} → IsShallow a → IsShallow b → 201 ≤ unclosed 0 (a ++ x ∷ []) → 201 ≤ unclosed 0 (b ++ y ∷ []) → n ≡ sign_place x → m ≡ sign_place y → Splits a b x y → n ≡ m
+one_opener p q d f i j (alike e) = i ∙ ap sign_place e ∙ sym j
 one_opener {x = x} {a = a} {b = b} p q d f i j (sooner m e) = too_soon a b m x q d e
 one_opener {y = y} {a = a} {b = b} p q d f i j (later m e) = too_soon b a m y p f e
 

@@ -4,7 +4,7 @@ ghost use Rattle.std.specs.Prelude.{◌≡◌, ◌<◌, ◌∷◌, length, IfOk,
 ghost use Rattle.ac_syntax.specs.Signs.{Fixed};
 ghost use Rattle.ac_syntax.specs.Programs.{ParsesDef};
 ghost use Rattle.ac_syntax.specs.ReadSigns.{read_signs};
-ghost use Rattle.ac_syntax.specs.ReadTrees.{def_of};
+ghost use Rattle.ac_syntax.specs.ReadTrees.{def_tree_of};
 ghost use Rattle.ac_syntax.specs.PartParsing.{OnSyntax};
 ghost use Rattle.ac_parser.specs.inner.ProgramParsing.{OnlyRead, NoRead, Anything, NoComma, NothingGoesOn};
 
@@ -21,7 +21,7 @@ fn mark<'s, 't>(
     signs: &'s [Sign<'t>],
 ) -> Result<(SDef, &'s [Sign<'t>]), Stop>
     ensures mark { IfOk result (λ x. OnlyRead ParsesDef NoComma
-        (Fixed at Symbol.Mark ∷ read_signs signs.now) (def_of x.0) (read_signs x.1.now)) }
+        (Fixed at Symbol.Mark ∷ read_signs signs.now) (def_tree_of x.0) (read_signs x.1.now)) }
     ensures shorter { IfOk result (λ x. length x.1.now < length signs.now) }
     ensures none { IfErr result (λ e. OnSyntax e
         (NoRead ParsesDef NoComma (Fixed at Symbol.Mark ∷ read_signs signs.now))) }
@@ -41,7 +41,8 @@ pub fn next_def<'s, 't>(
 ) -> Result<(Option<SDef>, &'s [Sign<'t>]), Stop>
     ensures def { IfOk result (λ x. MatchOption x.0 ((x.1.now ≡ signs.now) ×
         NoRead ParsesDef Anything (read_signs signs.now))
-        (λ d. OnlyRead ParsesDef NoComma (read_signs signs.now) (def_of d) (read_signs x.1.now))) }
+        (λ d. OnlyRead ParsesDef NoComma (read_signs signs.now) (def_tree_of d)
+        (read_signs x.1.now))) }
     ensures shorter { IfOk result (λ x. IfSome x.0 (λ _. length x.1.now < length signs.now)) }
     ensures none { IfErr result (λ e. OnSyntax e (NothingGoesOn (read_signs signs.now))) }
 {

@@ -2,7 +2,7 @@
 
 ghost use Rattle.std.specs.Prelude.{◌<◌, length, IfOk, IfErr, IfSome, MatchOption};
 ghost use Rattle.ac_syntax.specs.ReadSigns.{read_signs};
-ghost use Rattle.ac_syntax.specs.ReadTrees.{name_of, abbrev_of, sig_of};
+ghost use Rattle.ac_syntax.specs.ReadTrees.{name_of, abbrev_of, sig_tree_of};
 ghost use Rattle.ac_syntax.specs.PartParsing.{OnSyntax};
 ghost use Rattle.ac_parser.specs.inner.ProgramParsing.{UpperAt, NoUpper, TextAt, NoText, OnlyRead, NoRead, Anything, AbbrevAt, NoAbbrev, HeadAt};
 
@@ -77,7 +77,7 @@ pub fn head<'s, 't>(
     signs: &'s [Sign<'t>],
 ) -> Result<((SName, SSig), &'s [Sign<'t>]), Stop>
     ensures head { IfOk result (λ x. OnlyRead HeadAt Anything (read_signs signs.now)
-        (name_of x.0.0, sig_of x.0.1) (read_signs x.1.now)) }
+        (name_of x.0.0, sig_tree_of x.0.1) (read_signs x.1.now)) }
     ensures shorter { IfOk result (λ x. length x.1.now < length signs.now) }
     ensures none { IfErr result (λ e. OnSyntax e (NoRead HeadAt Anything (read_signs signs.now))) }
 {

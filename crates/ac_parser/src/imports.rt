@@ -5,7 +5,7 @@ ghost use Rattle.ac_syntax.specs.Signs.{Fixed};
 ghost use Rattle.ac_syntax.specs.Programs.{ParsesResolve, ParsesDef};
 ghost use Rattle.ac_types.specs.ReadTypes.{resolve_of};
 ghost use Rattle.ac_syntax.specs.ReadSigns.{read_signs};
-ghost use Rattle.ac_syntax.specs.ReadTrees.{name_of, abbrevs_of, wants_of, def_of};
+ghost use Rattle.ac_syntax.specs.ReadTrees.{name_of, abbrevs_of, wants_of, def_tree_of};
 ghost use Rattle.ac_syntax.specs.PartParsing.{OnSyntax};
 ghost use Rattle.ac_parser.specs.inner.ProgramParsing.{OnlyRead, NoRead, Anything, NoComma, LikeAt, NameWanted, DemandAt, ResolveAt, NoResolve};
 
@@ -141,7 +141,7 @@ pub fn import<'s, 't>(
     signs: &'s [Sign<'t>],
 ) -> Result<(SDef, &'s [Sign<'t>]), Stop>
     ensures import { IfOk result (λ x. OnlyRead ParsesDef NoComma
-        (Fixed at Symbol.Import ∷ read_signs signs.now) (def_of x.0) (read_signs x.1.now)) }
+        (Fixed at Symbol.Import ∷ read_signs signs.now) (def_tree_of x.0) (read_signs x.1.now)) }
     ensures shorter { IfOk result (λ x. length x.1.now < length signs.now) }
     ensures none { IfErr result (λ e. OnSyntax e
         (NoRead ParsesDef NoComma (Fixed at Symbol.Import ∷ read_signs signs.now))) }

@@ -4,7 +4,7 @@ ghost use Rattle.std.specs.Prelude.{◌≡◌, ◌<◌, ◌∷◌, ℕ, map, len
 ghost use Rattle.ac_syntax.specs.Signs.{Fixed};
 ghost use Rattle.ac_syntax.specs.Programs.{ParsesFields, ParsesAbbrevs, ParsesDef};
 ghost use Rattle.ac_syntax.specs.ReadSigns.{read_signs};
-ghost use Rattle.ac_syntax.specs.ReadTrees.{abbrev_of, field_of, def_of};
+ghost use Rattle.ac_syntax.specs.ReadTrees.{abbrev_of, field_tree_of, def_tree_of};
 ghost use Rattle.ac_syntax.specs.PartParsing.{OnSyntax, NoSymbol};
 ghost use Rattle.ac_parser.specs.inner.ProgramParsing.{OnlyRead, NoRead, Anything, NoComma, StructOf, ItemAt};
 
@@ -53,7 +53,7 @@ fn value_field<'s, 't>(
     signs: &'s [Sign<'t>],
 ) -> Result<(SField, &'s [Sign<'t>]), Stop>
     ensures field { IfOk result (λ x. (a : ℕ) →
-        ItemAt ParsesFields (Fixed a Symbol.Val ∷ read_signs signs.now) (field_of x.0)
+        ItemAt ParsesFields (Fixed a Symbol.Val ∷ read_signs signs.now) (field_tree_of x.0)
         (read_signs x.1.now)) }
     ensures shorter { IfOk result (λ x. length x.1.now < length signs.now) }
     ensures none { IfErr result (λ e. OnSyntax e ((a : ℕ) →
@@ -75,7 +75,7 @@ fn value_field<'s, 't>(
 
 /// The field at the front.
 fn field<'s, 't>(alloc: Global, signs: &'s [Sign<'t>]) -> Result<(SField, &'s [Sign<'t>]), Stop>
-    ensures field { IfOk result (λ x. ItemAt ParsesFields (read_signs signs.now) (field_of x.0)
+    ensures field { IfOk result (λ x. ItemAt ParsesFields (read_signs signs.now) (field_tree_of x.0)
         (read_signs x.1.now)) }
     ensures shorter { IfOk result (λ x. length x.1.now < length signs.now) }
     ensures none { IfErr result (λ e. OnSyntax e (NoSymbol Symbol.End (read_signs signs.now) →
@@ -97,7 +97,7 @@ fn fields<'s, 't>(
     signs: &'s [Sign<'t>],
 ) -> Result<(Many<SField>, &'s [Sign<'t>]), Stop>
     ensures fields { IfOk result (λ x. OnlyRead (StructOf ParsesFields) Anything
-        (read_signs signs.now) (map field_of x.0) (read_signs x.1.now)) }
+        (read_signs signs.now) (map field_tree_of x.0) (read_signs x.1.now)) }
     ensures shorter { IfOk result (λ x. length x.1.now < length signs.now) }
     ensures none { IfErr result (λ e. OnSyntax e
         (NoRead (StructOf ParsesFields) Anything (read_signs signs.now))) }
@@ -124,7 +124,7 @@ pub fn module<'s, 't>(
     signs: &'s [Sign<'t>],
 ) -> Result<(SDef, &'s [Sign<'t>]), Stop>
     ensures module { IfOk result (λ x. OnlyRead ParsesDef NoComma
-        (Fixed at Symbol.Module ∷ read_signs signs.now) (def_of x.0) (read_signs x.1.now)) }
+        (Fixed at Symbol.Module ∷ read_signs signs.now) (def_tree_of x.0) (read_signs x.1.now)) }
     ensures shorter { IfOk result (λ x. length x.1.now < length signs.now) }
     ensures none { IfErr result (λ e. OnSyntax e
         (NoRead ParsesDef NoComma (Fixed at Symbol.Module ∷ read_signs signs.now))) }

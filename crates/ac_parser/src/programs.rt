@@ -3,7 +3,7 @@
 ghost use Rattle.std.specs.Prelude.{◌≡◌, [], map, IfOk, IfErr};
 ghost use Rattle.ac_syntax.specs.Programs.{ParsesDef, IsProgram, IsModule};
 ghost use Rattle.ac_syntax.specs.ReadSigns.{read_signs};
-ghost use Rattle.ac_syntax.specs.ReadTrees.{def_of, surface_of};
+ghost use Rattle.ac_syntax.specs.ReadTrees.{def_tree_of, surface_of};
 ghost use Rattle.ac_syntax.specs.PartParsing.{OnSyntax};
 ghost use Rattle.ac_parser.specs.inner.ProgramParsing.{NoRead, Anything, DefsSoFar, NoProgramTree};
 
@@ -19,7 +19,7 @@ fn definitions<'s, 't>(
     alloc: Global,
     signs: &'s [Sign<'t>],
 ) -> Result<(Many<SDef>, &'s [Sign<'t>]), Stop>
-    ensures defs { IfOk result (λ x. DefsSoFar (read_signs signs.now) (map def_of x.0)
+    ensures defs { IfOk result (λ x. DefsSoFar (read_signs signs.now) (map def_tree_of x.0)
         (read_signs x.1.now)) }
     ensures end { IfOk result (λ x. NoRead ParsesDef Anything (read_signs x.1.now)) }
     ensures none { IfErr result (λ e. OnSyntax e (NoProgramTree IsProgram (read_signs signs.now))) }

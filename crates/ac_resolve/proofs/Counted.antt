@@ -6,7 +6,7 @@ use Rattle.ac_syntax.specs.declared.surface.SExpr.{SExpr}
 use Rattle.ac_syntax.specs.declared.surface.SArm.{SArm}
 use Rattle.ac_syntax.specs.Trees.{type_trees, pat_trees, trees, arm_trees}
 use Rattle.ac_syntax.specs.ReadTrees.{type_of, pat_of, expr_of, arm_of}
-use Rattle.ac_resolve.specs.Counts.{type_count, pat_count, tree_count, arm_count}
+use Rattle.ac_resolve.specs.Counts.{type_count, pat_count, tree_count, arms_written}
 
 pub type_count_of : (ts : List SType) → type_count (type_trees (map type_of ts)) ≡ length ts
 type_count_of [] = refl
@@ -20,6 +20,6 @@ pub tree_count_of : (es : List SExpr) → tree_count (trees (map expr_of es)) �
 tree_count_of [] = refl
 tree_count_of (e ∷ es) = ap suc (tree_count_of es)
 
-pub arm_count_of : (arms : List SArm) → arm_count (arm_trees (map arm_of arms)) ≡ length arms
+pub arm_count_of : (arms : List SArm) → arms_written (arm_trees (map arm_of arms)) ≡ length arms
 arm_count_of [] = refl
 arm_count_of (a ∷ arms) = ap suc (arm_count_of arms)

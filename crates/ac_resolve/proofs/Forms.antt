@@ -13,7 +13,7 @@ use Rattle.ac_syntax.proofs.TypeLaws.{type_laws}
 use Rattle.ac_resolve.specs.declared.scope.Scope.{Scope, out-Scope, map-Scope, fold_out-Scope}
 use Rattle.ac_resolve.specs.declared.scope.Scope.TheOpen.{Scope-F}
 use Rattle.ac_resolve.specs.declared.scope.Scope.TheVariants as scope
-use Rattle.ac_resolve.specs.Elaboration.{bind}
+use Rattle.ac_resolve.specs.Elaboration.{scope_with}
 use Rattle.ac_resolve.specs.inner.NameScopes.{names_in, scope_layer}
 use Rattle.ac_syntax.specs.ReadTrees.{name_of}
 use Rattle.ac_syntax.proofs.ReadLaws.{pat_laws, expr_laws}
@@ -42,7 +42,7 @@ names_in-Empty = scope_out scope.Empty ∙ ap one_scope scope.outs-Empty
 pub names_in-Inner : (outer : Bor Scope) (name : Bor SName) → names_in (scope.Inner outer name) ≡ name.now.word ∷ names_in outer.now
 names_in-Inner outer name = scope_out (scope.Inner outer name) ∙ ap one_scope (scope.outs-Inner outer name)
 
-pub names_in-Arm : (outer : Bor Scope) (names : Bor (List SName)) → names_in (scope.Arm outer names) ≡ bind (map name_of names.now) (names_in outer.now)
+pub names_in-Arm : (outer : Bor Scope) (names : Bor (List SName)) → names_in (scope.Arm outer names) ≡ scope_with (map name_of names.now) (names_in outer.now)
 names_in-Arm outer names = scope_out (scope.Arm outer names) ∙ ap one_scope (scope.outs-Arm outer names)
 
 pub ruleset type_tree_forms = (type_laws, type_count_of)

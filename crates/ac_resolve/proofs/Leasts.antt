@@ -6,11 +6,11 @@ use Rattle.ac_resolve.specs.ScopedNames.{least}
 use Rattle.ac_resolve.specs.Counts.{over}
 use Rattle.ac_types.specs.Types.{Bytes}
 use Rattle.ac_syntax.specs.Trees.{PatTree, Tree, ArmTrees, arm_tree}
-use Rattle.ac_resolve.specs.Elaboration.{variables, bind}
+use Rattle.ac_resolve.specs.Elaboration.{variables, scope_with}
 use Rattle.ac_resolve.specs.Unbound.{unbound_pat, unbound, unbound_arms}
 use Rattle.ac_resolve.specs.Repeated.{repeated_name, repeated, repeated_arms}
 use Rattle.ac_resolve.specs.Counts.{large_pat, too_many, too_many_in_arms}
-use Rattle.ac_resolve.specs.inner.Flaws.{no_flaws, joined, arm_flaws, arms_flaws}
+use Rattle.ac_resolve.specs.inner.Flaws.{no_flaws, flaws_joined, arm_flaws, arms_flaws}
 use Rattle.ac_resolve.proofs.Lists.{drop_next, drop_end}
 
 min_assoc : (a b c : ℕ) → min (min a b) c ≡ min a (min b c)
@@ -43,29 +43,29 @@ three u r c = record { unbound = u; repeated = r; count = c }
 same : (u v r s c d : Option ℕ) → u ≡ v → r ≡ s → c ≡ d → three u r c ≡ three v s d
 same u v r s c d p q e = cc
 
-pub joined-none : (a : Flaws) → joined a no_flaws ≡ a
+pub joined-none : (a : Flaws) → flaws_joined a no_flaws ≡ a
 unfolding three
 joined-none a = same _ _ _ _ _ _ (least-none a.unbound) (least-none a.repeated) (least-none a.count)
 
-pub joined-assoc : (a b c : Flaws) → joined (joined a b) c ≡ joined a (joined b c)
+pub joined-assoc : (a b c : Flaws) → flaws_joined (flaws_joined a b) c ≡ flaws_joined a (flaws_joined b c)
 unfolding three
 joined-assoc a b c = same _ _ _ _ _ _ (least-assoc a.unbound b.unbound c.unbound) (least-assoc a.repeated b.repeated c.repeated) (least-assoc a.count b.count c.count)
 
 -- one more part of some trees
-pub step : (whole found here rest next : Flaws) → whole ≡ joined found rest → rest ≡ joined here next → whole ≡ joined (joined found here) next
-step whole found here rest next p q = p ∙ ap (joined found) q ∙ sym (joined-assoc found here next)
+pub step : (whole found here rest next : Flaws) → whole ≡ flaws_joined found rest → rest ≡ flaws_joined here next → whole ≡ flaws_joined (flaws_joined found here) next
+step whole found here rest next p q = p ∙ ap (flaws_joined found) q ∙ sym (joined-assoc found here next)
 
-pub finished : (whole found rest : Flaws) → whole ≡ joined found rest → rest ≡ no_flaws → found ≡ whole
-finished whole found rest p q = sym (p ∙ ap (joined found) q ∙ joined-none found)
+pub finished : (whole found rest : Flaws) → whole ≡ flaws_joined found rest → rest ≡ no_flaws → found ≡ whole
+finished whole found rest p q = sym (p ∙ ap (flaws_joined found) q ∙ joined-none found)
 
 -- one more part, where what is wrong with some parts is made of what is wrong with each
-pub next_part : {A : Type 0} (F : List A → Flaws) (h : A → Flaws) (law : (x : A) (xs : List A) → F (x ∷ xs) ≡ joined (h x) (F xs)) (all found made new : Flaws) (i : ℕ) (xs : List A) (x : A)
-    → i < length xs → x ≡ get_or xs i x → all ≡ joined found (F (drop i xs)) → made ≡ h x → new ≡ joined found made → all ≡ joined new (F (drop (i + 1) xs))
+pub next_part : {A : Type 0} (F : List A → Flaws) (h : A → Flaws) (law : (x : A) (xs : List A) → F (x ∷ xs) ≡ flaws_joined (h x) (F xs)) (all found made new : Flaws) (i : ℕ) (xs : List A) (x : A)
+    → i < length xs → x ≡ get_or xs i x → all ≡ flaws_joined found (F (drop i xs)) → made ≡ h x → new ≡ flaws_joined found made → all ≡ flaws_joined new (F (drop (i + 1) xs))
 next_part F h law all found made new i xs x lt is so e n =
     step all found (h x) (F (drop i xs)) (F (drop (i + 1) xs)) so (ap F (drop_next i xs x lt is) ∙ law x (drop (i + 1) xs))
-    ∙ ap (λ (f : Flaws). joined f (F (drop (i + 1) xs))) (sym (n ∙ ap (joined found) e))
+    ∙ ap (λ (f : Flaws). flaws_joined f (F (drop (i + 1) xs))) (sym (n ∙ ap (flaws_joined found) e))
 
-pub last_part : {A : Type 0} (F : List A → Flaws) (all found : Flaws) (i : ℕ) (xs : List A) → F [] ≡ no_flaws → i ≡ length xs → all ≡ joined found (F (drop i xs)) → found ≡ all
+pub last_part : {A : Type 0} (F : List A → Flaws) (all found : Flaws) (i : ℕ) (xs : List A) → F [] ≡ no_flaws → i ≡ length xs → all ≡ flaws_joined found (F (drop i xs)) → found ≡ all
 last_part F all found i xs none e so = finished all found (F (drop i xs)) so (ap F (drop_end i xs e) ∙ none)
 
 -- a count that is cut behind its limit passes it as the whole does
@@ -83,9 +83,9 @@ over_scope k = over-min 65535 k
 
 pub ruleset over_laws = (over_height, over_parts, over_scope)
 
-pub arms_law : (names : List Bytes) (p : PatTree) (b : Tree) (rest : ArmTrees) → arms_flaws names (arm_tree p b rest) ≡ joined (arm_flaws names (p, b)) (arms_flaws names rest)
+pub arms_law : (names : List Bytes) (p : PatTree) (b : Tree) (rest : ArmTrees) → arms_flaws names (arm_tree p b rest) ≡ flaws_joined (arm_flaws names (p, b)) (arms_flaws names rest)
 unfolding three
 arms_law names p b rest = same _ _ _ _ _ _
-    (sym (least-assoc (unbound_pat p) (unbound (bind (variables p) names) b) (unbound_arms names rest)))
+    (sym (least-assoc (unbound_pat p) (unbound (scope_with (variables p) names) b) (unbound_arms names rest)))
     (sym (least-assoc (repeated_name [] (variables p)) (repeated b) (repeated_arms rest)))
-    (sym (least-assoc (large_pat p) (too_many (bind (variables p) names) b) (too_many_in_arms names rest)))
+    (sym (least-assoc (large_pat p) (too_many (scope_with (variables p) names) b) (too_many_in_arms names rest)))

@@ -14,7 +14,7 @@ use Rattle.ac_terms.specs.Read.{pattern_of, expr_of}
 use Rattle.ac_terms.specs.declared.term.Term.{Term}
 use Rattle.ac_terms.specs.declared.term.Arm.{Arm}
 use Rattle.ac_terms.specs.declared.pat.Pat.{Pat}
-use Rattle.ac_resolve.specs.Elaboration.{type_in, types_in, pattern_in, patterns_in, variables, bind, elaborated, elaborated_all, elaborated_arms}
+use Rattle.ac_resolve.specs.Elaboration.{type_in, types_in, pattern_in, patterns_in, variables, scope_with, elaborated, elaborated_all, elaborated_arms}
 use Rattle.ac_resolve.specs.inner.NameScopes.{read_arm}
 use Rattle.ac_resolve.proofs.Lists.{built_all}
 
@@ -49,7 +49,7 @@ pub all_terms : (names : List Bytes) (made : List Term) (i : ℕ) (es : List SEx
 all_terms names made i es e so = ap exprs (built_all expr_of (term_made names) made i es e so) ∙ terms_made names es
 
 abbrev pub arm_made : List Bytes → SArm → Pattern × Expr
-arm_made names a = (pattern_in (arm_of a).0, elaborated (bind (variables (arm_of a).0) names) (arm_of a).1)
+arm_made names a = (pattern_in (arm_of a).0, elaborated (scope_with (variables (arm_of a).0) names) (arm_of a).1)
 
 arms_made : (names : List Bytes) (cases : List SArm) → arms (map (arm_made names) cases) ≡ elaborated_arms names (arm_trees (map arm_of cases))
 arms_made names [] = refl

@@ -7,15 +7,15 @@ use Rattle.ac_syntax.specs.declared.surface.SName.{SName}
 use Rattle.ac_syntax.specs.Trees.{NameAt}
 use Rattle.ac_syntax.specs.ReadTrees.{name_of}
 use Rattle.ac_resolve.specs.ScopedNames.{binders_to, least}
-use Rattle.ac_resolve.specs.Elaboration.{bind}
-use Rattle.ac_resolve.specs.Repeated.{where_there, repeated_name}
+use Rattle.ac_resolve.specs.Elaboration.{scope_with}
+use Rattle.ac_resolve.specs.Repeated.{place_where_there, repeated_name}
 use Rattle.ac_resolve.proofs.Lists.{drop_next, drop_end}
 use Rattle.ac_resolve.proofs.Leasts.{least-assoc, least-none}
 use Rattle.ac_resolve.proofs.Scoping.{bind_take}
 
 -- the words of the first names
 abbrev pub seen_words : ℕ → List SName → List Bytes
-seen_words i names = bind (map name_of (take i names)) []
+seen_words i names = scope_with (map name_of (take i names)) []
 
 abbrev pub Has : (Bor Bytes → Bool) → List Bytes → Type 0
 Has has seen = (v : Bor Bytes) → has v ≡ is_some (binders_to v.now seen)
@@ -37,7 +37,7 @@ has_more has new k i names x h is w so more v =
     ∙ has_first (same_bytes x.word v.now) (binders_to v.now (seen_words i names))
     ∙ ap (λ ws. is_some (binders_to v.now ws)) (sym (seen_more i names x h is))
 
-again_there : (o : Option ℕ) (added : Bool) (at : ℕ) → added ≡ not (is_some o) → (if added then None else Some at) ≡ where_there o at
+again_there : (o : Option ℕ) (added : Bool) (at : ℕ) → added ≡ not (is_some o) → (if added then None else Some at) ≡ place_where_there o at
 again_there None added at e = ap (λ (b : Bool). if b then None else Some at) e
 again_there (Some i) added at e = ap (λ (b : Bool). if b then None else Some at) e
 

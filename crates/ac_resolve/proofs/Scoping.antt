@@ -8,28 +8,28 @@ use Rattle.ac_types.specs.Types.{Bytes, same_bytes}
 use Rattle.ac_syntax.specs.declared.surface.SName.{SName}
 use Rattle.ac_syntax.specs.Trees.{NameAt}
 use Rattle.ac_resolve.specs.ScopedNames.{binders_to}
-use Rattle.ac_resolve.specs.Elaboration.{bind}
+use Rattle.ac_resolve.specs.Elaboration.{scope_with}
 use Rattle.ac_resolve.specs.Counts.{over}
 use Rattle.ac_syntax.specs.ReadTrees.{name_of}
 use Rattle.ac_resolve.specs.inner.NameScopes.{passed}
 
-pub bind-length : (names : List SName) (outer : List Bytes) → length (bind (map name_of names) outer) ≡ length outer + length names
+pub bind-length : (names : List SName) (outer : List Bytes) → length (scope_with (map name_of names) outer) ≡ length outer + length names
 bind-length [] outer = omega arith
 bind-length (x ∷ names) outer = omega (arith, bind-length names (x.word ∷ outer))
 
-bind_end : (xs : List NameAt) (x : NameAt) (outer : List Bytes) → bind (xs ++ x ∷ []) outer ≡ x.word ∷ bind xs outer
+bind_end : (xs : List NameAt) (x : NameAt) (outer : List Bytes) → scope_with (xs ++ x ∷ []) outer ≡ x.word ∷ scope_with xs outer
 bind_end [] x outer = refl
 bind_end (y ∷ xs) x outer = bind_end xs x (y.word ∷ outer)
 
-pub bind_take : (names : List SName) (left : ℕ) (d : SName) (outer : List Bytes) → left < length names → bind (map name_of (take (suc left) names)) outer ≡ (get_or names left d).word ∷ bind (map name_of (take left names)) outer
+pub bind_take : (names : List SName) (left : ℕ) (d : SName) (outer : List Bytes) → left < length names → scope_with (map name_of (take (suc left) names)) outer ≡ (get_or names left d).word ∷ scope_with (map name_of (take left names)) outer
 bind_take names left d outer h =
-    ap (λ ns. bind (map name_of ns) outer) (take-suc names left d h)
-    ∙ ap (λ ns. bind ns outer) (map-append name_of (take left names) (get_or names left d ∷ []))
+    ap (λ ns. scope_with (map name_of ns) outer) (take-suc names left d h)
+    ∙ ap (λ ns. scope_with ns outer) (map-append name_of (take left names) (get_or names left d ∷ []))
     ∙ bind_end (map name_of (take left names)) (name_of (get_or names left d)) outer
 
 -- how many of the last names aren't this one
 abbrev pub Behind : Bytes → List SName → ℕ → Type 0
-Behind w names left = (outer : List Bytes) → binders_to w (bind (map name_of names) outer) ≡ passed None (length names - left) (binders_to w (bind (map name_of (take left names)) outer))
+Behind w names left = (outer : List Bytes) → binders_to w (scope_with (map name_of names) outer) ≡ passed None (length names - left) (binders_to w (scope_with (map name_of (take left names)) outer))
 
 passed_none : (n : ℕ) (o : Option ℕ) → n ≡ 0 → o ≡ passed None n o
 passed_none n None e = refl
@@ -37,8 +37,8 @@ passed_none n (Some i) e = ap Some (omega arith)
 
 pub behind_none : (w : Bytes) (names : List SName) (left : ℕ) → left ≡ length names → Behind w names left
 behind_none w names left e outer =
-    passed_none (length names - left) (binders_to w (bind (map name_of names) outer)) (omega arith)
-    ∙ ap (λ ns. passed None (length names - left) (binders_to w (bind (map name_of ns) outer))) (sym (ap (λ n. take n names) e ∙ take-length names))
+    passed_none (length names - left) (binders_to w (scope_with (map name_of names) outer)) (omega arith)
+    ∙ ap (λ ns. passed None (length names - left) (binders_to w (scope_with (map name_of ns) outer))) (sym (ap (λ n. take n names) e ∙ take-length names))
 
 passed_suc : (n m : ℕ) (o : Option ℕ) → m ≡ suc n → passed None n (option_map suc o) ≡ passed None m o
 passed_suc n m None e = refl
@@ -52,24 +52,24 @@ found_at w y outer e = rw (e, binders_to) refl
 
 -- what is known of the last names but one more, of which the next is this one or isn't
 next_behind : (w : Bytes) (names : List SName) (left m : ℕ) (x : SName) → left < length names → m ≡ suc left → x ≡ get_or names left x → Behind w names m
-    → (outer : List Bytes) → binders_to w (bind (map name_of names) outer) ≡ passed None (length names - m) (binders_to w (x.word ∷ bind (map name_of (take left names)) outer))
+    → (outer : List Bytes) → binders_to w (scope_with (map name_of names) outer) ≡ passed None (length names - m) (binders_to w (x.word ∷ scope_with (map name_of (take left names)) outer))
 next_behind w names left m x h e is so outer =
     so outer
-    ∙ ap (λ k. passed None (length names - m) (binders_to w (bind (map name_of (take k names)) outer))) e
+    ∙ ap (λ k. passed None (length names - m) (binders_to w (scope_with (map name_of (take k names)) outer))) e
     ∙ ap (λ ns. passed None (length names - m) (binders_to w ns)) (bind_take names left x outer h)
-    ∙ ap (λ (y : SName). passed None (length names - m) (binders_to w (y.word ∷ bind (map name_of (take left names)) outer))) (sym is)
+    ∙ ap (λ (y : SName). passed None (length names - m) (binders_to w (y.word ∷ scope_with (map name_of (take left names)) outer))) (sym is)
 
 pub behind_more : (w : Bytes) (names : List SName) (left m : ℕ) (x : SName) → left < length names → m ≡ suc left → x ≡ get_or names left x → same_bytes x.word w ≡ false → Behind w names m → Behind w names left
 behind_more w names left m x h e is apart so outer =
     next_behind w names left m x h e is so outer
-    ∙ ap (passed None (length names - m)) (step_to w x.word (bind (map name_of (take left names)) outer) apart)
-    ∙ passed_suc (length names - m) (length names - left) (binders_to w (bind (map name_of (take left names)) outer)) (omega arith)
+    ∙ ap (passed None (length names - m)) (step_to w x.word (scope_with (map name_of (take left names)) outer) apart)
+    ∙ passed_suc (length names - m) (length names - left) (binders_to w (scope_with (map name_of (take left names)) outer)) (omega arith)
 
 pub behind_found : (w : Bytes) (names : List SName) (left m i : ℕ) (x : SName) → left < length names → m ≡ suc left → i ≡ length names - 1 - left → x ≡ get_or names left x → same_bytes x.word w ≡ true → Behind w names m
-    → (outer : List Bytes) → binders_to w (bind (map name_of names) outer) ≡ Some i
+    → (outer : List Bytes) → binders_to w (scope_with (map name_of names) outer) ≡ Some i
 behind_found w names left m i x h e n is found so outer =
     next_behind w names left m x h e is so outer
-    ∙ ap (passed None (length names - m)) (found_at w x.word (bind (map name_of (take left names)) outer) found)
+    ∙ ap (passed None (length names - m)) (found_at w x.word (scope_with (map name_of (take left names)) outer) found)
     ∙ ap Some (omega arith)
 
 -- the number of a variable is below that of the names in scope

@@ -5,7 +5,7 @@ use Rattle.ac_syntax.specs.declared.surface.SExpr.{SExpr}
 use Rattle.ac_syntax.specs.declared.surface.SArm.{SArm}
 use Rattle.ac_syntax.specs.Trees.{trees, arm_trees}
 use Rattle.ac_syntax.specs.ReadTrees.{expr_of, arm_of}
-use Rattle.ac_resolve.specs.Elaboration.{variables, bind}
+use Rattle.ac_resolve.specs.Elaboration.{variables, scope_with}
 use Rattle.ac_resolve.specs.Counts.{large_pat, too_many, too_many_in_all, too_many_in_arms}
 use Rattle.ac_resolve.proofs.Leasts.{none_left, none_right}
 
@@ -19,7 +19,7 @@ item_within names es i x h is n = ap (λ e. too_many names (expr_of e)) is ∙ n
 
 -- of an arm's body, which sees the pattern's variables
 abbrev pub too_many_in_arm : List Bytes → SArm → Option ℕ
-too_many_in_arm names a = too_many (bind (variables (arm_of a).0) names) (arm_of a).1
+too_many_in_arm names a = too_many (scope_with (variables (arm_of a).0) names) (arm_of a).1
 
 nth_arm_within : (names : List Bytes) (cases : List SArm) (i : ℕ) (d : SArm) → i < length cases → too_many_in_arms names (arm_trees (map arm_of cases)) ≡ None → too_many_in_arm names (get_or cases i d) ≡ None
 nth_arm_within names [] i d h n = absurd (omega arith)

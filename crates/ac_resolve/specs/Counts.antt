@@ -3,7 +3,7 @@ use Rattle.std.specs.Prelude.{ℕ, suc, List, ◌∷◌, length, Option, Some, N
 use Rattle.ac_types.specs.Types.{Bytes, Typ, parts, height}
 use Rattle.ac_syntax.specs.Trees.{TypeTree, TyInt, TyBool, TyStr, TyUnit, TyExn, TyLocal, TyOf, TyTuple, TyList, TyOpt, TyFun, TypeTrees, no_type_trees, type_tree, PatTree, PatWild, PatVar, PatInt, PatBool, PatStr, PatUnit, PatTuple, PatNil, PatCons, PatAbsent, PatPresent, PatExn, PatExnOf, PatTrees, no_pat_trees, pat_tree, Tree, ExInt, ExBool, ExStr, ExUnit, ExExn, ExExnOf, ExTuple, ExNil, ExAbsent, ExPresent, ExCons, ExVar, ExOf, ExFun, ExRec, ExApp, ExLet, ExLetRec, ExIf, ExSeq, ExMatch, ExTry, ExRaise, ExAnd, ExOr, ExOp, ExMarshal, ExUnmarshal, Trees, no_trees, tree, ArmTrees, no_arm_trees, arm_tree}
 use Rattle.ac_resolve.specs.ScopedNames.{least}
-use Rattle.ac_resolve.specs.Elaboration.{type_in, variables, bind}
+use Rattle.ac_resolve.specs.Elaboration.{type_in, variables, scope_with}
 
 -- what a count gives at its limit
 abbrev pub over : ℕ → ℕ → Option ℕ
@@ -40,9 +40,9 @@ abbrev pub tree_count : Trees → ℕ
 tree_count no_trees = 0
 tree_count (tree t ts) = suc (tree_count ts)
 
-abbrev pub arm_count : ArmTrees → ℕ
-arm_count no_arm_trees = 0
-arm_count (arm_tree p b arms) = suc (arm_count arms)
+abbrev pub arms_written : ArmTrees → ℕ
+arms_written no_arm_trees = 0
+arms_written (arm_tree p b arms) = suc (arms_written arms)
 
 -- the tuples in a type
 abbrev mutual
@@ -103,8 +103,8 @@ abbrev mutual
   too_many names (ExLetRec at f x T U a b) = least (large_type T) (least (large_type U) (least (too_many (x.word ∷ f.word ∷ names) a) (too_many (f.word ∷ names) b)))
   too_many names (ExIf at c a b) = least (too_many names c) (least (too_many names a) (too_many names b))
   too_many names (ExSeq at parts) = too_many_in_all names parts
-  too_many names (ExMatch at a arms) = least (over arms_limit (arm_count arms)) (least (too_many names a) (too_many_in_arms names arms))
-  too_many names (ExTry at a arms) = least (over arms_limit (arm_count arms)) (least (too_many names a) (too_many_in_arms names arms))
+  too_many names (ExMatch at a arms) = least (over arms_limit (arms_written arms)) (least (too_many names a) (too_many_in_arms names arms))
+  too_many names (ExTry at a arms) = least (over arms_limit (arms_written arms)) (least (too_many names a) (too_many_in_arms names arms))
   too_many names (ExRaise at a T) = least (large_type T) (too_many names a)
   too_many names (ExAnd at a b) = least (too_many names a) (too_many names b)
   too_many names (ExOr at a b) = least (too_many names a) (too_many names b)
@@ -125,4 +125,4 @@ abbrev mutual
 
   pub too_many_in_arms : List Bytes → ArmTrees → Option ℕ
   too_many_in_arms names no_arm_trees = None
-  too_many_in_arms names (arm_tree p b arms) = least (large_pat p) (least (too_many (bind (variables p) names) b) (too_many_in_arms names arms))
+  too_many_in_arms names (arm_tree p b arms) = least (large_pat p) (least (too_many (scope_with (variables p) names) b) (too_many_in_arms names arms))

@@ -4,7 +4,7 @@ use Rattle.ac_types.specs.Types.{Bytes, Typ, TInt, TBool, TStr, TUnit, TExn, TTu
 use Rattle.ac_terms.specs.Terms.{Pattern, PWild, PVar, PInt, PBool, PStr, PUnit, PTuple, PNil, PCons, PAbsent, PPresent, PExn, PExnOf, Patterns, no_patterns, pattern', Expr, Int, Boolean, Str, Unit', Exn, ExnOf, Tuple, Nil, Empty, Present, Cons, Var, Lam, Rec, App, Let, If, Seq, Match, Try, Raise, Prim, Marshal, Unmarshal, Exprs, no_exprs, expr, Arms, no_arms, arm}
 use Rattle.ac_syntax.specs.Trees.{NameAt, TypeTree, TyInt, TyBool, TyStr, TyUnit, TyExn, TyLocal, TyOf, TyTuple, TyList, TyOpt, TyFun, TypeTrees, no_type_trees, type_tree, PatTree, PatWild, PatVar, PatInt, PatBool, PatStr, PatUnit, PatTuple, PatNil, PatCons, PatAbsent, PatPresent, PatExn, PatExnOf, PatTrees, no_pat_trees, pat_tree, Tree, ExInt, ExBool, ExStr, ExUnit, ExExn, ExExnOf, ExTuple, ExNil, ExAbsent, ExPresent, ExCons, ExVar, ExOf, ExFun, ExRec, ExApp, ExLet, ExLetRec, ExIf, ExSeq, ExMatch, ExTry, ExRaise, ExAnd, ExOr, ExOp, ExMarshal, ExUnmarshal, Trees, no_trees, tree, ArmTrees, no_arm_trees, arm_tree}
 use Rattle.ac_resolve.specs.declared.primitive.Primitive.{Primitive}
-use Rattle.ac_resolve.specs.ScopedNames.{binders_to, primitive, number_of, argument_of}
+use Rattle.ac_resolve.specs.ScopedNames.{binders_to, primitive_named, primitive_number, primitive_argument}
 
 -- the type that a tree writes; without definitions no type has a name
 abbrev mutual
@@ -67,27 +67,27 @@ abbrev mutual
   variables_of_all (pat_tree p ps) = variables p ++ variables_of_all ps
 
 -- the names in scope, the newest first, once these are bound one after another
-abbrev pub bind : List NameAt → List Bytes → List Bytes
-bind [] names = names
-bind (x ∷ xs) names = bind xs (x.word ∷ names)
+abbrev pub scope_with : List NameAt → List Bytes → List Bytes
+scope_with [] names = names
+scope_with (x ∷ xs) names = scope_with xs (x.word ∷ names)
 
 -- the primitive that a tree names
 abbrev pub primitive_at : Tree → Option Primitive
-primitive_at (ExOf at m x) = primitive m.word x.word
+primitive_at (ExOf at m x) = primitive_named m.word x.word
 primitive_at e = None
 
 abbrev pub primitive_of : Primitive → Expr → Expr
-primitive_of p a = Prim (number_of p) (expr a no_exprs)
+primitive_of p a = Prim (primitive_number p) (expr a no_exprs)
 
 -- a name after a module's name; a primitive by itself is a function that applies it
-abbrev pub value_of : Option Primitive → Expr
-value_of (Some p) = Lam (argument_of p) (primitive_of p (Var 0))
-value_of None = Unit'
+abbrev pub primitive_value : Option Primitive → Expr
+primitive_value (Some p) = Lam (primitive_argument p) (primitive_of p (Var 0))
+primitive_value None = Unit'
 
 -- an application; an applied primitive takes its argument
-abbrev pub applied : Option Primitive → Expr → Expr → Expr
-applied (Some p) f a = primitive_of p a
-applied None f a = App f a
+abbrev pub applied_tree : Option Primitive → Expr → Expr → Expr
+applied_tree (Some p) f a = primitive_of p a
+applied_tree None f a = App f a
 
 -- the term of a tree under the names in scope, the newest first
 abbrev mutual
@@ -104,10 +104,10 @@ abbrev mutual
   elaborated names (ExPresent at a) = Present (elaborated names a)
   elaborated names (ExCons at a b) = Cons (elaborated names a) (elaborated names b)
   elaborated names (ExVar at x) = Var (unwrap_or (binders_to x names) 0)
-  elaborated names (ExOf at m x) = value_of (primitive m.word x.word)
+  elaborated names (ExOf at m x) = primitive_value (primitive_named m.word x.word)
   elaborated names (ExFun at x T b) = Lam (type_in T) (elaborated (x.word ∷ names) b)
   elaborated names (ExRec at f x T U b) = Rec (type_in T) (type_in U) (elaborated (x.word ∷ f.word ∷ names) b)
-  elaborated names (ExApp at f a) = applied (primitive_at f) (elaborated names f) (elaborated names a)
+  elaborated names (ExApp at f a) = applied_tree (primitive_at f) (elaborated names f) (elaborated names a)
   elaborated names (ExLet at x T a b) = Let (type_in T) (elaborated names a) (elaborated (x.word ∷ names) b)
   elaborated names (ExLetRec at f x T U a b) = Let (TFun (type_in T) (type_in U)) (Rec (type_in T) (type_in U) (elaborated (x.word ∷ f.word ∷ names) a)) (elaborated (f.word ∷ names) b)
   elaborated names (ExIf at c a b) = If (elaborated names c) (elaborated names a) (elaborated names b)
@@ -128,4 +128,4 @@ abbrev mutual
   -- an arm's body sees the pattern's variables, bound from left to right
   pub elaborated_arms : List Bytes → ArmTrees → Arms
   elaborated_arms names no_arm_trees = no_arms
-  elaborated_arms names (arm_tree p b arms) = arm (pattern_in p) (elaborated (bind (variables p) names) b) (elaborated_arms names arms)
+  elaborated_arms names (arm_tree p b arms) = arm (pattern_in p) (elaborated (scope_with (variables p) names) b) (elaborated_arms names arms)

@@ -6,14 +6,14 @@ use Rattle.ac_resolve.specs.ScopedNames.{binders_to, least}
 use Rattle.ac_resolve.specs.Elaboration.{variables}
 
 -- the place, where something is there
-abbrev pub where_there : {A : Type 0} → Option A → ℕ → Option ℕ
-where_there None at = None
-where_there (Some x) at = Some at
+abbrev pub place_where_there : {A : Type 0} → Option A → ℕ → Option ℕ
+place_where_there None at = None
+place_where_there (Some x) at = Some at
 
 -- the least place of a name that stands before it too, also among those that were seen before
 abbrev pub repeated_name : List Bytes → List NameAt → Option ℕ
 repeated_name seen [] = None
-repeated_name seen (x ∷ names) = least (where_there (binders_to x.word seen) x.at) (repeated_name (x.word ∷ seen) names)
+repeated_name seen (x ∷ names) = least (place_where_there (binders_to x.word seen) x.at) (repeated_name (x.word ∷ seen) names)
 
 abbrev mutual
   pub repeated : Tree → Option ℕ

@@ -13,46 +13,46 @@ binders_to x [] = None
 binders_to x (y ∷ names) = elim (same_bytes y x) [ true ↦ Some 0 | false ↦ option_map suc (binders_to x names) ]
 
 -- what stands beside a name in a table
-abbrev pub entry_of : {A : Type 0} → Bytes → List (Bytes × A) → Option A
-entry_of x [] = None
-entry_of x (e ∷ table) = elim (same_bytes e.0 x) [ true ↦ Some e.1 | false ↦ entry_of x table ]
+abbrev pub beside_name : {A : Type 0} → Bytes → List (Bytes × A) → Option A
+beside_name x [] = None
+beside_name x (e ∷ table) = elim (same_bytes e.0 x) [ true ↦ Some e.1 | false ↦ beside_name x table ]
 
 -- the standard modules and what they hold
 abbrev pub io : List (Bytes × Primitive)
 io = (codes "print_int", PrintInt) ∷ (codes "print_string", PrintString) ∷ (codes "send", Send) ∷ (codes "receive", Receive) ∷ []
 
-abbrev pub str : List (Bytes × Primitive)
-str = (codes "length", Length) ∷ (codes "sub", Sub) ∷ (codes "of_int", OfInt) ∷ []
+abbrev pub str_primitives : List (Bytes × Primitive)
+str_primitives = (codes "length", Length) ∷ (codes "sub", Sub) ∷ (codes "of_int", OfInt) ∷ []
 
 -- the table of a standard module
 abbrev pub table_of : Standard → List (Bytes × Primitive)
 table_of Io = io
-table_of Str = str
+table_of Str = str_primitives
 
 abbrev pub standard : List (Bytes × List (Bytes × Primitive))
-standard = (codes "IO", io) ∷ (codes "Str", str) ∷ []
+standard = (codes "IO", io) ∷ (codes "Str", str_primitives) ∷ []
 
 -- the primitive that a name after a module's name and a dot is
-abbrev pub primitive : Bytes → Bytes → Option Primitive
-primitive m x = option_and_then (entry_of x) (entry_of m standard)
+abbrev pub primitive_named : Bytes → Bytes → Option Primitive
+primitive_named m x = option_and_then (beside_name x) (beside_name m standard)
 
-abbrev pub number_of : Primitive → ℕ
-number_of PrintInt = primitives.print_int
-number_of PrintString = primitives.print_string
-number_of Send = primitives.send
-number_of Receive = primitives.receive
-number_of Length = primitives.length
-number_of Sub = primitives.sub_string
-number_of OfInt = primitives.of_int
+abbrev pub primitive_number : Primitive → ℕ
+primitive_number PrintInt = primitives.print_int
+primitive_number PrintString = primitives.print_string
+primitive_number Send = primitives.send
+primitive_number Receive = primitives.receive
+primitive_number Length = primitives.length
+primitive_number Sub = primitives.sub_string
+primitive_number OfInt = primitives.of_int
 
-abbrev pub argument_of : Primitive → Typ
-argument_of PrintInt = TInt
-argument_of PrintString = TStr
-argument_of Send = TStr
-argument_of Receive = TUnit
-argument_of Length = TStr
-argument_of Sub = TTuple (typs (TStr ∷ TInt ∷ TInt ∷ []))
-argument_of OfInt = TInt
+abbrev pub primitive_argument : Primitive → Typ
+primitive_argument PrintInt = TInt
+primitive_argument PrintString = TStr
+primitive_argument Send = TStr
+primitive_argument Receive = TUnit
+primitive_argument Length = TStr
+primitive_argument Sub = TTuple (typs (TStr ∷ TInt ∷ TInt ∷ []))
+primitive_argument OfInt = TInt
 
 -- the least of what is there
 abbrev pub least : Option ℕ → Option ℕ → Option ℕ

@@ -3,8 +3,8 @@ use Rattle.std.specs.Prelude.{ℕ, List, ◌∷◌, Option, Some, None}
 use Rattle.ac_types.specs.Types.{Bytes}
 use Rattle.ac_syntax.specs.Trees.{NameAt, TypeTree, TyInt, TyBool, TyStr, TyUnit, TyExn, TyLocal, TyOf, TyTuple, TyList, TyOpt, TyFun, TypeTrees, no_type_trees, type_tree, PatTree, PatWild, PatVar, PatInt, PatBool, PatStr, PatUnit, PatTuple, PatNil, PatCons, PatAbsent, PatPresent, PatExn, PatExnOf, PatTrees, no_pat_trees, pat_tree, Tree, ExInt, ExBool, ExStr, ExUnit, ExExn, ExExnOf, ExTuple, ExNil, ExAbsent, ExPresent, ExCons, ExVar, ExOf, ExFun, ExRec, ExApp, ExLet, ExLetRec, ExIf, ExSeq, ExMatch, ExTry, ExRaise, ExAnd, ExOr, ExOp, ExMarshal, ExUnmarshal, Trees, no_trees, tree, ArmTrees, no_arm_trees, arm_tree}
 use Rattle.ac_resolve.specs.declared.primitive.Primitive.{Primitive}
-use Rattle.ac_resolve.specs.ScopedNames.{binders_to, entry_of, standard, least}
-use Rattle.ac_resolve.specs.Elaboration.{variables, bind}
+use Rattle.ac_resolve.specs.ScopedNames.{binders_to, beside_name, standard, least}
+use Rattle.ac_resolve.specs.Elaboration.{variables, scope_with}
 
 -- a type's own name is unbound, of `M.t` the module: without definitions there is neither
 abbrev mutual
@@ -53,7 +53,7 @@ unless (Some x) at = None
 -- of `M.x` the module is unbound, or the name in it
 abbrev pub unbound_in : Option (List (Bytes × Primitive)) → NameAt → NameAt → Option ℕ
 unbound_in None m x = Some m.at
-unbound_in (Some table) m x = unless (entry_of x.word table) x.at
+unbound_in (Some table) m x = unless (beside_name x.word table) x.at
 
 abbrev mutual
   pub unbound : List Bytes → Tree → Option ℕ
@@ -64,7 +64,7 @@ abbrev mutual
   unbound names (ExPresent at a) = unbound names a
   unbound names (ExCons at a b) = least (unbound names a) (unbound names b)
   unbound names (ExVar at x) = unless (binders_to x names) at
-  unbound names (ExOf at m x) = unbound_in (entry_of m.word standard) m x
+  unbound names (ExOf at m x) = unbound_in (beside_name m.word standard) m x
   unbound names (ExFun at x T b) = least (unbound_type T) (unbound (x.word ∷ names) b)
   unbound names (ExRec at f x T U b) = least (unbound_type T) (least (unbound_type U) (unbound (x.word ∷ f.word ∷ names) b))
   unbound names (ExApp at f a) = least (unbound names f) (unbound names a)
@@ -92,4 +92,4 @@ abbrev mutual
 
   pub unbound_arms : List Bytes → ArmTrees → Option ℕ
   unbound_arms names no_arm_trees = None
-  unbound_arms names (arm_tree p b arms) = least (unbound_pat p) (least (unbound (bind (variables p) names) b) (unbound_arms names arms))
+  unbound_arms names (arm_tree p b arms) = least (unbound_pat p) (least (unbound (scope_with (variables p) names) b) (unbound_arms names arms))

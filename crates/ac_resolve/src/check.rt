@@ -3,10 +3,10 @@
 ghost use Rattle.std.specs.Prelude.{◌≡◌, ◌∷◌, map, length, IfOk};
 ghost use Rattle.ac_syntax.specs.Trees.{trees, arm_trees};
 ghost use Rattle.ac_syntax.specs.ReadTrees.{expr_of, arm_of, type_of, name_of};
-ghost use Rattle.ac_resolve.specs.ScopedNames.{entry_of, standard, binders_to};
+ghost use Rattle.ac_resolve.specs.ScopedNames.{beside_name, standard, binders_to};
 ghost use Rattle.ac_resolve.specs.Unbound.{unbound_in, unless};
 ghost use Rattle.ac_resolve.specs.Counts.{over, scope_limit};
-ghost use Rattle.ac_resolve.specs.inner.Flaws.{counted, missing, joined, type_flaws, flaws, flaws_of_all, arm_flaws, arms_flaws};
+ghost use Rattle.ac_resolve.specs.inner.Flaws.{count_flaws, missing, flaws_joined, type_flaws, flaws, flaws_of_all, arm_flaws, arms_flaws};
 ghost use Rattle.ac_resolve.specs.inner.Joining.{JoinedTyped};
 ghost use Rattle.ac_resolve.specs.inner.NameScopes.{names_in};
 
@@ -28,7 +28,7 @@ const SCOPE_LIMIT: u32 = 65535;
 /// What is wrong with a leaf: too many variables may be in scope.
 #[tactic(auto, using(crate::proofs::Leasts::over_laws))]
 fn leaf(scope: &Scope) -> Flaws
-    ensures { result ≡ counted (over scope_limit (length (names_in scope.now))) }
+    ensures { result ≡ count_flaws (over scope_limit (length (names_in scope.now))) }
 {
     Flaws::counted(SCOPE_LIMIT, depth(scope))
 }
@@ -36,8 +36,8 @@ fn leaf(scope: &Scope) -> Flaws
 /// What is wrong with a variable.
 #[tactic(auto, using(crate::proofs::Leasts::over_laws))]
 fn variable(at: u32, word: &Word, scope: &Scope) -> Flaws
-    ensures { result ≡ joined (missing (unless (binders_to word.now (names_in scope.now)) at))
-        (counted (over scope_limit (length (names_in scope.now)))) }
+    ensures { result ≡ flaws_joined (missing (unless (binders_to word.now (names_in scope.now)) at))
+        (count_flaws (over scope_limit (length (names_in scope.now)))) }
 {
     let leaf = leaf(scope);
     match binders_to(scope, word) {
@@ -48,7 +48,7 @@ fn variable(at: u32, word: &Word, scope: &Scope) -> Flaws
 
 /// What is wrong with a name after a module's name.
 fn of_module(owner: &SName, name: &SName) -> Flaws
-    ensures { result ≡ missing (unbound_in (entry_of owner.now.word standard) (name_of owner.now)
+    ensures { result ≡ missing (unbound_in (beside_name owner.now.word standard) (name_of owner.now)
         (name_of name.now)) }
 {
     match Standard::named(&owner.word) {

@@ -2,7 +2,7 @@
 
 ghost use Rattle.std.specs.Prelude.{◌≡◌, ◌<◌, ◌^◌, Some, IfOk};
 ghost use Rattle.ac_resolve.specs.Counts.{over};
-ghost use Rattle.ac_resolve.specs.inner.Flaws.{joined, no_flaws, missing, repeats, counted};
+ghost use Rattle.ac_resolve.specs.inner.Flaws.{flaws_joined, no_flaws, missing, repeats, count_flaws};
 ghost use Rattle.ac_resolve.specs.inner.Joining.{Joins};
 
 use crate::least::least;
@@ -56,7 +56,7 @@ impl Flaws {
     /// What is wrong with a count of so many.
     pub fn counted(limit: u32, count: usize) -> Flaws
         requires { limit < 2 ^ 31 }
-        ensures { result ≡ counted (over limit count) }
+        ensures { result ≡ count_flaws (over limit count) }
     {
         Flaws {
             unbound: None,
@@ -67,7 +67,7 @@ impl Flaws {
 
     /// What is wrong with two trees together.
     pub fn join(self, other: Flaws) -> Flaws
-        ensures { result ≡ joined self other }
+        ensures { result ≡ flaws_joined self other }
     {
         Flaws {
             unbound: least(self.unbound, other.unbound),

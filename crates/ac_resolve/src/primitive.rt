@@ -4,7 +4,7 @@ ghost use Rattle.std.specs.Prelude.{◌≡◌, IfOk, option_map};
 ghost use Rattle.ac_types.specs.ReadTypes.{typ_of};
 ghost use Rattle.ac_terms.specs.Read.{expr_of};
 ghost use Rattle.ac_resolve.specs.declared.primitive.Primitive.TheVariants.{Sub};
-ghost use Rattle.ac_resolve.specs.ScopedNames.{entry_of, standard, io, str, table_of, primitive, number_of, argument_of};
+ghost use Rattle.ac_resolve.specs.ScopedNames.{beside_name, standard, io, str_primitives, table_of, primitive_named, primitive_number, primitive_argument};
 ghost use Rattle.ac_resolve.specs.Elaboration.{primitive_of};
 
 use ac_terms::Term;
@@ -34,7 +34,7 @@ pub enum Primitive {
 impl Primitive {
     /// The number of the primitive.
     pub fn number(self) -> u8
-        ensures { result ≡ number_of self }
+        ensures { result ≡ primitive_number self }
     {
         match self {
             Primitive::PrintInt => PRINT_INT,
@@ -50,7 +50,7 @@ impl Primitive {
     /// The type of its argument.
     #[tactic(auto, using(crate::proofs::Forms::primitive_forms))]
     pub fn argument(self, alloc: Global) -> Result<Ty, Memory>
-        ensures { IfOk result (λ ty. typ_of ty ≡ argument_of self) }
+        ensures { IfOk result (λ ty. typ_of ty ≡ primitive_argument self) }
     {
         match self {
             Primitive::PrintInt => Ok(Ty::Int),
@@ -77,7 +77,7 @@ impl Primitive {
 /// The type of a string with two ints.
 #[tactic(auto, using(crate::proofs::Forms::primitive_forms))]
 fn text_and_range(alloc: Global) -> Result<Ty, Memory>
-    ensures { IfOk result (λ ty. typ_of ty ≡ argument_of Sub) }
+    ensures { IfOk result (λ ty. typ_of ty ≡ primitive_argument Sub) }
 {
     let mut parts = Many::new(alloc);
     parts.push(Ty::Str)?;
@@ -98,7 +98,7 @@ pub enum Standard {
 impl Standard {
     /// The standard module of that name.
     pub fn named(word: &Word) -> Option<Standard>
-        ensures { option_map table_of result ≡ entry_of word.now standard }
+        ensures { option_map table_of result ≡ beside_name word.now standard }
     {
         let name = word.text().as_slice();
         if b"IO".as_slice() == name {
@@ -112,7 +112,7 @@ impl Standard {
 
     /// The primitive of that name in it.
     pub fn primitive(self, word: &Word) -> Option<Primitive>
-        ensures { result ≡ entry_of word.now (table_of self) }
+        ensures { result ≡ beside_name word.now (table_of self) }
     {
         let name = word.text().as_slice();
         match self {
@@ -123,7 +123,7 @@ impl Standard {
 }
 
 fn primitive_of_io(name: &[u8]) -> Option<Primitive>
-    ensures { result ≡ entry_of name.now io }
+    ensures { result ≡ beside_name name.now io }
 {
     if b"print_int".as_slice() == name {
         return Some(Primitive::PrintInt);
@@ -141,7 +141,7 @@ fn primitive_of_io(name: &[u8]) -> Option<Primitive>
 }
 
 fn primitive_of_str(name: &[u8]) -> Option<Primitive>
-    ensures { result ≡ entry_of name.now str }
+    ensures { result ≡ beside_name name.now str_primitives }
 {
     if b"length".as_slice() == name {
         return Some(Primitive::Length);
@@ -157,7 +157,7 @@ fn primitive_of_str(name: &[u8]) -> Option<Primitive>
 
 /// The primitive that a name after a module's name is.
 pub fn named(standard: &Word, name: &Word) -> Option<Primitive>
-    ensures { result ≡ primitive standard.now name.now }
+    ensures { result ≡ primitive_named standard.now name.now }
 {
     let standard = Standard::named(standard)?;
     standard.primitive(name)

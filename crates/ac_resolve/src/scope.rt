@@ -4,7 +4,7 @@ ghost use Rattle.std.specs.Prelude.{◌≡◌, ◌≤◌, List, min, map, length
 ghost use Rattle.ac_types.specs.Types.{Bytes};
 ghost use Rattle.ac_syntax.specs.ReadTrees.{name_of};
 ghost use Rattle.ac_resolve.specs.ScopedNames.{binders_to};
-ghost use Rattle.ac_resolve.specs.Elaboration.{bind};
+ghost use Rattle.ac_resolve.specs.Elaboration.{scope_with};
 ghost use Rattle.ac_resolve.specs.inner.NameScopes.{names_in, passed};
 
 use ac_syntax::SName;
@@ -64,7 +64,7 @@ pub fn binders_to(scope: &Scope, word: &Word) -> Option<usize>
 /// How many of these names stand behind the last that is this one.
 fn behind(names: &[SName], word: &Word) -> Option<usize>
     ensures { (outer : List Bytes) → binders_to word.now
-        (bind (map name_of names.now) outer) ≡ passed result (length names.now)
+        (scope_with (map name_of names.now) outer) ≡ passed result (length names.now)
         (binders_to word.now outer) }
 {
     let mut left = names.len();

@@ -5,8 +5,8 @@ ghost use Rattle.ac_terms.specs.Terms.{Var, exprs, arms};
 ghost use Rattle.ac_terms.specs.Read.{expr_of};
 ghost use Rattle.ac_syntax.specs.Trees.{trees, arm_trees};
 ghost use Rattle.ac_syntax.specs.ReadTrees.{expr_of as tree_of, arm_of, type_of};
-ghost use Rattle.ac_resolve.specs.ScopedNames.{binders_to, primitive};
-ghost use Rattle.ac_resolve.specs.Elaboration.{pattern_in, variables, bind, value_of, primitive_at, elaborated, elaborated_all, elaborated_arms};
+ghost use Rattle.ac_resolve.specs.ScopedNames.{binders_to, primitive_named};
+ghost use Rattle.ac_resolve.specs.Elaboration.{pattern_in, variables, scope_with, primitive_value, primitive_at, elaborated, elaborated_all, elaborated_arms};
 ghost use Rattle.ac_resolve.specs.Counts.{over, scope_limit, too_many, too_many_in_all, too_many_in_arms};
 ghost use Rattle.ac_resolve.specs.inner.Joining.{RecOf};
 ghost use Rattle.ac_resolve.specs.inner.NameScopes.{names_in, read_arm};
@@ -35,7 +35,8 @@ fn variable(word: &Word, scope: &Scope) -> Term
 /// A name after a module's name: a primitive by itself is a function that applies it.
 #[tactic(auto, using(crate::proofs::TermLaws::made_laws))]
 fn of_module(alloc: Global, owner: &SName, name: &SName) -> Result<Term, Memory>
-    ensures { IfOk result (λ t. expr_of t ≡ value_of (primitive owner.now.word name.now.word)) }
+    ensures { IfOk result (λ t. expr_of t ≡ primitive_value
+        (primitive_named owner.now.word name.now.word)) }
 {
     match named(&owner.word, &name.word) {
         None => Ok(Term::Unit),
@@ -270,12 +271,12 @@ fn arms<'a>(alloc: Global, cases: &'a [SArm], scope: &'a Scope<'a>) -> Result<Ma
 #[cycle(term)]
 #[tactic(auto, using(crate::proofs::Forms::arm_forms))]
 fn arm<'a>(alloc: Global, case: &'a SArm, scope: &'a Scope<'a>) -> Result<Arm, Memory>
-    requires { too_many (bind (variables (arm_of case.now).0) (names_in scope.now))
+    requires { too_many (scope_with (variables (arm_of case.now).0) (names_in scope.now))
         (arm_of case.now).1 ≡ None }
     ensures { IfOk result (λ a. read_arm a ≡ (
       pattern_in (arm_of case.now).0,
       elaborated
-          (bind (variables (arm_of case.now).0) (names_in scope.now)) (arm_of case.now).1,
+          (scope_with (variables (arm_of case.now).0) (names_in scope.now)) (arm_of case.now).1,
     )) }
 {
     let names = variables(alloc, &case.pat)?;

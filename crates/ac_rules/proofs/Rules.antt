@@ -11,7 +11,7 @@ use Rattle.ac_terms.specs.Defs.{Environment, Module, Def, AModule, AnImport, AMa
 use Rattle.ac_terms.specs.PrimitiveTypes.{has_text, is_exception, primitive_type}
 use Rattle.ac_terms.specs.TermTyping.{has, both_same, also, last_of}
 use Rattle.ac_rules.specs.Views.{Mode, Plain, Coloured, view, are_known}
-use Rattle.ac_rules.specs.Typing.{Scope, bind, field_type, ref_type, HasType, applied, kept_in, holds, seen, types_of, arm_types, one_of, a_list, an_option, joined, is_home, is_function_home}
+use Rattle.ac_rules.specs.Typing.{Scope, bind, field_type, ref_type, HasType, type_applied, kept_in, holds, type_seen, types_of, arm_types, one_of, a_list, an_option, variables_joined, is_home, is_function_home}
 
 pub has_some : (o : Option Typ) (U : Typ) → has o U ≡ true → o ≡ Some U
 has_some None U e = absurd (true≢false (sym e))
@@ -52,7 +52,7 @@ pub then_some : {A B : Type 0} (f : A → Option B) (o : Option A) (y : B) → o
 then_some f None y e = absurd (none≢some e)
 then_some f (Some x) y e = (x, refl, e)
 
-pub applied_some : (F a : Option Typ) (B : Typ) → applied F a ≡ Some B → (A : Typ) × (F ≡ Some (TFun A B)) × (a ≡ Some A)
+pub applied_some : (F a : Option Typ) (B : Typ) → type_applied F a ≡ Some B → (A : Typ) × (F ≡ Some (TFun A B)) × (a ≡ Some A)
 applied_some (Some (TFun A C)) a B e = (A, ap (λ X. Some (TFun A X)) (some_eq (given_some _ _ e).1), has_some a A (given_some _ _ e).0)
 applied_some F a B e = absurd (none≢some e)
 
@@ -67,7 +67,7 @@ also_some (Some A) (Some B) T e = (A, B, refl, refl, some_eq e)
 also_some None b T e = absurd (none≢some e)
 also_some (Some A) None T e = absurd (none≢some e)
 
-pub joined_some : (a b : Option (List Typ)) (Us : List Typ) → joined a b ≡ Some Us → (Vs Ws : List Typ) × (a ≡ Some Vs) × (b ≡ Some Ws) × (Us ≡ Ws ++ Vs)
+pub joined_some : (a b : Option (List Typ)) (Us : List Typ) → variables_joined a b ≡ Some Us → (Vs Ws : List Typ) × (a ≡ Some Vs) × (b ≡ Some Ws) × (Us ≡ Ws ++ Vs)
 joined_some (Some Vs) (Some Ws) Us e = (Vs, Ws, refl, refl, sym (some_eq e))
 joined_some None b Us e = absurd (none≢some e)
 joined_some (Some Vs) None Us e = absurd (none≢some e)
@@ -94,25 +94,25 @@ module _ (mode : Mode) (E : Environment) (S : Scope) where
   one_type e T U p q = some_eq (sym p ∙ q)
 
   -- a type is seen where its names are known, and as it is viewed
-  seen_some : (c : Home) (A T : Typ) → seen mode false E c A ≡ Some T → (are_known E A ≡ true) × (view mode E c A ≡ T)
+  seen_some : (c : Home) (A T : Typ) → type_seen mode false E c A ≡ Some T → (are_known E A ≡ true) × (view mode E c A ≡ T)
   seen_some c A T e = let p = given_some _ _ e in (p.0, some_eq p.1)
 
   -- at the end of a rule: a type that is seen, under a test
-  ends : (b : Bool) (A T : Typ) → given b (kept_in mode (seen mode false E S.home A)) ≡ Some T → (b ≡ true) × (are_known E A ≡ true) × (view mode E S.home A ≡ T)
+  ends : (b : Bool) (A T : Typ) → given b (kept_in mode (type_seen mode false E S.home A)) ≡ Some T → (b ≡ true) × (are_known E A ≡ true) × (view mode E S.home A ≡ T)
   ends b A T h =
       let p = given_some b _ h in
       let q = seen_some S.home A T (kept_some mode _ T p.1) in
       (p.0, q.0, q.1)
 
   -- the written type is that of the part
-  agrees : (o : Option Typ) (c : Home) (A : Typ) → agree o (seen mode false E c A) ≡ true → (are_known E A ≡ true) × (o ≡ Some (view mode E c A))
+  agrees : (o : Option Typ) (c : Home) (A : Typ) → agree o (type_seen mode false E c A) ≡ true → (are_known E A ≡ true) × (o ≡ Some (view mode E c A))
   agrees o c A h =
       let p = agree_some o _ h in
       let q = seen_some c A p.0 p.2 in
       (q.0, p.1 ∙ ap Some (sym q.1))
 
   -- a type that is seen in what follows
-  then_seen : (c : Home) (A T : Typ) (f : Typ → Option Typ) → option_and_then f (seen mode false E c A) ≡ Some T → (are_known E A ≡ true) × (f (view mode E c A) ≡ Some T)
+  then_seen : (c : Home) (A T : Typ) (f : Typ → Option Typ) → option_and_then f (type_seen mode false E c A) ≡ Some T → (are_known E A ≡ true) × (f (view mode E c A) ≡ Some T)
   then_seen c A T f h = by (are_known E A) refl h
     where
       by : (b : Bool) → are_known E A ≡ b → option_and_then f (given b (Some (view mode E c A))) ≡ Some T → (are_known E A ≡ true) × (f (view mode E c A) ≡ Some T)

@@ -3,7 +3,7 @@ use Rattle.std.specs.Prelude.{◌≡◌, ℕ, zero, suc, ◌+◌, Bool, true, fa
 use Rattle.std.specs.Option.{option_map_or}
 use Rattle.ac_types.specs.First.{first_failing, or_else, first_some}
 use Rattle.ac_types.specs.Types.{Bytes, Typ, same, same_bytes, agree}
-use Rattle.ac_types.specs.Sigs.{Signature, Sig_type, Typed_name, Range, Constraint, Ranges, Exact, Resolve, StaticLink, HereAlready, Uri, under, type_under, is_manifest, is_abstract, equal_under}
+use Rattle.ac_types.specs.Sigs.{Signature, Sig_type, Typed_name, Range, Constraint, Ranges, Exact, Resolve, StaticLink, HereAlready, Uri, named_type, type_under, is_manifest, is_abstract, equal_under}
 use Rattle.ac_terms.specs.Defs.{Environment, Entry, Module, Import, Seen, Own', Shelf, Arrived, module_at, name_at, names}
 use Rattle.ac_version.specs.Versions.{fit}
 
@@ -39,7 +39,7 @@ has_type_spec exact s spec = elim spec.manifest [
 
 -- a value is there with an equal type
 abbrev pub has_val_spec : Bool → Signature → Typed_name → Bool
-has_val_spec exact s spec = is_equal exact s (under spec.name s.vals) spec.ty
+has_val_spec exact s spec = is_equal exact s (named_type spec.name s.vals) spec.ty
 
 -- the first spec that a module's signature lacks, types first
 abbrev pub missing_spec : Bool → Signature → Signature → Option ℕ
@@ -49,7 +49,7 @@ missing_spec exact s wanted =
 
 -- the first abstract type whose representation in the module isn't the likespec's type
 abbrev pub is_like : Module → Import → Sig_type → Bool
-is_like m i spec = is_some spec.manifest || agree (under spec.name m.types) (under spec.name i.like)
+is_like m i spec = is_some spec.manifest || agree (named_type spec.name m.types) (named_type spec.name i.like)
 
 abbrev pub unlike : Module → Import → Option ℕ
 unlike m i = first_failing (is_like m i) i.sig.types

@@ -4,7 +4,7 @@ use Rattle.std.specs.List.{list_all, list_any}
 use Rattle.std.specs.Option.{option_map_or}
 use Rattle.ac_types.specs.First.{first_failing, or_else}
 use Rattle.ac_types.specs.Types.{Bytes, Typ, TInt, TBool, TStr, TUnit, TExn, TTuple, TList, TOpt, TFun, TAbs, TMine, Typs, no_types, typ, same_bytes, with_mine}
-use Rattle.ac_types.specs.Sigs.{Typed_name, Sig_type, Signature, Constraint, Ranges, Exact, under, type_under, is_abstract}
+use Rattle.ac_types.specs.Sigs.{Typed_name, Sig_type, Signature, Constraint, Ranges, Exact, named_type, type_under, is_abstract}
 use Rattle.ac_terms.specs.Terms.{In, Expr, Int, Boolean, Str, Unit', Exn, ExnOf, Tuple, Nil, Empty, Present, Cons, Var, Own, Ref, Lam, Rec, App, Let, If, Seq, Match, Try, Raise, Prim, Marshal, Unmarshal, Val, Evaluated, Bracket, Exprs, no_exprs, expr}
 use Rattle.ac_terms.specs.Defs.{Environment, Field, Module, Import, Def, AModule, AnImport, AMark, signature_at}
 use Rattle.ac_terms.specs.Parts.{part_refs, part_mentions, def_parts, has_captured}
@@ -51,12 +51,12 @@ abbrev mutual
   are_valuable (expr e es) = is_valuable e && are_valuable es
 
 -- a type of a module's signature as the struct has it: an own abstract type is the struct's type
-abbrev pub inside : Module → Typ → Typ
-inside m T = with_mine (λ t. elim (under t m.types) [ None ↦ TMine t | Some U ↦ U ]) T
+abbrev pub inside_struct : Module → Typ → Typ
+inside_struct m T = with_mine (λ t. elim (named_type t m.types) [ None ↦ TMine t | Some U ↦ U ]) T
 
 -- covered: an abstract type is there, a manifest type is there and equal
 abbrev pub covers_type : Module → Sig_type → Bool
-covers_type m s = elim s.manifest [ None ↦ is_some (under s.name m.types) | Some T ↦ has (under s.name m.types) (inside m T) ]
+covers_type m s = elim s.manifest [ None ↦ is_some (named_type s.name m.types) | Some T ↦ has (named_type s.name m.types) (inside_struct m T) ]
 
 -- and a value is there with the spec's type
 abbrev pub field_named : Bytes → List Field → Option Typ
@@ -64,7 +64,7 @@ field_named x [] = None
 field_named x (f ∷ fs) = elim (same_bytes f.name x) [ true ↦ Some f.ty | false ↦ field_named x fs ]
 
 abbrev pub covers_val : Module → Typed_name → Bool
-covers_val m v = has (field_named v.name m.fields) (inside m v.ty)
+covers_val m v = has (field_named v.name m.fields) (inside_struct m v.ty)
 
 -- the first spec that a struct doesn't cover, types first
 abbrev pub uncovered : Module → Option ℕ
@@ -74,7 +74,7 @@ uncovered m =
 
 -- the first abstract type without a likespec
 abbrev pub like_missing : Import → Option ℕ
-like_missing i = first_failing (λ (s : Sig_type). is_some s.manifest || is_some (under s.name i.like)) i.sig.types
+like_missing i = first_failing (λ (s : Sig_type). is_some s.manifest || is_some (named_type s.name i.like)) i.sig.types
 
 -- an import by version has a likespec for each abstract type, one by exact name has none
 abbrev pub has_right_likes : Constraint → Import → Bool

@@ -22,8 +22,8 @@ pub record Place : Type 0 where
   pub unresolved : Bool
 
 -- the number that stands for a definition of the packet
-abbrev pub number : List Place → ℕ → ℕ
-number ps k = unwrap_or (option_and_then (λ (p : Place). p.at) (slice_get ps k)) 0
+abbrev pub placed_number : List Place → ℕ → ℕ
+placed_number ps k = unwrap_or (option_and_then (λ (p : Place). p.at) (slice_get ps k)) 0
 
 abbrev pub is_unresolved : List Place → ℕ → Bool
 is_unresolved ps k = option_map_or (λ (p : Place). p.unresolved) (slice_get ps k) true
@@ -79,17 +79,17 @@ module _ (digest : Bytes → Bytes) where
   )
 
   -- an entry that is there
-  abbrev pub found : Placed → ℕ → Placed
-  found s j = (s.0, s.1 ++ record { at = Some j; unresolved = false } ∷ [])
+  abbrev pub placed_there : Placed → ℕ → Placed
+  placed_there s j = (s.0, s.1 ++ record { at = Some j; unresolved = false } ∷ [])
 
   -- an entry that equals it, or a new one
   abbrev pub found_or_put : Placed → Def → Option ℕ → Placed
-  found_or_put s d link = elim (find_def s.0 d link) [ Some j ↦ found s j | None ↦ put s d link false ]
+  found_or_put s d link = elim (find_def s.0 d link) [ Some j ↦ placed_there s j | None ↦ put s d link false ]
 
   -- an import by exact name becomes what it links to; without a link it has no place
   abbrev pub place_exact : Placed → Option ℕ → Placed
   place_exact s None = (s.0, s.1 ++ record { at = None; unresolved = true } ∷ [])
-  place_exact s (Some j) = found s j
+  place_exact s (Some j) = placed_there s j
 
   -- an import by version without a link is new
   abbrev pub place_ranges : Placed → Import → Option ℕ → Placed
@@ -100,7 +100,7 @@ module _ (digest : Bytes → Bytes) where
   abbrev pub place : Environment → Placed → Def → Placed
   place E s (AnImport i) = elim (is_exact i.constraint) [ true ↦ place_exact s (linked E i InPacket) | false ↦ place_ranges s i (linked E i InPacket) ]
   place E s d =
-      let there : Def = def_renumbered (number s.1) d in
+      let there : Def = def_renumbered (placed_number s.1) d in
       elim (list_any (is_unresolved s.1) (part_refs (def_parts d))) [ true ↦ put s (AMark []) None false | false ↦ found_or_put s there None ]
 
   abbrev pub place_all : Environment → Placed → List Def → Placed
@@ -161,7 +161,7 @@ module _ (digest : Bytes → Bytes) where
 
   -- 6: what the type and the value speak of is of the packet, a home is no import by version, and the value holds
   abbrev pub value_there : Environment → Packet → PValue
-  value_there E p = value_renumbered (number (places E p.defs).1) p.value
+  value_there E p = value_renumbered (placed_number (places E p.defs).1) p.value
 
   abbrev pub may_be_home : Def → Bool
   may_be_home (AModule m) = true

@@ -3,22 +3,22 @@ use Rattle.std.specs.Prelude.{◌≡◌, ℕ, zero, suc, Bool, true, false, ◌&
 use Rattle.std.specs.List.{list_all, list_any}
 use Rattle.std.specs.Option.{option_map_or}
 use Rattle.ac_types.specs.Types.{Bytes, Typ, TInt, TBool, TStr, TUnit, TExn, TTuple, TList, TOpt, TFun, TAbs, TMine, with_each, has_function, mentions}
-use Rattle.ac_types.specs.Sigs.{Signature, Constraint, Ranges, Exact, under, type_under, is_abstract}
+use Rattle.ac_types.specs.Sigs.{Signature, Constraint, Ranges, Exact, named_type, type_under, is_abstract}
 use Rattle.ac_terms.specs.Terms.{Home, Main, In}
 use Rattle.ac_terms.specs.Defs.{Environment, Entry, Def, AModule, AnImport, AMark, Module, Import, module_at, signature, name_at, names, find_name}
 
 -- the struct's type t of a module
 abbrev pub module_type : Environment → Bytes → ℕ → Option Typ
-module_type E t j = option_and_then (λ (m : Module). under t m.types) (module_at E j)
+module_type E t j = option_and_then (λ (m : Module). named_type t m.types) (module_at E j)
 
 -- the likespec's type t of an import by version, and the linked module's of an import by exact name
 abbrev pub import_type : Environment → Bytes → Import → Constraint → Option ℕ → Option Typ
-import_type E t i (Ranges atoms star) link = under t i.like
+import_type E t i (Ranges atoms star) link = named_type t i.like
 import_type E t i (Exact n) link = option_and_then (module_type E t) link
 
 -- what the type t of an entry is
 abbrev pub type_of_entry : Environment → Bytes → Def → Option ℕ → Option Typ
-type_of_entry E t (AModule m) link = under t m.types
+type_of_entry E t (AModule m) link = named_type t m.types
 type_of_entry E t (AnImport i) link = import_type E t i i.constraint link
 type_of_entry E t (AMark s) link = None
 

@@ -1,6 +1,6 @@
 -- Where too many openers are unclosed, found from the front.
 use Rattle.std.proofs.Common.{◌≡◌, ◌≤◌, ◌<◌, ◌+◌, ℕ, suc, length, get_or, drop, List, [], ◌∷◌, ◌++◌, refl, sym, ◌∙◌, ap, subst, arith, Option, Some, None}
-use Rattle.ac_syntax.specs.Signs.{Sign, place, fixed, symbol_of, sign_at, sign_of, signs}
+use Rattle.ac_syntax.specs.Signs.{Sign, sign_place, fixed, symbol_of, sign_at, sign_of, signs}
 use Rattle.ac_syntax.specs.declared.sign.Symbol.{Symbol}
 use Rattle.ac_lexer.specs.declared.tokens.Token.{Token}
 use Rattle.ac_lexer.specs.declared.tokens.TokenKind.{TokenKind}
@@ -12,7 +12,7 @@ use Rattle.ac_syntax.specs.Openers.{open_after, unclosed, IsShallow, IsDeep}
 -- with n openers unclosed before
 pub data Deep : ℕ → List Sign → Option ℕ → Type 0 where
   end : {n : ℕ} → Deep n [] None
-  here : {n : ℕ} {t : Sign} {ts : List Sign} → 201 ≤ open_after n t → Deep n (t ∷ ts) (Some (place t))
+  here : {n : ℕ} {t : Sign} {ts : List Sign} → 201 ≤ open_after n t → Deep n (t ∷ ts) (Some (sign_place t))
   later : {n : ℕ} {t : Sign} {ts : List Sign} {o : Option ℕ} → open_after n t ≤ 200 → Deep (open_after n t) ts o → Deep n (t ∷ ts) o
 
 head_eq : {x y : Sign} {r s : List Sign} → x ∷ r ≡ y ∷ s → x ≡ y
@@ -37,7 +37,7 @@ record Found (n : ℕ) (ts : List Sign) (at : ℕ) : Type 0 where
   split : ts ≡ before ++ opener ∷ rest
   shallow : (front behind : List Sign) → before ≡ front ++ behind → unclosed n front ≤ 200
   deep : 201 ≤ unclosed n (before ++ opener ∷ [])
-  here : at ≡ place opener
+  here : at ≡ sign_place opener
 
 front_of_nothing : (n : ℕ) → n ≤ 200 → (front behind : List Sign) → [] ≡ front ++ behind → unclosed n front ≤ 200
 front_of_nothing n h [] behind is = h
@@ -80,18 +80,18 @@ deep_at ts at d =
 pub shallow_all : (ts : List Sign) → Deep 0 ts None → IsShallow ts
 shallow_all ts d = shallow_from 0 ts (omega arith) d
 
-fixed_place : (at : ℕ) (o : Option Symbol) → place (fixed at o) ≡ at
+fixed_place : (at : ℕ) (o : Option Symbol) → sign_place (fixed at o) ≡ at
 fixed_place at (Some s) = refl
 fixed_place at None = refl
 
-place_at : (at : ℕ) (k : TokenKind) → place (sign_at at k) ≡ at
+place_at : (at : ℕ) (k : TokenKind) → sign_place (sign_at at k) ≡ at
 place_at at (kind.Int n) = refl
 place_at at (kind.Str x) = refl
 place_at at (kind.Lower w) = refl
 place_at at (kind.Upper w) = refl
 place_at at (kind.Fixed x) = fixed_place at (symbol_of x.0)
 
-place_of : (t : Token) → place (sign_of t) ≡ t.at
+place_of : (t : Token) → sign_place (sign_of t) ≡ t.at
 place_of t = place_at t.at t.kind
 
 -- a pass over tokens from the front

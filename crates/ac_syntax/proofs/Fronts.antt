@@ -2,7 +2,7 @@
 use Rattle.std.proofs.Common.{◌≡◌, ◌≤◌, ◌<◌, ℕ, suc, Bool, true, false, List, [], ◌∷◌, Option, Some, None, refl, ap, arith, if◌then◌else◌}
 use Rattle.ac_syntax.specs.Signs.{Sign, Int, Str, Lower, Upper, Fixed, Other}
 use Rattle.ac_syntax.specs.Trees.{Tree}
-use Rattle.ac_syntax.specs.Patterns.{exception, exception_with_string}
+use Rattle.ac_syntax.specs.Patterns.{exception_sign, exception_with_string}
 use Rattle.ac_syntax.specs.Expressions.{Operator, operator_of, is_bare, Level, Expr, Part, Binary, After, Unary, App, Args, Atom, Ending, Closed, Swallow, Parses, alone, sequence, let_in, let_rec, fun, rec, if_else, marshal, unmarshal, raise, operators, binary, unary, stop, left, right, once, minus, negative, not_, app, some, exn_with_string, applied, no_argument, argument, number, string, true_, false_, unit, exn, var, of_module, parens, tuple, nil, none, match_with, try_with, symbol_begins_atom, begins_atom, operator_front, symbol_front, sign_front, front, looseness}
 use Rattle.ac_syntax.specs.declared.sign.Symbol.{Symbol}
 use Rattle.ac_syntax.specs.declared.sign.Symbol.TheVariants.{Semicolon, Minus, Not, SomeWord, Let, Fun, Rec, If, Marshal, Unmarshal, Raise, Star, Slash, Mod, Plus, Caret, Cons, Equals, Less, And, Or, Failure, InvalidArgument, NotFound, DivisionByZero, MatchFailure, EndOfFile, SysError, MarshalFailure, UnmarshalFailure, ResolveFailure}
@@ -49,7 +49,7 @@ rank_of App = 2
 rank_of (Args at f) = 5
 rank_of Atom = 1
 
-exception_begins : {k : ℕ} (t : Symbol) → exception t ≡ Some k → symbol_begins_atom t ≡ true
+exception_begins : {k : ℕ} (t : Symbol) → exception_sign t ≡ Some k → symbol_begins_atom t ≡ true
 exception_begins NotFound e = refl
 exception_begins DivisionByZero e = refl
 exception_begins MatchFailure e = refl

@@ -16,7 +16,7 @@ use Rattle.ac_syntax.specs.declared.surface.SExprKind.TheFolds.{map-SExpr, map-S
 use Rattle.ac_syntax.specs.declared.surface.SExprKind.TheViews.{out-SExpr, out-SExprKind, out-SArm, out-SFun, the_lemmas}
 use Rattle.ac_syntax.specs.declared.surface.SExprKind.TheVariants as variants
 use Rattle.ac_syntax.specs.Trees.{PatTree, PatTuple, pat_trees, Tree, ExTuple, ExSeq, ExOp, ExMatch, ExTry, trees, arm_trees}
-use Rattle.ac_syntax.specs.ReadTrees.{pat_of, pat_kind_of, pat_kind_layer, pat_layer, FunTree, expr_of, expr_kind_of, arm_of, fun_of, expr_kind_layer, expr_layer, arm_layer, fun_layer}
+use Rattle.ac_syntax.specs.ReadTrees.{pat_of, pat_kind_of, pat_kind_layer, pat_layer, FunTree, expr_of, expr_kind_of, arm_of, fun_of, expr_kind_layer, expr_tree_layer, arm_tree_layer, fun_layer}
 
 -- patterns: one layer, read
 abbrev pub read_pat : SPat-F SPatKind SPat → SPat-F (ℕ → PatTree) PatTree
@@ -51,21 +51,21 @@ read_arm = map-SArm SExprKind SArm SExpr SFun (ℕ → Tree) (PatTree × Tree) T
 abbrev pub read_fun : SFun-F SExprKind SArm SExpr SFun → SFun-F (ℕ → Tree) (PatTree × Tree) Tree FunTree
 read_fun = map-SFun SExprKind SArm SExpr SFun (ℕ → Tree) (PatTree × Tree) Tree FunTree expr_kind_of arm_of expr_of fun_of
 
-pub expr_out : (e : SExpr) → expr_of e ≡ expr_layer (read_expr (out-SExpr e))
+pub expr_out : (e : SExpr) → expr_of e ≡ expr_tree_layer (read_expr (out-SExpr e))
 unfolding expr_of expr_kind_of arm_of fun_of
-expr_out e = fold_out-SExpr (ℕ → Tree) (PatTree × Tree) Tree FunTree expr_kind_layer arm_layer expr_layer fun_layer e
+expr_out e = fold_out-SExpr (ℕ → Tree) (PatTree × Tree) Tree FunTree expr_kind_layer arm_tree_layer expr_tree_layer fun_layer e
 
 pub expr_kind_out : (k : SExprKind) → expr_kind_of k ≡ expr_kind_layer (read_expr_kind (out-SExprKind k))
 unfolding expr_of expr_kind_of arm_of fun_of
-expr_kind_out k = fold_out-SExprKind (ℕ → Tree) (PatTree × Tree) Tree FunTree expr_kind_layer arm_layer expr_layer fun_layer k
+expr_kind_out k = fold_out-SExprKind (ℕ → Tree) (PatTree × Tree) Tree FunTree expr_kind_layer arm_tree_layer expr_tree_layer fun_layer k
 
-pub arm_out : (a : SArm) → arm_of a ≡ arm_layer (read_arm (out-SArm a))
+pub arm_out : (a : SArm) → arm_of a ≡ arm_tree_layer (read_arm (out-SArm a))
 unfolding expr_of expr_kind_of arm_of fun_of
-arm_out a = fold_out-SArm (ℕ → Tree) (PatTree × Tree) Tree FunTree expr_kind_layer arm_layer expr_layer fun_layer a
+arm_out a = fold_out-SArm (ℕ → Tree) (PatTree × Tree) Tree FunTree expr_kind_layer arm_tree_layer expr_tree_layer fun_layer a
 
 pub fun_out : (f : SFun) → fun_of f ≡ fun_layer (read_fun (out-SFun f))
 unfolding expr_of expr_kind_of arm_of fun_of
-fun_out f = fold_out-SFun (ℕ → Tree) (PatTree × Tree) Tree FunTree expr_kind_layer arm_layer expr_layer fun_layer f
+fun_out f = fold_out-SFun (ℕ → Tree) (PatTree × Tree) Tree FunTree expr_kind_layer arm_tree_layer expr_tree_layer fun_layer f
 
 -- the kinds that hold a list
 abbrev pub kind_at : ℕ → SExprKind-F SExprKind SArm SExpr SFun → Tree

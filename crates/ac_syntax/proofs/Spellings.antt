@@ -10,7 +10,7 @@ use Rattle.ac_types.proofs.FirstLaws.{none≢some}
 use Rattle.ac_lexer.specs.declared.tokens.TokenKind.{TokenKind}
 use Rattle.ac_lexer.specs.declared.tokens.TokenKind.TheVariants as kind
 use Rattle.ac_lexer.specs.Spellings.{symbols, is_symbol, SpellsToken, number, name, symbol, string}
-use Rattle.ac_syntax.specs.Signs.{Other, spellings, spelled, symbol_of, fixed, sign_at}
+use Rattle.ac_syntax.specs.Signs.{Other, spellings, sign_spelled, symbol_of, fixed, sign_at}
 use Rattle.ac_syntax.specs.declared.sign.Symbol.{Symbol}
 
 pub same_spellings : map (λ (x : Bytes × Symbol). x.0) spellings ≡ symbols ++ reserved
@@ -24,10 +24,10 @@ either : (b c : Bool) (s : Symbol) (o : Option Symbol) → (b || c) ≡ true →
 either true c s o h later = (s, refl)
 either false c s o h later = later h
 
-found : (bytes : Bytes) (xs : List (Bytes × Symbol)) → list_any (λ w. bytes_eq w bytes) (map (λ (x : Bytes × Symbol). x.0) xs) ≡ true → Known (spelled bytes xs)
+found : (bytes : Bytes) (xs : List (Bytes × Symbol)) → list_any (λ w. bytes_eq w bytes) (map (λ (x : Bytes × Symbol). x.0) xs) ≡ true → Known (sign_spelled bytes xs)
 found bytes [] h = absurd (false≢true h)
 found bytes (x ∷ xs) h =
-    either (bytes_eq x.0 bytes) (list_any (λ w. bytes_eq w bytes) (map (λ (y : Bytes × Symbol). y.0) xs)) x.1 (spelled bytes xs) h (found bytes xs)
+    either (bytes_eq x.0 bytes) (list_any (λ w. bytes_eq w bytes) (map (λ (y : Bytes × Symbol). y.0) xs)) x.1 (sign_spelled bytes xs) h (found bytes xs)
 
 or_left : (a b : Bool) → a ≡ true → (a || b) ≡ true
 or_left true b e = refl

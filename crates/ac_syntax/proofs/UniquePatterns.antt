@@ -2,7 +2,7 @@
 use Rattle.std.proofs.Common.{◌≡◌, ◌<◌, ℕ, Bool, true, false, List, [], ◌∷◌, Some, refl, sym, ◌∙◌, ap, subst, arith}
 use Rattle.ac_syntax.specs.Signs.{Sign, Int, Str, Lower, Upper, Fixed, Other}
 use Rattle.ac_syntax.specs.Trees.{PatTree, PatTrees, no_pat_trees, pat_tree}
-use Rattle.ac_syntax.specs.Patterns.{exception, exception_with_string, PatLevel, Single, ParsesPat, ParsesPats, no_cons, cons, some, exn_with_string, single, wild, var, number, negative, string, true_, false_, unit, nil, none, exn, parens, tuple, last_pat, more_pats, pat_front, PatStops, IsPattern}
+use Rattle.ac_syntax.specs.Patterns.{exception_sign, exception_with_string, PatLevel, Single, ParsesPat, ParsesPats, no_cons, cons, some, exn_with_string, single, wild, var, number, negative, string, true_, false_, unit, nil, none, exn, parens, tuple, last_pat, more_pats, pat_front, PatStops, IsPattern}
 use Rattle.ac_syntax.specs.declared.sign.Symbol.{Symbol}
 use Rattle.ac_syntax.specs.declared.sign.Symbol.TheVariants.{Open, Close, OpenSquare, Minus, Cons, Wild, True, False, NoneWord, Failure, InvalidArgument, NotFound, DivisionByZero, MatchFailure, EndOfFile, SysError, MarshalFailure, UnmarshalFailure, ResolveFailure}
 use Rattle.ac_syntax.proofs.Exceptions.{apart, nothing_there, same_value, close_is_no_comma}
@@ -29,7 +29,7 @@ begins_single (Str a x ∷ ts) = true
 begins_single (Fixed a t ∷ ts) = symbol_begins_single t
 begins_single ts = false
 
-exception_begins : {k : ℕ} (t : Symbol) → exception t ≡ Some k → symbol_begins_single t ≡ true
+exception_begins : {k : ℕ} (t : Symbol) → exception_sign t ≡ Some k → symbol_begins_single t ≡ true
 exception_begins NotFound e = refl
 exception_begins DivisionByZero e = refl
 exception_begins MatchFailure e = refl

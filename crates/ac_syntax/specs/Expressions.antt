@@ -30,7 +30,7 @@ use Rattle.ac_syntax.specs.Signs.{Sign, Int, Str, Lower, Upper, Fixed, here}
 use Rattle.ac_types.specs.Primitives as primitives
 use Rattle.ac_syntax.specs.Trees.{TypeTree, PatTree, Tree, ExInt, ExBool, ExStr, ExUnit, ExExn, ExExnOf, ExTuple, ExNil, ExAbsent, ExPresent, ExCons, ExVar, ExOf, ExFun, ExRec, ExApp, ExLet, ExLetRec, ExIf, ExSeq, ExMatch, ExTry, ExRaise, ExAnd, ExOr, ExOp, ExMarshal, ExUnmarshal, Trees, no_trees, tree, ArmTrees, no_arm_trees, arm_tree, height}
 use Rattle.ac_syntax.specs.TypeForms.{IsType}
-use Rattle.ac_syntax.specs.Patterns.{IsPattern, exception, exception_with_string}
+use Rattle.ac_syntax.specs.Patterns.{IsPattern, exception_sign, exception_with_string}
 use Rattle.ac_syntax.specs.declared.sign.Symbol.{Symbol}
 use Rattle.ac_syntax.specs.declared.sign.Symbol.TheVariants as symbol
 use Rattle.ac_syntax.specs.declared.sign.Symbol.TheVariants.{Open, Close, OpenSquare, CloseSquare, Comma, Semicolon, Colon, Dot, Equals, Minus, Arrow, Bar, As, Else, End, False, Fun, If, In, Let, Marshal, Match, NoneWord, Not, Raise, Rec, SomeWord, Then, True, Try, Unmarshal, With}
@@ -67,11 +67,11 @@ abbrev pub side_of : ℕ → Side
 side_of k = if nat_le k 2 then ToLeft else if nat_eq k 4 then Once else ToRight
 
 -- the tree of an operator and its sides
-abbrev pub joined : ℕ → Operator → Tree → Tree → Tree
-joined at (Prim number) a b = ExOp at number (tree a (tree b no_trees))
-joined at Consing a b = ExCons at a b
-joined at Both a b = ExAnd at a b
-joined at Either a b = ExOr at a b
+abbrev pub operator_tree : ℕ → Operator → Tree → Tree → Tree
+operator_tree at (Prim number) a b = ExOp at number (tree a (tree b no_trees))
+operator_tree at Consing a b = ExCons at a b
+operator_tree at Both a b = ExAnd at a b
+operator_tree at Either a b = ExOr at a b
 
 -- whether the operand of a `-` that begins with these signs and has this tree is a single INT
 abbrev pub is_bare : List Sign → Tree → Bool
@@ -137,11 +137,11 @@ mutual
     unary : {e : Tree} {ts r : List Sign} → Parses Unary Closed ts e r → Parses (Binary zero) Closed ts e r
     stop : {k at : ℕ} {a : Tree} {ts : List Sign} → Parses (After k at a) Closed ts a ts
     left : {k at p : ℕ} {t : Symbol} {o : Operator} {a b e : Tree} {ts r s : List Sign} → operator_of t ≡ Some (suc k, o) → side_of (suc k) ≡ ToLeft
-        → Parses (Binary k) Closed ts b r → Parses (After (suc k) at (joined at o a b)) Closed r e s → Parses (After (suc k) at a) Closed (Fixed p t ∷ ts) e s
+        → Parses (Binary k) Closed ts b r → Parses (After (suc k) at (operator_tree at o a b)) Closed r e s → Parses (After (suc k) at a) Closed (Fixed p t ∷ ts) e s
     right : {k at p : ℕ} {t : Symbol} {o : Operator} {a b : Tree} {ts r : List Sign} → operator_of t ≡ Some (suc k, o) → side_of (suc k) ≡ ToRight
-        → Parses (Binary (suc k)) Closed ts b r → Parses (After (suc k) at a) Closed (Fixed p t ∷ ts) (joined at o a b) r
+        → Parses (Binary (suc k)) Closed ts b r → Parses (After (suc k) at a) Closed (Fixed p t ∷ ts) (operator_tree at o a b) r
     once : {k at p : ℕ} {t : Symbol} {o : Operator} {a b : Tree} {ts r : List Sign} → operator_of t ≡ Some (suc k, o) → side_of (suc k) ≡ Once
-        → Parses (Binary k) Closed ts b r → Parses (After (suc k) at a) Closed (Fixed p t ∷ ts) (joined at o a b) r
+        → Parses (Binary k) Closed ts b r → Parses (After (suc k) at a) Closed (Fixed p t ∷ ts) (operator_tree at o a b) r
     minus : {p : ℕ} {e : Tree} {ts r : List Sign} → is_bare ts e ≡ false
         → Parses Unary Closed ts e r → Parses Unary Closed (Fixed p Minus ∷ ts) (ExOp p primitives.neg (tree e no_trees)) r
     negative : {p q n : ℕ} {ts : List Sign} → Parses Unary Closed (Fixed p Minus ∷ Int q n ∷ ts) (ExInt p (neg_ℤ (pos n))) ts
@@ -159,7 +159,7 @@ mutual
     true_ : {p : ℕ} {ts : List Sign} → Parses Atom Closed (Fixed p True ∷ ts) (ExBool p true) ts
     false_ : {p : ℕ} {ts : List Sign} → Parses Atom Closed (Fixed p False ∷ ts) (ExBool p false) ts
     unit : {p q : ℕ} {ts : List Sign} → Parses Atom Closed (Fixed p Open ∷ Fixed q Close ∷ ts) (ExUnit p) ts
-    exn : {p k : ℕ} {t : Symbol} {ts : List Sign} → exception t ≡ Some k → Parses Atom Closed (Fixed p t ∷ ts) (ExExn p k) ts
+    exn : {p k : ℕ} {t : Symbol} {ts : List Sign} → exception_sign t ≡ Some k → Parses Atom Closed (Fixed p t ∷ ts) (ExExn p k) ts
     var : {p : ℕ} {x : Bytes} {ts : List Sign} → Parses Atom Closed (Lower p x ∷ ts) (ExVar p x) ts
     of_module : {p q c : ℕ} {m x : Bytes} {ts : List Sign}
         → Parses Atom Closed (Upper p m ∷ Fixed q Dot ∷ Lower c x ∷ ts) (ExOf p (record { at = p; word = m }) (record { at = c; word = x })) ts

@@ -1,27 +1,27 @@
 -- Openers and closers, and where too many openers are unclosed.
 use Rattle.std.specs.Prelude.{◌≡◌, ℕ, ◌+◌, ◌-◌, ◌≤◌, Bool, true, false, List, [], ◌∷◌, ◌++◌, if◌then◌else◌}
-use Rattle.ac_syntax.specs.Signs.{Sign, Fixed, place}
+use Rattle.ac_syntax.specs.Signs.{Sign, Fixed, sign_place}
 use Rattle.ac_syntax.specs.declared.sign.Symbol.{Symbol}
 use Rattle.ac_syntax.specs.declared.sign.Symbol.TheVariants as symbol
 
-abbrev pub opens : Symbol → Bool
-opens symbol.Open = true
-opens symbol.OpenSquare = true
-opens symbol.Sig = true
-opens symbol.Struct = true
-opens symbol.Match = true
-opens symbol.Try = true
-opens s = false
+abbrev pub opens_part : Symbol → Bool
+opens_part symbol.Open = true
+opens_part symbol.OpenSquare = true
+opens_part symbol.Sig = true
+opens_part symbol.Struct = true
+opens_part symbol.Match = true
+opens_part symbol.Try = true
+opens_part s = false
 
-abbrev pub closes : Symbol → Bool
-closes symbol.Close = true
-closes symbol.CloseSquare = true
-closes symbol.End = true
-closes s = false
+abbrev pub closes_part : Symbol → Bool
+closes_part symbol.Close = true
+closes_part symbol.CloseSquare = true
+closes_part symbol.End = true
+closes_part s = false
 
 -- the unclosed openers after one more sign; a closer where nothing is open leaves the count at 0
 abbrev pub open_after : ℕ → Sign → ℕ
-open_after n (Fixed at s) = if opens s then n + 1 else if closes s then n - 1 else n
+open_after n (Fixed at s) = if opens_part s then n + 1 else if closes_part s then n - 1 else n
 open_after n t = n
 
 -- the unclosed openers of some signs, with so many before
@@ -41,4 +41,4 @@ pub record IsDeep (ts : List Sign) (at : ℕ) : Type 0 where
   pub split : ts ≡ before ++ opener ∷ rest
   pub shallow : IsShallow before
   pub deep : 201 ≤ unclosed 0 (before ++ opener ∷ [])
-  pub here : at ≡ place opener
+  pub here : at ≡ sign_place opener

@@ -16,12 +16,12 @@ use Rattle.ac_syntax.specs.declared.sign.Symbol.{Symbol}
 use Rattle.ac_syntax.specs.declared.sign.Symbol.TheVariants.{Open, Close, OpenSquare, CloseSquare, Comma, Colon, Minus, Cons, Wild, True, False, SomeWord, NoneWord, Failure, InvalidArgument, NotFound, DivisionByZero, MatchFailure, EndOfFile, SysError, MarshalFailure, UnmarshalFailure, ResolveFailure}
 
 -- the number of an exception that has no string
-abbrev pub exception : Symbol → Option ℕ
-exception NotFound = Some exceptions.not_found
-exception DivisionByZero = Some exceptions.division_by_zero
-exception MatchFailure = Some exceptions.match_failure
-exception EndOfFile = Some exceptions.end_of_file
-exception s = None
+abbrev pub exception_sign : Symbol → Option ℕ
+exception_sign NotFound = Some exceptions.not_found
+exception_sign DivisionByZero = Some exceptions.division_by_zero
+exception_sign MatchFailure = Some exceptions.match_failure
+exception_sign EndOfFile = Some exceptions.end_of_file
+exception_sign s = None
 
 -- the number of an exception that has a string
 abbrev pub exception_with_string : Symbol → Option ℕ
@@ -59,7 +59,7 @@ mutual
     unit : {a b : ℕ} {ts : List Sign} → ParsesPat Single (Fixed a Open ∷ Fixed b Close ∷ ts) (PatUnit a) ts
     nil : {a b : ℕ} {ts : List Sign} → ParsesPat Single (Fixed a OpenSquare ∷ Fixed b CloseSquare ∷ ts) (PatNil a) ts
     none : {a : ℕ} {ts : List Sign} → ParsesPat Single (Fixed a NoneWord ∷ ts) (PatAbsent a) ts
-    exn : {a k : ℕ} {t : Symbol} {ts : List Sign} → exception t ≡ Some k → ParsesPat Single (Fixed a t ∷ ts) (PatExn a k) ts
+    exn : {a k : ℕ} {t : Symbol} {ts : List Sign} → exception_sign t ≡ Some k → ParsesPat Single (Fixed a t ∷ ts) (PatExn a k) ts
     parens : {a b : ℕ} {p : PatTree} {ts r : List Sign} → ParsesPat Pattern ts p (Fixed b Close ∷ r) → ParsesPat Single (Fixed a Open ∷ ts) p r
     tuple : {a b : ℕ} {p : PatTree} {ps : PatTrees} {ts r s : List Sign}
         → ParsesPat Pattern ts p (Fixed b Comma ∷ r) → ParsesPats r ps s → ParsesPat Single (Fixed a Open ∷ ts) (PatTuple a (pat_tree p ps)) s

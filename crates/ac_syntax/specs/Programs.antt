@@ -26,21 +26,21 @@ use Rattle.ac_syntax.specs.Expressions.{IsExpr}
 use Rattle.ac_syntax.specs.declared.sign.Symbol.TheVariants as symbol
 use Rattle.ac_syntax.specs.declared.sign.Symbol.TheVariants.{By, Colon, Comma, End, Equals, Import, Like, Mark, Module, NameWord, Sig, Struct, TypeWord, Val, Version}
 
-abbrev pub name_at : ℕ → Bytes → NameAt
-name_at at word = record { at = at; word = word }
+abbrev pub placed_name : ℕ → Bytes → NameAt
+placed_name at word = record { at = at; word = word }
 
 abbrev pub abbreviation : ℕ → Bytes → TypeTree → AbbrevTree
-abbreviation at word T = record { name = name_at at word; ty = T }
+abbreviation at word T = record { name = placed_name at word; ty = T }
 
 -- the specs of a signature, and its `end`
 pub data ParsesSpecs : List Sign → List SpecTree → List Sign → Type 0 where
   no_specs : {a : ℕ} {ts : List Sign} → ParsesSpecs (Fixed a End ∷ ts) [] ts
   abstract_type : {a b : ℕ} {x : Bytes} {specs : List SpecTree} {ts r : List Sign}
-      → ParsesSpecs ts specs r → ParsesSpecs (Fixed a TypeWord ∷ Lower b x ∷ ts) (AbstractSpec (name_at b x) ∷ specs) r
+      → ParsesSpecs ts specs r → ParsesSpecs (Fixed a TypeWord ∷ Lower b x ∷ ts) (AbstractSpec (placed_name b x) ∷ specs) r
   manifest_type : {a b c : ℕ} {x : Bytes} {T : TypeTree} {specs : List SpecTree} {ts r s : List Sign}
       → IsType ts T r → ParsesSpecs r specs s → ParsesSpecs (Fixed a TypeWord ∷ Lower b x ∷ Fixed c Equals ∷ ts) (ManifestSpec (abbreviation b x T) ∷ specs) s
   value : {a b c : ℕ} {x : Bytes} {T : TypeTree} {specs : List SpecTree} {ts r s : List Sign}
-      → IsType ts T r → ParsesSpecs r specs s → ParsesSpecs (Fixed a Val ∷ Lower b x ∷ Fixed c Colon ∷ ts) (ValSpec (name_at b x) T ∷ specs) s
+      → IsType ts T r → ParsesSpecs r specs s → ParsesSpecs (Fixed a Val ∷ Lower b x ∷ Fixed c Colon ∷ ts) (ValSpec (placed_name b x) T ∷ specs) s
 
 -- a signature, behind which these signs are left
 pub data IsSig : List Sign → SigTree → List Sign → Type 0 where
@@ -53,7 +53,7 @@ pub data ParsesFields : List Sign → List FieldTree → List Sign → Type 0 wh
       → IsType ts T r → ParsesFields r fields s → ParsesFields (Fixed a TypeWord ∷ Lower b x ∷ Fixed c Equals ∷ ts) (AbbrevField (abbreviation b x T) ∷ fields) s
   value_field : {a b c d : ℕ} {x : Bytes} {T : TypeTree} {e : Tree} {fields : List FieldTree} {ts r s u : List Sign}
       → IsType ts T (Fixed d Equals ∷ r) → IsExpr r e s → ParsesFields s fields u
-      → ParsesFields (Fixed a Val ∷ Lower b x ∷ Fixed c Colon ∷ ts) (ValField (name_at b x) T e ∷ fields) u
+      → ParsesFields (Fixed a Val ∷ Lower b x ∷ Fixed c Colon ∷ ts) (ValField (placed_name b x) T e ∷ fields) u
 
 -- the abbreviations of a likespec, and its `end`
 pub data ParsesAbbrevs : List Sign → List AbbrevTree → List Sign → Type 0 where
@@ -87,27 +87,27 @@ pub data ParsesLike : List Sign → Option (List AbbrevTree) → List Sign → T
   like : {a b : ℕ} {abbrevs : List AbbrevTree} {ts r : List Sign}
       → ParsesAbbrevs ts abbrevs r → ParsesLike (Fixed a Like ∷ Fixed b Struct ∷ ts) (Some abbrevs) r
 
-abbrev pub resolve_of : Sign → Option Resolve
-resolve_of (Fixed a symbol.StaticLink) = Some StaticLink
-resolve_of (Fixed a symbol.HereAlready) = Some HereAlready
-resolve_of (Str a text) = Some (Uri text)
-resolve_of t = None
+abbrev pub resolve_sign : Sign → Option Resolve
+resolve_sign (Fixed a symbol.StaticLink) = Some StaticLink
+resolve_sign (Fixed a symbol.HereAlready) = Some HereAlready
+resolve_sign (Str a text) = Some (Uri text)
+resolve_sign t = None
 
 pub data ParsesResolve : List Sign → List Resolve → List Sign → Type 0 where
-  last_resolve : {t : Sign} {a : Resolve} {ts : List Sign} → resolve_of t ≡ Some a → ParsesResolve (t ∷ ts) (a ∷ []) ts
+  last_resolve : {t : Sign} {a : Resolve} {ts : List Sign} → resolve_sign t ≡ Some a → ParsesResolve (t ∷ ts) (a ∷ []) ts
   more_resolve : {t : Sign} {a : Resolve} {rest : List Resolve} {b : ℕ} {ts r : List Sign}
-      → resolve_of t ≡ Some a → ParsesResolve ts rest r → ParsesResolve (t ∷ Fixed b Comma ∷ ts) (a ∷ rest) r
+      → resolve_sign t ≡ Some a → ParsesResolve ts rest r → ParsesResolve (t ∷ Fixed b Comma ∷ ts) (a ∷ rest) r
 
 pub data ParsesDef : List Sign → DefTree → List Sign → Type 0 where
   module_ : {a b c d f : ℕ} {x : Bytes} {σ : SigTree} {version : Option (List Atom)} {fields : List FieldTree} {ts r s u : List Sign}
       → IsSig ts σ r → ParsesVersion r version (Fixed d Equals ∷ Fixed f Struct ∷ s) → ParsesFields s fields u
-      → ParsesDef (Fixed a Module ∷ Upper b x ∷ Fixed c Colon ∷ ts) (ModuleDef a (name_at b x) σ version fields) u
+      → ParsesDef (Fixed a Module ∷ Upper b x ∷ Fixed c Colon ∷ ts) (ModuleDef a (placed_name b x) σ version fields) u
   import_version : {a b c d f : ℕ} {x : Bytes} {σ : SigTree} {vs : List VToken} {ranges : List Range} {star : Bool} {like : Option (List AbbrevTree)} {by : List Resolve} {ts r s u v : List Sign}
       → IsSig ts σ (Fixed d Version ∷ r) → VTokens r vs s → IsConstraint vs ranges star → ParsesLike s like (Fixed f By ∷ u) → ParsesResolve u by v
-      → ParsesDef (Fixed a Import ∷ Upper b x ∷ Fixed c Colon ∷ ts) (ImportDef a (name_at b x) σ (WantsVersion (Ranges ranges star)) like by) v
+      → ParsesDef (Fixed a Import ∷ Upper b x ∷ Fixed c Colon ∷ ts) (ImportDef a (placed_name b x) σ (WantsVersion (Ranges ranges star)) like by) v
   import_name : {a b c d f g h i : ℕ} {x y : Bytes} {σ : SigTree} {by : List Resolve} {ts r s : List Sign}
       → IsSig ts σ (Fixed d Version ∷ Fixed f NameWord ∷ Fixed g Equals ∷ Upper h y ∷ Fixed i By ∷ r) → ParsesResolve r by s
-      → ParsesDef (Fixed a Import ∷ Upper b x ∷ Fixed c Colon ∷ ts) (ImportDef a (name_at b x) σ (WantsName (name_at h y)) None by) s
+      → ParsesDef (Fixed a Import ∷ Upper b x ∷ Fixed c Colon ∷ ts) (ImportDef a (placed_name b x) σ (WantsName (placed_name h y)) None by) s
   mark : {a b : ℕ} {text : Bytes} {ts : List Sign} → ParsesDef (Fixed a Mark ∷ Str b text ∷ ts) (MarkDef a b text) ts
 
 -- all signs are definitions and an expression

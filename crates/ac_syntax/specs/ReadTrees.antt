@@ -122,26 +122,26 @@ expr_kind_layer (code.Op number parts) at = ExOp at number (trees parts)
 expr_kind_layer (code.Marshal mark value ty) at = ExMarshal at mark value (type_of ty)
 expr_kind_layer (code.Unmarshal text ty) at = ExUnmarshal at text (type_of ty)
 
-abbrev pub arm_layer : code.SArm-F (ℕ → Tree) (PatTree × Tree) Tree FunTree → PatTree × Tree
-arm_layer a = (pat_of a.pat, a.body)
+abbrev pub arm_tree_layer : code.SArm-F (ℕ → Tree) (PatTree × Tree) Tree FunTree → PatTree × Tree
+arm_tree_layer a = (pat_of a.pat, a.body)
 
-abbrev pub expr_layer : code.SExpr-F (ℕ → Tree) (PatTree × Tree) Tree FunTree → Tree
-expr_layer e = e.kind e.at
+abbrev pub expr_tree_layer : code.SExpr-F (ℕ → Tree) (PatTree × Tree) Tree FunTree → Tree
+expr_tree_layer e = e.kind e.at
 
 abbrev pub fun_layer : code.SFun-F (ℕ → Tree) (PatTree × Tree) Tree FunTree → FunTree
 fun_layer f = record { name = name_of f.name; argument = name_of f.arg; ty = type_of f.ty; result = type_of f.result; body = f.body }
 
 unfoldable pub expr_of : SExpr → Tree
-expr_of = fold-SExpr (ℕ → Tree) (PatTree × Tree) Tree FunTree expr_kind_layer arm_layer expr_layer fun_layer
+expr_of = fold-SExpr (ℕ → Tree) (PatTree × Tree) Tree FunTree expr_kind_layer arm_tree_layer expr_tree_layer fun_layer
 
 unfoldable pub expr_kind_of : SExprKind → ℕ → Tree
-expr_kind_of = fold-SExprKind (ℕ → Tree) (PatTree × Tree) Tree FunTree expr_kind_layer arm_layer expr_layer fun_layer
+expr_kind_of = fold-SExprKind (ℕ → Tree) (PatTree × Tree) Tree FunTree expr_kind_layer arm_tree_layer expr_tree_layer fun_layer
 
 unfoldable pub arm_of : SArm → PatTree × Tree
-arm_of = fold-SArm (ℕ → Tree) (PatTree × Tree) Tree FunTree expr_kind_layer arm_layer expr_layer fun_layer
+arm_of = fold-SArm (ℕ → Tree) (PatTree × Tree) Tree FunTree expr_kind_layer arm_tree_layer expr_tree_layer fun_layer
 
 unfoldable pub fun_of : SFun → FunTree
-fun_of = fold-SFun (ℕ → Tree) (PatTree × Tree) Tree FunTree expr_kind_layer arm_layer expr_layer fun_layer
+fun_of = fold-SFun (ℕ → Tree) (PatTree × Tree) Tree FunTree expr_kind_layer arm_tree_layer expr_tree_layer fun_layer
 
 -- signatures
 abbrev pub abbrev_of : SAbbrev → AbbrevTree
@@ -152,13 +152,13 @@ spec_of (code_spec.Abstract name) = AbstractSpec (name_of name)
 spec_of (code_spec.Manifest x) = ManifestSpec (abbrev_of x)
 spec_of (code_spec.Val name ty) = ValSpec (name_of name) (type_of ty)
 
-abbrev pub sig_of : SSig → SigTree
-sig_of s = record { at = s.at; specs = map spec_of s.specs }
+abbrev pub sig_tree_of : SSig → SigTree
+sig_tree_of s = record { at = s.at; specs = map spec_of s.specs }
 
 -- definitions and programs
-abbrev pub field_of : SField → FieldTree
-field_of (code_field.Abbrev x) = AbbrevField (abbrev_of x)
-field_of (code_field.Val name ty body) = ValField (name_of name) (type_of ty) (expr_of body)
+abbrev pub field_tree_of : SField → FieldTree
+field_tree_of (code_field.Abbrev x) = AbbrevField (abbrev_of x)
+field_tree_of (code_field.Val name ty body) = ValField (name_of name) (type_of ty) (expr_of body)
 
 abbrev pub version_of : code_version.Version → List Atom
 version_of v = map atom_of v.atoms
@@ -171,12 +171,12 @@ abbrev pub abbrevs_of : List SAbbrev → List AbbrevTree
 abbrevs_of xs = map abbrev_of xs
 
 abbrev pub def_kind_of : ℕ → SDefKind → DefTree
-def_kind_of at (code_def.Module name sig version fields) = ModuleDef at (name_of name) (sig_of sig) (option_map version_of version) (map field_of fields)
-def_kind_of at (code_def.Import name sig wants like by) = ImportDef at (name_of name) (sig_of sig) (wants_of wants) (option_map abbrevs_of like) (map resolve_of by)
+def_kind_of at (code_def.Module name sig version fields) = ModuleDef at (name_of name) (sig_tree_of sig) (option_map version_of version) (map field_tree_of fields)
+def_kind_of at (code_def.Import name sig wants like by) = ImportDef at (name_of name) (sig_tree_of sig) (wants_of wants) (option_map abbrevs_of like) (map resolve_of by)
 def_kind_of at (code_def.Mark text_at text) = MarkDef at text_at text.0
 
-abbrev pub def_of : SDef → DefTree
-def_of d = def_kind_of d.at d.kind
+abbrev pub def_tree_of : SDef → DefTree
+def_tree_of d = def_kind_of d.at d.kind
 
 abbrev pub surface_of : Surface → ProgramTree
-surface_of s = record { defs = map def_of s.defs; expr = option_map expr_of s.expr }
+surface_of s = record { defs = map def_tree_of s.defs; expr = option_map expr_of s.expr }

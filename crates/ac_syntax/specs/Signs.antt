@@ -22,12 +22,12 @@ spellings =
     (codes "(", Open) ∷ (codes ")", Close) ∷ (codes "[", OpenSquare) ∷ (codes "]", CloseSquare) ∷ (codes ",", Comma) ∷ (codes ";", Semicolon) ∷ (codes ":", Colon) ∷ (codes ".", Dot) ∷ (codes "=", Equals) ∷ (codes "<", Less) ∷ (codes "+", Plus) ∷ (codes "-", Minus) ∷ (codes "*", Star) ∷ (codes "/", Slash) ∷ (codes "^", Caret) ∷ (codes "::", Cons) ∷ (codes "->", Arrow) ∷ (codes "&&", And) ∷ (codes "||", Or) ∷ (codes "|", Bar) ∷ (codes "_", Wild) ∷ (codes "as", As) ∷ (codes "bool", BoolType) ∷ (codes "by", By) ∷ (codes "else", Else) ∷ (codes "end", End) ∷ (codes "exn", ExnType) ∷ (codes "false", False) ∷ (codes "fun", Fun) ∷ (codes "if", If) ∷ (codes "import", Import) ∷ (codes "in", In) ∷ (codes "int", IntType) ∷ (codes "let", Let) ∷ (codes "like", Like) ∷ (codes "list", ListType) ∷ (codes "mark", Mark) ∷ (codes "marshal", Marshal) ∷ (codes "match", Match) ∷ (codes "mod", Mod) ∷ (codes "module", Module) ∷ (codes "myname", MyName) ∷ (codes "name", NameWord) ∷ (codes "not", Not) ∷ (codes "option", OptionType) ∷ (codes "raise", Raise) ∷ (codes "rec", Rec) ∷ (codes "sig", Sig) ∷ (codes "string", StringType) ∷ (codes "struct", Struct) ∷ (codes "then", Then) ∷ (codes "true", True) ∷ (codes "try", Try) ∷ (codes "type", TypeWord) ∷ (codes "unit", UnitType) ∷ (codes "unmarshal", Unmarshal) ∷ (codes "val", Val) ∷ (codes "version", Version) ∷ (codes "with", With) ∷ (codes "Some", SomeWord) ∷ (codes "None", NoneWord) ∷ (codes "Static_Link", StaticLink) ∷ (codes "Here_Already", HereAlready) ∷ (codes "Failure", Failure) ∷ (codes "Invalid_argument", InvalidArgument) ∷ (codes "Not_found", NotFound) ∷ (codes "Division_by_zero", DivisionByZero) ∷ (codes "Match_failure", MatchFailure) ∷ (codes "End_of_file", EndOfFile) ∷ (codes "Sys_error", SysError) ∷ (codes "Marshal_failure", MarshalFailure) ∷ (codes "Unmarshal_failure", UnmarshalFailure) ∷ (codes "Resolve_failure", ResolveFailure) ∷ []
 
 -- what stands under these bytes
-abbrev pub spelled : Bytes → List (Bytes × Symbol) → Option Symbol
-spelled bytes [] = None
-spelled bytes (x ∷ xs) = if bytes_eq x.0 bytes then Some x.1 else spelled bytes xs
+abbrev pub sign_spelled : Bytes → List (Bytes × Symbol) → Option Symbol
+sign_spelled bytes [] = None
+sign_spelled bytes (x ∷ xs) = if bytes_eq x.0 bytes then Some x.1 else sign_spelled bytes xs
 
 unfoldable pub symbol_of : Bytes → Option Symbol
-symbol_of bytes = spelled bytes spellings
+symbol_of bytes = sign_spelled bytes spellings
 
 abbrev pub fixed : ℕ → Option Symbol → Sign
 fixed at (Some symbol) = Fixed at symbol
@@ -46,15 +46,15 @@ sign_of token = sign_at token.at token.kind
 abbrev pub signs : List Token → List Sign
 signs tokens = map sign_of tokens
 
-abbrev pub place : Sign → ℕ
-place (Int at n) = at
-place (Str at text) = at
-place (Lower at word) = at
-place (Upper at word) = at
-place (Fixed at symbol) = at
-place (Other at) = at
+abbrev pub sign_place : Sign → ℕ
+sign_place (Int at n) = at
+sign_place (Str at text) = at
+sign_place (Lower at word) = at
+sign_place (Upper at word) = at
+sign_place (Fixed at symbol) = at
+sign_place (Other at) = at
 
 -- the place of the first sign: that of what begins here
 abbrev pub here : List Sign → ℕ
 here [] = 0
-here (t ∷ ts) = place t
+here (t ∷ ts) = sign_place t

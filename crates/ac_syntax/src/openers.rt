@@ -2,7 +2,7 @@
 
 ghost use Rattle.std.specs.Prelude.{◌≡◌, ◌≤◌, MatchOption};
 ghost use Rattle.ac_syntax.specs.Signs.{sign_of, signs};
-ghost use Rattle.ac_syntax.specs.Openers.{opens, closes, open_after, IsShallow, IsDeep};
+ghost use Rattle.ac_syntax.specs.Openers.{opens_part, closes_part, open_after, IsShallow, IsDeep};
 
 use crate::sign::{Symbol, symbol_of};
 use ac_lexer::{Token, TokenKind};
@@ -13,7 +13,7 @@ const DEEPEST: u32 = 200;
 impl Symbol {
     /// Whether it is `(`, `[`, `sig`, `struct`, `match` or `try`.
     pub fn opens(self) -> bool
-        ensures { result ≡ opens self }
+        ensures { result ≡ opens_part self }
     {
         matches!(
             self,
@@ -28,7 +28,7 @@ impl Symbol {
 
     /// Whether it is `)`, `]` or `end`.
     pub fn closes(self) -> bool
-        ensures { result ≡ closes self }
+        ensures { result ≡ closes_part self }
     {
         matches!(self, Symbol::Close | Symbol::CloseSquare | Symbol::End)
     }

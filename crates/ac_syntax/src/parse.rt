@@ -5,7 +5,7 @@ ghost use Rattle.ac_syntax.specs.Signs.{signs};
 ghost use Rattle.ac_syntax.specs.Openers.{IsShallow};
 ghost use Rattle.ac_syntax.specs.TypeForms.{IsType, Whole};
 ghost use Rattle.ac_syntax.specs.Programs.{IsSig};
-ghost use Rattle.ac_syntax.specs.ReadTrees.{type_of, sig_of};
+ghost use Rattle.ac_syntax.specs.ReadTrees.{type_of, sig_tree_of};
 ghost use Rattle.ac_syntax.specs.PartParsing.{OnFault, NoType, NoSig, faulted};
 
 use crate::fault::ParseFault;
@@ -82,7 +82,7 @@ pub fn parse_type(alloc: Global, tokens: &[Token], from: u32) -> Result<(SType, 
 /// token. A number past the `u32`s counts as want of memory.
 pub fn parse_sig(alloc: Global, tokens: &[Token], from: u32) -> Result<(SSig, u32), ParseFault>
     requires { IsShallow (signs tokens.now) }
-    ensures tree { IfOk result (λ x. IsSig (drop from (signs tokens.now)) (sig_of x.0)
+    ensures tree { IfOk result (λ x. IsSig (drop from (signs tokens.now)) (sig_tree_of x.0)
         (drop x.1 (signs tokens.now))) }
     ensures within { IfOk result (λ x. x.1 ≤ length tokens.now) }
     ensures none { IfErr result (λ e. OnFault e (NoSig (drop from (signs tokens.now)))) }

@@ -1,7 +1,7 @@
 // The symbols and the reserved words, and the signs that the grammar reads.
 
 ghost use Rattle.std.specs.Prelude.{◌≡◌, ℕ, map, IfOk};
-ghost use Rattle.ac_syntax.specs.Signs.{symbol_of, spelled, sign_at, sign_of, signs};
+ghost use Rattle.ac_syntax.specs.Signs.{symbol_of, sign_spelled, sign_at, sign_of, signs};
 ghost use Rattle.ac_syntax.specs.ReadSigns.{read_kind, read_sign, read_signs, spelling_of};
 
 use ac_lexer::{Token, TokenKind};
@@ -214,7 +214,7 @@ pub fn symbol_of(bytes: &[u8]) -> Option<Symbol>
 }
 
 fn find(spellings: &[(&[u8], Symbol)], bytes: &[u8]) -> Option<Symbol>
-    ensures { result ≡ spelled bytes.now (map spelling_of spellings.now) }
+    ensures { result ≡ sign_spelled bytes.now (map spelling_of spellings.now) }
 {
     for entry in spellings {
         if entry.0 == bytes {

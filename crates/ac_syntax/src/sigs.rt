@@ -4,7 +4,7 @@ ghost use Rattle.std.specs.Prelude.{◌≡◌, ◌<◌, ◌∷◌, ℕ, length, 
 ghost use Rattle.ac_syntax.specs.Signs.{Fixed};
 ghost use Rattle.ac_syntax.specs.Programs.{IsSig};
 ghost use Rattle.ac_syntax.specs.ReadSigns.{read_signs};
-ghost use Rattle.ac_syntax.specs.ReadTrees.{spec_of, sig_of};
+ghost use Rattle.ac_syntax.specs.ReadTrees.{spec_of, sig_tree_of};
 ghost use Rattle.ac_syntax.specs.PartParsing.{OnSyntax, NoSymbol, SpecAt, NoSpecs, NoSig};
 
 use crate::front::{after, here, next_name};
@@ -71,7 +71,7 @@ fn spec<'s, 't>(alloc: Global, signs: &'s [Sign<'t>]) -> Result<(SSpec, &'s [Sig
 
 /// The signature at the front.
 pub fn sig<'s, 't>(alloc: Global, signs: &'s [Sign<'t>]) -> Result<(SSig, &'s [Sign<'t>]), Stop>
-    ensures sig { IfOk result (λ x. IsSig (read_signs signs.now) (sig_of x.0)
+    ensures sig { IfOk result (λ x. IsSig (read_signs signs.now) (sig_tree_of x.0)
         (read_signs x.1.now)) }
     ensures shorter { IfOk result (λ x. length x.1.now < length signs.now) }
     ensures none { IfErr result (λ e. OnSyntax e (NoSig (read_signs signs.now))) }

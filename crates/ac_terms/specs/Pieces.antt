@@ -6,14 +6,14 @@ use Rattle.ac_types.specs.Sigs.{Atom, Number, MyName, Range, One, Between, UpTo,
 use Rattle.ac_terms.specs.Terms.{Home, Main, In, Patterns, no_patterns, pattern', Exprs, no_exprs, expr, Arms, no_arms, arm, PValues, no_pvalues, pvalue}
 
 -- numbers are big-endian; a word has a byte for its length, a string four
-abbrev pub two : ℕ → Bytes
-two n = to_be_bytes w16 n
+abbrev pub two_written : ℕ → Bytes
+two_written n = to_be_bytes w16 n
 
-abbrev pub four : ℕ → Bytes
-four n = to_be_bytes w32 n
+abbrev pub four_written : ℕ → Bytes
+four_written n = to_be_bytes w32 n
 
-abbrev pub eight : ℤ → Bytes
-eight z = to_be_bytes w64 (cast_unsigned w64 z)
+abbrev pub eight_written : ℤ → Bytes
+eight_written z = to_be_bytes w64 (cast_unsigned w64 z)
 
 abbrev pub truth : Bool → Bytes
 truth true = 1 ∷ []
@@ -23,7 +23,7 @@ abbrev pub word : Bytes → Bytes
 word w = length w ∷ w
 
 abbrev pub str : Bytes → Bytes
-str s = four (length s) ++ s
+str s = four_written (length s) ++ s
 
 -- a count and the items
 abbrev pub listed : {A : Type 0} → (ℕ → Bytes) → (A → Bytes) → List A → Bytes
@@ -33,8 +33,8 @@ abbrev pub byte : ℕ → Bytes
 byte n = n ∷ []
 
 abbrev pub home_bytes : Home → Bytes
-home_bytes Main = two 0
-home_bytes (In k) = two (k + 1)
+home_bytes Main = two_written 0
+home_bytes (In k) = two_written (k + 1)
 
 abbrev pub exn_bytes : ℕ → Option Bytes → Bytes
 exn_bytes k None = k ∷ []
@@ -58,14 +58,14 @@ value_count no_pvalues = 0
 value_count (pvalue v vs) = suc (value_count vs)
 
 abbrev pub atom_bytes : Atom → Bytes
-atom_bytes (Number n) = 0x01 ∷ four n
+atom_bytes (Number n) = 0x01 ∷ four_written n
 atom_bytes MyName = 0x02 ∷ []
 
 abbrev pub range_bytes : Range → Bytes
-range_bytes (One n) = 0x01 ∷ four n
-range_bytes (Between n m) = 0x02 ∷ four n ++ four m
-range_bytes (UpTo n) = 0x03 ∷ four n
-range_bytes (From n) = 0x04 ∷ four n
+range_bytes (One n) = 0x01 ∷ four_written n
+range_bytes (Between n m) = 0x02 ∷ four_written n ++ four_written m
+range_bytes (UpTo n) = 0x03 ∷ four_written n
+range_bytes (From n) = 0x04 ∷ four_written n
 
 abbrev pub constraint_bytes : Constraint → Bytes
 constraint_bytes (Ranges rs star) = 0x01 ∷ listed byte range_bytes rs ++ truth star

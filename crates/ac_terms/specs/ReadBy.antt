@@ -5,7 +5,7 @@ use Rattle.ac_types.specs.Sigs.{Typed_name, Sig_type, Signature, Atom, Constrain
 use Rattle.ac_terms.specs.Terms.{Pattern, PWild, PVar, PInt, PBool, PStr, PUnit, PTuple, PNil, PCons, PAbsent, PPresent, PExn, PExnOf, no_patterns, pattern', Expr, Int, Boolean, Str, Unit', Exn, ExnOf, Tuple, Nil, Empty, Present, Cons, Var, Own, Ref, Lam, Rec, App, Let, If, Seq, Match, Try, Raise, Prim, Marshal, Unmarshal, Val, no_exprs, expr, PValue, KInt, KBool, KStr, KUnit, KExn, KTuple, KList, KAbsent, KPresent, KFun, no_pvalues, pvalue}
 use Rattle.ac_terms.specs.Defs.{Field, Def, AModule, AnImport}
 use Rattle.ac_terms.specs.PrimitiveTypes.{has_text, primitives}
-use Rattle.ac_terms.specs.Readers.{ReadsPart, give, one, after, two, three, pair, times, read_list, tagged, nothing, read_byte, read_two, read_four, read_eight, read_truth, read_word, read_str, with_text, read_home, arity, many_arms, read_atom, read_constraint, read_resolve}
+use Rattle.ac_terms.specs.Readers.{ReadsPart, give, one, then_read, two_parts_read, three, pair, times, read_list, tagged, nothing, read_byte, read_two, read_four, read_eight, read_truth, read_word, read_str, read_with_text, read_home, argument_count, many_arms, read_atom, read_constraint, read_resolve}
 
 abbrev pub a_sig_type : Bytes → Option Typ → Sig_type
 a_sig_type n m = record { name = n; manifest = m }
@@ -31,8 +31,8 @@ module _ (read_type : ReadsPart Typ) where
   abbrev pub pattern_table : ReadsPart Pattern → List (ReadsPart Pattern)
   pattern_table f =
       nothing ∷ give PWild ∷ one PVar read_type ∷ one PInt read_eight ∷ one PBool read_truth ∷ one PStr read_str ∷ give PUnit ∷
-      one PTuple (after read_byte (times no_patterns pattern' f)) ∷ give PNil ∷ two PCons f f ∷ give PAbsent ∷ one PPresent f ∷
-      after read_byte (λ k. with_text (has_text k) (PExn k) (one (PExnOf k) f)) ∷ []
+      one PTuple (then_read read_byte (times no_patterns pattern' f)) ∷ give PNil ∷ two_parts_read PCons f f ∷ give PAbsent ∷ one PPresent f ∷
+      then_read read_byte (λ k. read_with_text (has_text k) (PExn k) (one (PExnOf k) f)) ∷ []
 
   abbrev pub read_pattern : ℕ → ReadsPart Pattern
   read_pattern zero bs = None
@@ -42,13 +42,13 @@ module _ (read_type : ReadsPart Typ) where
   read_manifest bs = tagged (give None ∷ one Some read_type ∷ []) bs
 
   abbrev pub read_sig_type : ReadsPart Sig_type
-  read_sig_type = two a_sig_type read_word read_manifest
+  read_sig_type = two_parts_read a_sig_type read_word read_manifest
 
   abbrev pub read_typed : ReadsPart Typed_name
-  read_typed = two a_typed read_word read_type
+  read_typed = two_parts_read a_typed read_word read_type
 
   abbrev pub read_sig : ReadsPart Signature
-  read_sig = two a_signature (read_list read_two read_sig_type) (read_list read_two read_typed)
+  read_sig = two_parts_read a_signature (read_list read_two read_sig_type) (read_list read_two read_typed)
 
   abbrev pub read_import : ReadsPart Def
   read_import =
@@ -59,20 +59,20 @@ module _ (read_type : ReadsPart Typ) (read_ref : ReadsPart ℕ) where
   abbrev pub term_table : ReadsPart Pattern → ReadsPart Expr → ReadsPart PValue → List (ReadsPart Expr)
   term_table p f g =
       nothing ∷ one Int read_eight ∷ one Boolean read_truth ∷ one Str read_str ∷ give Unit' ∷
-      after read_byte (λ k. with_text (has_text k) (Exn k) (one (ExnOf k) f)) ∷
-      one Tuple (after read_byte (times no_exprs expr f)) ∷ one Nil read_type ∷ one Empty read_type ∷ one Present f ∷ two Cons f f ∷
-      one Var read_two ∷ one Own read_two ∷ two Ref read_ref read_word ∷
-      two Lam read_type f ∷ three Rec read_type read_type f ∷ two App f f ∷ three Let read_type f f ∷ three If f f f ∷
-      one Seq (after read_four (times no_exprs expr f)) ∷ two Match f (after read_two (many_arms p f)) ∷ two Try f (after read_two (many_arms p f)) ∷
-      two Raise read_type f ∷ after read_byte (λ k. one (Prim k) (times no_exprs expr f (arity primitives k))) ∷
-      three Marshal read_type f f ∷ two Unmarshal read_type f ∷ two Val read_type g ∷ []
+      then_read read_byte (λ k. read_with_text (has_text k) (Exn k) (one (ExnOf k) f)) ∷
+      one Tuple (then_read read_byte (times no_exprs expr f)) ∷ one Nil read_type ∷ one Empty read_type ∷ one Present f ∷ two_parts_read Cons f f ∷
+      one Var read_two ∷ one Own read_two ∷ two_parts_read Ref read_ref read_word ∷
+      two_parts_read Lam read_type f ∷ three Rec read_type read_type f ∷ two_parts_read App f f ∷ three Let read_type f f ∷ three If f f f ∷
+      one Seq (then_read read_four (times no_exprs expr f)) ∷ two_parts_read Match f (then_read read_two (many_arms p f)) ∷ two_parts_read Try f (then_read read_two (many_arms p f)) ∷
+      two_parts_read Raise read_type f ∷ then_read read_byte (λ k. one (Prim k) (times no_exprs expr f (argument_count primitives k))) ∷
+      three Marshal read_type f f ∷ two_parts_read Unmarshal read_type f ∷ two_parts_read Val read_type g ∷ []
 
   abbrev pub value_table : ReadsPart Expr → ReadsPart PValue → List (ReadsPart PValue)
   value_table f g =
       nothing ∷ one KInt read_eight ∷ one KBool read_truth ∷ one KStr read_str ∷ give KUnit ∷
-      after read_byte (λ k. with_text (has_text k) (KExn k None) (one (λ s. KExn k (Some s)) read_str)) ∷
-      one KTuple (after read_byte (times no_pvalues pvalue g)) ∷ one KList (after read_four (times no_pvalues pvalue g)) ∷
-      give KAbsent ∷ one KPresent g ∷ two KFun read_home f ∷ []
+      then_read read_byte (λ k. read_with_text (has_text k) (KExn k None) (one (λ s. KExn k (Some s)) read_str)) ∷
+      one KTuple (then_read read_byte (times no_pvalues pvalue g)) ∷ one KList (then_read read_four (times no_pvalues pvalue g)) ∷
+      give KAbsent ∷ one KPresent g ∷ two_parts_read KFun read_home f ∷ []
 
   abbrev mutual
     pub read_term : ℕ → ReadsPart Expr

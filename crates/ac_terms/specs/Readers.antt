@@ -18,31 +18,31 @@ give a bs = Some (a, bs)
 abbrev pub one : {A B : Type 0} → (A → B) → ReadsPart A → ReadsPart B
 one c f bs = option_map (λ p. (c p.0, p.1)) (f bs)
 
-abbrev pub after : {A B : Type 0} → ReadsPart A → (A → ReadsPart B) → ReadsPart B
-after f g bs = option_and_then (λ p. g p.0 p.1) (f bs)
+abbrev pub then_read : {A B : Type 0} → ReadsPart A → (A → ReadsPart B) → ReadsPart B
+then_read f g bs = option_and_then (λ p. g p.0 p.1) (f bs)
 
-abbrev pub two : {A B C : Type 0} → (A → B → C) → ReadsPart A → ReadsPart B → ReadsPart C
-two c f g = after f (λ a. one (c a) g)
+abbrev pub two_parts_read : {A B C : Type 0} → (A → B → C) → ReadsPart A → ReadsPart B → ReadsPart C
+two_parts_read c f g = then_read f (λ a. one (c a) g)
 
 abbrev pub three : {A B C D : Type 0} → (A → B → C → D) → ReadsPart A → ReadsPart B → ReadsPart C → ReadsPart D
-three c f g h = after f (λ a. two (c a) g h)
+three c f g h = then_read f (λ a. two_parts_read (c a) g h)
 
 abbrev pub pair : {A B : Type 0} → ReadsPart A → ReadsPart B → ReadsPart (A × B)
-pair f g = two (λ a b. (a, b)) f g
+pair f g = two_parts_read (λ a b. (a, b)) f g
 
 -- that many bytes
-abbrev pub cut : ℕ → ReadsPart Bytes
-cut zero bs = Some ([], bs)
-cut (suc k) [] = None
-cut (suc k) (b ∷ bs) = option_map (λ p. (b ∷ p.0, p.1)) (cut k bs)
+abbrev pub bytes_read : ℕ → ReadsPart Bytes
+bytes_read zero bs = Some ([], bs)
+bytes_read (suc k) [] = None
+bytes_read (suc k) (b ∷ bs) = option_map (λ p. (b ∷ p.0, p.1)) (bytes_read k bs)
 
 -- so many items, into a list of their own kind
 abbrev pub times : {A L : Type 0} → L → (A → L → L) → ReadsPart A → ℕ → ReadsPart L
 times nil cons f zero = give nil
-times nil cons f (suc n) = after f (λ a. one (cons a) (times nil cons f n))
+times nil cons f (suc n) = then_read f (λ a. one (cons a) (times nil cons f n))
 
 abbrev pub read_list : {A : Type 0} → ReadsPart ℕ → ReadsPart A → ReadsPart (List A)
-read_list count f = after count (times [] (λ x xs. x ∷ xs) f)
+read_list count f = then_read count (times [] (λ x xs. x ∷ xs) f)
 
 -- a tag says how to go on
 abbrev pub tagged : {A : Type 0} → List (ReadsPart A) → ReadsPart A
@@ -58,13 +58,13 @@ read_byte [] = None
 read_byte (b ∷ bs) = Some (b, bs)
 
 abbrev pub read_two : ReadsPart ℕ
-read_two = one (from_be_bytes w16) (cut 2)
+read_two = one (from_be_bytes w16) (bytes_read 2)
 
 abbrev pub read_four : ReadsPart ℕ
-read_four = one (from_be_bytes w32) (cut 4)
+read_four = one (from_be_bytes w32) (bytes_read 4)
 
 abbrev pub read_eight : ReadsPart ℤ
-read_eight = one (λ (bs : Bytes). cast_signed w64 (from_be_bytes w64 bs)) (cut 8)
+read_eight = one (λ (bs : Bytes). cast_signed w64 (from_be_bytes w64 bs)) (bytes_read 8)
 
 abbrev pub bool_of : ℕ → Bool
 bool_of zero = false
@@ -74,18 +74,18 @@ abbrev pub read_truth : ReadsPart Bool
 read_truth = one bool_of read_byte
 
 abbrev pub read_word : ReadsPart Bytes
-read_word = after read_byte cut
+read_word = then_read read_byte bytes_read
 
 abbrev pub read_str : ReadsPart Bytes
-read_str = after read_four cut
+read_str = then_read read_four bytes_read
 
 abbrev pub read_name : ReadsPart Bytes
-read_name = cut 32
+read_name = bytes_read 32
 
 -- an exception's number says whether a text follows
-abbrev pub with_text : {A : Type 0} → Bool → A → ReadsPart A → ReadsPart A
-with_text true bare f = f
-with_text false bare f = give bare
+abbrev pub read_with_text : {A : Type 0} → Bool → A → ReadsPart A → ReadsPart A
+read_with_text true bare f = f
+read_with_text false bare f = give bare
 
 -- a home is a number, 0 for the main program
 abbrev pub home_number : ℕ → Home
@@ -96,11 +96,11 @@ abbrev pub read_home : ReadsPart Home
 read_home = one home_number read_two
 
 -- how many arguments a primitive takes
-abbrev pub arity : List (List Rule) → ℕ → ℕ
-arity [] k = 0
-arity ([] ∷ rest) k = 0
-arity ((r ∷ rs) ∷ rest) zero = type_count r.0
-arity ((r ∷ rs) ∷ rest) (suc k) = arity rest k
+abbrev pub argument_count : List (List Rule) → ℕ → ℕ
+argument_count [] k = 0
+argument_count ([] ∷ rest) k = 0
+argument_count ((r ∷ rs) ∷ rest) zero = type_count r.0
+argument_count ((r ∷ rs) ∷ rest) (suc k) = argument_count rest k
 
 abbrev pub many_arms : ReadsPart Pattern → ReadsPart Expr → ℕ → ReadsPart Arms
 many_arms p f zero = give no_arms
@@ -111,10 +111,10 @@ abbrev pub read_atom : ReadsPart Atom
 read_atom bs = tagged (nothing ∷ one Number read_four ∷ give MyName ∷ []) bs
 
 abbrev pub read_range : ReadsPart Range
-read_range bs = tagged (nothing ∷ one One read_four ∷ two Between read_four read_four ∷ one UpTo read_four ∷ one From read_four ∷ []) bs
+read_range bs = tagged (nothing ∷ one One read_four ∷ two_parts_read Between read_four read_four ∷ one UpTo read_four ∷ one From read_four ∷ []) bs
 
 abbrev pub read_constraint : ReadsPart Constraint
-read_constraint bs = tagged (nothing ∷ two Ranges (read_list read_byte read_range) read_truth ∷ one Exact read_name ∷ []) bs
+read_constraint bs = tagged (nothing ∷ two_parts_read Ranges (read_list read_byte read_range) read_truth ∷ one Exact read_name ∷ []) bs
 
 abbrev pub read_resolve : ReadsPart Resolve
 read_resolve bs = tagged (nothing ∷ give StaticLink ∷ give HereAlready ∷ one Uri read_str ∷ []) bs

@@ -4,7 +4,7 @@ ghost use Rattle.std.specs.Prelude.{◌≡◌, map, option_map};
 ghost use Rattle.std.specs.List.{find};
 ghost use Rattle.std.specs.Option.{option_copied};
 ghost use Rattle.ac_types.specs.Types.{same_bytes};
-ghost use Rattle.ac_types.specs.Sigs.{under, type_under};
+ghost use Rattle.ac_types.specs.Sigs.{named_type, type_under};
 ghost use Rattle.ac_types.specs.ReadTypes.{typ_of, typed_of, sig_type_of};
 
 use crate::sig::{SigType, TyField};
@@ -13,7 +13,8 @@ use crate::ty::Ty;
 
 /// The type under a name, `None` exactly where the list has none. It takes no memory.
 pub fn type_named<'a>(types: &'a [TyField], name: &Word) -> Option<&'a Ty>
-    ensures { option_map typ_of (option_copied result) ≡ under name.now (map typed_of types.now) }
+    ensures { option_map typ_of (option_copied result) ≡ named_type name.now
+        (map typed_of types.now) }
 {
     for x in types {
         if x.name.text().as_slice() == name.text().as_slice() {

@@ -2,7 +2,7 @@
 
 ghost use Rattle.std.specs.Prelude.{◌≡◌, map};
 ghost use Rattle.ac_types.specs.Types.{same, same_all, typs, with_mine, all_with_mine};
-ghost use Rattle.ac_types.specs.Sigs.{Signature, equal_under, stands};
+ghost use Rattle.ac_types.specs.Sigs.{Signature, equal_under, stand_in};
 ghost use Rattle.ac_types.specs.ReadTypes.{typ_of, sig_of};
 
 use crate::named::spec_named;
@@ -21,7 +21,7 @@ pub fn eq_under(target: &Sig, _import: &Sig, a: &Ty, b: &Ty) -> bool
 #[cycle(under)]
 #[tactic(auto, using(crate::proofs::SizeLaws::type_laws))]
 fn is_under(target: &Sig, a: &Ty, b: &Ty) -> bool
-    ensures { result ≡ same (typ_of a.now) (with_mine (stands (sig_of target.now)) (typ_of b.now)) }
+    ensures { result ≡ same (typ_of a.now) (with_mine (stand_in (sig_of target.now)) (typ_of b.now)) }
 {
     match b {
         Ty::Mine(word) => match spec_named(target.types.as_slice(), word) {
@@ -59,7 +59,7 @@ fn is_under(target: &Sig, a: &Ty, b: &Ty) -> bool
 #[cycle(under)]
 fn are_under(target: &Sig, a: &[Ty], b: &[Ty]) -> bool
     ensures { result ≡ same_all (typs (map typ_of a.now))
-        (all_with_mine (stands (sig_of target.now)) (typs (map typ_of b.now))) }
+        (all_with_mine (stand_in (sig_of target.now)) (typs (map typ_of b.now))) }
 {
     if a.len() != b.len() {
         return false;

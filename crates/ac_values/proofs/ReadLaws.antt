@@ -5,9 +5,9 @@ use Rattle.ac_values.specs.declared.node.Value.{Value}
 use Rattle.std.proofs.lemmas.List.{reverse-append}
 use Rattle.std.specs.List.{All}
 use Rattle.std.proofs.lemmas.List.Elements.{All-append}
-use Rattle.ac_values.specs.ValueReaders.{opened, entry, without}
+use Rattle.ac_values.specs.ValueReaders.{newest_and_rest, entry, without}
 
-pub opened_more : (t a b : MValue) → opened t ≡ Some (a, b) → t ≡ MMore a b
+pub opened_more : (t a b : MValue) → newest_and_rest t ≡ Some (a, b) → t ≡ MMore a b
 opened_more (MMore x y) a b e = let h : (x, y) ≡ (a, b) = cc in ap (λ (p : MValue × MValue). MMore p.0 p.1) h
 opened_more (MInt n) a b e = absurd (cc)
 opened_more (MBool n) a b e = absurd (cc)
@@ -23,17 +23,17 @@ opened_more (MPresent x) a b e = absurd (cc)
 opened_more (MClosure f r t) a b e = absurd (cc)
 opened_more MEnd a b e = absurd (cc)
 
-pub entry_older : (i k : ℕ) (t a b : MValue) → k < i → opened t ≡ Some (a, b) → entry (i - k) t ≡ entry (i - (k + 1)) b
+pub entry_older : (i k : ℕ) (t a b : MValue) → k < i → newest_and_rest t ≡ Some (a, b) → entry (i - k) t ≡ entry (i - (k + 1)) b
 entry_older i k t a b h e =
     let s : i - k ≡ suc (i - (k + 1)) = omega arith in
     ap₂ entry s (opened_more t a b e)
 
-pub without_older : (i k : ℕ) (t a b : MValue) → k < i → opened t ≡ Some (a, b) → without (i - k) t ≡ without (i - (k + 1)) b
+pub without_older : (i k : ℕ) (t a b : MValue) → k < i → newest_and_rest t ≡ Some (a, b) → without (i - k) t ≡ without (i - (k + 1)) b
 without_older i k t a b h e =
     let s : i - k ≡ suc (i - (k + 1)) = omega arith in
     ap₂ without s (opened_more t a b e)
 
-pub without_none : (i : ℕ) (t : MValue) → 0 < i → opened t ≡ None → without i t ≡ None
+pub without_none : (i : ℕ) (t : MValue) → 0 < i → newest_and_rest t ≡ None → without i t ≡ None
 without_none zero t h e = absurd (omega arith)
 without_none (suc i) (MMore x y) h e = absurd (cc)
 without_none (suc i) (MInt n) h e = refl

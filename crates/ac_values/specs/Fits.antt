@@ -4,7 +4,7 @@ use Rattle.std.specs.List.{All}
 use Rattle.ac_types.specs.Types.{same_bytes}
 use Rattle.ac_code.specs.Constants.{same_int, same_bool}
 use Rattle.ac_terms.specs.Terms.{Pattern, PWild, PVar, PInt, PBool, PStr, PUnit, PTuple, PNil, PCons, PAbsent, PPresent, PExn, PExnOf, Patterns, no_patterns, pattern'}
-use Rattle.ac_values.specs.Values.{MValue, MInt, MBool, MStr, MUnit, MExn, MExnOf, MTuple, MNil, MCons, MAbsent, MPresent, MMore, MValues, nothing, also, stands}
+use Rattle.ac_values.specs.Values.{MValue, MInt, MBool, MStr, MUnit, MExn, MExnOf, MTuple, MNil, MCons, MAbsent, MPresent, MMore, MValues, nothing, also, stands_as}
 use Rattle.ac_values.specs.declared.node.Node.{Node}
 use Rattle.ac_values.specs.declared.node.Value.{Value}
 
@@ -36,13 +36,13 @@ abbrev mutual
   all_bound ps ms es = None
 
 -- an environment with further values, the last the newest
-abbrev pub under : List Node → List Value → MValue → MValue
-under ns [] es = es
-under ns (v ∷ vs) es = under ns vs (MMore (stands ns v.0) es)
+abbrev pub environment_with : List Node → List Value → MValue → MValue
+environment_with ns [] es = es
+environment_with ns (v ∷ vs) es = environment_with ns vs (MMore (stands_as ns v.0) es)
 
 -- what a pattern's variables come to: with further values where it fits, and nothing where it doesn't
 abbrev pub Fitted : List Node → (MValue → Option MValue) → List Value → List Value → Bool → Type 0
-Fitted ns binding old new true = All (λ v. v.0 < length ns) new × ((es : MValue) → binding (under ns old es) ≡ Some (under ns new es))
+Fitted ns binding old new true = All (λ v. v.0 < length ns) new × ((es : MValue) → binding (environment_with ns old es) ≡ Some (environment_with ns new es))
 Fitted ns binding old new false = (es : MValue) → binding es ≡ None
 
 -- a test of a pattern without variables

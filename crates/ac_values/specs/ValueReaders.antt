@@ -4,9 +4,9 @@ use Rattle.ac_types.specs.Types.{Bytes}
 use Rattle.ac_values.specs.Values.{MValue, MInt, MBool, MStr, MUnit, MExn, MExnOf, MTuple, MNil, MCons, MAbsent, MPresent, MClosure, MMore, MValues}
 
 -- the newest of a list, and the rest
-abbrev pub opened : MValue → Option (MValue × MValue)
-opened (MMore a b) = Some (a, b)
-opened _ = None
+abbrev pub newest_and_rest : MValue → Option (MValue × MValue)
+newest_and_rest (MMore a b) = Some (a, b)
+newest_and_rest _ = None
 
 abbrev pub int_in : MValue → Option ℤ
 int_in (MInt n) = Some n

@@ -36,26 +36,26 @@ values_at ts [] = nothing
 values_at ts (v ∷ vs) = also (value_at ts v.0) (values_at ts vs)
 
 -- the value of a node, whose parts are in the table
-abbrev pub value_of : List MValue → Node → MValue
-value_of ts (Int i) = MInt i
-value_of ts (BoolNode b) = MBool b
-value_of ts (Str s) = MStr s.0
-value_of ts UnitNode = MUnit
-value_of ts (Exn x None) = MExn x
-value_of ts (Exn x (Some v)) = MExnOf x (value_at ts v.0)
-value_of ts (Tuple vs) = MTuple (values_at ts vs)
-value_of ts Nil = MNil
-value_of ts (Cons a b) = MCons (value_at ts a.0) (value_at ts b.0)
-value_of ts Absent = MAbsent
-value_of ts (Present a) = MPresent (value_at ts a.0)
-value_of ts (Closure b r env) = MClosure b.0 r (value_at ts env.0)
-value_of ts EnvEnd = MEnd
-value_of ts (EnvCons a b) = MMore (value_at ts a.0) (value_at ts b.0)
+abbrev pub node_value : List MValue → Node → MValue
+node_value ts (Int i) = MInt i
+node_value ts (BoolNode b) = MBool b
+node_value ts (Str s) = MStr s.0
+node_value ts UnitNode = MUnit
+node_value ts (Exn x None) = MExn x
+node_value ts (Exn x (Some v)) = MExnOf x (value_at ts v.0)
+node_value ts (Tuple vs) = MTuple (values_at ts vs)
+node_value ts Nil = MNil
+node_value ts (Cons a b) = MCons (value_at ts a.0) (value_at ts b.0)
+node_value ts Absent = MAbsent
+node_value ts (Present a) = MPresent (value_at ts a.0)
+node_value ts (Closure b r env) = MClosure b.0 r (value_at ts env.0)
+node_value ts EnvEnd = MEnd
+node_value ts (EnvCons a b) = MMore (value_at ts a.0) (value_at ts b.0)
 
 -- the values of all nodes of a store, each made from those before it
 unfoldable pub values : List Node → List MValue
-values ns = built value_of [] ns
+values ns = built node_value [] ns
 
 -- what a number stands for
-abbrev pub stands : List Node → ℕ → MValue
-stands ns k = value_at (values ns) k
+abbrev pub stands_as : List Node → ℕ → MValue
+stands_as ns k = value_at (values ns) k

@@ -1,8 +1,8 @@
 //! What the values of a store are.
 ghost use Rattle.std.specs.Prelude.{◌≡◌, ◌<◌, ℕ, length, MatchOption, Some, None, true, false};
 ghost use Rattle.std.specs.List.{All};
-ghost use Rattle.ac_values.specs.Values.{stands, values, values_at};
-ghost use Rattle.ac_values.specs.ValueReaders.{opened, entry, int_in, bool_in, closure_in, text_in, without, cons_in, present_in, tuple_in, exn_with, exn_without, is_unit, is_nil, is_absent};
+ghost use Rattle.ac_values.specs.Values.{stands_as, values, values_at};
+ghost use Rattle.ac_values.specs.ValueReaders.{newest_and_rest, entry, int_in, bool_in, closure_in, text_in, without, cons_in, present_in, tuple_in, exn_with, exn_without, is_unit, is_nil, is_absent};
 
 use crate::node::{Node, Value};
 use crate::store::Store;
@@ -11,9 +11,11 @@ use ac_types::{Many, Text};
 
 /// The newest of a list of values, and the rest.
 pub fn opened(store: &Store, v: Value) -> Option<(Value, Value)>
-    ensures { MatchOption result (opened (stands store.now v.0) ≡ None) (λ p. (p.0.0 < v.0) ×
+    ensures { MatchOption result (newest_and_rest (stands_as store.now v.0) ≡ None)
+        (λ p. (p.0.0 < v.0) ×
         (p.1.0 < v.0) × (v.0 < length store.now) ×
-        (opened (stands store.now v.0) ≡ Some (stands store.now p.0.0, stands store.now p.1.0))) }
+        (newest_and_rest (stands_as store.now v.0) ≡ Some
+        (stands_as store.now p.0.0, stands_as store.now p.1.0))) }
 {
     match store.node(v) {
         Some(Node::EnvCons(newest, rest)) => Some((*newest, *rest)),
@@ -23,7 +25,7 @@ pub fn opened(store: &Store, v: Value) -> Option<(Value, Value)>
 
 /// The number that a value is.
 pub fn int_in(store: &Store, v: Value) -> Option<i64>
-    ensures { result ≡ int_in (stands store.now v.0) }
+    ensures { result ≡ int_in (stands_as store.now v.0) }
 {
     match store.node(v) {
         Some(Node::Int(n)) => Some(*n),
@@ -33,9 +35,9 @@ pub fn int_in(store: &Store, v: Value) -> Option<i64>
 
 /// Entry i of a list of values.
 pub fn entry(store: &Store, list: Value, i: usize) -> Option<Value>
-    ensures { MatchOption result (entry i (stands store.now list.0) ≡ None)
-        (λ v. (v.0 < length store.now) × (entry i (stands store.now list.0) ≡ Some
-        (stands store.now v.0))) }
+    ensures { MatchOption result (entry i (stands_as store.now list.0) ≡ None)
+        (λ v. (v.0 < length store.now) × (entry i (stands_as store.now list.0) ≡ Some
+        (stands_as store.now v.0))) }
 {
     let mut rest = list;
     for _ in 0..i {
@@ -52,7 +54,7 @@ pub fn entry(store: &Store, list: Value, i: usize) -> Option<Value>
 
 /// The truth value that a value is.
 pub fn bool_in(store: &Store, v: Value) -> Option<bool>
-    ensures { result ≡ bool_in (stands store.now v.0) }
+    ensures { result ≡ bool_in (stands_as store.now v.0) }
 {
     match store.node(v) {
         Some(Node::Bool(b)) => Some(*b),
@@ -62,9 +64,9 @@ pub fn bool_in(store: &Store, v: Value) -> Option<bool>
 
 /// The block, the mark and the environment of a closure.
 pub fn closure_in(store: &Store, v: Value) -> Option<(CodeId, bool, Value)>
-    ensures { MatchOption result (closure_in (stands store.now v.0) ≡ None)
+    ensures { MatchOption result (closure_in (stands_as store.now v.0) ≡ None)
         (λ q. (q.2.0 < length store.now) × (v.0 < length store.now) ×
-        (closure_in (stands store.now v.0) ≡ Some (q.0.0, q.1, stands store.now q.2.0))) }
+        (closure_in (stands_as store.now v.0) ≡ Some (q.0.0, q.1, stands_as store.now q.2.0))) }
 {
     match store.node(v) {
         Some(
@@ -81,9 +83,9 @@ pub fn closure_in(store: &Store, v: Value) -> Option<(CodeId, bool, Value)>
 /// A list of values without the n newest.
 pub fn without(store: &Store, list: Value, n: usize) -> Option<Value>
     requires { list.0 < length store.now }
-    ensures { MatchOption result (without n (stands store.now list.0) ≡ None)
-        (λ v. (v.0 < length store.now) × (without n (stands store.now list.0) ≡ Some
-        (stands store.now v.0))) }
+    ensures { MatchOption result (without n (stands_as store.now list.0) ≡ None)
+        (λ v. (v.0 < length store.now) × (without n (stands_as store.now list.0) ≡ Some
+        (stands_as store.now v.0))) }
 {
     let mut rest = list;
     for _ in 0..n {
@@ -97,8 +99,8 @@ pub fn without(store: &Store, list: Value, n: usize) -> Option<Value>
 
 /// The bytes that a value is.
 pub fn text_in<'a>(store: &'a Store, v: Value) -> Option<&'a Text>
-    ensures { MatchOption result (text_in (stands store.now v.0) ≡ None)
-        (λ t. text_in (stands store.now v.0) ≡ Some t.now.0) }
+    ensures { MatchOption result (text_in (stands_as store.now v.0) ≡ None)
+        (λ t. text_in (stands_as store.now v.0) ≡ Some t.now.0) }
 {
     match store.node(v) {
         Some(Node::Str(text)) => Some(text),
@@ -108,9 +110,10 @@ pub fn text_in<'a>(store: &'a Store, v: Value) -> Option<&'a Text>
 
 /// The head and the tail of a list.
 pub fn cons_in(store: &Store, v: Value) -> Option<(Value, Value)>
-    ensures { MatchOption result (cons_in (stands store.now v.0) ≡ None)
+    ensures { MatchOption result (cons_in (stands_as store.now v.0) ≡ None)
         (λ p. (p.0.0 < length store.now) × (p.1.0 < length store.now) ×
-        (cons_in (stands store.now v.0) ≡ Some (stands store.now p.0.0, stands store.now p.1.0))) }
+        (cons_in (stands_as store.now v.0) ≡ Some
+        (stands_as store.now p.0.0, stands_as store.now p.1.0))) }
 {
     match store.node(v) {
         Some(Node::Cons(head, tail)) => Some((*head, *tail)),
@@ -120,9 +123,9 @@ pub fn cons_in(store: &Store, v: Value) -> Option<(Value, Value)>
 
 /// What an option holds.
 pub fn present_in(store: &Store, v: Value) -> Option<Value>
-    ensures { MatchOption result (present_in (stands store.now v.0) ≡ None)
-        (λ p. (p.0 < length store.now) × (present_in (stands store.now v.0) ≡ Some
-        (stands store.now p.0))) }
+    ensures { MatchOption result (present_in (stands_as store.now v.0) ≡ None)
+        (λ p. (p.0 < length store.now) × (present_in (stands_as store.now v.0) ≡ Some
+        (stands_as store.now p.0))) }
 {
     match store.node(v) {
         Some(Node::Present(inner)) => Some(*inner),
@@ -132,9 +135,9 @@ pub fn present_in(store: &Store, v: Value) -> Option<Value>
 
 /// The parts of a tuple.
 pub fn tuple_in<'a>(store: &'a Store, v: Value) -> Option<&'a Many<Value>>
-    ensures { MatchOption result (tuple_in (stands store.now v.0) ≡ None)
+    ensures { MatchOption result (tuple_in (stands_as store.now v.0) ≡ None)
         (λ ps. All (λ p. p.0 < length store.now) ps.now ×
-        (tuple_in (stands store.now v.0) ≡ Some (values_at (values store.now) ps.now))) }
+        (tuple_in (stands_as store.now v.0) ≡ Some (values_at (values store.now) ps.now))) }
 {
     match store.node(v) {
         Some(Node::Tuple(parts)) => Some(parts),
@@ -144,9 +147,9 @@ pub fn tuple_in<'a>(store: &'a Store, v: Value) -> Option<&'a Many<Value>>
 
 /// The number and the value of an exception that has one.
 pub fn exn_with(store: &Store, v: Value) -> Option<(u8, Value)>
-    ensures { MatchOption result (exn_with (stands store.now v.0) ≡ None)
-        (λ p. (p.1.0 < length store.now) × (exn_with (stands store.now v.0) ≡ Some
-        (p.0, stands store.now p.1.0))) }
+    ensures { MatchOption result (exn_with (stands_as store.now v.0) ≡ None)
+        (λ p. (p.1.0 < length store.now) × (exn_with (stands_as store.now v.0) ≡ Some
+        (p.0, stands_as store.now p.1.0))) }
 {
     match store.node(v) {
         Some(Node::Exn(number, Some(inner))) => Some((*number, *inner)),
@@ -156,7 +159,7 @@ pub fn exn_with(store: &Store, v: Value) -> Option<(u8, Value)>
 
 /// The number of an exception without a value.
 pub fn exn_without(store: &Store, v: Value) -> Option<u8>
-    ensures { result ≡ exn_without (stands store.now v.0) }
+    ensures { result ≡ exn_without (stands_as store.now v.0) }
 {
     match store.node(v) {
         Some(Node::Exn(number, None)) => Some(*number),
@@ -167,7 +170,7 @@ pub fn exn_without(store: &Store, v: Value) -> Option<u8>
 /// Whether a value of the store is unit.
 pub fn is_unit(store: &Store, v: Value) -> bool
     requires { v.0 < length store.now }
-    ensures { result ≡ is_unit (stands store.now v.0) }
+    ensures { result ≡ is_unit (stands_as store.now v.0) }
 {
     match store.node(v) {
         Some(Node::Unit) => true,
@@ -177,7 +180,7 @@ pub fn is_unit(store: &Store, v: Value) -> bool
 
 /// Whether a value is the empty list.
 pub fn is_nil(store: &Store, v: Value) -> bool
-    ensures { result ≡ is_nil (stands store.now v.0) }
+    ensures { result ≡ is_nil (stands_as store.now v.0) }
 {
     match store.node(v) {
         Some(Node::Nil) => true,
@@ -187,7 +190,7 @@ pub fn is_nil(store: &Store, v: Value) -> bool
 
 /// Whether a value is the missing option.
 pub fn is_absent(store: &Store, v: Value) -> bool
-    ensures { result ≡ is_absent (stands store.now v.0) }
+    ensures { result ≡ is_absent (stands_as store.now v.0) }
 {
     match store.node(v) {
         Some(Node::Absent) => true,

@@ -1,7 +1,7 @@
 ghost use Rattle.std.specs.Prelude.{◌≡◌, ◌++◌, ◌∷◌, [], ◌<◌, ◌≤◌, length, slice_get, OnOk, OnErr, OnSome, IfOk, MatchOption};
 ghost use Rattle.std.specs.Option.{option_copied};
 ghost use Rattle.ac_values.specs.Below.{Below};
-ghost use Rattle.ac_values.specs.Values.{MUnit, values, value_of, stands};
+ghost use Rattle.ac_values.specs.Values.{MUnit, values, node_value, stands_as};
 
 use crate::node::{Node, Value};
 use ac_types::{Many, Memory};
@@ -62,8 +62,8 @@ impl Store {
     pub fn node(&self, v: Value) -> Option<&Node>
         ensures value { option_copied result ≡ slice_get self.now v.0 }
         ensures parts { MatchOption result (length self.now ≤ v.0) (λ n. Below v.0 n.now) }
-        ensures also { MatchOption result (stands self.now v.0 ≡ MUnit)
-            (λ n. stands self.now v.0 ≡ value_of (values self.now) n.now) }
+        ensures also { MatchOption result (stands_as self.now v.0 ≡ MUnit)
+            (λ n. stands_as self.now v.0 ≡ node_value (values self.now) n.now) }
     {
         match self.nodes.get(v.0) {
             Some(node) => Some(node),

@@ -3,15 +3,15 @@ use Rattle.std.proofs.Common.{◌≡◌, Bool, true, false, List, [], ◌∷◌,
 use Rattle.ac_types.specs.Types.{Bytes}
 use Rattle.ac_types.specs.Sigs.{Atom, Range}
 use Rattle.ac_version.specs.VersionReading.{AtomAt, numbered, own, Atoms, last_atom, more_atoms, IsVersion, RangeAt, one, between, up_to, from, Ranged, last_range, starred_range, more_ranges, IsConstraint, any, ranged}
-use Rattle.ac_version.specs.Printing.{token_text, joined, dot_before, atom_token, version_tokens, range_tokens, constraint_tokens}
+use Rattle.ac_version.specs.Printing.{token_text, tokens_joined, dot_before, atom_token, version_tokens, range_tokens, constraint_tokens}
 use Rattle.ac_version.specs.declared.read.VToken.{VToken}
 use Rattle.ac_version.specs.declared.read.VToken.TheVariants.{Dot, Star}
 
-pub joined_append : (xs ys : List VToken) → joined (xs ++ ys) ≡ joined xs ++ joined ys
+pub joined_append : (xs ys : List VToken) → tokens_joined (xs ++ ys) ≡ tokens_joined xs ++ tokens_joined ys
 joined_append [] ys = refl
-joined_append (x ∷ xs) ys = ap (λ l. token_text x ++ l) (joined_append xs ys) ∙ sym (append_assoc (token_text x) (joined xs) (joined ys))
+joined_append (x ∷ xs) ys = ap (λ l. token_text x ++ l) (joined_append xs ys) ∙ sym (append_assoc (token_text x) (tokens_joined xs) (tokens_joined ys))
 
-pub joined_dot : (first : Bool) (ts : List VToken) → joined (dot_before first ts) ≡ joined (dot_before first []) ++ joined ts
+pub joined_dot : (first : Bool) (ts : List VToken) → tokens_joined (dot_before first ts) ≡ tokens_joined (dot_before first []) ++ tokens_joined ts
 joined_dot true ts = refl
 joined_dot false ts = refl
 
@@ -47,8 +47,8 @@ constraint_again ts rs star any = any
 constraint_again ts rs star (ranged p few) = ranged (ranged_again p) few
 
 -- a range, and what stands behind it
-pub ranges_step : (first : Bool) (r : Range) (ts : List VToken) → joined (dot_before first (range_tokens r ++ ts)) ≡ joined (dot_before first []) ++ (joined (range_tokens r) ++ joined ts)
-ranges_step first r ts = joined_dot first (range_tokens r ++ ts) ∙ ap (λ l. joined (dot_before first []) ++ l) (joined_append (range_tokens r) ts)
+pub ranges_step : (first : Bool) (r : Range) (ts : List VToken) → tokens_joined (dot_before first (range_tokens r ++ ts)) ≡ tokens_joined (dot_before first []) ++ (tokens_joined (range_tokens r) ++ tokens_joined ts)
+ranges_step first r ts = joined_dot first (range_tokens r ++ ts) ∙ ap (λ l. tokens_joined (dot_before first []) ++ l) (joined_append (range_tokens r) ts)
 
 -- what was put behind a text, range by range
 pub put_range : (all t u v d r more : Bytes) → all ≡ t ++ (d ++ (r ++ more)) → u ≡ t ++ d → v ≡ u ++ r → all ≡ v ++ more

@@ -15,9 +15,9 @@ token_text Minus = codes "-"
 token_text Star = codes "*"
 token_text MyName = codes "myname"
 
-abbrev pub joined : List VToken → Bytes
-joined [] = []
-joined (t ∷ ts) = token_text t ++ joined ts
+abbrev pub tokens_joined : List VToken → Bytes
+tokens_joined [] = []
+tokens_joined (t ∷ ts) = token_text t ++ tokens_joined ts
 
 -- a dot stands in front of all but the first
 abbrev pub dot_before : Bool → List VToken → List VToken
@@ -57,5 +57,5 @@ constraint_tokens ranges star = ranges_tokens true ranges star
 
 -- a constraint as it is printed; by exact name with the name's 64 digits to the base 16
 abbrev pub constraint_printed : Constraint → Bytes
-constraint_printed (Ranges ranges star) = joined (constraint_tokens ranges star)
+constraint_printed (Ranges ranges star) = tokens_joined (constraint_tokens ranges star)
 constraint_printed (Exact n) = codes "name = " ++ encode_lower n

@@ -3,7 +3,7 @@
 ghost use Rattle.std.specs.Prelude.{◌≡◌, ◌++◌, [], ◌∷◌, map, IfOk, OnOk, codes};
 ghost use Rattle.hex.specs.Hex.{encode_lower};
 ghost use Rattle.ac_types.specs.ReadTypes.{atom_of, range_of, constraint_of};
-ghost use Rattle.ac_version.specs.Printing.{token_text, joined, dot_before, atom_token, version_tokens, range_tokens, constraint_tokens, constraint_printed};
+ghost use Rattle.ac_version.specs.Printing.{token_text, tokens_joined, dot_before, atom_token, version_tokens, range_tokens, constraint_tokens, constraint_printed};
 
 use crate::read::VToken;
 use ac_types::{Atom, Constraint, Memory, Name, Range, Text, Version};
@@ -11,7 +11,8 @@ use std::alloc::Global;
 
 /// A version as the source spells it, without blanks.
 pub fn version_text(alloc: Global, v: &Version) -> Result<Text, Memory>
-    ensures { IfOk result (λ text. text.0 ≡ joined (version_tokens (map atom_of v.now.atoms))) }
+    ensures { IfOk result (λ text. text.0 ≡ tokens_joined
+        (version_tokens (map atom_of v.now.atoms))) }
 {
     let mut text = Text::new(alloc);
     let mut is_first = true;
@@ -36,7 +37,7 @@ pub fn constraint_text(alloc: Global, c: &Constraint) -> Result<Text, Memory>
 
 /// Ranges, and a star behind them.
 fn ranges_text(alloc: Global, ranges: &[Range], star: bool) -> Result<Text, Memory>
-    ensures { IfOk result (λ text. text.0 ≡ joined
+    ensures { IfOk result (λ text. text.0 ≡ tokens_joined
         (constraint_tokens (map range_of ranges.now) star)) }
 {
     let mut text = Text::new(alloc);
@@ -64,7 +65,7 @@ fn name_text(alloc: Global, name: &Name) -> Result<Text, Memory>
 
 /// A dot in front of all but the first.
 fn put_dot(alloc: Global, text: &mut Text, is_first: bool) -> Result<(), Memory>
-    ensures { OnOk result (text.new.0 ≡ text.old.0 ++ joined (dot_before is_first [])) }
+    ensures { OnOk result (text.new.0 ≡ text.old.0 ++ tokens_joined (dot_before is_first [])) }
 {
     if is_first {
         return Ok(());
@@ -74,7 +75,8 @@ fn put_dot(alloc: Global, text: &mut Text, is_first: bool) -> Result<(), Memory>
 
 /// The tokens of a range.
 fn put_range(alloc: Global, text: &mut Text, range: &Range) -> Result<(), Memory>
-    ensures { OnOk result (text.new.0 ≡ text.old.0 ++ joined (range_tokens (range_of range.now))) }
+    ensures { OnOk result (text.new.0 ≡ text.old.0 ++ tokens_joined
+        (range_tokens (range_of range.now))) }
 {
     match range {
         Range::One(n) => put(alloc, text, VToken::Number(u64::from(*n))),

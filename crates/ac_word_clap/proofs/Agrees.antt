@@ -11,7 +11,7 @@ use Rattle.clap.specs.declared.error.kind.ErrorKind.TheVariants.{ArgumentConflic
 use Rattle.clap.specs.Faults.{walk_fault}
 use Rattle.std.proofs.Math.Bool.{and-false}
 use Rattle.ac_word_clap.proofs.Chains.{some_step, two_steps}
-use Rattle.ac_words.specs.Form.{Form, Given, WordPlace, Text, is_fit, option_in, place_in}
+use Rattle.ac_words.specs.Form.{Form, Given, WordPlace, Text, is_fit, option_in, place_of_number}
 use Rattle.ac_word_clap.proofs.Reading.{Open, closed, has, nothing, option_met, place_met, read_from, run_of, value_of, with_item, word_at}
 use Rattle.ac_word_clap.specs.Rules.{Apart, MostFits, OptionFits, PlaceFits, most_of, place_rule, row, rule_with}
 use Rattle.ac_word_clap.proofs.Looks.{View, as_named, as_plain, view}
@@ -32,7 +32,7 @@ more_false c id values rows k words e = rw e refl
 
 module _ (c : List Rule) (f : Form) (r : Reads c f) where
   -- a place of the form has its rule
-  place_fits : (k : ℕ) (q : WordPlace) → place_in f k ≡ Some q → PlaceFits c f q
+  place_fits : (k : ℕ) (q : WordPlace) → place_of_number f k ≡ Some q → PlaceFits c f q
   place_fits k q is = found (λ p. p.number == k) (PlaceFits c f) f.places q r.places is
 
   -- a run of the form may have more words than one
@@ -41,12 +41,12 @@ module _ (c : List Rule) (f : Form) (r : Reads c f) where
   run_of_most f id (Some m) h = h
 
   -- the same of the place that is next
-  run_fits : (k : ℕ) (o : Option WordPlace) → place_in f k ≡ o → RunFits o
+  run_fits : (k : ℕ) (o : Option WordPlace) → place_of_number f k ≡ o → RunFits o
   run_fits k None is = tt
   run_fits k (Some q) is = run_of_most f q.name q.most (place_fits k q is).most
 
   -- after an option or a word of another place a word begins a new place
-  new_after : (k : ℕ) (id v : Text) (o : Option WordPlace) → place_in f k ≡ o → Apart f id → IsNew o (Some (id, v ∷ []))
+  new_after : (k : ℕ) (id v : Text) (o : Option WordPlace) → place_of_number f k ≡ o → Apart f id → IsNew o (Some (id, v ∷ []))
   new_after k id v None is apart = tt
   new_after k id v (Some q) is apart =
       new_from (bytes_eq id q.name) q.most (found (λ p. p.number == k) (λ p. (bytes_eq id p.name && is_some p.most) ≡ false) f.places q apart is) (run_fits k (Some q) is)
@@ -64,7 +64,7 @@ module _ (c : List Rule) (f : Form) (r : Reads c f) where
   settles_word id v long index rows k w ws true at apart e (as_named n x i) =
       named_stuck c rows (Some (id, v ∷ [])) k w ws n x (option_in f n) idle ArgumentConflict [] (rw (at, e) refl) refl i (r.long n)
   settles_word id v long index rows k w ws true at apart e (as_plain i) =
-      plain_stuck c rows (Some (id, v ∷ [])) k w ws (place_in f k) ArgumentConflict [] (rw (at, e) refl) i (r.index k) (new_after k id v _ refl apart)
+      plain_stuck c rows (Some (id, v ∷ [])) k w ws (place_of_number f k) ArgumentConflict [] (rw (at, e) refl) i (r.index k) (new_after k id v _ refl apart)
   settles_word id v long index rows k w ws false at apart e (as_named n x i) =
       let once = used_once id long index 1 1 v [] rows e in
       let more = rows ++ row (id, v ∷ []) ∷ [] in
@@ -73,8 +73,8 @@ module _ (c : List Rule) (f : Form) (r : Reads c f) where
   settles_word id v long index rows k w ws false at apart e (as_plain i) =
       let once = used_once id long index 1 1 v [] rows e in
       let more = rows ++ row (id, v ∷ []) ∷ [] in
-      plain_from c rows more (Some (id, v ∷ [])) k w ws (place_in f k) (rw (at, e) refl) (rw at once) i (r.index k) (new_after k id v _ refl apart) (run_fits k _ refl)
-      ∙ sym (plain_from c more more None k w ws (place_in f k) refl refl i (r.index k) (new_at_start (place_in f k)) (run_fits k _ refl))
+      plain_from c rows more (Some (id, v ∷ [])) k w ws (place_of_number f k) (rw (at, e) refl) (rw at once) i (r.index k) (new_after k id v _ refl apart) (run_fits k _ refl)
+      ∙ sym (plain_from c more more None k w ws (place_of_number f k) refl refl i (r.index k) (new_at_start (place_of_number f k)) (run_fits k _ refl))
 
   -- an argument that has its value is used before the next word
   settles : (id v : Text) (long : Option Text) (index : Option ℕ) (rows : List Row) (k : ℕ) (words : List Text)
@@ -126,7 +126,7 @@ module _ (c : List Rule) (f : Form) (r : Reads c f) where
   is_run id (Some m) most e h = let same : m ≡ most = cc in subst (λ j. (1 == j) ≡ false) same h
 
   -- a plain word at a place, where nothing is held
-  place_is : (k : ℕ) (q : WordPlace) (m : Option ℕ) (g : Given) (w : Text) (ws : List Text) → q.most ≡ m → place_in f k ≡ Some q
+  place_is : (k : ℕ) (q : WordPlace) (m : Option ℕ) (g : Given) (w : Text) (ws : List Text) → q.most ≡ m → place_of_number f k ≡ Some q
       → list_all is_fit ws ≡ true → Agrees ws
       → word_to c q.name m w (map row g) k ws ≡ option_map (map row) (option_and_then (read_from f ws) (word_at w q.name m k g))
   place_is k q None g w ws em is fit agrees =
@@ -142,7 +142,7 @@ module _ (c : List Rule) (f : Form) (r : Reads c f) where
       agrees.run g q m w [] k em (place_fits k q is) (r.index k ∙ ap (option_map place_rule) is)
 
   -- a plain word, where nothing is held
-  places_are : (k : ℕ) (o : Option WordPlace) (g : Given) (w : Text) (ws : List Text) → place_in f k ≡ o → list_all is_fit ws ≡ true → Agrees ws
+  places_are : (k : ℕ) (o : Option WordPlace) (g : Given) (w : Text) (ws : List Text) → place_of_number f k ≡ o → list_all is_fit ws ≡ true → Agrees ws
       → after_place c o w (map row g) k ws ≡ option_map (map row) (option_and_then (read_from f ws) (place_met o w k g))
   places_are k None g w ws is fit agrees = refl
   places_are k (Some q) g w ws is fit agrees = place_is k q q.most g w ws refl is fit agrees
@@ -154,8 +154,8 @@ module _ (c : List Rule) (f : Form) (r : Reads c f) where
       named_from c (map row g) (map row g) None idle k w ws n x (option_in f n) _ refl refl refl refl i (r.long n)
       ∙ rw i.look (option_is n (option_in f n) x g k ws refl agrees)
   clean_step g k w ws (as_plain i) fit agrees =
-      plain_from c (map row g) (map row g) None k w ws (place_in f k) refl refl i (r.index k) (new_at_start (place_in f k)) (run_fits k _ refl)
-      ∙ rw i.look (places_are k (place_in f k) g w ws refl fit agrees)
+      plain_from c (map row g) (map row g) None k w ws (place_of_number f k) refl refl i (r.index k) (new_at_start (place_of_number f k)) (run_fits k _ refl)
+      ∙ rw i.look (places_are k (place_of_number f k) g w ws refl fit agrees)
 
   -- the next word, where an option waits for its value
   value_step : (g : Given) (id : Text) (k : ℕ) (w : Text) (ws : List Text) → View w → list_all is_fit ws ≡ true → Agrees ws

@@ -8,7 +8,7 @@ use Rattle.std.proofs.lemmas.Bool.{not-true}
 use Rattle.clap.proofs.WalkLemmas.{both}
 use Rattle.std.proofs.lemmas.List.Folds.{list_any-append}
 use Rattle.ac_word_clap.proofs.Chains.{map_step, none_each, other_order, same_each, some_step, two_steps}
-use Rattle.ac_words.specs.Form.{Argument, Form, Given, Look, WordPlace, Text, arguments_of, given_from, given_of, given_once, is_once, look, named, option, option_in, place_in, plain, refused, place_after, with_next, with_option, with_place, with_place_in, with_run, with_values, with_word, word}
+use Rattle.ac_words.specs.Form.{Argument, Form, Given, Look, WordPlace, Text, arguments_of, given_from, given_of, given_once, is_once, look, named, option, option_in, place_of_number, plain, refused, place_after, with_next, with_option, with_place, with_place_in, with_run, with_values, with_word, word}
 use Rattle.ac_word_clap.proofs.Reading.{added, closed, has, nothing, option_met, place_met, read_from, run_of, start, state_at, step_by, value_of, with_item, word_at}
 
 -- the entries added one by one
@@ -79,9 +79,9 @@ one_more : (most n : ℕ) → nat_lt most n ≡ true → nat_lt most (suc n) ≡
 one_more most n e = let h = ltb-true most n e in lt-ltb most (suc n) (omega arith)
 
 -- a word at the place of a run goes before those that follow
-run_word : (f : Form) (p : WordPlace) (most k : ℕ) (v : Text) (more : List Argument) → place_in f k ≡ Some p → p.most ≡ Some most
+run_word : (f : Form) (p : WordPlace) (most k : ℕ) (v : Text) (more : List Argument) → place_of_number f k ≡ Some p → p.most ≡ Some most
     → given_from f k (word v ∷ more) ≡ option_and_then (with_run p.name most v more) (given_from f k more)
-run_word f p most k v more at run = at_place (place_in f k) at
+run_word f p most k v more at run = at_place (place_of_number f k) at
   where
     of_most : (m : Option ℕ) → m ≡ Some most
         → option_and_then (with_place p.name m v more) (given_from f (if is_some m then k else k + 1) more)
@@ -94,7 +94,7 @@ run_word f p most k v more at run = at_place (place_in f k) at
     at_place o e = rw e (of_most p.most run)
 
 -- the words of a run are the values of its place
-run_given : (f : Form) (p : WordPlace) (most k : ℕ) (args : List Argument) (v : Text) (vs : List Text) → place_in f k ≡ Some p
+run_given : (f : Form) (p : WordPlace) (most k : ℕ) (args : List Argument) (v : Text) (vs : List Text) → place_of_number f k ≡ Some p
     → p.most ≡ Some most → begins_with_word args ≡ false
     → given_from f k (words_then (v ∷ vs) args) ≡ option_and_then (with_values p.name most (v ∷ vs)) (given_from f k args)
 run_given f p most k [] v [] at run ends = run_word f p most k v [] at run
@@ -169,18 +169,18 @@ record Gives (f : Form) (ws : List Text) : Type 0 where
   value : (g : Given) (id : Text) (k : ℕ)
       → read_from f ws (state_at k (value_of id) g)
       ≡ option_and_then (λ args. option_and_then (after f g k) (with_next id args)) (arguments_of f ws)
-  run : (g : Given) (p : WordPlace) (most : ℕ) (v : Text) (vs : List Text) (k : ℕ) → place_in f k ≡ Some p → p.most ≡ Some most
+  run : (g : Given) (p : WordPlace) (most : ℕ) (v : Text) (vs : List Text) (k : ℕ) → place_of_number f k ≡ Some p → p.most ≡ Some most
       → read_from f ws (state_at k (run_of p.name most (v ∷ vs)) g)
       ≡ option_and_then (λ args. after f g k (words_then (v ∷ vs) args)) (arguments_of f ws)
 
 -- a word at a place of one word is one more entry
-single_given : (f : Form) (g : Given) (k : ℕ) (p : WordPlace) (w : Text) (args : List Argument) → place_in f k ≡ Some p → p.most ≡ None
+single_given : (f : Form) (g : Given) (k : ℕ) (p : WordPlace) (w : Text) (args : List Argument) → place_of_number f k ≡ Some p → p.most ≡ None
     → after f g (k + 1) (option p.name (w ∷ []) ∷ args) ≡ after f g k (word w ∷ args)
 single_given f g k p w args at run =
     rw (at, run) (ap (option_and_then (gather g)) (sym (map_step (λ given. (p.name, w ∷ []) ∷ given) (given_from f (k + 1) args))))
 
 -- a run that ends
-run_after : (f : Form) (g : Given) (p : WordPlace) (most : ℕ) (v : Text) (vs : List Text) (k : ℕ) → place_in f k ≡ Some p → p.most ≡ Some most
+run_after : (f : Form) (g : Given) (p : WordPlace) (most : ℕ) (v : Text) (vs : List Text) (k : ℕ) → place_of_number f k ≡ Some p → p.most ≡ Some most
     → (o : Option (List Argument)) → NoWord o
     → option_and_then (λ args. after f g k (words_then (v ∷ vs) args)) o
     ≡ option_and_then (λ args. option_and_then (λ h. after f h k args) (closed (run_of p.name most (v ∷ vs)) g)) o
@@ -209,7 +209,7 @@ module _ (f : Form) (ws : List Text) (gives : Gives f ws) where
   option_step (Some (id, false)) (Some v) g k = sym (none_each (λ args. None) (arguments_of f ws) (λ args. refl))
   option_step (Some (id, false)) None g k = item_step g id [] k
 
-  word_step : (g : Given) (k : ℕ) (w : Text) (p : WordPlace) (most : Option ℕ) → place_in f k ≡ Some p → p.most ≡ most
+  word_step : (g : Given) (k : ℕ) (w : Text) (p : WordPlace) (most : Option ℕ) → place_of_number f k ≡ Some p → p.most ≡ most
       → option_and_then (read_from f ws) (word_at w p.name most k g)
       ≡ option_and_then (λ args. after f g k (word w ∷ args)) (arguments_of f ws)
   word_step g k w p None at run =
@@ -218,7 +218,7 @@ module _ (f : Form) (ws : List Text) (gives : Gives f ws) where
       (λ args. single_given f g k p w args at run)
   word_step g k w p (Some most) at run = gives.run g p most w [] k at run
 
-  place_step : (g : Given) (k : ℕ) (w : Text) (o : Option WordPlace) → place_in f k ≡ o
+  place_step : (g : Given) (k : ℕ) (w : Text) (o : Option WordPlace) → place_of_number f k ≡ o
       → option_and_then (read_from f ws) (place_met o w k g) ≡ option_and_then (λ args. after f g k (word w ∷ args)) (arguments_of f ws)
   place_step g k w None at =
       sym (none_each (λ args. after f g k (word w ∷ args)) (arguments_of f ws) (λ args. rw at (no_place (given_from f (k + 1) args))))
@@ -233,7 +233,7 @@ module _ (f : Form) (ws : List Text) (gives : Gives f ws) where
       ≡ option_and_then (λ args. option_and_then (after f g k) (with_word f w l args)) (arguments_of f ws)
   clean_by g k w refused = sym (none_each (λ args. None) (arguments_of f ws) (λ args. refl))
   clean_by g k w (named n value) = option_step (option_in f n) value g k
-  clean_by g k w plain = place_step g k w (place_in f k) refl
+  clean_by g k w plain = place_step g k w (place_of_number f k) refl
 
   value_by : (g : Given) (id : Text) (k : ℕ) (w : Text) (l : Look)
       → option_and_then (read_from f ws) (step_by f l w (value_of id) k g)
@@ -244,7 +244,7 @@ module _ (f : Form) (ws : List Text) (gives : Gives f ws) where
       (λ args. no_next id (after f g k) (option_in f n) value args))
   value_by g id k w plain = item_step g id (w ∷ []) k
 
-  run_by : (g : Given) (p : WordPlace) (most : ℕ) (v : Text) (vs : List Text) (k : ℕ) (w : Text) (l : Look) → place_in f k ≡ Some p
+  run_by : (g : Given) (p : WordPlace) (most : ℕ) (v : Text) (vs : List Text) (k : ℕ) (w : Text) (l : Look) → place_of_number f k ≡ Some p
       → p.most ≡ Some most
       → option_and_then (read_from f ws) (step_by f l w (run_of p.name most (v ∷ vs)) k g)
       ≡ option_and_then (λ args. option_and_then (λ more. after f g k (words_then (v ∷ vs) more)) (with_word f w l args)) (arguments_of f ws)
@@ -276,7 +276,7 @@ module _ (f : Form) (ws : List Text) (gives : Gives f ws) where
       value_by g id k w (look w)
       ∙ sym (two_steps (with_word f w (look w)) (λ args. option_and_then (after f g k) (with_next id args)) (arguments_of f ws))
 
-  next_run : (g : Given) (p : WordPlace) (most : ℕ) (v : Text) (vs : List Text) (k : ℕ) (w : Text) → place_in f k ≡ Some p → p.most ≡ Some most
+  next_run : (g : Given) (p : WordPlace) (most : ℕ) (v : Text) (vs : List Text) (k : ℕ) (w : Text) → place_of_number f k ≡ Some p → p.most ≡ Some most
       → read_from f (w ∷ ws) (state_at k (run_of p.name most (v ∷ vs)) g)
       ≡ option_and_then (λ args. after f g k (words_then (v ∷ vs) args)) (arguments_of f (w ∷ ws))
   next_run g p most v vs k w at run =

@@ -4,7 +4,7 @@ use Rattle.std.specs.Prelude.{◌==◌}
 use Rattle.std.specs.List.{before_first}
 use Rattle.std.specs.Str.{bytes_eq}
 use Rattle.clap.specs.Lexer.{long_of, short_of}
-use Rattle.ac_words.specs.Form.{Text, is_fit, look, named, plain, value_in}
+use Rattle.ac_words.specs.Form.{Text, is_fit, look, named, plain, option_value}
 
 -- to both the word is an option
 pub record IsNamed (w n : Text) (v : Option Text) : Type 0 where
@@ -28,7 +28,7 @@ pub data View (w : Text) : Type 0 where
 pub view_hyphens : (x y : ℕ) (xs : Text) → (x == 45) ≡ true → (y == 45) ≡ true → is_fit (x ∷ y ∷ xs) ≡ true → View (x ∷ y ∷ xs)
 view_hyphens x y [] e d fit = let bad : false ≡ true = rw (e, d) at fit in absurd (true≢false (sym bad))
 view_hyphens x y (z ∷ zs) e d fit =
-    as_named (before_first (λ c. c == 61) (z ∷ zs)) (value_in (z ∷ zs)) (record { look = rw (e, d) refl; ends = rw (e, d) refl; long = rw (e, d) refl })
+    as_named (before_first (λ c. c == 61) (z ∷ zs)) (option_value (z ∷ zs)) (record { look = rw (e, d) refl; ends = rw (e, d) refl; long = rw (e, d) refl })
 
 -- a word that isn't refused is an option or plain, to both
 pub view : (w : Text) → is_fit w ≡ true → View w

@@ -3,7 +3,7 @@ use Rattle.std.proofs.Common.{ℕ, ◌+◌, List, [], ◌∷◌, ◌++◌, Optio
 use Rattle.std.specs.Prelude.{if◌then◌else◌, nat_lt, option_and_then}
 use Rattle.std.specs.List.{list_any}
 use Rattle.std.specs.Str.{bytes_eq}
-use Rattle.ac_words.specs.Form.{Form, Given, Look, WordPlace, Text, look, named, option_in, place_in, plain, refused}
+use Rattle.ac_words.specs.Form.{Form, Given, Look, WordPlace, Text, look, named, option_in, place_of_number, plain, refused}
 
 -- the name is among what was given
 abbrev pub has : Text → Given → Bool
@@ -60,7 +60,7 @@ place_met None word k given = None
 place_met (Some p) word k given = word_at word p.name p.most k given
 
 abbrev pub plain_met : Form → Open → Text → ℕ → Given → Option State
-plain_met f nothing word k given = place_met (place_in f k) word k given
+plain_met f nothing word k given = place_met (place_of_number f k) word k given
 plain_met f (value_of id) word k given = with_item id (word ∷ []) k given
 plain_met f (run_of id most words) word k given =
     open_at k given (run_of id most (words ++ word ∷ []))

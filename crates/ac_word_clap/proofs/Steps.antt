@@ -7,7 +7,7 @@ use Rattle.clap.specs.Walk.{Row, Rule, Waiting, Walk, idle, option, positional, 
 use Rattle.clap.specs.declared.error.kind.ErrorKind.{ErrorKind}
 use Rattle.clap.specs.Kinds.{Kinds, or_else}
 use Rattle.clap.specs.Faults.{settle_fault, turn_fault, walk_fault}
-use Rattle.ac_words.specs.Form.{Form, WordPlace, Text, option_in, place_in}
+use Rattle.ac_words.specs.Form.{Form, WordPlace, Text, option_in, place_of_number}
 use Rattle.ac_word_clap.specs.Rules.{Every, OptionFits, PlaceFits, option_rule, place_rule, row, rule_with, shape_with}
 use Rattle.ac_word_clap.proofs.Looks.{IsNamed, IsPlain}
 use Rattle.ac_word_clap.proofs.Rows.{same_bytes, used_once, used_bare}
@@ -75,7 +75,7 @@ found_test p (y ∷ ys) x is = go (p y) refl (found_test p ys x) is
 -- the rules of a command are those of a form
 pub record Reads (c : List Rule) (f : Form) : Type 0 where
   pub long : (name : Text) → arg_by_long c name ≡ option_map option_rule (option_in f name)
-  pub index : (k : ℕ) → arg_by_index c k ≡ option_map place_rule (place_in f k)
+  pub index : (k : ℕ) → arg_by_index c k ≡ option_map place_rule (place_of_number f k)
   pub options : Every (OptionFits c f) f.options
   pub places : Every (PlaceFits c f) f.places
 

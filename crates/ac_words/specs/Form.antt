@@ -25,13 +25,13 @@ pub data Look : Type 0 where
   refused : Look
 
 -- the value of an option that is written with a `=`
-abbrev pub value_in : Text → Option Text
-value_in text = if list_any is_equals text then Some (after_first is_equals text) else None
+abbrev pub option_value : Text → Option Text
+option_value text = if list_any is_equals text then Some (after_first is_equals text) else None
 
 -- a word that begins with `--`, by what follows: `--` alone is refused, all else is an option
 abbrev pub after_hyphens : Text → Look
 after_hyphens [] = refused
-after_hyphens (x ∷ xs) = named (before_first is_equals (x ∷ xs)) (value_in (x ∷ xs))
+after_hyphens (x ∷ xs) = named (before_first is_equals (x ∷ xs)) (option_value (x ∷ xs))
 
 -- a word that begins with `-`, by what follows: `-` alone is plain, and only with a second `-` it is an option
 abbrev pub after_hyphen : Text → Look
@@ -69,8 +69,8 @@ abbrev pub option_in : Form → Text → Option (Text × Bool)
 option_in f name = find (λ p. bytes_eq p.0 name) f.options
 
 -- the place of this number
-abbrev pub place_in : Form → ℕ → Option WordPlace
-place_in f k = find (λ p. p.number == k) f.places
+abbrev pub place_of_number : Form → ℕ → Option WordPlace
+place_of_number f k = find (λ p. p.number == k) f.places
 
 -- what words give: an option with its value, if it has one; or a word that is no value, for a place
 pub data Argument : Type 0 where
@@ -134,7 +134,7 @@ abbrev pub given_from : Form → ℕ → List Argument → Option Given
 given_from f k [] = Some []
 given_from f k (option id values ∷ more) = option_map (λ given. (id, values) ∷ given) (given_from f k more)
 given_from f k (word w ∷ more) =
-    option_and_then (with_place_in (place_in f k) w more) (given_from f (place_after (place_in f k) k) more)
+    option_and_then (with_place_in (place_of_number f k) w more) (given_from f (place_after (place_of_number f k) k) more)
 
 -- no name stands twice
 abbrev pub is_once : Given → Bool

@@ -15,7 +15,7 @@ use Rattle.acute.specs.declared.status.Status.{Status}
 use Rattle.acute.specs.declared.status.TheConstants.Status.{FINISHED, REFUSED, UNCAUGHT, SPENT}
 use Rattle.acute.specs.Refusals.{kind_line}
 use Rattle.acute.specs.Lines.{uncaught_line, spent_line}
-use Rattle.acute.specs.Meaning.{Answer, answer, EndsWithin, Means, refused, finished, uncaught, spent}
+use Rattle.acute.specs.Meaning.{CommandAnswer, command_answer, EndsWithin, Means, refused, finished, uncaught, spent}
 
 abbrev pub status_of : {A : Type 0} → Outcome A → Status
 status_of (Returned v z) = FINISHED
@@ -30,8 +30,8 @@ line_of steps (Spent z) = spent_line steps
 line_of steps Stuck = []
 
 -- what an end of the program gives
-abbrev pub given_by : {A : Type 0} → ℕ → Outcome A → Answer
-given_by steps o = answer (status_of o) (writes_of o) (line_of steps o)
+abbrev pub given_by : {A : Type 0} → ℕ → Outcome A → CommandAnswer
+given_by steps o = command_answer (status_of o) (writes_of o) (line_of steps o)
 
 -- which is the same without brackets
 given_bare : (steps : ℕ) (o : Outcome Value) → given_by steps (bare_end o) ≡ given_by steps o
@@ -47,13 +47,13 @@ one_answer m n steps {E = E} {e = e} {T = T} {o = o} {p = p} typed ends others =
     sym (given_bare steps o) ∙ ap (given_by steps) same ∙ given_bare steps p
 
 -- the text is refused
-record IsRefusal (text : List ℕ) (shelf : List ShelfText) (a : Answer) : Type 0 where
+record IsRefusal (text : List ℕ) (shelf : List ShelfText) (a : CommandAnswer) : Type 0 where
   kind : Kind
   refused : IsRefused text shelf 0 kind
-  is : a ≡ answer REFUSED [] (kind_line kind)
+  is : a ≡ command_answer REFUSED [] (kind_line kind)
 
 -- the text has a program, which ends so
-record IsRun (mode : Mode) (text : List ℕ) (shelf : List ShelfText) (steps : ℕ) (a : Answer) : Type 0 where
+record IsRun (mode : Mode) (text : List ℕ) (shelf : List ShelfText) (steps : ℕ) (a : CommandAnswer) : Type 0 where
   env : Environment
   term : Expr
   type : Typ
@@ -62,35 +62,35 @@ record IsRun (mode : Mode) (text : List ℕ) (shelf : List ShelfText) (steps : �
   ends : EndsWithin mode steps env term outcome
   is : a ≡ given_by steps outcome
 
-cases : {mode : Mode} {text : List ℕ} {shelf : List ShelfText} {steps : ℕ} {a : Answer} → Means mode text shelf steps a → IsRefusal text shelf a ⊎ IsRun mode text shelf steps a
+cases : {mode : Mode} {text : List ℕ} {shelf : List ShelfText} {steps : ℕ} {a : CommandAnswer} → Means mode text shelf steps a → IsRefusal text shelf a ⊎ IsRun mode text shelf steps a
 cases (refused k x) = inl (record { kind = k; refused = x; is = refl })
 cases (finished E e T v z y h) = inr (record { env = E; term = e; type = T; outcome = Returned v z; accepted = y; ends = h; is = refl })
 cases (uncaught E e T x z y h) = inr (record { env = E; term = e; type = T; outcome = Raised x z; accepted = y; ends = h; is = refl })
 cases (spent E e T z y h) = inr (record { env = E; term = e; type = T; outcome = Spent z; accepted = y; ends = h; is = refl })
 
-abbrev Alike : Answer → Answer → Type 0
+abbrev Alike : CommandAnswer → CommandAnswer → Type 0
 Alike a b = (a.status ≡ b.status) × (a.writes ≡ b.writes)
 
-same_answer : {a b : Answer} → a ≡ b → Alike a b
-same_answer is = (ap (λ (x : Answer). x.status) is, ap (λ (x : Answer). x.writes) is)
+same_answer : {a b : CommandAnswer} → a ≡ b → Alike a b
+same_answer is = (ap (λ (x : CommandAnswer). x.status) is, ap (λ (x : CommandAnswer). x.writes) is)
 
-refused_alike : {text : List ℕ} {shelf : List ShelfText} {a b : Answer} → IsRefusal text shelf a → IsRefusal text shelf b → Alike a b
+refused_alike : {text : List ℕ} {shelf : List ShelfText} {a b : CommandAnswer} → IsRefusal text shelf a → IsRefusal text shelf b → Alike a b
 refused_alike r s =
     let left = same_answer r.is in
     let right = same_answer s.is in
     (left.0 ∙ sym right.0, left.1 ∙ sym right.1)
 
-run_alike : (m n : Mode) {text : List ℕ} {shelf : List ShelfText} {steps : ℕ} {a b : Answer} → IsRun m text shelf steps a → IsRun n text shelf steps b → Alike a b
+run_alike : (m n : Mode) {text : List ℕ} {shelf : List ShelfText} {steps : ℕ} {a b : CommandAnswer} → IsRun m text shelf steps a → IsRun n text shelf steps b → Alike a b
 run_alike m n {steps = steps} r s =
     let one = one_term r.accepted s.accepted in
     let moved = subst (λ (e : Expr). EndsWithin m steps s.env e r.outcome) one.1 (subst (λ (E : Environment). EndsWithin m steps E r.term r.outcome) one.0 r.ends) in
     same_answer (r.is ∙ one_answer m n steps (runs s.accepted) moved s.ends ∙ sym s.is)
 
-alike : (m n : Mode) {text : List ℕ} {shelf : List ShelfText} {steps : ℕ} {a b : Answer} → IsRefusal text shelf a ⊎ IsRun m text shelf steps a → IsRefusal text shelf b ⊎ IsRun n text shelf steps b → Alike a b
+alike : (m n : Mode) {text : List ℕ} {shelf : List ShelfText} {steps : ℕ} {a b : CommandAnswer} → IsRefusal text shelf a ⊎ IsRun m text shelf steps a → IsRefusal text shelf b ⊎ IsRun n text shelf steps b → Alike a b
 alike m n (inl r) (inl s) = refused_alike r s
 alike m n (inl r) (inr s) = absurd (not_both r.refused s.accepted)
 alike m n (inr r) (inl s) = absurd (not_both s.refused r.accepted)
 alike m n (inr r) (inr s) = run_alike m n r s
 
-pub one : (m n : Mode) {text : List ℕ} {shelf : List ShelfText} {steps : ℕ} {a b : Answer} → Means m text shelf steps a → Means n text shelf steps b → (a.status ≡ b.status) × (a.writes ≡ b.writes)
+pub one : (m n : Mode) {text : List ℕ} {shelf : List ShelfText} {steps : ℕ} {a b : CommandAnswer} → Means m text shelf steps a → Means n text shelf steps b → (a.status ≡ b.status) × (a.writes ≡ b.writes)
 one m n a b = alike m n (cases a) (cases b)

@@ -16,21 +16,21 @@ use Rattle.acute.specs.Refusals.{kind_line}
 use Rattle.acute.specs.Lines.{uncaught_line, spent_line}
 
 -- what a command gives where nothing fails: a status, the writes on output, and the line on errors
-pub record Answer : Type 0 where
+pub record CommandAnswer : Type 0 where
   pub status : Status
   pub writes : List Write
   pub line : List ℕ
 
-abbrev pub answer : Status → List Write → List ℕ → Answer
-answer status writes line = record { status = status; writes = writes; line = line }
+abbrev pub command_answer : Status → List Write → List ℕ → CommandAnswer
+command_answer status writes line = record { status = status; writes = writes; line = line }
 
 -- over these definitions the term reduces to this end within the budget, without input and a channel
 abbrev pub EndsWithin : Mode → ℕ → Environment → Expr → Outcome Value → Type 0
 EndsWithin mode steps E e o = Ends mode E e [] false steps o
 
 -- a text beside a shelf is refused, or its program ends with a value, with an exception, or in front of an application too many
-pub data Means (mode : Mode) (text : List ℕ) (shelf : List ShelfText) (steps : ℕ) : Answer → Type 0 where
-  refused : (kind : Kind) → IsRefused text shelf 0 kind → Means mode text shelf steps (answer REFUSED [] (kind_line kind))
-  finished : (E : Environment) (e : Expr) (T : Typ) (v : Value) (z : World) → Accepted text shelf E e T → EndsWithin mode steps E e (Returned v z) → Means mode text shelf steps (answer FINISHED z.writes [])
-  uncaught : (E : Environment) (e : Expr) (T : Typ) (x : Exception) (z : World) → Accepted text shelf E e T → EndsWithin mode steps E e (Raised x z) → Means mode text shelf steps (answer UNCAUGHT z.writes (uncaught_line x))
-  spent : (E : Environment) (e : Expr) (T : Typ) (z : World) → Accepted text shelf E e T → EndsWithin mode steps E e (Spent z) → Means mode text shelf steps (answer SPENT z.writes (spent_line steps))
+pub data Means (mode : Mode) (text : List ℕ) (shelf : List ShelfText) (steps : ℕ) : CommandAnswer → Type 0 where
+  refused : (kind : Kind) → IsRefused text shelf 0 kind → Means mode text shelf steps (command_answer REFUSED [] (kind_line kind))
+  finished : (E : Environment) (e : Expr) (T : Typ) (v : Value) (z : World) → Accepted text shelf E e T → EndsWithin mode steps E e (Returned v z) → Means mode text shelf steps (command_answer FINISHED z.writes [])
+  uncaught : (E : Environment) (e : Expr) (T : Typ) (x : Exception) (z : World) → Accepted text shelf E e T → EndsWithin mode steps E e (Raised x z) → Means mode text shelf steps (command_answer UNCAUGHT z.writes (uncaught_line x))
+  spent : (E : Environment) (e : Expr) (T : Typ) (z : World) → Accepted text shelf E e T → EndsWithin mode steps E e (Spent z) → Means mode text shelf steps (command_answer SPENT z.writes (spent_line steps))

@@ -7,13 +7,14 @@ ghost use Rattle.ac_load.specs.Loading.{ShelfText};
 ghost use Rattle.acute.specs.declared.status.Status.{Status};
 ghost use Rattle.acute.specs.declared.status.TheConstants.Status.{OUT_OF_MEMORY};
 ghost use Rattle.acute.specs.Streams.{Reading, Writing};
-ghost use Rattle.acute.specs.Meaning.{Answer, Means};
+ghost use Rattle.acute.specs.Meaning.{CommandAnswer, Means};
 ghost use Rattle.acute.specs.Endings.{Ended};
 
 /// Within a budget a text has one meaning, which is the same in both modes: it is refused or not,
 /// and ends in one way, with the same writes.
 pub fn one_meaning()
-    ensures { (m n : Mode) (text : List ℕ) (shelf : List ShelfText) (steps : ℕ) (a b : Answer) →
+    ensures { (m n : Mode) (text : List ℕ) (shelf : List ShelfText) (steps : ℕ)
+        (a b : CommandAnswer) →
         Means m text shelf steps a → Means n text shelf steps b →
         (a.status ≡ b.status) × (a.writes ≡ b.writes) }
 {}
@@ -28,6 +29,6 @@ pub fn nothing_failed()
         (Rose output.before output.after → ⊥) → (Rose errors.before errors.after → ⊥) →
         (status ≡ OUT_OF_MEMORY → ⊥) →
         (bytes : List ℕ) → (files name).bytes ≡ Some bytes →
-        (mode : Mode) (a : Answer) → Means mode (take 1048577 bytes) [] steps a →
+        (mode : Mode) (a : CommandAnswer) → Means mode (take 1048577 bytes) [] steps a →
         status ≡ a.status }
 {}

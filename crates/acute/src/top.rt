@@ -11,8 +11,8 @@ ghost use Rattle.acute.specs.declared.status.TheConstants.Status.{UNCAUGHT, SPEN
 ghost use Rattle.acute.specs.Streams.{Reading, reading, writing, memory_line};
 ghost use Rattle.acute.specs.Refusals.{kind_line, kind_status};
 ghost use Rattle.acute.specs.Lines.{uncaught_line, spent_line};
-ghost use Rattle.acute.specs.Meaning.{Answer, Means};
-ghost use Rattle.acute.specs.Endings.{texts, Ended, Said, Gives};
+ghost use Rattle.acute.specs.Meaning.{CommandAnswer, Means};
+ghost use Rattle.acute.specs.Endings.{texts, Ended, Said, GivesStatus};
 
 use crate::reading::{ReadFault, read_text};
 use crate::status::Status;
@@ -97,7 +97,8 @@ fn run_text<O: Sink, E: Sink>(
     errors: &mut E,
 ) -> Status
     ensures { (request : Option Request) (files : List ℕ → Reading) →
-        ((a : Answer) → ((mode : Mode) → Means mode text.now [] steps a) → Gives request files a) →
+        ((a : CommandAnswer) → ((mode : Mode) → Means mode text.now [] steps a) →
+        GivesStatus request files a) →
         Ended request files
         (writing O.told O.written O.faults output.old output.new)
         (writing E.told E.written E.faults errors.old errors.new)
@@ -122,7 +123,8 @@ fn run_program<O: Sink, E: Sink>(
     ensures { (text : List ℕ) → Accepted text [] (environment_of loaded.env) (expr_of loaded.main)
         (typ_of loaded.ty) →
         (request : Option Request) (files : List ℕ → Reading) →
-        ((a : Answer) → ((mode : Mode) → Means mode text [] steps a) → Gives request files a) →
+        ((a : CommandAnswer) → ((mode : Mode) → Means mode text [] steps a) →
+        GivesStatus request files a) →
         Ended request files
         (writing O.told O.written O.faults output.old output.new)
         (writing E.told E.written E.faults errors.old errors.new)

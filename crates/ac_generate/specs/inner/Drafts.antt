@@ -68,12 +68,12 @@ unfoldable pub wrote_arms : Home → List Typ → Arms → Draft → Draft
 wrote_arms c G cases d = record { first = d.first; instrs = d.instrs ++ arm_code 0 cases (address d) (count d); blocks = d.blocks ++ arm_blocks c G cases (count d) }
 
 -- where the jump of an arm that begins at address p stands, and those of some arms
-abbrev pub end_of : Pattern → Expr → ℕ → ℕ
-end_of q b p = suc p + size b + length (unbind (bound q))
+abbrev pub arm_end : Pattern → Expr → ℕ → ℕ
+arm_end q b p = suc p + size b + length (unbind (bound q))
 
 abbrev pub ends : Arms → ℕ → List ℕ
 ends no_arms p = []
-ends (arm q b rest) p = end_of q b p ∷ ends rest (suc (end_of q b p))
+ends (arm q b rest) p = arm_end q b p ∷ ends rest (suc (arm_end q b p))
 
 -- with the code of a packed value, of packed values
 unfoldable pub wrote_value : PValue → Draft → Draft

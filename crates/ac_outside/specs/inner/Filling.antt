@@ -5,23 +5,23 @@ use Rattle.ac_outside.specs.declared.filling.Fill.{Fill}
 use Rattle.ac_outside.specs.declared.filling.Fill.TheVariants.{Done, End, Failed, Memory}
 
 -- bytes were added at the end
-pub record Grown (old new : Bytes) : Type 0 where
+pub record Lengthened (old new : Bytes) : Type 0 where
   pub more : Bytes
   pub is : new ≡ old ++ more
 
 -- one read added at least one byte and at most so many, or none
 abbrev pub Added : Fill → ℕ → Bytes → Bytes → Type 0
-Added Done most old new = Grown old new × (length old < length new) × (length new ≤ length old + most)
+Added Done most old new = Lengthened old new × (length old < length new) × (length new ≤ length old + most)
 Added End most old new = new ≡ old
 Added Failed most old new = new ≡ old
 Added Memory most old new = new ≡ old
 
 -- reads added bytes until there were so many, or fewer
 abbrev pub Filled : Fill → ℕ → Bytes → Bytes → Type 0
-Filled Done want old new = Grown old new × (length new ≡ want)
-Filled End want old new = Grown old new × (length new < want)
-Filled Failed want old new = Grown old new × (length new ≤ want)
-Filled Memory want old new = Grown old new × (length new ≤ want)
+Filled Done want old new = Lengthened old new × (length new ≡ want)
+Filled End want old new = Lengthened old new × (length new < want)
+Filled Failed want old new = Lengthened old new × (length new ≤ want)
+Filled Memory want old new = Lengthened old new × (length new ≤ want)
 
 -- what a source has lost the text has got; these bytes were left and are left
 abbrev pub Moves : Fill → Bytes → Bytes → Bytes → Bytes → Type 0

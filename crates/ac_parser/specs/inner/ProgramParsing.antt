@@ -10,7 +10,7 @@ use Rattle.ac_syntax.specs.Signs.{Sign, Str, Lower, Upper, Fixed}
 use Rattle.ac_syntax.specs.Trees.{NameAt, Tree, AbbrevTree, SigTree, WantsTree, WantsVersion, WantsName, DefTree, ProgramTree}
 use Rattle.ac_syntax.specs.TypeForms.{IsType}
 use Rattle.ac_syntax.specs.Expressions.{IsExpr}
-use Rattle.ac_syntax.specs.Programs.{IsSig, vtoken_of, VTokens, ParsesVersion, ParsesLike, ParsesDef, ParsesProgram, resolve_of}
+use Rattle.ac_syntax.specs.Programs.{IsSig, vtoken_of, VTokens, ParsesVersion, ParsesLike, ParsesDef, ParsesProgram, resolve_sign}
 use Rattle.ac_syntax.specs.PartParsing.{SymbolAt, NoSymbol}
 use Rattle.ac_syntax.specs.declared.stop.Stop.{Stop}
 use Rattle.ac_syntax.specs.declared.stop.Stop.TheVariants as stop
@@ -144,7 +144,7 @@ stopped bad.Bad e = (left : ℕ) × (e ≡ stop.Syntax left)
 pub record ResolveAt (ts : List Sign) (place : Resolve) (rest : List Sign) : Type 0 where
   pub sign : Sign
   pub is : ts ≡ sign ∷ rest
-  pub looks : resolve_of sign ≡ Some place
+  pub looks : resolve_sign sign ≡ Some place
 
 abbrev pub NoResolve : List Sign → Type 0
 NoResolve ts = (place : Resolve) (rest : List Sign) → ResolveAt ts place rest → ⊥

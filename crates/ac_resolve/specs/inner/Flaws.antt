@@ -4,7 +4,7 @@ use Rattle.ac_types.specs.Types.{Bytes}
 use Rattle.ac_syntax.specs.Trees.{TypeTree, TypeTrees, PatTree, PatTrees, Tree, Trees, ArmTrees}
 use Rattle.ac_resolve.specs.declared.flaws.Flaws.{Flaws}
 use Rattle.ac_resolve.specs.ScopedNames.{least}
-use Rattle.ac_resolve.specs.Elaboration.{variables, bind}
+use Rattle.ac_resolve.specs.Elaboration.{variables, scope_with}
 use Rattle.ac_resolve.specs.Unbound.{unbound_type, unbound_types, unbound_pat, unbound_pats, unbound, unbound_all, unbound_arms}
 use Rattle.ac_resolve.specs.Repeated.{repeated_name, repeated, repeated_all, repeated_arms}
 use Rattle.ac_resolve.specs.Counts.{over, wide_type, wide_types, large_type, large_pat, large_pats, too_many, too_many_in_all, too_many_in_arms}
@@ -15,14 +15,14 @@ no_flaws = record { unbound = None; repeated = None; count = None }
 abbrev pub missing : Option ℕ → Flaws
 missing o = record { unbound = o; repeated = None; count = None }
 
-abbrev pub counted : Option ℕ → Flaws
-counted o = record { unbound = None; repeated = None; count = o }
+abbrev pub count_flaws : Option ℕ → Flaws
+count_flaws o = record { unbound = None; repeated = None; count = o }
 
 abbrev pub repeats : Option ℕ → Flaws
 repeats o = record { unbound = None; repeated = o; count = None }
 
-abbrev pub joined : Flaws → Flaws → Flaws
-joined a b = record { unbound = least a.unbound b.unbound; repeated = least a.repeated b.repeated; count = least a.count b.count }
+abbrev pub flaws_joined : Flaws → Flaws → Flaws
+flaws_joined a b = record { unbound = least a.unbound b.unbound; repeated = least a.repeated b.repeated; count = least a.count b.count }
 
 -- of a type's names and tuples, and of a type where it is written
 abbrev pub names_and_tuples : TypeTree → Flaws
@@ -49,7 +49,7 @@ abbrev pub flaws_of_all : List Bytes → Trees → Flaws
 flaws_of_all names es = record { unbound = unbound_all names es; repeated = repeated_all es; count = too_many_in_all names es }
 
 abbrev pub arm_flaws : List Bytes → PatTree × Tree → Flaws
-arm_flaws names arm = joined (pat_flaws arm.0) (joined (repeats (repeated_name [] (variables arm.0))) (flaws (bind (variables arm.0) names) arm.1))
+arm_flaws names arm = flaws_joined (pat_flaws arm.0) (flaws_joined (repeats (repeated_name [] (variables arm.0))) (flaws (scope_with (variables arm.0) names) arm.1))
 
 abbrev pub arms_flaws : List Bytes → ArmTrees → Flaws
 arms_flaws names arms = record { unbound = unbound_arms names arms; repeated = repeated_arms arms; count = too_many_in_arms names arms }

@@ -7,19 +7,19 @@ use Rattle.ac_terms.specs.declared.term.Term.{Term}
 use Rattle.ac_syntax.specs.Trees.{TypeTree}
 use Rattle.ac_resolve.specs.Elaboration.{type_in}
 use Rattle.ac_resolve.specs.declared.flaws.Flaws.{Flaws}
-use Rattle.ac_resolve.specs.inner.Flaws.{joined, type_flaws}
+use Rattle.ac_resolve.specs.inner.Flaws.{flaws_joined, type_flaws}
 
 pub record Joins (a b : Result Flaws Memory) (f : Flaws) : Type 0 where
   pub first : Flaws
   pub second : Flaws
   pub was_first : a ≡ Ok first
   pub was_second : b ≡ Ok second
-  pub is : f ≡ joined first second
+  pub is : f ≡ flaws_joined first second
 
 pub record JoinedTyped (T U : TypeTree) (a : Result Flaws Memory) (f : Flaws) : Type 0 where
   pub inner : Flaws
   pub was : a ≡ Ok inner
-  pub is : f ≡ joined (type_flaws T) (joined (type_flaws U) inner)
+  pub is : f ≡ flaws_joined (type_flaws T) (flaws_joined (type_flaws U) inner)
 
 -- a function with a name, where memory served for its body
 pub record RecOf (T U : TypeTree) (body : Result Term Memory) (t : Term) : Type 0 where

@@ -7,12 +7,12 @@ use Rattle.ac_terms.specs.Read.{pattern_of, expr_of}
 use Rattle.ac_terms.specs.declared.term.Arm.{Arm}
 use Rattle.ac_resolve.specs.declared.scope.Scope.{Scope, fold-Scope}
 use Rattle.ac_resolve.specs.declared.scope.Scope.TheOpen.{Scope-F}
-use Rattle.ac_resolve.specs.Elaboration.{bind}
+use Rattle.ac_resolve.specs.Elaboration.{scope_with}
 
 abbrev pub scope_layer : Scope-F (List Bytes) → List Bytes
 scope_layer Scope-F.Empty = []
 scope_layer (Scope-F.Inner outer name) = name.now.word ∷ outer.now
-scope_layer (Scope-F.Arm outer names) = bind (map name_of names.now) outer.now
+scope_layer (Scope-F.Arm outer names) = scope_with (map name_of names.now) outer.now
 
 unfoldable pub names_in : Scope → List Bytes
 names_in = fold-Scope (List Bytes) scope_layer

@@ -1,6 +1,6 @@
 use Rattle.std.proofs.Common.{◌≡◌, length, drop, Some}
 use Rattle.ac_terms.specs.Read.{home_of}
-use Rattle.ac_rules.specs.Typing.{joined}
+use Rattle.ac_rules.specs.Typing.{variables_joined}
 use Rattle.ac_check.specs.Checking.{newest_first, entries_of}
 use Rattle.ac_check.proofs.PatternLaws.{vars_of_all}
 use Rattle.ac_check.proofs.patterns.+patterns.Given as goal
@@ -9,6 +9,6 @@ abbrev pub invariant-all_variables-loop-i : goal.invariant-all_variables-loop-i
 invariant-all_variables-loop-i l = record {
   lengths : length l.pats ≡ length l.tys;
   left :
-      joined (Some (newest_first l.initial.found)) (vars_of_all (entries_of l.site) (home_of l.site.home) l.pats l.tys)
-      ≡ joined (Some (newest_first l.found)) (vars_of_all (entries_of l.site) (home_of l.site.home) (drop l.i l.pats) (drop l.i l.tys));
+      variables_joined (Some (newest_first l.initial.found)) (vars_of_all (entries_of l.site) (home_of l.site.home) l.pats l.tys)
+      ≡ variables_joined (Some (newest_first l.found)) (vars_of_all (entries_of l.site) (home_of l.site.home) (drop l.i l.pats) (drop l.i l.tys));
 }

@@ -16,7 +16,7 @@ use Rattle.ac_terms.specs.declared.term.Term.{Term}
 use Rattle.ac_terms.specs.declared.term.Arm.{Arm}
 use Rattle.ac_terms.specs.declared.term.PVal.TheViews.{the_lemmas}
 use Rattle.ac_rules.specs.Views.{Coloured}
-use Rattle.ac_rules.specs.Typing.{type_of, arm_types, one_of, seen, applied}
+use Rattle.ac_rules.specs.Typing.{type_of, arm_types, one_of, type_seen, type_applied}
 use Rattle.ac_check.specs.Checking.{entries_of, scope_of, types_in, newest_first, arm_of, arm_type}
 use Rattle.ac_check.specs.PlainTerms.{is_plain, arms_plain}
 use Rattle.ac_check.proofs.KeptLaws.{K}
@@ -215,7 +215,7 @@ typed-returns-in_ok-inner-in-Raise t c =
     let E = entries_of c.args.site.now in
     let S = scope_of c.args.site.now (types_in c.args.vars.now) in
     same_answer E S c.raise_type.result _ _ _ (raise_form _ _ _ _ c.in-Raise.is c.deref-in-Raise.ensures)
-    (ap (λ (o : Option Typ). given (has o TExn) (K (seen Coloured false E (home_of c.args.site.now.home) (typ_of c.in-Raise.ty)))) c.in_ok-inner-in-Raise.ensures)
+    (ap (λ (o : Option Typ). given (has o TExn) (K (type_seen Coloured false E (home_of c.args.site.now.home) (typ_of c.in-Raise.ty)))) c.in_ok-inner-in-Raise.ensures)
     c.raise_type.ensures
 
 pub typed-returns-then-not-is_seen_as : goal.typed-returns-then-not-is_seen_as
@@ -248,7 +248,7 @@ typed-returns-in_ok-f-in-App t c =
     let E = entries_of c.args.site.now in
     let S = scope_of c.args.site.now (types_in c.args.vars.now) in
     same_type E S _ _ _ (app_form _ _ _ _ _ c.in-App.is c.deref-in-App.ensures c.deref-in-App-2.ensures)
-    (c.applied.ensures ∙ ap₂ applied (from_ok c.typed-in-App.result _ _ c.in_ok-f-in-App.ensures.0 c.typed-in-App.ensures)
+    (c.applied.ensures ∙ ap₂ type_applied (from_ok c.typed-in-App.result _ _ c.in_ok-f-in-App.ensures.0 c.typed-in-App.ensures)
     (from_ok c.typed-in-App-2.result _ _ c.in_ok-f-in-App.ensures.1 c.typed-in-App-2.ensures))
 
 pub typed-returns-in_ok-so-in-If : goal.typed-returns-in_ok-so-in-If

@@ -1,5 +1,5 @@
 use Rattle.std.proofs.Common.{◌≡◌, ◌∙◌, ap, sym, subst, string_bytes, List, ℕ, Some, None}
-use Rattle.ac_outside.specs.Kept.{StandsAt, bytes_of}
+use Rattle.ac_outside.specs.Kept.{StandsAt, file_contents}
 use Rattle.ac_outside.specs.Outside.{OthersSame}
 use Rattle.ac_outside.proofs.Places.{set_here, set_other, push_here, push_other}
 use Rattle.ac_outside.proofs.files.set.Goals as goal
@@ -16,11 +16,11 @@ returns-in-Some-clause-others c =
 
 pub returns-in_ok-push-in-None-clause-ok : goal.returns-in_ok-push-in-None-clause-ok
 returns-in_ok-push-in-None-clause-ok c =
-    let none : bytes_of c.args.files.now.items c.args.name.now ≡ None = subst (λ files. bytes_of files c.args.name.now ≡ None) c.deref.ensures.value c.in-None.ensures.place in
-    ap (λ files. bytes_of files c.args.name.now) c.in_ok-push-in-None.ensures.items
+    let none : file_contents c.args.files.now.items c.args.name.now ≡ None = subst (λ files. file_contents files c.args.name.now ≡ None) c.deref.ensures.value c.in-None.ensures.place in
+    ap (λ files. file_contents files c.args.name.now) c.in_ok-push-in-None.ensures.items
     ∙ push_here _ _ (record { name = c.in_ok-name-in-None.name; bytes = c.in_ok-text.text }) none c.in_ok-name-in-None.ensures.ok ∙ ap (λ (l : List ℕ). Some l) c.in_ok-text.ensures
 
 pub returns-in_ok-push-in-None-clause-others : goal.returns-in_ok-push-in-None-clause-others
 returns-in_ok-push-in-None-clause-others c =
-    subst (λ files. OthersSame c.args.name.now (bytes_of c.args.files.now.items) (bytes_of files)) (sym c.in_ok-push-in-None.ensures.items)
+    subst (λ files. OthersSame c.args.name.now (file_contents c.args.files.now.items) (file_contents files)) (sym c.in_ok-push-in-None.ensures.items)
     (push_other _ _ (record { name = c.in_ok-name-in-None.name; bytes = c.in_ok-text.text }) c.in_ok-name-in-None.ensures.ok)

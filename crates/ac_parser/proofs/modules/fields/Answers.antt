@@ -4,7 +4,7 @@ use Rattle.std.proofs.lemmas.Result.{err_from_is_err_and}
 use Rattle.ac_syntax.specs.Trees.{FieldTree}
 use Rattle.ac_syntax.specs.Programs.{ParsesFields}
 use Rattle.ac_syntax.specs.ReadSigns.{read_signs}
-use Rattle.ac_syntax.specs.ReadTrees.{field_of}
+use Rattle.ac_syntax.specs.ReadTrees.{field_tree_of}
 use Rattle.ac_syntax.proofs.OnStop.{on_syntax_more, refused}
 use Rattle.ac_parser.proofs.Lists.{StructSoFar, no_struct, begun, next_item, none_left, ended}
 use Rattle.ac_parser.proofs.ModuleSteps.{fields_end}
@@ -15,7 +15,7 @@ returns-in_default-clause-none c = refused _ _ c.refused_at.ensures (no_struct P
 
 pub loop-end-init : goal.loop-end-init
 loop-end-init c = record {
-  so_far = subst (λ (l : List FieldTree). StructSoFar ParsesFields (read_signs c.args.signs.now) l (read_signs c.in-Some.inner.now)) (sym (ap (map field_of) c.new-found.ensures)) (begun ParsesFields _ _ c.in-Some.ensures.found);
+  so_far = subst (λ (l : List FieldTree). StructSoFar ParsesFields (read_signs c.args.signs.now) l (read_signs c.in-Some.inner.now)) (sym (ap (map field_tree_of) c.new-found.ensures)) (begun ParsesFields _ _ c.in-Some.ensures.found);
   shorter = c.in-Some.ensures.shorter;
 }
 
@@ -32,7 +32,7 @@ returns-in_err-next-clause-none c =
 
 pub loop-end-preserved : goal.loop-end-preserved
 loop-end-preserved c =
-    let fields = ap (map field_of) c.in_ok-push.ensures.ok ∙ map-append field_of c.loop-end.found (c.in_ok-next.next ∷ []) in
+    let fields = ap (map field_tree_of) c.in_ok-push.ensures.ok ∙ map-append field_tree_of c.loop-end.found (c.in_ok-next.next ∷ []) in
     let next = next_item _ _ _ _ c.loop-end.invariant.so_far _ _ c.in_ok-next.ensures.field in
     record {
       so_far = subst (λ (l : List FieldTree). StructSoFar ParsesFields (read_signs c.args.signs.now) l (read_signs c.in_ok-next.later.now)) (sym fields) next;

@@ -3,7 +3,7 @@ use Rattle.std.proofs.lemmas.List.{map-append}
 use Rattle.std.proofs.lemmas.Result.{err_from_is_err_and}
 use Rattle.ac_syntax.specs.Trees.{DefTree}
 use Rattle.ac_syntax.specs.ReadSigns.{read_signs}
-use Rattle.ac_syntax.specs.ReadTrees.{def_of}
+use Rattle.ac_syntax.specs.ReadTrees.{def_tree_of}
 use Rattle.ac_syntax.proofs.OnStop.{on_syntax_more}
 use Rattle.ac_parser.specs.inner.ProgramParsing.{DefsSoFar}
 use Rattle.ac_parser.proofs.ProgramSteps.{no_defs_yet, next_def, stuck, end_at, so_far_at}
@@ -17,14 +17,14 @@ returns-in_err-first-clause-none c =
 pub returns-in_default-clause-defs : goal.returns-in_default-clause-defs
 returns-in_default-clause-defs c =
     let d = rw c.in_default.is at c.in_ok-first.ensures.def in
-    subst (λ (l : List DefTree). DefsSoFar (read_signs c.args.signs.now) l (read_signs c.in_ok-first.rest.now)) (sym (ap (map def_of) c.new-defs.ensures)) (so_far_at _ _ _ _ d.0 (no_defs_yet _))
+    subst (λ (l : List DefTree). DefsSoFar (read_signs c.args.signs.now) l (read_signs c.in_ok-first.rest.now)) (sym (ap (map def_tree_of) c.new-defs.ensures)) (so_far_at _ _ _ _ d.0 (no_defs_yet _))
 
 pub returns-in_default-clause-end : goal.returns-in_default-clause-end
 returns-in_default-clause-end c = let d = rw c.in_default.is at c.in_ok-first.ensures.def in end_at _ _ d.0 d.1
 
 pub loop-defs-init : goal.loop-defs-init
 loop-defs-init c =
-    let defs = ap (map def_of) c.in_ok-push.ensures.ok ∙ map-append def_of c.new-defs.result (c.in-Some.def ∷ []) ∙ ap (λ l. map def_of l ++ def_of c.in-Some.def ∷ []) c.new-defs.ensures in
+    let defs = ap (map def_tree_of) c.in_ok-push.ensures.ok ∙ map-append def_tree_of c.new-defs.result (c.in-Some.def ∷ []) ∙ ap (λ l. map def_tree_of l ++ def_tree_of c.in-Some.def ∷ []) c.new-defs.ensures in
     subst (λ (l : List DefTree). DefsSoFar (read_signs c.args.signs.now) l (read_signs c.in_ok-first.rest.now)) (sym defs)
     (next_def _ _ _ (no_defs_yet _) _ _ (rw c.in-Some.is at c.in_ok-first.ensures.def))
 
@@ -35,7 +35,7 @@ returns-in_err-next-clause-none c =
 
 pub loop-defs-preserved : goal.loop-defs-preserved
 loop-defs-preserved c =
-    let defs = ap (map def_of) c.in_ok-push-2.ensures.ok ∙ map-append def_of c.loop-defs.defs (c.in-Some-next.def ∷ []) in
+    let defs = ap (map def_tree_of) c.in_ok-push-2.ensures.ok ∙ map-append def_tree_of c.loop-defs.defs (c.in-Some-next.def ∷ []) in
     subst (λ (l : List DefTree). DefsSoFar (read_signs c.args.signs.now) l (read_signs c.in_ok-next.later.now)) (sym defs)
     (next_def _ _ _ c.loop-defs.invariant _ _ (rw c.in-Some-next.is at c.in_ok-next.ensures.def))
 

@@ -3,7 +3,7 @@ use Rattle.std.proofs.lemmas.List.{map-append}
 use Rattle.ac_syntax.specs.Trees.{DefTree}
 use Rattle.ac_syntax.specs.Programs.{IsModule}
 use Rattle.ac_syntax.specs.ReadSigns.{read_signs}
-use Rattle.ac_syntax.specs.ReadTrees.{def_of}
+use Rattle.ac_syntax.specs.ReadTrees.{def_tree_of}
 use Rattle.std.proofs.lemmas.Result.{err_from_is_err_and}
 use Rattle.ac_syntax.proofs.OnStop.{on_syntax_more, refused}
 use Rattle.ac_syntax.specs.declared.sign.Symbol.TheVariants as symbol
@@ -25,6 +25,6 @@ returns-in_err-def-2-clause-none c =
 
 pub returns-clause-tree : goal.returns-clause-tree
 returns-clause-tree c =
-    let defs = ap (map def_of) c.in_ok-push.ensures.ok ∙ map-append def_of c.new-defs.result (c.in_ok-def-2.def ∷ []) ∙ ap (λ l. map def_of l ++ def_of c.in_ok-def-2.def ∷ []) c.new-defs.ensures ∙ ap (λ d. def_of d ∷ []) c.in_ok-def-2.ensures.same in
+    let defs = ap (map def_tree_of) c.in_ok-push.ensures.ok ∙ map-append def_tree_of c.new-defs.result (c.in_ok-def-2.def ∷ []) ∙ ap (λ l. map def_tree_of l ++ def_tree_of c.in_ok-def-2.def ∷ []) c.new-defs.ensures ∙ ap (λ d. def_tree_of d ∷ []) c.in_ok-def-2.ensures.same in
     subst (λ (l : List DefTree). IsModule (read_signs c.args.signs.now) (record { defs = l; expr = None })) (sym defs)
     (module_tree _ _ _ (begins_with symbol.Module _ _ _ c.in-Some.ensures.found c.here.ensures) _ _ c.in_ok-def.ensures.module c.in_ok-def-2.ensures.end)

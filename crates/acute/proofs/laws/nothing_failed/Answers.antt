@@ -5,7 +5,7 @@ use Rattle.ac_rules.specs.Views.{Mode}
 use Rattle.acute.specs.declared.status.Status.{Status}
 use Rattle.acute.specs.declared.status.TheConstants.Status.{OUT_OF_MEMORY}
 use Rattle.acute.specs.Streams.{Reading, Writing}
-use Rattle.acute.specs.Meaning.{Answer, Means}
+use Rattle.acute.specs.Meaning.{CommandAnswer, Means}
 use Rattle.acute.specs.Endings.{Ended, done, read_fault, write_fault, no_memory_yet, no_memory_left, Said, said, failed, no_memory, SaidIfAny}
 use Rattle.acute.proofs.TextLaws.{one}
 use Rattle.acute.proofs.laws.nothing_failed.Goals as goal
@@ -25,7 +25,7 @@ module _ (errors : Writing) {end : Status} (e : Rose errors.before errors.after 
 
 complete : {name : List ℕ} {steps : ℕ} {files : List ℕ → Reading} {output errors : Writing} {end : Status} → Ended (Some (run name steps)) files output errors end → IsTrue (files name).told
     → (Rose (files name).before (files name).after → ⊥) → (Rose output.before output.after → ⊥) → (Rose errors.before errors.after → ⊥) → (end ≡ OUT_OF_MEMORY → ⊥)
-    → (bytes : List ℕ) → (files name).bytes ≡ Some bytes → (mode : Mode) (a : Answer) → Means mode (take 1048577 bytes) [] steps a → end ≡ a.status
+    → (bytes : List ℕ) → (files name).bytes ≡ Some bytes → (mode : Mode) (a : CommandAnswer) → Means mode (take 1048577 bytes) [] steps a → end ≡ a.status
 complete {steps = steps} {errors = errors} (done b g w v) told r o e m bytes is mode a means =
     let t = g.1 told in
     let same = same_bytes _ _ (sym t.1 ∙ is) in

@@ -6,7 +6,7 @@ use Rattle.ac_terms.specs.Read.{home_of, pattern_of, expr_of}
 use Rattle.ac_terms.specs.Terms.{arms}
 use Rattle.ac_generate.specs.inner.Arms.{arm_of}
 use Rattle.ac_generate.specs.inner.CodeScopes.{types_of}
-use Rattle.ac_generate.specs.inner.Drafts.{draft_of, address, count, begun, ended, wrote, wrote_arm, end_of}
+use Rattle.ac_generate.specs.inner.Drafts.{draft_of, address, count, begun, ended, wrote, wrote_arm, arm_end}
 use Rattle.ac_generate.proofs.FormLaws.{types_of-Empty, types_of-Variable, types_of-Variables, arm_fields, lam_is, rec_is, if_is, match_is, try_is}
 use Rattle.ac_generate.proofs.TermLaws.{count_types, plain_written}
 use Rattle.ac_generate.proofs.Written.{on_ok, rec_written, packed_lam_written, packed_rec_written, if_written, match_written, try_written, arm_written, arm_ended}
@@ -33,7 +33,7 @@ arm-returns-clause-address t c =
     (types_of-Variables c.args.scope c.as_slice.result ∙ ap (λ Ts. reverse Ts ++ G) (ap (map typ_of) c.as_slice.ensures.value ∙ c.in_ok-bound.ensures))
     (count_types _ c.in_ok-bound.bound.items _ (search rules) c.in_ok-bound.ensures)
     c.in_ok-test.ensures.ok c.in_ok-term.ensures c.in_ok-unbind.ensures c.in_ok-end.end c.in_ok-end.ensures.address
-    ∙ ap (λ x. end_of x.0 x.1 (address d)) (sym (arm_fields c.args.case.now))
+    ∙ ap (λ x. arm_end x.0 x.1 (address d)) (sym (arm_fields c.args.case.now))
 
 pub function-returns-in_default : goal.function-returns-in_default
 function-returns-in_default t c = plain_written (home_of c.args.home) c.args.function.now (draft_of c.args.self.now) c.in_default.not-Lam c.in_default.not-Rec

@@ -4,7 +4,7 @@ use Rattle.std.proofs.lemmas.List.Elements.{All-append}
 use Rattle.ac_values.specs.declared.node.Value.{Value}
 use Rattle.ac_values.specs.Values.{MValue, values, values_at}
 use Rattle.ac_values.proofs.ReadLaws.{all_one}
-use Rattle.ac_machine.specs.Machine.{taken, parts}
+use Rattle.ac_machine.specs.Machine.{newest_taken, parts_of_value}
 use Rattle.ac_machine.specs.Held.{stack_of}
 use Rattle.ac_machine.specs.inner.Steps.{stack_at}
 use Rattle.ac_machine.proofs.TakenLaws.{taken_none, taken_more, stack_more, parts_are}
@@ -23,8 +23,8 @@ loop-preserved c =
     record {
       rest = c.in-Some.ensures.1;
       within = subst (All P) (sym c.in_ok-push-in-Some.ensures.items) (All-append P c.loop.parts.items _ c.loop.invariant.within (all_one P c.in-Some.part c.in-Some.ensures.0));
-      taken = c.loop.invariant.taken ∙ taken_more c.args.n c.loop.counter _ _ _ _ c.loop-test.true c.in-Some.ensures.2
-          ∙ ap (λ (g : List MValue). taken (c.args.n - (c.loop.counter + 1)) g (stack_at m c.in-Some.older))
+      newest_taken = c.loop.invariant.taken ∙ taken_more c.args.n c.loop.counter _ _ _ _ c.loop-test.true c.in-Some.ensures.2
+          ∙ ap (λ (g : List MValue). newest_taken (c.args.n - (c.loop.counter + 1)) g (stack_at m c.in-Some.older))
           (sym (ap (λ (vs : List Value). stack_of (values m.store) (reverse vs)) c.in_ok-push-in-Some.ensures.items ∙ stack_more (values m.store) c.loop.parts.items c.in-Some.part));
     }
 
@@ -33,8 +33,8 @@ returns c =
     let m = c.args.self.now in
     let got = stack_of (values m.store) (reverse c.loop.parts.items) in
     let none : c.args.n - c.loop.counter ≡ 0 = omega (arith, c.loop-test.false) in
-    let all : taken c.args.n [] (stack_at m m.at.stack) ≡ Some (got, stack_at m c.loop.rest) =
-    c.loop.invariant.taken ∙ ap (λ (k : ℕ). taken k got (stack_at m c.loop.rest)) none in
-    let same : values_at (values m.store) c.from_vec.result ≡ parts got =
+    let all : newest_taken c.args.n [] (stack_at m m.at.stack) ≡ Some (got, stack_at m c.loop.rest) =
+    c.loop.invariant.taken ∙ ap (λ (k : ℕ). newest_taken k got (stack_at m c.loop.rest)) none in
+    let same : values_at (values m.store) c.from_vec.result ≡ parts_of_value got =
     ap (values_at (values m.store)) (c.from_vec.ensures ∙ c.reverse.ensures.items) ∙ sym (parts_are (values m.store) (reverse c.loop.parts.items)) in
     rw (all, ← same) c.in_ok-step.ensures.does

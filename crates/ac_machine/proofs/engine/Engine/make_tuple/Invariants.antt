@@ -1,6 +1,6 @@
 use Rattle.std.proofs.Common.{◌≡◌, ◌-◌, ◌<◌, length, reverse, []}
 use Rattle.ac_values.specs.Values.{values}
-use Rattle.ac_machine.specs.Machine.{taken}
+use Rattle.ac_machine.specs.Machine.{newest_taken}
 use Rattle.ac_machine.specs.Held.{stack_of}
 use Rattle.std.specs.List.{All}
 use Rattle.ac_machine.specs.inner.Steps.{stack_at}
@@ -10,5 +10,5 @@ abbrev pub invariant-loop : goal.invariant-loop
 invariant-loop l = record {
   rest : l.rest < length l.self.stacks;
   within : All (λ v. v.0 < length l.self.store) l.parts.items;
-  taken : taken l.n [] (stack_at l.self l.self.at.stack) ≡ taken (l.n - l.counter) (stack_of (values l.self.store) (reverse l.parts.items)) (stack_at l.self l.rest);
+  taken : newest_taken l.n [] (stack_at l.self l.self.at.stack) ≡ newest_taken (l.n - l.counter) (stack_of (values l.self.store) (reverse l.parts.items)) (stack_at l.self l.rest);
 }
