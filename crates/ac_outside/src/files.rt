@@ -1,5 +1,5 @@
 // Files in memory.
-ghost use Rattle.std.specs.Prelude.{◌≡◌, ◌⊎◌, ◌<◌, ◌≤◌, ◌↔◌, ◌++◌, [], true, None, IsTrue, MatchOption, IfSome, OnOk, OnErr, Contains, length};
+ghost use Rattle.std.specs.Prelude.{◌≡◌, ◌⊎◌, ◌×◌, ◌<◌, ◌≤◌, ◌^◌, ◌↔◌, ◌++◌, [], true, None, IsTrue, MatchOption, IfSome, OnOk, OnErr, Contains, length};
 ghost use Rattle.ac_outside.specs.Calls.{unused};
 ghost use Rattle.ac_outside.specs.Kept.{file_contents, StandsAt};
 ghost use Rattle.ac_outside.specs.Outside.{Rose, IsWithin, OthersSame, NeverFall, ReadsFrom, IsShort, Created, Appended, or_empty, risen};
@@ -95,6 +95,8 @@ fn place_of(files: &[MemoryFile], name: &str) -> Option<usize>
 }
 
 impl Files for MemoryFiles {
+    ghost use Rattle.std.proofs.Common.{refl, ◌∙◌};
+
     ghost told = { true };
 
     ghost contents = { λ s. file_contents s.files };
@@ -102,6 +104,8 @@ impl Files for MemoryFiles {
     ghost read_faults = { λ s _. s.reads.failed };
 
     ghost write_faults = { λ s _. s.writes.failed };
+
+    ghost reads = { λ _ a b. (b.files ≡ a.files) × (b.writes ≡ a.writes) };
 
     /// `Failed` comes exactly for the reads that are to fail, and for those of a missing file.
     fn read(&mut self, name: &str, from: u64, buf: &mut [u8]) -> Got
@@ -117,6 +121,8 @@ impl Files for MemoryFiles {
             (file_contents self.old.files name.now ≡ None)) }
         ensures made { self.new.reads.made ≡ risen self.old.reads.made }
         ensures planned { self.new.reads.fail ≡ self.old.reads.fail }
+        ensures reads { from < 2 ^ 63 → (self.new.files ≡ self.old.files) ×
+            (self.new.writes ≡ self.old.writes) }
         ensures writes { self.new.writes ≡ self.old.writes }
         ensures unchanged { result ≡ Got.Failed → buf.new ≡ buf.old }
     {
@@ -129,6 +135,10 @@ impl Files for MemoryFiles {
         self.reads.count_failed();
         Got::Failed
     }
+
+    ghost reads_none = { λ _ _. (refl, refl) };
+
+    ghost reads_on = { λ _ _ _ _ h k. (k.0 ∙ h.0, k.1 ∙ h.1) };
 
     /// `Failed` comes exactly for the writes that are to fail, which change nothing.
     fn create(&mut self, name: &str) -> Put

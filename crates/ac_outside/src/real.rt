@@ -86,6 +86,8 @@ impl<R: std::rt::Files> RealFiles<R> {
 }
 
 impl<R: std::rt::Files> Files for RealFiles<R> {
+    ghost use Rattle.std.proofs.Common.{refl, ◌∙◌};
+
     ghost told = { false };
 
     ghost contents = { λ _ _. None };
@@ -93,6 +95,8 @@ impl<R: std::rt::Files> Files for RealFiles<R> {
     ghost read_faults = { λ s _. s.0 };
 
     ghost write_faults = { λ s _. s.1 };
+
+    ghost reads = { λ _ a b. b.1 ≡ a.1 };
 
     fn read(&mut self, name: &str, from: u64, buf: &mut [u8]) -> Got {
         match read_at(&self.rt, name, from, buf) {
@@ -104,6 +108,10 @@ impl<R: std::rt::Files> Files for RealFiles<R> {
             }
         }
     }
+
+    ghost reads_none = { λ _ _. refl };
+
+    ghost reads_on = { λ _ _ _ _ first second. second ∙ first };
 
     fn create(&mut self, name: &str) -> Put {
         match std::fs::create(&self.rt, name) {

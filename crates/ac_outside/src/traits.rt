@@ -1,5 +1,5 @@
 // The traits of the outside, and what their calls answer.
-ghost use Rattle.std.specs.Prelude.{◌≡◌, ◌<◌, ◌≤◌, ℕ, List, Bool, IsTrue, length};
+ghost use Rattle.std.specs.Prelude.{◌≡◌, ◌<◌, ◌≤◌, ◌^◌, ℕ, List, Bool, IsTrue, length};
 ghost use Rattle.ac_outside.specs.Outside.{Rose, Contents, NeverFall, IsWithin, Takes, rest, ReadsFrom, IsShort, Wrote, Created, Appended, OthersSame};
 ghost use Rattle.ac_outside.specs.Frames.{IsFrame};
 
@@ -129,8 +129,11 @@ pub trait Files {
     /// How often a write of a name has failed.
     ghost write_faults: { Self → List ℕ → ℕ };
 
+    /// What holds of the files before a read of a name and after it.
+    ghost reads: { List ℕ → Self → Self → Type 0 };
+
     /// Reads from a place on, in bytes from 0. Each file keeps its bytes, fewer than 2^64, and the
-    /// read of a missing one fails.
+    /// read of a missing one fails. A system has places below 2^63 alone, and fails at others.
     fn read(&mut self, name: &str, from: u64, buf: &mut [u8]) -> Got
         requires { 0 < length buf.old }
         ensures bound { IsWithin result (length buf.new) }
@@ -140,7 +143,15 @@ pub trait Files {
         ensures cause { result ≡ Got.Failed →
             Rose (read_faults self.old name.now) (read_faults self.new name.now) }
         ensures later { NeverFall (read_faults self.old) (read_faults self.new) }
-        ensures later_writes { NeverFall (write_faults self.old) (write_faults self.new) };
+        ensures later_writes { NeverFall (write_faults self.old) (write_faults self.new) }
+        ensures reads { from < 2 ^ 63 → reads name.now self.old self.new };
+
+    /// It holds where nothing is read.
+    ghost reads_none: { (name : List ℕ) (a : Self) → reads name a a };
+
+    /// It holds over several reads.
+    ghost reads_on: { (name : List ℕ) (a b c : Self) → reads name a b → reads name b c →
+        reads name a c };
 
     /// Makes a file empty.
     fn create(&mut self, name: &str) -> Put

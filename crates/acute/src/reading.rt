@@ -25,6 +25,7 @@ pub fn read_text<F: Files>(alloc: Global, files: &mut F, name: &str) -> Result<T
     ensures same { IsTrue F.told → F.contents files.new ≡ F.contents files.old }
     ensures cause { IsErrOf result ReadFault.Failed →
         Rose (F.read_faults files.old name.now) (F.read_faults files.new name.now) }
+    ensures only { F.reads name.now files.old files.new }
 {
     let mut text = Text::new(alloc);
     let mut len = 0usize;

@@ -45,6 +45,9 @@ pub fn acute<F: Files, O: Sink, E: Sink>(
     ensures kept { IsTrue F.told → F.contents files.new ≡ F.contents files.old }
     // Where the words are refused, no file is touched.
     ensures untouched { command_of (texts words.now) ≡ None → files.new ≡ files.old }
+    // Of the files, the one that the words name is read, and no other is touched.
+    ensures only { (name : List ℕ) (steps : ℕ) →
+        command_of (texts words.now) ≡ Some (run name steps) → F.reads name files.old files.new }
 {
     match read_words(alloc, words) {
         Ok(Some(command)) => {
@@ -80,6 +83,7 @@ fn run_file<F: Files, O: Sink, E: Sink>(
         (writing E.told E.written E.faults errors.old errors.new)
         result }
     ensures kept { IsTrue F.told → F.contents files.new ≡ F.contents files.old }
+    ensures only { F.reads name.now files.old files.new }
 {
     match read_text(alloc, files, name) {
         Ok(text) => run_text(alloc, text.as_slice(), steps, output, errors),

@@ -9,6 +9,7 @@ invariant-loop-len g l = record {
   later : g.F.Files.read_faults l.fn.files l.fn.name ≤ g.F.Files.read_faults l.files l.fn.name;
   begins : IsTrue g.F.Files.told → Begins (g.F.Files.contents l.fn.files l.fn.name) l.text.0;
   same : IsTrue g.F.Files.told → g.F.Files.contents l.files ≡ g.F.Files.contents l.fn.files;
+  only : g.F.Files.reads l.fn.name l.fn.files l.files;
 }
 
 abbrev pub decreases-loop-len : goal.decreases-loop-len
