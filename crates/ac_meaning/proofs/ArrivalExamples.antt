@@ -4,6 +4,8 @@ use Rattle.std.specs.Prelude.{ℕ, ℤ, pos, false, List, [], ◌∷◌, ◌++�
 use Rattle.std.specs.Int.{int_wrap}
 use Rattle.std.specs.Fmt.{digits}
 use Rattle.sha2.specs.Sha256.{sha256, digest_bytes, hash_after, compress, rounds, schedule, first_words}
+use Rattle.ac_types.specs.Exceptions as exceptions
+use Rattle.ac_types.specs.Primitives as primitives
 use Rattle.ac_types.specs.Types.{Bytes, Typ, TInt, TStr, TUnit, TList, TFun, TAbs, TMine}
 use Rattle.ac_types.specs.Sigs.{Signature, Number, MyName, Ranges, One, HereAlready}
 use Rattle.ac_types.specs.Words.{is_reserved}
@@ -182,7 +184,7 @@ own_type = TFun TUnit (TAbs (unwrap_or (name_by sha256 [] (text_m TStr (Str (cod
 
 abbrev print_both : Expr
 print_both = Seq (exprs (
-    Try (Let own_type (Unmarshal own_type receive) Unit') (arms ((PExnOf 9 (PVar TStr), Prim 11 (exprs (Var 0 ∷ []))) ∷ [])) ∷
+    Try (Let own_type (Unmarshal own_type receive) Unit') (arms ((PExnOf exceptions.resolve_failure (PVar TStr), Prim primitives.print_string (exprs (Var 0 ∷ []))) ∷ [])) ∷
     print_int (Unmarshal TInt receive) ∷ []
     ))
 

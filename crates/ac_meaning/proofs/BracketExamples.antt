@@ -2,6 +2,7 @@
 use Rattle.std.proofs.Common.{◌≡◌, refl}
 use Rattle.std.specs.Int.{int_wrap}
 use Rattle.std.specs.Prelude.{ℕ, pos, true, false, [], ◌∷◌, Some, None, codes}
+use Rattle.ac_types.specs.Exceptions as exceptions
 use Rattle.ac_types.specs.Types.{Typ, TInt, TBool, TStr, TUnit, TExn, TTuple, TList, TOpt, TFun, typs}
 use Rattle.ac_terms.specs.Terms.{Main, In, PExn, Expr, Boolean, Str, Unit', Exn, ExnOf, Tuple, Nil, Empty, Present, Cons, Var, Own, Ref, Lam, App, Try, Raise, Prim, Evaluated, Bracket, exprs, arms, Value, VInt, VBool, VStr, VUnit, VExn, VTuple, VNil, VCons, VAbsent, VPresent, VLam, VProxy, VSeal, no_values, value}
 use Rattle.ac_rules.specs.Views.{Plain, Coloured}
@@ -28,7 +29,7 @@ a_string = refl
 pub a_unit : out_of_c TUnit Unit' VUnit
 a_unit = refl
 
-pub an_exception : out_of_c TExn (ExnOf 0 (Str (codes "a"))) (VExn 0 (Some (codes "a")))
+pub an_exception : out_of_c TExn (ExnOf exceptions.failure (Str (codes "a"))) (VExn exceptions.failure (Some (codes "a")))
 an_exception = refl
 
 pub a_tuple :
@@ -127,10 +128,10 @@ pub no_such_value : over_steps 9 one_entry Coloured (Ref 0 (codes "y")) 0 ≡ Ov
 no_such_value = refl
 
 -- a raise passes out of a bracket unchanged
-pub a_raise_passes : over_steps 9 one_entry Coloured (Bracket (In 0) c_t (Raise TInt (Exn 2))) 0 ≡ Over (Raised (record { number = 2; text = None }) (made_by one_entry 0))
+pub a_raise_passes : over_steps 9 one_entry Coloured (Bracket (In 0) c_t (Raise TInt (Exn exceptions.not_found))) 0 ≡ Over (Raised (record { number = exceptions.not_found; text = None }) (made_by one_entry 0))
 a_raise_passes = refl
 
 pub handled_outside :
-    over_steps 9 one_entry Coloured (Try (Bracket (In 0) TInt (Raise TInt (Exn 2))) (arms ((PExn 2, number 7) ∷ []))) 0 ≡
+    over_steps 9 one_entry Coloured (Try (Bracket (In 0) TInt (Raise TInt (Exn exceptions.not_found))) (arms ((PExn exceptions.not_found, number 7) ∷ []))) 0 ≡
     Over (Returned (VInt (pos 7)) (made_by one_entry 0))
 handled_outside = refl

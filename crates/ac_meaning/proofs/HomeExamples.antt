@@ -2,6 +2,7 @@
 use Rattle.std.proofs.Common.{◌≡◌, refl}
 use Rattle.std.specs.Int.{int_wrap}
 use Rattle.std.specs.Prelude.{pos, [], ◌∷◌, ◌++◌, Some, None, codes}
+use Rattle.ac_types.specs.Exceptions as exceptions
 use Rattle.ac_types.specs.Types.{TInt, TFun}
 use Rattle.ac_types.specs.Sigs.{Number, Exact}
 use Rattle.ac_terms.specs.Terms.{Main, In, PVar, PExn, PInt, Expr, Exn, Var, Own, Ref, Lam, App, Let, Match, Try, Raise, Prim, Evaluated, Bracket, arms, VInt, VLam, VProxy, VSeal}
@@ -21,7 +22,7 @@ calling_module = record {
   types = [];
   fields =
       record { name = codes "twice"; ty = TFun (TFun TInt TInt) TInt; term = Lam (TFun TInt TInt) (plus (App (Var 0) (number 1)) (App (Var 0) (number 2))) } ∷
-      record { name = codes "fails"; ty = TFun TInt TInt; term = Lam TInt (Raise TInt (Exn 2)) } ∷ [];
+      record { name = codes "fails"; ty = TFun TInt TInt; term = Lam TInt (Raise TInt (Exn exceptions.not_found)) } ∷ [];
 }
 
 -- the module C, an import of it by its exact name, and the module K
@@ -74,22 +75,22 @@ unfolding int_wrap
 spent_on_the_way_back = refl
 
 -- a raise passes out of a module's function, through both brackets of its proxy
-pub raised_inside : over_steps 20 three_entries Coloured (App (Ref 2 (codes "fails")) (number 1)) 1 ≡ Over (Raised (exception 2 None) (made_by three_entries 1))
+pub raised_inside : over_steps 20 three_entries Coloured (App (Ref 2 (codes "fails")) (number 1)) 1 ≡ Over (Raised (exception exceptions.not_found None) (made_by three_entries 1))
 raised_inside = refl
 
 pub handled_by_the_caller :
-    over_steps 20 three_entries Coloured (Try (App (Ref 2 (codes "fails")) (number 1)) (arms ((PExn 2, number 7) ∷ []))) 1 ≡
+    over_steps 20 three_entries Coloured (Try (App (Ref 2 (codes "fails")) (number 1)) (arms ((PExn exceptions.not_found, number 7) ∷ []))) 1 ≡
     Over (Returned (VInt (pos 7)) (made_by three_entries 1))
 handled_by_the_caller = refl
 
 -- a raise passes out of `let`, of an arm and of an argument
-pub out_of_let : after_steps 9 Coloured (Let TInt (Raise TInt (Exn 2)) (Var 0)) 0 ≡ Over (Raised (exception 2 None) (printed_by [] 0))
+pub out_of_let : after_steps 9 Coloured (Let TInt (Raise TInt (Exn exceptions.not_found)) (Var 0)) 0 ≡ Over (Raised (exception exceptions.not_found None) (printed_by [] 0))
 out_of_let = refl
 
-pub out_of_an_arm : after_steps 9 Coloured (Match (number 1) (arms ((PInt (pos 1), Raise TInt (Exn 2)) ∷ []))) 0 ≡ Over (Raised (exception 2 None) (printed_by [] 0))
+pub out_of_an_arm : after_steps 9 Coloured (Match (number 1) (arms ((PInt (pos 1), Raise TInt (Exn exceptions.not_found)) ∷ []))) 0 ≡ Over (Raised (exception exceptions.not_found None) (printed_by [] 0))
 out_of_an_arm = refl
 
-pub out_of_an_argument : after_steps 9 Coloured (App (Lam TInt (Var 0)) (Raise TInt (Exn 2))) 1 ≡ Over (Raised (exception 2 None) (printed_by [] 0))
+pub out_of_an_argument : after_steps 9 Coloured (App (Lam TInt (Var 0)) (Raise TInt (Exn exceptions.not_found))) 1 ≡ Over (Raised (exception exceptions.not_found None) (printed_by [] 0))
 out_of_an_argument = refl
 
 -- a handler doesn't catch the end of the budget

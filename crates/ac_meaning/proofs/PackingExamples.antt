@@ -7,6 +7,7 @@ use Rattle.ac_terms.specs.Spelling.{two, value_bytes}
 use Rattle.std.specs.Prelude.{ℕ, zero, suc, pos, Bool, true, false, [], ◌∷◌, ◌++◌, length, take, Option, Some, None, is_none, codes, replicate, nat_lt}
 use Rattle.std.specs.Int.{int_wrap}
 use Rattle.std.specs.Fmt.{digits}
+use Rattle.ac_types.specs.Primitives as primitives
 use Rattle.ac_types.specs.Types.{Bytes, Typ, TInt, TStr, TBool, TUnit, TTuple, TList, TFun, typs}
 use Rattle.ac_types.specs.Words.{is_reserved}
 use Rattle.ac_terms.specs.Terms.{Main, In, Expr, Str, Unit', Var, Ref, Lam, App, Prim, Marshal, Unmarshal, Val, Evaluated, exprs, Value, VInt, VStr, VUnit, VTuple, VNil, VCons, VLam, VProxy, no_values, value, KInt, KStr, KFun, Present, KUnit}
@@ -33,10 +34,10 @@ abbrev pub a_mark : Bytes → Entry
 a_mark s = record { def = AMark s; name = None; seen = Own'; link = None }
 
 abbrev pub sent_of : Expr → Expr
-sent_of e = Prim 12 (exprs (e ∷ []))
+sent_of e = Prim primitives.send (exprs (e ∷ []))
 
 abbrev pub receive : Expr
-receive = Prim 13 (exprs (Unit' ∷ []))
+receive = Prim primitives.receive (exprs (Unit' ∷ []))
 
 -- `mark "StdLib" IO.send (marshal "StdLib" 5 : int)`: 17 bytes
 abbrev pub five_bytes : Bytes

@@ -1,5 +1,6 @@
 -- What the examples of the reduction speak of: terms, definitions and ends.
 use Rattle.std.specs.Prelude.{ℕ, pos, false, List, [], ◌∷◌, ◌++◌, map, Some, codes}
+use Rattle.ac_types.specs.Primitives as primitives
 use Rattle.ac_types.specs.Types.{Bytes, Typ, TInt, TAbs}
 use Rattle.ac_terms.specs.Terms.{PVar, PCons, PNil, Expr, Int, Str, Var, Rec, App, If, Seq, Match, Prim, Nil, Cons, exprs, arms, Value}
 use Rattle.ac_types.specs.Types.{TList, TFun}
@@ -42,10 +43,10 @@ abbrev pub equals : Expr → Expr → Expr
 equals a b = binary 6 a b
 
 abbrev pub print_int : Expr → Expr
-print_int e = Prim 10 (exprs (e ∷ []))
+print_int e = Prim primitives.print_int (exprs (e ∷ []))
 
 abbrev pub print : Bytes → Expr
-print s = Prim 11 (exprs (Str s ∷ []))
+print s = Prim primitives.print_string (exprs (Str s ∷ []))
 
 abbrev pub then' : Expr → Expr → Expr
 then' a b = Seq (exprs (a ∷ b ∷ []))

@@ -1,6 +1,7 @@
 -- The values that are rebuilt of packed values, computed: each kind of value, functions, and abstract types.
 use Rattle.std.proofs.Common.{◌≡◌, refl}
 use Rattle.std.specs.Prelude.{pos, true, [], ◌∷◌, ◌++◌, None, Some, codes}
+use Rattle.ac_types.specs.Exceptions as exceptions
 use Rattle.ac_types.specs.Types.{Typ, TInt, TBool, TStr, TUnit, TExn, TTuple, TList, TOpt, TFun, TAbs, typs}
 use Rattle.ac_types.specs.Sigs.{MyName, Exact, HereAlready}
 use Rattle.ac_terms.specs.Terms.{Home, Main, In, Var, Lam, Rec, App, Val, Evaluated, KInt, KBool, KStr, KUnit, KExn, KTuple, KList, KAbsent, KPresent, KFun, no_pvalues, pvalue, VInt, VBool, VStr, VUnit, VExn, VTuple, VNil, VCons, VAbsent, VPresent, VLam, VRec, VProxy, VSeal, no_values, value}
@@ -40,10 +41,10 @@ module _ (mode : Mode) (c : Home) where
   a_missing_option = refl
 
   -- an exception without and with a text
-  pub an_exception : rebuilt mode [] c TExn (KExn 1 None) ≡ VExn 1 None
+  pub an_exception : rebuilt mode [] c TExn (KExn exceptions.invalid_argument None) ≡ VExn exceptions.invalid_argument None
   an_exception = refl
 
-  pub an_exception_with_text : rebuilt mode [] c TExn (KExn 7 (Some (codes "mark"))) ≡ VExn 7 (Some (codes "mark"))
+  pub an_exception_with_text : rebuilt mode [] c TExn (KExn exceptions.marshal_failure (Some (codes "mark"))) ≡ VExn exceptions.marshal_failure (Some (codes "mark"))
   an_exception_with_text = refl
 
   -- a function is a proxy of its home, at the type of its position; what is captured is a value at its variable's type

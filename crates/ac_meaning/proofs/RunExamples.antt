@@ -3,6 +3,8 @@ use Rattle.std.proofs.Common.{◌≡◌, refl}
 use Rattle.std.specs.Int.{int_wrap}
 use Rattle.std.specs.Fmt.{digits}
 use Rattle.std.specs.Prelude.{pos, neg_ℤ, true, false, [], ◌∷◌, Some, None, codes}
+use Rattle.ac_types.specs.Exceptions as exceptions
+use Rattle.ac_types.specs.Primitives as primitives
 use Rattle.ac_types.specs.Types.{Bytes, TInt, TStr, TList, TFun}
 use Rattle.ac_terms.specs.Terms.{PWild, PVar, PInt, PStr, PTuple, PPresent, PAbsent, PExn, PExnOf, patterns, Expr, Int, Boolean, Str, Unit', Exn, ExnOf, Tuple, Present, Var, Lam, App, Let, If, Seq, Match, Try, Raise, Prim, exprs, arms, VInt, VStr, VUnit, VTuple, VNil, VCons, no_values, value}
 use Rattle.ac_rules.specs.Views.{Plain, Coloured}
@@ -13,10 +15,10 @@ use Rattle.ac_meaning.specs.Reduction.{step}
 use Rattle.ac_meaning.proofs.Programs.{after_steps, printed_by, number, plus, minus, over, modulo, print_int, print, then', countdown, total, numbers}
 
 abbrev division_by_zero : Exception
-division_by_zero = record { number = 3; text = None }
+division_by_zero = record { number = exceptions.division_by_zero; text = None }
 
 abbrev not_found : Exception
-not_found = record { number = 2; text = None }
+not_found = record { number = exceptions.not_found; text = None }
 
 -- functions, and the budget: with three applications the program ends, and with two it stops in front of the third
 pub three_applications : after_steps 60 Coloured (countdown 3) 3 ≡ Over (Returned VUnit (printed_by (codes "a" ∷ codes "0" ∷ []) 3))
@@ -80,28 +82,28 @@ no_arm = refl
 
 -- `IO.print_int (try 1 / 0 with Not_found -> 1 | Division_by_zero -> 2 end)`
 pub a_handler :
-    after_steps 9 Coloured (print_int (Try (over (number 1) (number 0)) (arms ((PExn 2, number 1) ∷ (PExn 3, number 2) ∷ [])))) 0 ≡
+    after_steps 9 Coloured (print_int (Try (over (number 1) (number 0)) (arms ((PExn exceptions.not_found, number 1) ∷ (PExn exceptions.division_by_zero, number 2) ∷ [])))) 0 ≡
     Over (Returned VUnit (printed_by (codes "2" ∷ []) 0))
 unfolding digits
 a_handler = refl
 
 -- the exception passes a handler in which no arm fits
 pub handled_further_out :
-    after_steps 9 Coloured (Try (Try (Raise TInt (Exn 2)) (arms ((PExn 3, number 1) ∷ []))) (arms ((PVar TInt, number 2) ∷ []))) 0 ≡
+    after_steps 9 Coloured (Try (Try (Raise TInt (Exn exceptions.not_found)) (arms ((PExn exceptions.division_by_zero, number 1) ∷ []))) (arms ((PVar TInt, number 2) ∷ []))) 0 ≡
     Over (Returned (VInt (pos 2)) (printed_by [] 0))
 handled_further_out = refl
 
-pub not_handled : after_steps 9 Coloured (Try (Raise TInt (Exn 2)) (arms ((PExn 3, number 1) ∷ []))) 0 ≡ Over (Raised not_found (printed_by [] 0))
+pub not_handled : after_steps 9 Coloured (Try (Raise TInt (Exn exceptions.not_found)) (arms ((PExn exceptions.division_by_zero, number 1) ∷ []))) 0 ≡ Over (Raised not_found (printed_by [] 0))
 not_handled = refl
 
 -- an arm that raises isn't handled by its own handler
 pub an_arm_raises :
-    after_steps 9 Coloured (Try (over (number 1) (number 0)) (arms ((PExn 3, Raise TInt (Exn 2)) ∷ (PExn 2, number 1) ∷ []))) 0 ≡ Over (Raised not_found (printed_by [] 0))
+    after_steps 9 Coloured (Try (over (number 1) (number 0)) (arms ((PExn exceptions.division_by_zero, Raise TInt (Exn exceptions.not_found)) ∷ (PExn exceptions.not_found, number 1) ∷ []))) 0 ≡ Over (Raised not_found (printed_by [] 0))
 an_arm_raises = refl
 
 -- the text of an exception is matched, and what was printed stays
 pub a_text_is_matched :
-    after_steps 20 Coloured (Try (then' (print (codes "x")) (Raise TStr (ExnOf 0 (Str (codes "why"))))) (arms ((PExnOf 0 (PStr (codes "no")), Str []) ∷ (PExnOf 0 (PVar TStr), Var 0) ∷ []))) 0 ≡
+    after_steps 20 Coloured (Try (then' (print (codes "x")) (Raise TStr (ExnOf exceptions.failure (Str (codes "why"))))) (arms ((PExnOf exceptions.failure (PStr (codes "no")), Str []) ∷ (PExnOf exceptions.failure (PVar TStr), Var 0) ∷ []))) 0 ≡
     Over (Returned (VStr (codes "why")) (printed_by (codes "x" ∷ []) 0))
 a_text_is_matched = refl
 
@@ -150,8 +152,8 @@ wraps_and_divides = refl
 
 -- `Str.sub ("abc", 1, 3)`
 pub past_the_end :
-    after_steps 9 Coloured (Prim 15 (exprs (Tuple (exprs (Str (codes "abc") ∷ number 1 ∷ number 3 ∷ [])) ∷ []))) 0 ≡
-    Over (Raised (record { number = 1; text = Some (codes "sub") }) (printed_by [] 0))
+    after_steps 9 Coloured (Prim primitives.sub_string (exprs (Tuple (exprs (Str (codes "abc") ∷ number 1 ∷ number 3 ∷ [])) ∷ []))) 0 ≡
+    Over (Raised (record { number = exceptions.invalid_argument; text = Some (codes "sub") }) (printed_by [] 0))
 past_the_end = refl
 
 -- terms for which no rule is: a number is no function, and a truth value is no number
@@ -163,10 +165,10 @@ no_number = refl
 
 -- sending and receiving
 abbrev receive : Expr
-receive = Prim 13 (exprs (Unit' ∷ []))
+receive = Prim primitives.receive (exprs (Unit' ∷ []))
 
 abbrev send : Bytes → Expr
-send s = Prim 12 (exprs (Str s ∷ []))
+send s = Prim primitives.send (exprs (Str s ∷ []))
 
 pub nowhere_to_send : after_steps 3 Coloured (send (codes "a")) 0 ≡ Over (Raised no_channel (printed_by [] 0))
 nowhere_to_send = refl
@@ -177,7 +179,7 @@ two_are_sent = refl
 
 -- over one frame and one byte more: the frame, and then the bad frame each time
 pub a_frame_and_a_bad_one :
-    iter (step Coloured 0) 20 (At (Tuple (exprs (receive ∷ Try receive (arms ((PExnOf 6 (PVar TStr), Var 0) ∷ [])) ∷ receive ∷ []))) (fresh [] (0 ∷ 0 ∷ 0 ∷ 2 ∷ 104 ∷ 105 ∷ 7 ∷ []) false)) ≡
+    iter (step Coloured 0) 20 (At (Tuple (exprs (receive ∷ Try receive (arms ((PExnOf exceptions.sys_error (PVar TStr), Var 0) ∷ [])) ∷ receive ∷ []))) (fresh [] (0 ∷ 0 ∷ 0 ∷ 2 ∷ 104 ∷ 105 ∷ 7 ∷ []) false)) ≡
     Over (Raised bad_frame (fresh [] (7 ∷ []) false))
 a_frame_and_a_bad_one = refl
 

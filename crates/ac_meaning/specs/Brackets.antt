@@ -1,6 +1,6 @@
 -- Brackets: how a value comes from one home to another.
 use Rattle.std.specs.Prelude.{◌&&◌, Bool, true, false, Option, Some, None, option_map, is_some, cond}
-use Rattle.ac_types.specs.Types.{Bytes, Typ, TInt, TBool, TStr, TUnit, TExn, TTuple, TList, TOpt, TFun, TAbs, Typs, no_types, typ, same_bytes}
+use Rattle.ac_types.specs.Types.{Bytes, Typ, TInt, TBool, TStr, TUnit, TExn, TTuple, TList, TOpt, TFun, TAbs, TMine, Typs, no_types, typ, same_bytes}
 use Rattle.ac_terms.specs.Terms.{Home, Expr, Tuple, Nil, Empty, Present, Cons, Evaluated, Bracket, Exprs, no_exprs, expr, Value, VInt, VBool, VStr, VUnit, VExn, VTuple, VNil, VCons, VAbsent, VPresent, VLam, VRec, VProxy, VSeal, Values, no_values, value}
 use Rattle.ac_terms.specs.Defs.{Environment}
 use Rattle.ac_rules.specs.Views.{Mode, opens, representation}
@@ -72,17 +72,25 @@ module _ (mode : Mode) (E : Environment) where
   abbrev pub bracket_step : Home → Home → Typ → Value → Act Expr Value
   -- a constant is the same in each home
   bracket_step b c TInt (VInt n) = Goes (Evaluated TInt (VInt n))
+  bracket_step b c TInt v = Wrong
   bracket_step b c TBool (VBool x) = Goes (Evaluated TBool (VBool x))
+  bracket_step b c TBool v = Wrong
   bracket_step b c TStr (VStr s) = Goes (Evaluated TStr (VStr s))
+  bracket_step b c TStr v = Wrong
   bracket_step b c TUnit VUnit = Goes (Evaluated TUnit VUnit)
+  bracket_step b c TUnit v = Wrong
   bracket_step b c TExn (VExn k s) = Goes (Evaluated TExn (VExn k s))
+  bracket_step b c TExn v = Wrong
   -- the bracket goes to each part
   bracket_step b c (TTuple Ts) (VTuple vs) = becomes (option_map Tuple (all_enclosed b Ts vs))
+  bracket_step b c (TTuple Ts) v = Wrong
   bracket_step b c (TList T) (VNil U) = Goes (Nil (TList T))
   bracket_step b c (TList T) (VCons v w) = Goes (Cons (enclosed b T v) (enclosed b (TList T) w))
+  bracket_step b c (TList T) v = Wrong
   bracket_step b c (TOpt T) (VAbsent U) = Goes (Empty (TOpt T))
   bracket_step b c (TOpt T) (VPresent v) = Goes (Present (enclosed b T v))
+  bracket_step b c (TOpt T) v = Wrong
   -- a function in a bracket is a proxy, which is a value
   bracket_step b c (TFun T U) v = cond (is_function_value v) (Is (VProxy b T U v)) Wrong
   bracket_step b c (TAbs n t) v = at_name b n t (representation E n t) v (opens mode E b n) (opens mode E c n)
-  bracket_step b c T v = Wrong
+  bracket_step b c (TMine t) v = Wrong

@@ -12,17 +12,27 @@ abbrev mutual
   fit PWild v ws = Some ws
   fit (PVar T) v ws = Some ((T, v) ∷ ws)
   fit (PInt n) (VInt k) ws = given (same_int n k) (Some ws)
+  fit (PInt n) v ws = None
   fit (PBool b) (VBool c) ws = given (same_bool b c) (Some ws)
+  fit (PBool b) v ws = None
   fit (PStr s) (VStr t) ws = given (same_bytes s t) (Some ws)
+  fit (PStr s) v ws = None
   fit PUnit VUnit ws = Some ws
+  fit PUnit v ws = None
   fit (PTuple ps) (VTuple vs) ws = fit_all ps vs ws
+  fit (PTuple ps) v ws = None
   fit PNil (VNil T) ws = Some ws
+  fit PNil v ws = None
   fit (PCons p q) (VCons v w) ws = option_and_then (fit q w) (fit p v ws)
+  fit (PCons p q) v ws = None
   fit PAbsent (VAbsent T) ws = Some ws
+  fit PAbsent v ws = None
   fit (PPresent p) (VPresent v) ws = fit p v ws
+  fit (PPresent p) v ws = None
   fit (PExn k) (VExn j None) ws = given (nat_eq k j) (Some ws)
+  fit (PExn k) v ws = None
   fit (PExnOf k p) (VExn j (Some s)) ws = given (nat_eq k j) (fit p (VStr s) ws)
-  fit p v ws = None
+  fit (PExnOf k p) v ws = None
 
   pub fit_all : Patterns → Values → Written → Option Written
   fit_all no_patterns no_values ws = Some ws

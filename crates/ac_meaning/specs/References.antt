@@ -31,9 +31,13 @@ pub data Route : Type 0 where
   Twice : ℕ → ℕ → Typ → Typ → Route
 
 abbrev pub through : Bool → Option (ℕ × ℕ) → Option Typ → Option Typ → Route
+through false None T S = Nowhere
+through false (Some p) None S = Nowhere
 through false (Some p) (Some T) S = Once p.0 p.1 T
+through true None T S = Nowhere
+through true (Some p) None S = Nowhere
+through true (Some p) (Some T) None = Nowhere
 through true (Some p) (Some T) (Some S) = Twice p.0 p.1 T S
-through twice p T S = Nowhere
 
 abbrev pub seen_inside : Environment → Bytes → ℕ × ℕ → Option Typ
 seen_inside E x p = option_map (view Coloured E (In p.0)) (value_in E p.0 x)

@@ -1,6 +1,7 @@
 -- Packets: one refused for each cause, in the order of the causes, and accepted ones, computed.
 use Rattle.std.proofs.Common.{◌≡◌, refl}
 use Rattle.std.specs.Prelude.{ℤ, pos, true, List, [], ◌∷◌, ◌++◌, Some, None, codes, replicate, unwrap_or}
+use Rattle.ac_types.specs.Primitives as primitives
 use Rattle.ac_types.specs.Types.{Bytes, Typ, TInt, TBool, TUnit, TTuple, TFun, TAbs, typs}
 use Rattle.ac_types.specs.Sigs.{Number, MyName}
 use Rattle.ac_terms.specs.Terms.{Main, Int, Tuple, Var, Own, Ref, Lam, Prim, exprs, KInt, KBool, KFun}
@@ -85,7 +86,7 @@ with_mark E = record { def = AMark (codes "MK"); name = None; seen = Own'; link 
 abbrev adds : ℤ → Module
 adds n = record abstract_module {
   fields =
-      record { name = codes "make"; ty = TFun TInt TInt; term = Lam TInt (Prim 0 (exprs (Var 0 ∷ Int n ∷ []))) } ∷
+      record { name = codes "make"; ty = TFun TInt TInt; term = Lam TInt (Prim primitives.add (exprs (Var 0 ∷ Int n ∷ []))) } ∷
       record { name = codes "get"; ty = TFun TInt TInt; term = Lam TInt (Var 0) } ∷ [];
 }
 

@@ -1,5 +1,6 @@
 -- Modules, imports and environments that the examples speak of.
 use Rattle.std.specs.Prelude.{pos, false, [], ◌∷◌, None, Some, codes}
+use Rattle.ac_types.specs.Primitives as primitives
 use Rattle.ac_types.specs.Types.{Bytes, Typ, TInt, TFun, TAbs, TMine}
 use Rattle.ac_types.specs.Sigs.{Signature, Number, MyName, One, From, Ranges, HereAlready, Uri}
 use Rattle.ac_terms.specs.Terms.{Expr, Int, Var, Own, Ref, Lam, App, Prim, exprs}
@@ -29,7 +30,7 @@ abstract_module = record {
   sig = abstract_sig;
   types = record { name = t; ty = TInt } ∷ [];
   fields =
-      record { name = codes "make"; ty = TFun TInt TInt; term = Lam TInt (Prim 0 (exprs (Var 0 ∷ Int (pos 1) ∷ []))) } ∷
+      record { name = codes "make"; ty = TFun TInt TInt; term = Lam TInt (Prim primitives.add (exprs (Var 0 ∷ Int (pos 1) ∷ []))) } ∷
       record { name = codes "get"; ty = TFun TInt TInt; term = Lam TInt (App (Own 0) (Var 0)) } ∷ [];
 }
 

@@ -1,6 +1,8 @@
 -- The types of terms, and terms without a type, computed.
 use Rattle.std.proofs.Common.{◌≡◌, refl}
 use Rattle.std.specs.Prelude.{ℕ, zero, suc, pos, true, false, [], ◌∷◌, Option, Some, None, codes}
+use Rattle.ac_types.specs.Exceptions as exceptions
+use Rattle.ac_types.specs.Primitives as primitives
 use Rattle.ac_types.specs.Types.{Typ, TInt, TBool, TStr, TUnit, TExn, TTuple, TList, TOpt, TFun, TAbs, typs}
 use Rattle.ac_terms.specs.Terms.{Main, In, PWild, PVar, PInt, PCons, PNil, PTuple, PExnOf, patterns, Expr, Int, Boolean, Str, Unit', Exn, ExnOf, Tuple, Nil, Empty, Present, Cons, Var, Own, Ref, Lam, Rec, App, Let, If, Seq, Match, Try, Raise, Prim, Marshal, Unmarshal, Val, Evaluated, Bracket, exprs, no_arms, arms, KInt, KFun, KExn, VInt, VSeal}
 use Rattle.ac_rules.specs.Views.{Plain, Coloured, view, bare, IsFirstOrder}
@@ -11,10 +13,10 @@ use Rattle.ac_rules.proofs.Samples.{c_name, t, c_t, one_entry, made}
 abbrev main_type : Expr → Option Typ
 main_type e = type_of Coloured false [] (all_of [] Main) e
 
-pub a_sum : main_type (Prim 0 (exprs (Int (pos 1) ∷ Int (pos 2) ∷ []))) ≡ Some TInt
+pub a_sum : main_type (Prim primitives.add (exprs (Int (pos 1) ∷ Int (pos 2) ∷ []))) ≡ Some TInt
 a_sum = refl
 
-pub no_sum : main_type (Prim 0 (exprs (Int (pos 1) ∷ Boolean true ∷ []))) ≡ None
+pub no_sum : main_type (Prim primitives.add (exprs (Int (pos 1) ∷ Boolean true ∷ []))) ≡ None
 no_sum = refl
 
 pub a_function : main_type (Lam TInt (Var 0)) ≡ Some (TFun TInt TInt)
@@ -27,7 +29,7 @@ pub no_application : main_type (App (Lam TInt (Var 0)) Unit') ≡ None
 no_application = refl
 
 pub a_recursion :
-    main_type (Rec TInt TInt (If (Prim 6 (exprs (Var 0 ∷ Int (pos 1) ∷ []))) (Int (pos 0)) (App (Var 1) (Prim 1 (exprs (Var 0 ∷ Int (pos 1) ∷ [])))))) ≡ Some (TFun TInt TInt)
+    main_type (Rec TInt TInt (If (Prim primitives.eq (exprs (Var 0 ∷ Int (pos 1) ∷ []))) (Int (pos 0)) (App (Var 1) (Prim primitives.sub (exprs (Var 0 ∷ Int (pos 1) ∷ [])))))) ≡ Some (TFun TInt TInt)
 a_recursion = refl
 
 pub a_shadowed_variable : main_type (Let TInt (Int (pos 1)) (Let TBool (Boolean true) (If (Var 0) (Var 1) (Int (pos 2))))) ≡ Some TInt
@@ -40,13 +42,13 @@ a_match = refl
 pub two_types_in_arms : main_type (Match (Int (pos 1)) (arms ((PInt (pos 1), Int (pos 0)) ∷ (PWild, Unit') ∷ []))) ≡ None
 two_types_in_arms = refl
 
-pub a_handler : main_type (Try (Raise TInt (Exn 3)) (arms ((PWild, Int (pos 0)) ∷ []))) ≡ Some TInt
+pub a_handler : main_type (Try (Raise TInt (Exn exceptions.division_by_zero)) (arms ((PWild, Int (pos 0)) ∷ []))) ≡ Some TInt
 a_handler = refl
 
 pub no_number_in_a_sequence : main_type (Seq (exprs (Int (pos 1) ∷ Unit' ∷ []))) ≡ None
 no_number_in_a_sequence = refl
 
-pub no_equation_of_functions : main_type (Prim 6 (exprs (Lam TInt (Var 0) ∷ Lam TInt (Var 0) ∷ []))) ≡ None
+pub no_equation_of_functions : main_type (Prim primitives.eq (exprs (Lam TInt (Var 0) ∷ Lam TInt (Var 0) ∷ []))) ≡ None
 no_equation_of_functions = refl
 
 pub a_marshal : main_type (Marshal TInt (Str (codes "MK")) (Int (pos 5))) ≡ Some TStr
@@ -68,16 +70,16 @@ no_own_field_in_main = refl
 pub no_entry : main_type (Ref 0 (codes "y")) ≡ None
 no_entry = refl
 
-pub no_text_for_not_found : main_type (ExnOf 2 (Str (codes "s"))) ≡ None
+pub no_text_for_not_found : main_type (ExnOf exceptions.not_found (Str (codes "s"))) ≡ None
 no_text_for_not_found = refl
 
-pub no_failure_without_text : main_type (Exn 0) ≡ None
+pub no_failure_without_text : main_type (Exn exceptions.failure) ≡ None
 no_failure_without_text = refl
 
-pub no_failure_of_a_number : main_type (ExnOf 0 (Int (pos 1))) ≡ None
+pub no_failure_of_a_number : main_type (ExnOf exceptions.failure (Int (pos 1))) ≡ None
 no_failure_of_a_number = refl
 
-pub an_exception : main_type (ExnOf 0 (Str (codes "s"))) ≡ Some TExn
+pub an_exception : main_type (ExnOf exceptions.failure (Str (codes "s"))) ≡ Some TExn
 an_exception = refl
 
 pub no_nil_of_int : main_type (Nil TInt) ≡ None
@@ -113,13 +115,13 @@ no_pattern_of_another_type = refl
 pub no_handler_of_another_type : main_type (Try Unit' (arms ((PWild, Int (pos 1)) ∷ []))) ≡ None
 no_handler_of_another_type = refl
 
-pub a_handler_with_text : main_type (Try (Str []) (arms ((PExnOf 0 (PVar TStr), Var 0) ∷ []))) ≡ Some TStr
+pub a_handler_with_text : main_type (Try (Str []) (arms ((PExnOf exceptions.failure (PVar TStr), Var 0) ∷ []))) ≡ Some TStr
 a_handler_with_text = refl
 
 pub no_raise_of_a_number : main_type (Raise TInt (Int (pos 1))) ≡ None
 no_raise_of_a_number = refl
 
-pub no_primitive_of_one_too_few : main_type (Prim 0 (exprs (Int (pos 1) ∷ []))) ≡ None
+pub no_primitive_of_one_too_few : main_type (Prim primitives.add (exprs (Int (pos 1) ∷ []))) ≡ None
 no_primitive_of_one_too_few = refl
 
 pub no_mark_of_a_number : main_type (Marshal TInt (Int (pos 1)) (Int (pos 5))) ≡ None
@@ -134,7 +136,7 @@ no_unmarshal_of_a_number = refl
 pub no_packed_value_of_another_type : main_type (Val TBool (KInt (pos 5))) ≡ None
 no_packed_value_of_another_type = refl
 
-pub no_exception_value_without_its_text : main_type (Val TExn (KExn 0 None)) ≡ None
+pub no_exception_value_without_its_text : main_type (Val TExn (KExn exceptions.failure None)) ≡ None
 no_exception_value_without_its_text = refl
 
 -- a type that mentions an unknown name is no type of a term, nor is a home that is not there
@@ -183,10 +185,10 @@ abstract_outside = refl
 pub back_to_int : type_of Coloured false one_entry (all_of one_entry Main) (App (Ref 0 (codes "get")) made) ≡ Some TInt
 back_to_int = refl
 
-pub no_sum_of_abstract : type_of Coloured false one_entry (all_of one_entry Main) (Prim 0 (exprs (made ∷ Int (pos 1) ∷ []))) ≡ None
+pub no_sum_of_abstract : type_of Coloured false one_entry (all_of one_entry Main) (Prim primitives.add (exprs (made ∷ Int (pos 1) ∷ []))) ≡ None
 no_sum_of_abstract = refl
 
-pub a_sum_in_plain_mode : type_of Plain false one_entry (all_of one_entry Main) (Prim 0 (exprs (made ∷ Int (pos 1) ∷ []))) ≡ Some TInt
+pub a_sum_in_plain_mode : type_of Plain false one_entry (all_of one_entry Main) (Prim primitives.add (exprs (made ∷ Int (pos 1) ∷ []))) ≡ Some TInt
 a_sum_in_plain_mode = refl
 
 pub second_field : HasType Coloured one_entry (of_field 0 1) (Lam TInt (App (Own 0) (Var 0))) (TFun TInt TInt)

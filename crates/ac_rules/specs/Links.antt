@@ -98,15 +98,18 @@ last_below test (suc k) = elim (test k) [ true ↦ Some k | false ↦ last_below
 -- the kinds of entries among which an import looks
 abbrev pub is_own : Seen → Bool
 is_own Own' = true
-is_own s = false
+is_own (Shelf u) = false
+is_own Arrived = false
 
 abbrev pub has_arrived : Seen → Bool
+has_arrived Own' = false
+has_arrived (Shelf u) = false
 has_arrived Arrived = true
-has_arrived s = false
 
 abbrev pub has_uri : Bytes → Seen → Bool
+has_uri u Own' = false
 has_uri u (Shelf v) = same_bytes u v
-has_uri u s = false
+has_uri u Arrived = false
 
 -- the latest entry of a kind that the import may link to
 abbrev pub latest : (Seen → Bool) → Environment → Import → Option ℕ

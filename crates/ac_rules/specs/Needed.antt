@@ -18,8 +18,9 @@ mark_at E t = position (is_mark t) E
 
 -- where a cut module is looked for after what is there
 abbrev pub uri_atoms : Seen → List Resolve
+uri_atoms Own' = []
 uri_atoms (Shelf u) = Uri u ∷ []
-uri_atoms s = []
+uri_atoms Arrived = []
 
 -- a module before the mark is cut to an import by its exact name, by what is there and then by its URI
 abbrev pub cut : Module → Bytes → Seen → Def

@@ -41,8 +41,9 @@ same_def d c = same_bytes (wide_bytes d) (wide_bytes c)
 -- two links are equal
 abbrev pub same_link : Option ℕ → Option ℕ → Bool
 same_link None None = true
+same_link None (Some j) = false
+same_link (Some i) None = false
 same_link (Some i) (Some j) = nat_eq i j
-same_link a b = false
 
 -- the least entry that equals a definition, in definition and in link
 abbrev pub find_def : Environment → Def → Option ℕ → Option ℕ
@@ -117,12 +118,14 @@ module _ (digest : Bytes → Bytes) where
 
   -- 2: the first definition with the name of an entry or an earlier definition that has another text, and the least such; the packet's definitions are counted after the entries
   abbrev pub differ : Option Bytes → Option Bytes → Bool
+  differ None b = false
+  differ (Some s) None = false
   differ (Some s) (Some t) = not (same_bytes s t)
-  differ a b = false
 
   abbrev pub alike : Option Bytes → Option Bytes → Bool
+  alike None b = false
+  alike (Some m) None = false
   alike (Some m) (Some n) = same_bytes m n
-  alike a b = false
 
   -- the names and texts of the entries
   abbrev pub Named : Type 0

@@ -14,8 +14,9 @@ both_same None b = None
 both_same (Some T) b = given (has b T) (Some T)
 
 abbrev pub also : Option Typ → Option Typs → Option Typs
+also None b = None
+also (Some T) None = None
 also (Some T) (Some Ts) = Some (typ T Ts)
-also a b = None
 
 -- the last type, where all before it are unit
 abbrev pub last_of : Typs → Option Typ

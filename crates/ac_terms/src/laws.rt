@@ -24,5 +24,6 @@ pub fn heads_are_the_spelling()
     ensures bytes { (T : Typ) (v : PValue) → flat_map (λ (h : Head). h.bytes)
         (packed_heads T v) ≡ type_bytes T ++ value_bytes two v }
     ensures nesting { (T : Typ) (v : PValue) (k : ℕ) →
-        list_all (λ (h : Head). nat_le h.nesting k) (packed_heads T v) ≡ nat_le (value_nesting v) k }
+        list_all (λ (h : Head). nat_le h.nesting k) (packed_heads T v) ≡
+        nat_le (value_nesting v) k }
 {}
