@@ -8,6 +8,7 @@ ghost use Rattle.ac_outside.specs.FrameReaders.{Keeps, Follows, Receives, IsPart
 use crate::filling::{Fill, fill_to};
 use crate::traits::Source;
 use ac_types::Text;
+use ac_types::limits::LONGEST_FRAME;
 use std::alloc::Global;
 use std::marker::Model;
 use std::mem;
@@ -19,7 +20,7 @@ pub enum FrameGot {
     Frame(Text),
     /// No byte was left, and none of a frame was kept.
     End,
-    /// There is no frame: its length is above 1,048,576, or the bytes end early.
+    /// There is no frame: its length is above `LONGEST_FRAME`, or the bytes end early.
     Bad {
         /// The length, 0 where its four bytes aren't whole.
         length: u32,
@@ -66,9 +67,6 @@ enum Stop {
     Bad { length: u32, got: u32 },
     Memory,
 }
-
-// The most bytes that a frame has behind its length.
-const LONGEST: u32 = 1048576;
 
 impl Frames {
     /// A reader that has taken nothing. It takes no memory.
@@ -177,7 +175,7 @@ fn read_body<S: Source>(alloc: Global, part: &mut Part, source: &mut S) -> Frame
     ensures passes { S.passes source.old source.new }
 {
     let length = length_in(part.head.as_slice());
-    if length > LONGEST {
+    if length > LONGEST_FRAME {
         return FrameGot::Bad { length, got: 4 };
     }
     match fill_to(&mut part.body, source, length as usize) {

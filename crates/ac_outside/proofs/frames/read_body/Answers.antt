@@ -6,8 +6,8 @@ use Rattle.ac_outside.specs.Frames.{Whole}
 use Rattle.ac_outside.proofs.ReaderLaws.{over_goes, whole_gives, early_goes}
 use Rattle.ac_outside.proofs.frames.read_body.Goals as goal
 
-pub returns-then-length-gt-LONGEST-clause-goes : goal.returns-then-length-gt-LONGEST-clause-goes
-returns-then-length-gt-LONGEST-clause-goes g c =
+pub returns-then-length-gt-LONGEST_FRAME-clause-goes : goal.returns-then-length-gt-LONGEST_FRAME-clause-goes
+returns-then-length-gt-LONGEST_FRAME-clause-goes g c =
     let is : c.length_in-length.result ≡ from_be_bytes w32 c.args.part.now.head.0 = c.length_in-length.ensures ∙ ap (λ (h : Bytes). from_be_bytes w32 h) c.as_slice.ensures in
     let over : longest_frame < c.length_in-length.result = omega arith in
     over_goes c.args.part.now.head.0 c.args.part.now.body.0 c.args.part.now.body.0 _ c.requires.head is over
