@@ -3,7 +3,7 @@ use Rattle.ac_machine.specs.States.{Run}
 use Rattle.ac_machine.specs.Resumes.{At}
 use Rattle.ac_machine.specs.Held.{core, Sound}
 use Rattle.ac_machine.specs.Seen.{standing}
-use Rattle.ac_machine.proofs.tests.run.Given as goal
+use Rattle.ac_machine_table.proofs.going.run.Given as goal
 
 abbrev pub invariant-loop : goal.invariant-loop
 invariant-loop l = record {

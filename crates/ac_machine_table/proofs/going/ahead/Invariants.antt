@@ -4,7 +4,7 @@ use Rattle.ac_machine.specs.States.{Run}
 use Rattle.ac_machine.specs.Resumes.{At}
 use Rattle.ac_machine.specs.Held.{core, Sound}
 use Rattle.ac_machine.specs.Runs.{Reaches}
-use Rattle.ac_machine.proofs.tests.ahead.Given as goal
+use Rattle.ac_machine_table.proofs.going.ahead.Given as goal
 
 abbrev pub invariant-loop : goal.invariant-loop
 invariant-loop l = record {

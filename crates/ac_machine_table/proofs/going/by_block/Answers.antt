@@ -5,8 +5,8 @@ use Rattle.ac_machine.specs.Resumes.{with_block}
 use Rattle.ac_machine.specs.Held.{core}
 use Rattle.ac_machine.specs.Seen.{standing}
 use Rattle.ac_machine.specs.inner.Steps.{entering}
-use Rattle.ac_machine.proofs.AheadLaws.{on_only, answered_at}
-use Rattle.ac_machine.proofs.tests.by_block.Goals as goal
+use Rattle.ac_machine_table.proofs.AheadLaws.{on_only, answered_at}
+use Rattle.ac_machine_table.proofs.going.by_block.Goals as goal
 
 pub returns : goal.returns
 returns c =

@@ -10,11 +10,11 @@ use Rattle.ac_machine.specs.declared.pause.Pause.{Pause}
 use Rattle.ac_machine.specs.declared.pause.Pause.TheVariants as answers
 use Rattle.ac_machine.specs.States.{Core, Ask, MState, Run, Paused, Stuck, state_given}
 use Rattle.ac_machine.specs.Machine.{exec, after}
-use Rattle.ac_machine.specs.Resumes.{Wait, Standing, At, Waits, paused_at, awaits, resumed}
+use Rattle.ac_machine.specs.Resumes.{Wait, Standing, At, Waits, paused_at, resumed}
 use Rattle.ac_machine.specs.Held.{core}
 use Rattle.ac_machine.specs.Seen.{MachineSeen, standing, ask_of}
 use Rattle.ac_machine.specs.inner.Steps.{Does, Goes, StopsThere}
-use Rattle.ac_machine.specs.Runs.{IsPaused, Pauses, Reaches, Stopped, Went}
+use Rattle.ac_machine.specs.Runs.{Pauses, Reaches, Stopped, Went}
 use Rattle.ac_machine.proofs.RunLaws.{reaches_next, after_plus}
 
 -- each pause but want of memory asks for something
@@ -39,11 +39,7 @@ on_only m On c d = d
 on_only m (Pausing p) c d = let g : StopsThere m p (Run c) = d in absurd (not_on (ask_of m.store p) c (core m) g.is)
 on_only m Wrong c d = let e : Run c ≡ Stuck = d in absurd (cc)
 
--- a machine that waits takes an answer
-pub takes_it : (takes : Wait → Bool) (s : Standing) (w : Wait) (c : Core) → takes w ≡ true → s ≡ Waits w c → awaits takes s ≡ true
-takes_it takes s w c h e = ap (awaits takes) e ∙ h
-
--- and stands at the state that the answer makes
+-- a machine that waits stands, once answered, at the state that the answer makes
 pub answered_at : (f : Core → MState) (s t : Standing) (w : Wait) (c : Core) (x : MState) → s ≡ Waits w c → t ≡ resumed f s → f c ≡ x → t ≡ At x
 answered_at f s t w c x e g h = g ∙ ap (resumed f) e ∙ ap At h
 
@@ -69,10 +65,7 @@ module _ (E : Environment) (K : Code) where
       let e : j + k ≡ k + j = omega arith in
       sym (after_paused k a c) ∙ ap (after E K k) (sym p.1) ∙ sym (after_plus E K j k s) ∙ ap (λ n. after E K n s) e ∙ after_plus E K k j s ∙ ap (after E K j) q.1 ∙ after_paused j b d
 
-  -- a machine in a state from which an engine has come to a pause comes to one
-  pub pauses_there : (t : Standing) (s : MState) (c : Core) → t ≡ At s → (a : Ask) × Reaches E K (At s) (Paused a c) → Pauses E K t
-  pauses_there t s c e r = subst (Pauses E K) (sym e) (r.1.0, subst IsPaused (sym r.1.1) tt)
-
+  -- a machine that has stopped is at a pause
   pub pauses_here : (t : Standing) → (a : Ask) × (c : Core) × (t ≡ At (Paused a c)) → Pauses E K t
   unfolding after
   pauses_here t h = subst (Pauses E K) (sym h.2) (0, tt)

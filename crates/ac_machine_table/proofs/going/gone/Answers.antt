@@ -1,7 +1,7 @@
 use Rattle.ac_terms.specs.Read.{environment_of}
 use Rattle.ac_code.specs.ReadCode.{code_of}
-use Rattle.ac_machine.proofs.AheadLaws.{alike}
-use Rattle.ac_machine.proofs.tests.gone.Goals as goal
+use Rattle.ac_machine_table.proofs.AheadLaws.{alike}
+use Rattle.ac_machine_table.proofs.going.gone.Goals as goal
 
 pub returns-clause-alike : goal.returns-clause-alike
 returns-clause-alike c =

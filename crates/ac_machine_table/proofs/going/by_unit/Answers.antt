@@ -3,8 +3,8 @@ use Rattle.ac_machine.specs.States.{Run, push_value}
 use Rattle.ac_machine.specs.Resumes.{with_unit}
 use Rattle.ac_machine.specs.Held.{core}
 use Rattle.ac_machine.specs.Seen.{standing}
-use Rattle.ac_machine.proofs.AheadLaws.{on_only, answered_at}
-use Rattle.ac_machine.proofs.tests.by_unit.Goals as goal
+use Rattle.ac_machine_table.proofs.AheadLaws.{on_only, answered_at}
+use Rattle.ac_machine_table.proofs.going.by_unit.Goals as goal
 
 pub returns : goal.returns
 returns c =

@@ -4,8 +4,8 @@ use Rattle.ac_code.specs.ReadCode.{code_of}
 use Rattle.ac_machine.specs.States.{Run}
 use Rattle.ac_machine.specs.Held.{core}
 use Rattle.ac_machine.proofs.RunLaws.{reaches_none}
-use Rattle.ac_machine.proofs.AheadLaws.{on_there, ends_there}
-use Rattle.ac_machine.proofs.tests.ahead.Goals as goal
+use Rattle.ac_machine_table.proofs.AheadLaws.{on_there, ends_there}
+use Rattle.ac_machine_table.proofs.going.ahead.Goals as goal
 
 pub loop-init : goal.loop-init
 loop-init c = record { sound = c.requires; reaches = reaches_none (environment_of c.args.env.now) (code_of c.args.table.now) (Run (core c.args.engine.now)) }
