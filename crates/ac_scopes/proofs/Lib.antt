@@ -1,0 +1,12 @@
+mod References
+pub mod AddedEntries
+mod Samples
+mod HidingExamples
+mod OwnTypeExamples
+mod OutsideExamples
+mod ImportExamples
+mod StandardExamples
+mod RepeatedExamples
+mod ShelfExamples
+mod CountExamples
+mod ProgramExamples

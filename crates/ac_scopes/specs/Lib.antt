@@ -1,0 +1,10 @@
+pub mod Standard
+pub mod Scopes
+pub mod Written
+pub mod Definitions
+pub mod Searches
+pub mod Unbound
+pub mod Repeated
+pub mod Counts
+pub mod Surfaces
+pub mod Added
