@@ -82,27 +82,27 @@ module _ (E : Environment) (coherent : IsCoherent E) where
   abbrev pub Flat : Typ → Type 0
   Flat T = has_function (view Plain E Home.Main T) ≡ false
 
-  or_left : (a b : Bool) → (a || b) ≡ false → a ≡ false
+  pub or_left : (a b : Bool) → (a || b) ≡ false → a ≡ false
   or_left true b h = h
   or_left false b h = refl
 
-  or_right : (a b : Bool) → (a || b) ≡ false → b ≡ false
+  pub or_right : (a b : Bool) → (a || b) ≡ false → b ≡ false
   or_right true b h = absurd (true≢false h)
   or_right false b h = h
 
-  abbrev AllFlat : Typs → Type 0
+  abbrev pub AllFlat : Typs → Type 0
   AllFlat Ts = have_function (all_seen E Plain Home.Main Ts) ≡ false
 
-  flat_tuple : (Ts : Typs) → Flat (TTuple Ts) → AllFlat Ts
+  pub flat_tuple : (Ts : Typs) → Flat (TTuple Ts) → AllFlat Ts
   flat_tuple Ts h = sym (ap has_function (seen_tuple E Plain Home.Main Ts)) ∙ h
 
-  flat_list : (T : Typ) → Flat (TList T) → Flat T
+  pub flat_list : (T : Typ) → Flat (TList T) → Flat T
   flat_list T h = sym (ap has_function (seen_list E Plain Home.Main T)) ∙ h
 
-  flat_opt : (T : Typ) → Flat (TOpt T) → Flat T
+  pub flat_opt : (T : Typ) → Flat (TOpt T) → Flat T
   flat_opt T h = sym (ap has_function (seen_opt E Plain Home.Main T)) ∙ h
 
-  flat_fun : (T U : Typ) → Flat (TFun T U) → ⊥
+  pub flat_fun : (T U : Typ) → Flat (TFun T U) → ⊥
   flat_fun T U h = true≢false (sym (ap has_function (seen_fun E Plain Home.Main T U)) ∙ h)
 
   -- what a home sees of it is first-order too
