@@ -1,8 +1,9 @@
 //! Runs the programs that its input names, and prints what each printed and how it ended.
 //!
-//! A line of input is the name of a file, a space and a budget of applications. Behind the line
-//! stands what the program printed, a `|` at its front and behind each of its line feeds, and then
-//! how the program ended, with the status of `acute`.
+//! A line of input is the name of a file, a space and a budget of applications; or a budget, a
+//! colon, a space and the text of a program. Behind the line stands what the program printed, a `|`
+//! at its front and behind each of its line feeds, and then how the program ended, or why it is
+//! refused, with the status of `acute`.
 #![tactic(auto)]
 
 ghost use Rattle.ac_types.specs.ReadTypes.{typ_of};
@@ -17,7 +18,7 @@ use ac_page::Page;
 use ac_rules::Loaded;
 use ac_run::{RunEnd, Session};
 use ac_types::{Memory, Text};
-use listing::{write_exception, write_printed};
+use listing::{write_exception, write_printed, write_refusal};
 use std::alloc::Global;
 use std::fs;
 use std::io::{self, Write};
@@ -71,21 +72,28 @@ fn listing_of(alloc: Global, text: &[u8], steps: u64) -> Page {
     let mut listing = Page::new(alloc);
     match load(alloc, text, &Shelf::empty(alloc)) {
         Ok(loaded) => write_run(alloc, &mut listing, loaded, steps),
-        Err(_) => listing.put(b"refused, status 1\n"),
+        Err(refusal) => write_refusal(&mut listing, refusal.kind),
     }
     listing
+}
+
+fn number_in(word: &str) -> u64 {
+    u64::from(word.parse::<u32>().unwrap_or(0))
+}
+
+fn listing_of_line(rt: &HostRuntime, line: &str) -> io::Result<Page> {
+    if let Some((steps, text)) = line.split_once(": ") {
+        return Ok(listing_of(rt.alloc(), text.as_bytes(), number_in(steps)));
+    }
+    let (name, steps) = line.split_once(' ').unwrap_or((line, "0"));
+    let text = fs::read(rt, name)?;
+    Ok(listing_of(rt.alloc(), &text, number_in(steps)))
 }
 
 fn main(rt: HostRuntime) -> io::Result<()> {
     for line in rt.lines(rt.alloc()) {
         let line = line?;
-        let (name, steps) = line
-            .as_str()
-            .split_once(' ')
-            .unwrap_or((line.as_str(), "0"));
-        let steps = u64::from(steps.parse::<u32>().unwrap_or(0));
-        let text = fs::read(&rt, name)?;
-        let listing = listing_of(rt.alloc(), &text, steps);
+        let listing = listing_of_line(&rt, line.as_str())?;
         println!(rt; "{line}")?;
         rt.stdout()
             .write_all(listing.bytes().unwrap_or(b"out of memory\n"))?;

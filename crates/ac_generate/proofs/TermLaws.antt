@@ -20,7 +20,7 @@ use Rattle.ac_terms.specs.Spelling.{term_count, value_count}
 use Rattle.ac_generate.specs.inner.Drafts.{Draft, wrote_value}
 use Rattle.ac_generate.proofs.FormLaws.{typ_of-Fun, term_forms, value_forms, scope_forms, expr_of-Lam, expr_of-Rec}
 use Rattle.ac_generate.proofs.DraftLaws as draft
-use Rattle.ac_generate.proofs.JumpLaws.{wrote_no_arms, wrote_more_arms, arm_address, after_arm, wrote_one_arm}
+use Rattle.ac_generate.proofs.JumpLaws.{wrote_no_arms, wrote_more_arms, arm_address, after_arm}
 
 pub count_terms : (ts : List Term) → term_count (exprs (map expr_of ts)) ≡ length ts
 count_terms [] = refl

@@ -1,5 +1,5 @@
 -- What the writing of instructions needs of lists.
-use Rattle.std.proofs.Common.{◌≡◌, ℕ, zero, suc, List, [], ◌∷◌, ◌++◌, ◌+◌, map, reverse, replicate, refl, sym, ap, ◌∙◌}
+use Rattle.std.proofs.Common.{◌≡◌, ℕ, suc, List, [], ◌∷◌, ◌++◌, ◌+◌, map, reverse, replicate, refl, sym, ap, ◌∙◌}
 use Rattle.std.proofs.lemmas.Grind.{common_steps}
 use Rattle.std.proofs.lemmas.List.{append-nil, append_assoc, map-append, map-set, set_past, reverse-append, reverse-reverse, replicate-append-replicate}
 use Rattle.ac_code.specs.Code as instr

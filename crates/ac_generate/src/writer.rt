@@ -1,6 +1,6 @@
 // A block that is being written, and the blocks that are finished.
 
-ghost use Rattle.std.specs.Prelude.{◌≡◌, ◌+◌, ◌++◌, ◌∷◌, [], length, map, set, replicate, OnOk, IfOk, option_map};
+ghost use Rattle.std.specs.Prelude.{◌≡◌, ◌+◌, ◌++◌, ◌∷◌, [], map, set, replicate, OnOk, IfOk, option_map};
 ghost use Rattle.ac_terms.specs.Terms.{KExn};
 ghost use Rattle.ac_types.specs.ReadTypes.{typ_of};
 ghost use Rattle.ac_terms.specs.Read.{home_of, expr_of, pattern_of, bytes_of};

@@ -1,4 +1,3 @@
-pub mod AheadLaws
 pub mod BindLaws
 pub mod CallLaws
 pub mod EachLaws

@@ -63,4 +63,6 @@ fits_div (negsuc a) (negsuc (suc b)) h n =
     let l : suc a / suc (suc b) < suc a = div-lt_self (omega arith) (omega arith) in
     omega arith
 
+pub ruleset part_laws = (part_three, part_other)
+
 pub ruleset operator_laws = (wraps, common_steps)

@@ -32,9 +32,6 @@ stands_at code_stand.Stand.Done c = At (Paused AskDone c)
 stands_at (code_stand.Stand.Raised e) c = At (Paused (AskRaised e.number (option_map bytes_of e.text)) c)
 stands_at code_stand.Stand.Spent c = At (Paused AskSpent c)
 
-abbrev pub core_of_machine : MachineSeen → Core
-core_of_machine m = core m.engine
-
 -- what the machine stands at
 abbrev pub standing : MachineSeen → Standing
 standing m = stands_at m.stand (core m.engine)

@@ -1,6 +1,6 @@
-// The machine by the numbers of its values, lists, frames and handlers.
+//! The machine by the numbers of its values, lists, frames and handlers.
 
-ghost use Rattle.std.specs.Prelude.{◌≡◌, ◌<◌, length, get_or, IfOk, MatchOption, None, Some};
+ghost use Rattle.std.specs.Prelude.{◌≡◌, ◌<◌, length, IfOk, MatchOption, None, Some};
 ghost use Rattle.ac_values.specs.Below.{Below};
 ghost use Rattle.ac_values.specs.Values.{values, node_value, stands_as};
 ghost use Rattle.ac_machine.specs.States.{Run, push_value, beginning};
@@ -49,8 +49,11 @@ pub struct Position {
 /// What an instruction comes to.
 #[derive(Drop)]
 pub enum Step {
+    /// The machine goes on.
     On,
+    /// It has come to a pause.
     Pausing(Pause),
+    /// An operand is missing or of the wrong kind.
     Wrong,
 }
 

@@ -1,13 +1,13 @@
 // The values of fields, which are computed at most once.
 
 ghost use Rattle.ac_terms.specs.Defs.{module_behind, field_number};
-ghost use Rattle.std.specs.Prelude.{◌≡◌, ◌<◌, length, option_map, map, IfOk, OnOk, MatchOption, Some, None, true, false, slice_get, get_or, cond, nat_eq, ℕ, position};
-ghost use Rattle.ac_types.specs.Types.{Bytes, same_bytes};
+ghost use Rattle.std.specs.Prelude.{◌≡◌, ◌<◌, length, option_map, IfOk, OnOk, MatchOption, Some, None, true, get_or, cond, nat_eq, ℕ, position};
+ghost use Rattle.ac_types.specs.Types.{same_bytes};
 ghost use Rattle.ac_terms.specs.Read.{environment_of, home_of, def_of_code, entry_of};
 ghost use Rattle.ac_code.specs.Code.{module_fields};
 ghost use Rattle.ac_code.specs.ReadCode.{code_of, block_id};
 ghost use Rattle.ac_values.specs.Values.{stands_as};
-ghost use Rattle.ac_machine.specs.States.{Run, keeping};
+ghost use Rattle.ac_machine.specs.States.{keeping};
 ghost use Rattle.ac_machine.specs.Fields.{block_of_own, ref_block};
 ghost use Rattle.ac_machine.specs.Machine.{pushes_field};
 ghost use Rattle.ac_machine.specs.Held.{core, Sound};

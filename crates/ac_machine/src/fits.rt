@@ -1,8 +1,8 @@
 // Which values a pattern fits.
 
-ghost use Rattle.std.specs.Prelude.{◌≡◌, ◌<◌, length, IfOk, Option, map};
+ghost use Rattle.std.specs.Prelude.{◌<◌, length, IfOk, map};
 ghost use Rattle.std.specs.List.{All};
-ghost use Rattle.ac_terms.specs.Terms.{PInt, PBool, PStr, PUnit, PNil, PAbsent, PExn, patterns};
+ghost use Rattle.ac_terms.specs.Terms.{PInt, PBool, PStr, PExn, patterns};
 ghost use Rattle.ac_terms.specs.Read.{pattern_of};
 ghost use Rattle.ac_values.specs.Values.{stands_as, values, values_at};
 ghost use Rattle.ac_values.specs.Fits.{bound, all_bound, Fitted, Tested};

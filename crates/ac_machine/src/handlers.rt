@@ -1,9 +1,9 @@
 // Handlers and raised exceptions.
 
-ghost use Rattle.std.specs.Prelude.{◌≡◌, ◌<◌, length, IfOk, MatchOption, option_map, ◌∷◌, get_or, []};
+ghost use Rattle.std.specs.Prelude.{◌≡◌, ◌<◌, length, IfOk, MatchOption, option_map};
 ghost use Rattle.std.specs.Option.{option_copied};
 ghost use Rattle.ac_terms.specs.Read.{bytes_of};
-ghost use Rattle.ac_values.specs.Values.{stands_as, values};
+ghost use Rattle.ac_values.specs.Values.{stands_as};
 ghost use Rattle.ac_machine.specs.States.{Run};
 ghost use Rattle.ac_machine.specs.Machine.{tries, ends_try, raises, raising, exn_value, exn_in};
 ghost use Rattle.ac_machine.specs.Held.{core, Sound, IsHandler};

@@ -1,6 +1,6 @@
 // Jumps, and tests of patterns.
 
-ghost use Rattle.std.specs.Prelude.{◌≡◌, ◌<◌, length, IfOk, OnOk};
+ghost use Rattle.std.specs.Prelude.{◌<◌, length, IfOk, OnOk};
 ghost use Rattle.std.specs.List.{All};
 ghost use Rattle.ac_values.specs.Fits.{environment_with};
 ghost use Rattle.ac_machine.specs.States.{Run};
@@ -70,8 +70,9 @@ impl Engine {
     fn bind_all(&mut self, found: &[Value]) -> Result<(), Memory>
         requires sound { Sound self.old }
         requires within { All (λ v. v.0 < length self.old.store) found.now }
-        ensures { OnOk result (Goes self.new (Run
-            (record (core self.old) { env = environment_with self.old.store found.now (core self.old).env }))) }
+        ensures { OnOk result (Goes self.new (Run (record (core self.old) {
+          env = environment_with self.old.store found.now (core self.old).env;
+        }))) }
     {
         for value in found {
             let value = *value;

@@ -2,7 +2,7 @@
 #![tactic(auto)]
 
 mod calls;
-mod engine;
+pub mod engine;
 mod fields;
 mod fits;
 mod handlers;
@@ -14,8 +14,6 @@ mod packing;
 mod pause;
 mod primitive;
 mod step;
-#[cfg(test)]
-mod tests;
 mod variables;
 
 pub use machine::Machine;

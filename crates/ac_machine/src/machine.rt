@@ -1,6 +1,6 @@
 // The machine as callers have it.
 
-ghost use Rattle.std.specs.Prelude.{◌≡◌, false, true, None, Some, option_map, ◌<◌, length, IfOk, OnOk, OnErr, MatchOption, List};
+ghost use Rattle.std.specs.Prelude.{◌≡◌, false, true, option_map, ◌<◌, length, IfOk, OnOk, OnErr, MatchOption, List};
 ghost use Rattle.ac_terms.specs.Read.{environment_of, bytes_of};
 ghost use Rattle.ac_code.specs.ReadCode.{code_of};
 ghost use Rattle.ac_values.specs.declared.node.Node.{Node};

@@ -1,15 +1,16 @@
 // Instructions that push constants and make values.
 
-ghost use Rattle.std.specs.Prelude.{◌≡◌, ◌<◌, length, false, true, IfOk, MatchOption, None, Some, [], ◌-◌};
+ghost use Rattle.std.specs.Prelude.{◌≡◌, ◌<◌, IfOk, None, Some};
 ghost use Rattle.ac_terms.specs.PrimitiveTypes.{has_text};
-ghost use Rattle.ac_values.specs.Values.{MNil, MStr, MClosure, MEnd, values, stands_as};
+ghost use Rattle.ac_values.specs.Values.{MStr, MClosure, MEnd};
 ghost use Rattle.ac_machine.specs.States.{Run, push_value};
-ghost use Rattle.ac_machine.specs.Machine.{newest_taken, makes_exn, makes_some, makes_cons, makes_tuple};
-ghost use Rattle.ac_machine.specs.Held.{core, stack_of, Sound};
-ghost use Rattle.ac_machine.specs.inner.Steps.{stack_at, Does};
+ghost use Rattle.ac_machine.specs.Machine.{makes_exn, makes_some, makes_cons, makes_tuple};
+ghost use Rattle.ac_machine.specs.Held.{core, Sound};
+ghost use Rattle.ac_machine.specs.inner.Steps.{Does};
 
 use crate::engine::{EMPTY, Engine, Step};
 use ac_code::CodeId;
+use ac_types::exceptions::{INVALID_ARGUMENT, RESOLVE_FAILURE, SYS_ERROR};
 use ac_types::{Many, Memory, Text};
 use ac_values::read::text_in;
 use ac_values::{Node, Value};
@@ -18,7 +19,7 @@ use ac_values::{Node, Value};
 pub fn has_text(number: u8) -> bool
     ensures { result ≡ has_text number }
 {
-    number <= 1 || (6 <= number && number <= 9)
+    number <= INVALID_ARGUMENT || (SYS_ERROR <= number && number <= RESOLVE_FAILURE)
 }
 
 impl Engine {

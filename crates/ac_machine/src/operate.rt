@@ -1,6 +1,6 @@
 // The instruction of a primitive.
 
-ghost use Rattle.std.specs.Prelude.{◌≡◌, IfOk};
+ghost use Rattle.std.specs.Prelude.{IfOk};
 ghost use Rattle.ac_code.specs.Constants.{meaning, One, Two};
 ghost use Rattle.ac_machine.specs.States.{state_given};
 ghost use Rattle.ac_machine.specs.Machine.{performs, answers};

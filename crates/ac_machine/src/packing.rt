@@ -1,6 +1,6 @@
 // Marshal and unmarshal.
 
-ghost use Rattle.std.specs.Prelude.{◌≡◌, IfOk};
+ghost use Rattle.std.specs.Prelude.{IfOk};
 ghost use Rattle.ac_types.specs.ReadTypes.{typ_of};
 ghost use Rattle.ac_terms.specs.Read.{home_of};
 ghost use Rattle.ac_machine.specs.Machine.{marshals, unmarshals};

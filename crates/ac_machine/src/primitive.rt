@@ -7,6 +7,7 @@ ghost use Rattle.ac_values.specs.Values.{stands_as, values, values_at};
 ghost use Rattle.ac_machine.specs.Machine.{const_in, part_in};
 ghost use Rattle.ac_machine.specs.inner.Meant.{constant_meant, answer_of, of_binary, of_unary, meant};
 
+use ac_types::limits::LONGEST_STRING;
 use ac_types::primitives::{
     ADD, CONCAT, DIV, EQ, LENGTH, LT, MUL, NEG, NOT, OF_INT, PRINT_INT, PRINT_STRING, RECEIVE, REM,
     SEND, SUB, SUB_STRING,
@@ -15,9 +16,6 @@ use ac_types::{Many, Memory, Text};
 use ac_values::read::{int_in, text_in};
 use ac_values::{Node, Store, Value};
 use std::alloc::Global;
-
-/// The most bytes of a string.
-pub const MOST_BYTES: usize = 1_048_576;
 
 /// A value that primitives act on. The last is the argument of `Str.sub`: a string, a start and a
 /// length.
@@ -121,7 +119,7 @@ pub fn constant_in<'a>(store: &'a Store, v: Value) -> Option<Constant<'a>>
 }
 
 // A string with two ints.
-#[tactic(auto, using(crate::proofs::PrimitiveLaws::part_three, crate::proofs::PrimitiveLaws::part_other))]
+#[tactic(auto, using(crate::proofs::PrimitiveLaws::part_laws))]
 fn part_in<'a>(store: &'a Store, parts: &Many<Value>) -> Option<Constant<'a>>
     ensures { MatchOption result (part_in (values_at (values store.now) parts.now) ≡ None)
         (λ d. part_in (values_at (values store.now) parts.now) ≡ Some (constant_meant d)) }
@@ -225,7 +223,7 @@ fn comes_before(first: &[u8], second: &[u8]) -> bool
 fn joined(alloc: Global, x: &[u8], y: &[u8]) -> Result<Answer, Memory>
     ensures { IfOk result (λ a. answer_of a ≡ concatenated (CStr x.now) (CStr y.now)) }
 {
-    if y.len() > MOST_BYTES || x.len() > MOST_BYTES - y.len() {
+    if y.len() > LONGEST_STRING || x.len() > LONGEST_STRING - y.len() {
         return invalid(alloc, b"string");
     }
     let mut text = Text::from_slice(alloc, x)?;

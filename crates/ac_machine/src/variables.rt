@@ -1,6 +1,6 @@
 // Variables and binders.
 
-ghost use Rattle.std.specs.Prelude.{◌≡◌, IfOk};
+ghost use Rattle.std.specs.Prelude.{IfOk};
 ghost use Rattle.ac_machine.specs.Machine.{loads, binds, unbinds, drops};
 ghost use Rattle.ac_machine.specs.Held.{core, Sound};
 ghost use Rattle.ac_machine.specs.inner.Steps.{Does};

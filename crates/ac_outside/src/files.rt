@@ -1,5 +1,5 @@
 // Files in memory.
-ghost use Rattle.std.specs.Prelude.{◌≡◌, ◌⊎◌, ◌×◌, ◌<◌, ◌≤◌, ◌^◌, ◌↔◌, ◌++◌, [], true, None, IsTrue, MatchOption, IfSome, OnOk, OnErr, Contains, length};
+ghost use Rattle.std.specs.Prelude.{◌≡◌, ◌⊎◌, ◌<◌, ◌≤◌, ◌^◌, ◌↔◌, ◌++◌, [], true, None, IsTrue, MatchOption, IfSome, OnOk, OnErr, Contains, length};
 ghost use Rattle.ac_outside.specs.Calls.{unused};
 ghost use Rattle.ac_outside.specs.Kept.{file_contents, StandsAt};
 ghost use Rattle.ac_outside.specs.Outside.{Rose, IsWithin, OthersSame, NeverFall, ReadsFrom, IsShort, Created, Appended, or_empty, risen};

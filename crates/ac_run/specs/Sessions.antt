@@ -14,7 +14,7 @@ use Rattle.ac_machine.specs.Seen.{MachineSeen, standing}
 use Rattle.ac_meaning.specs.Writes.{Write, Print, Send, Console, Channel, written}
 use Rattle.ac_meaning.specs.Worlds.{World}
 use Rattle.ac_meaning.specs.ReadExn.{exn_of}
-use Rattle.ac_meaning.specs.Acts.{Outcome, Returned, Raised, Spent}
+use Rattle.ac_meaning.specs.Acts.{Outcome, Returned, Raised, Spent, Stuck}
 use Rattle.ac_meaning.specs.Reduction.{Ends}
 use Rattle.ac_run.specs.declared.end.RunEnd.{RunEnd}
 use Rattle.ac_run.specs.declared.end.RunEnd.TheVariants as end
@@ -53,11 +53,19 @@ pub record HasStopped (s : Session) (why : Ask) (z : World) : Type 0 where
 -- a session ends so where the reduction ends so, and its machine has stopped accordingly; a fault and want of memory may come on every way
 abbrev pub IsEnd : {A : Type 0} → RunEnd → Outcome A → Session → Type 0
 IsEnd end.Finished (Returned v z) s = HasStopped s AskDone z
+IsEnd end.Finished (Raised x z) s = ⊥
+IsEnd end.Finished (Spent z) s = ⊥
+IsEnd end.Finished Stuck s = ⊥
+IsEnd (end.Uncaught e) (Returned v z) s = ⊥
 IsEnd (end.Uncaught e) (Raised x z) s = (exn_of e ≡ x) × HasStopped s (AskRaised x.number x.text) z
+IsEnd (end.Uncaught e) (Spent z) s = ⊥
+IsEnd (end.Uncaught e) Stuck s = ⊥
+IsEnd (end.Spent steps) (Returned v z) s = ⊥
+IsEnd (end.Spent steps) (Raised x z) s = ⊥
 IsEnd (end.Spent steps) (Spent z) s = (steps ≡ s.steps) × HasStopped s AskSpent z
+IsEnd (end.Spent steps) Stuck s = ⊥
 IsEnd end.WriteFault o s = Unit {0}
 IsEnd end.Memory o s = Unit {0}
-IsEnd end o s = ⊥
 
 -- console and channel of a world
 pub record Streams : Type 0 where
@@ -93,6 +101,8 @@ pub record StopsBehind (told : Bool) (all : List Write) (old new : Streams) : Ty
 
 -- what a session leaves of the writes of its program: all of them; after a fault of writing those before one of them and a prefix of it; and want of memory may come anywhere
 abbrev pub Leaves : RunEnd → Bool → List Write → Streams → Streams → Type 0
+Leaves end.Finished told all old new = IsTrue told → new ≡ with_writes all old
+Leaves (end.Uncaught e) told all old new = IsTrue told → new ≡ with_writes all old
+Leaves (end.Spent steps) told all old new = IsTrue told → new ≡ with_writes all old
 Leaves end.WriteFault told all old new = StopsIn told all old new
 Leaves end.Memory told all old new = StopsIn told all old new ⊎ StopsBehind told all old new
-Leaves end told all old new = IsTrue told → new ≡ with_writes all old

@@ -4,59 +4,78 @@ use ac_outside::{
     Files, Got, MemoryFile, MemoryFiles, MemorySink, MemoryWorld, Put, RealFiles, Sink, Source,
     SureSink, SureWorld, World,
 };
-use ac_types::{Many, Text};
+use ac_types::{Many, Memory, Text};
 use std::alloc::Global;
 use std::test::Fail;
 
-fn file(alloc: Global, name: &str, bytes: &[u8]) -> Result<MemoryFile, Fail> {
-    Ok(MemoryFile {
-        name: String::from_str(alloc, name)?,
-        bytes: Text::from_slice(alloc, bytes)?,
-    })
+fn numbers(alloc: Global, calls: &[u64]) -> Result<Many<u64>, Memory> {
+    Many::from_slice(alloc, calls)
 }
 
-fn numbers(alloc: Global, calls: &[u64]) -> Result<Many<u64>, Fail> {
-    Ok(Many::from_slice(alloc, calls)?)
-}
-
-#[test]
-fn a_sink_keeps_all_but_the_write_that_fails(rt: HostRuntime) -> Result<(), Fail> {
-    let alloc = rt.alloc();
+/// Whether a sink keeps all but the write that is to fail.
+fn sink_keeps(alloc: Global) -> Result<bool, Memory> {
     let mut sink = MemorySink::new(alloc, numbers(alloc, &[1])?);
-    assert_eq!(rt; sink.write(b"a"), Put::Done);
-    assert_eq!(rt; sink.write(b"b"), Put::Failed);
-    assert_eq!(rt; sink.write(b"c"), Put::Done);
-    assert_eq!(rt; sink.bytes().as_slice(), b"ac".as_slice());
-    Ok(())
+    let first = sink.write(b"a") == Put::Done;
+    let second = sink.write(b"b") == Put::Failed;
+    let third = sink.write(b"c") == Put::Done;
+    Ok(first && second && third && sink.bytes().as_slice() == b"ac".as_slice())
+}
+
+fn sure_sink_keeps(alloc: Global) -> bool {
+    let mut sink = SureSink::new(alloc);
+    let first = sink.write(b"ab") == Put::Done;
+    let second = sink.write(b"c") == Put::Done;
+    first && second && sink.bytes().as_slice() == b"abc".as_slice()
 }
 
 #[test]
-fn a_sure_sink_keeps_all(rt: HostRuntime) -> Result<(), Fail> {
-    let mut sink = SureSink::new(rt.alloc());
-    assert_eq!(rt; sink.write(b"ab"), Put::Done);
-    assert_eq!(rt; sink.write(b"c"), Put::Done);
-    assert_eq!(rt; sink.bytes().as_slice(), b"abc".as_slice());
+fn sinks_keep_what_is_written(rt: HostRuntime) -> Result<(), Fail> {
+    assert!(rt; sink_keeps(rt.alloc())?);
+    assert!(rt; sure_sink_keeps(rt.alloc()));
     Ok(())
+}
+
+/// Files with one, `a`, of five bytes, whose fourth read and fourth write fail.
+fn one_file(alloc: Global) -> Result<MemoryFiles, Memory> {
+    let name = String::from_str(alloc, "a")?;
+    let bytes = Text::from_slice(alloc, b"12345")?;
+    let mut list = Many::new(alloc);
+    list.push(MemoryFile { name, bytes })?;
+    let fail = numbers(alloc, &[3])?;
+    Ok(MemoryFiles::new(alloc, list, fail, numbers(alloc, &[3])?))
+}
+
+fn has(files: &MemoryFiles, name: &str, bytes: &[u8]) -> bool {
+    match files.bytes(name) {
+        Some(text) => text.as_slice() == bytes,
+        None => false,
+    }
+}
+
+fn files_are_read(alloc: Global) -> Result<bool, Memory> {
+    let mut files = one_file(alloc)?;
+    let mut buf = [0u8; 3];
+    let front = files.read("a", 0, &mut buf) == Got::Bytes(3);
+    let end = files.read("a", 5, &mut buf) == Got::End;
+    let missing = files.read("b", 0, &mut buf) == Got::Failed;
+    let failed = files.read("a", 0, &mut buf) == Got::Failed;
+    Ok(front && end && missing && failed)
+}
+
+fn files_are_written(alloc: Global) -> Result<bool, Memory> {
+    let mut files = one_file(alloc)?;
+    let made = files.create("b") == Put::Done;
+    let added = files.append("b", b"x") == Put::Done;
+    let longer = files.append("a", b"6") == Put::Done;
+    let failed = files.append("a", b"7") == Put::Failed;
+    let calls = made && added && longer && failed;
+    Ok(calls && has(&files, "a", b"123456") && has(&files, "b", b"x") && files.bytes("c").is_none())
 }
 
 #[test]
 fn files_are_read_made_and_added_to(rt: HostRuntime) -> Result<(), Fail> {
-    let alloc = rt.alloc();
-    let mut list = Many::new(alloc);
-    list.push(file(alloc, "a", b"12345")?)?;
-    let mut files = MemoryFiles::new(alloc, list, numbers(alloc, &[3])?, numbers(alloc, &[3])?);
-    let mut buf = [0u8; 3];
-    assert_eq!(rt; files.read("a", 0, &mut buf), Got::Bytes(3));
-    assert_eq!(rt; files.read("a", 5, &mut buf), Got::End);
-    assert_eq!(rt; files.read("b", 0, &mut buf), Got::Failed);
-    assert_eq!(rt; files.read("a", 0, &mut buf), Got::Failed);
-    assert_eq!(rt; files.create("b"), Put::Done);
-    assert_eq!(rt; files.append("b", b"x"), Put::Done);
-    assert_eq!(rt; files.append("a", b"6"), Put::Done);
-    assert_eq!(rt; files.append("a", b"7"), Put::Failed);
-    assert_eq!(rt; files.bytes("a").map_or(0, |text| text.as_slice().len()), 6);
-    assert_eq!(rt; files.bytes("b").map_or(0, |text| text.as_slice().len()), 1);
-    assert!(rt; files.bytes("c").is_none());
+    assert!(rt; files_are_read(rt.alloc())?);
+    assert!(rt; files_are_written(rt.alloc())?);
     Ok(())
 }
 
@@ -64,7 +83,8 @@ fn files_are_read_made_and_added_to(rt: HostRuntime) -> Result<(), Fail> {
 fn a_missing_file_of_the_system_is_a_failed_read(rt: HostRuntime) -> Result<(), Fail> {
     let mut files = RealFiles::new(rt.clone()?);
     let mut buf = [0u8; 1];
-    assert_eq!(rt; files.read("no/such/file", 0, &mut buf), Got::Failed);
+    let missing = files.read("no/such/file", 0, &mut buf) == Got::Failed;
+    assert!(rt; missing);
     Ok(())
 }
 
@@ -73,39 +93,46 @@ fn send_one<W: World>(world: &mut W, byte: u8) -> Put {
     world.send(&[0, 0, 0, 1, byte])
 }
 
-#[test]
-fn a_world_keeps_input_console_and_channel_apart(rt: HostRuntime) -> Result<(), Fail> {
-    let alloc = rt.alloc();
+/// Whether a world keeps input, console and channel apart.
+fn sure_world_keeps(alloc: Global) -> Result<bool, Memory> {
     let mut world = SureWorld::new(alloc, Text::from_slice(alloc, b"abc")?);
     let mut buf = [0u8; 2];
-    assert_eq!(rt; world.read(&mut buf), Got::Bytes(2));
-    assert_eq!(rt; world.print(b"p"), Put::Done);
-    assert_eq!(rt; world.read(&mut buf), Got::Bytes(1));
-    assert_eq!(rt; send_one(&mut world, b's'), Put::Done);
-    assert_eq!(rt; world.read(&mut buf), Got::End);
-    assert_eq!(rt; world.console().as_slice(), b"p".as_slice());
-    assert_eq!(rt; world.channel().as_slice(), b"\x00\x00\x00\x01s".as_slice());
-    Ok(())
+    let two = world.read(&mut buf) == Got::Bytes(2);
+    let printed = world.print(b"p") == Put::Done;
+    let one = world.read(&mut buf) == Got::Bytes(1);
+    let sent = send_one(&mut world, b's') == Put::Done;
+    let end = world.read(&mut buf) == Got::End;
+    let calls = two && printed && one && sent && end;
+    Ok(
+        calls
+            && world.console().as_slice() == b"p".as_slice()
+            && world.channel().as_slice() == b"\x00\x00\x00\x01s".as_slice(),
+    )
+}
+
+/// Whether the calls of a world fail where they are to.
+fn world_fails(alloc: Global) -> Result<bool, Memory> {
+    let input = Text::from_slice(alloc, b"a")?;
+    let reads = numbers(alloc, &[0])?;
+    let mut world = MemoryWorld::new(alloc, input, reads, numbers(alloc, &[0, 2])?);
+    let mut buf = [0u8; 1];
+    let no_byte = world.read(&mut buf) == Got::Failed;
+    let byte = world.read(&mut buf) == Got::Bytes(1);
+    let unprinted = world.print(b"1") == Put::Failed;
+    let printed = world.print(b"2") == Put::Done;
+    let unsent = send_one(&mut world, b'3') == Put::Failed;
+    let sent = send_one(&mut world, b'4') == Put::Done;
+    let calls = no_byte && byte && unprinted && printed && unsent && sent;
+    Ok(
+        calls
+            && world.console().as_slice() == b"2".as_slice()
+            && world.channel().as_slice() == b"\x00\x00\x00\x014".as_slice(),
+    )
 }
 
 #[test]
-fn a_world_fails_where_it_is_to(rt: HostRuntime) -> Result<(), Fail> {
-    let alloc = rt.alloc();
-    let input = Text::from_slice(alloc, b"a")?;
-    let mut world = MemoryWorld::new(
-        alloc,
-        input,
-        numbers(alloc, &[0])?,
-        numbers(alloc, &[0, 2])?,
-    );
-    let mut buf = [0u8; 1];
-    assert_eq!(rt; world.read(&mut buf), Got::Failed);
-    assert_eq!(rt; world.read(&mut buf), Got::Bytes(1));
-    assert_eq!(rt; world.print(b"1"), Put::Failed);
-    assert_eq!(rt; world.print(b"2"), Put::Done);
-    assert_eq!(rt; send_one(&mut world, b'3'), Put::Failed);
-    assert_eq!(rt; send_one(&mut world, b'4'), Put::Done);
-    assert_eq!(rt; world.console().as_slice(), b"2".as_slice());
-    assert_eq!(rt; world.channel().as_slice(), b"\x00\x00\x00\x014".as_slice());
+fn worlds_are_read_and_written(rt: HostRuntime) -> Result<(), Fail> {
+    assert!(rt; sure_world_keeps(rt.alloc())?);
+    assert!(rt; world_fails(rt.alloc())?);
     Ok(())
 }

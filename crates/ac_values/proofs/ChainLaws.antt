@@ -56,3 +56,7 @@ none_past (x ∷ xs) (suc k) e = omega (arith, none_past xs k e)
 
 pub length_pushed : {T : Type 0} (cs : List (Cell T)) (d : Cell T) → length (cs ++ d ∷ []) ≡ length (lists cs)
 length_pushed cs d = let l = length_lists cs in omega (arith, l, length-append cs (d ∷ []))
+
+pub ruleset push_laws = (lists_push, length_lists, earlier_push, length_pushed)
+
+pub ruleset top_laws = (list_zero, none_past, cell_at, length_lists)

@@ -70,3 +70,5 @@ pub none_past : (ns : List Node) (k : ℕ) → slice_get ns k ≡ None → lengt
 none_past [] k e = omega arith
 none_past (x ∷ xs) zero e = absurd (cc)
 none_past (x ∷ xs) (suc k) e = omega (arith, none_past xs k e)
+
+pub ruleset node_laws = (stands_for, stands_past, none_past)

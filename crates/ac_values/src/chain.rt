@@ -44,7 +44,7 @@ impl<T: Copy> Chain<T> {
     }
 
     /// One more list: an item on an older one.
-    #[tactic(auto, using(crate::proofs::ChainLaws::lists_push, crate::proofs::ChainLaws::length_lists, crate::proofs::ChainLaws::earlier_push, crate::proofs::ChainLaws::length_pushed))]
+    #[tactic(auto, using(crate::proofs::ChainLaws::push_laws))]
     pub fn push(&mut self, item: T, below: usize) -> Result<usize, Memory>
         requires { below < length self.old }
         ensures ok { OnOk result (self.new ≡ self.old ++ (item ∷ get_or self.old below []) ∷ []) }
@@ -56,7 +56,7 @@ impl<T: Copy> Chain<T> {
     }
 
     /// The newest item of a list, and the number of the rest.
-    #[tactic(auto, using(crate::proofs::ChainLaws::list_zero, crate::proofs::ChainLaws::none_past, crate::proofs::ChainLaws::cell_at, crate::proofs::ChainLaws::length_lists))]
+    #[tactic(auto, using(crate::proofs::ChainLaws::top_laws))]
     pub fn top(&self, number: usize) -> Option<(T, usize)>
         requires { number < length self.now }
         ensures { MatchOption result (get_or self.now number [] ≡ []) (λ p. (p.1 < number) ×

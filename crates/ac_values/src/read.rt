@@ -1,5 +1,5 @@
 //! What the values of a store are.
-ghost use Rattle.std.specs.Prelude.{◌≡◌, ◌<◌, ℕ, length, MatchOption, Some, None, true, false};
+ghost use Rattle.std.specs.Prelude.{◌≡◌, ◌<◌, length, MatchOption, Some, None, true, false};
 ghost use Rattle.std.specs.List.{All};
 ghost use Rattle.ac_values.specs.Values.{stands_as, values, values_at};
 ghost use Rattle.ac_values.specs.ValueReaders.{newest_and_rest, entry, int_in, bool_in, closure_in, text_in, without, cons_in, present_in, tuple_in, exn_with, exn_without, is_unit, is_nil, is_absent};

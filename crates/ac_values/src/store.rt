@@ -1,4 +1,4 @@
-ghost use Rattle.std.specs.Prelude.{◌≡◌, ◌++◌, ◌∷◌, [], ◌<◌, ◌≤◌, length, slice_get, OnOk, OnErr, OnSome, IfOk, MatchOption};
+ghost use Rattle.std.specs.Prelude.{◌≡◌, ◌++◌, ◌∷◌, [], ◌<◌, ◌≤◌, length, slice_get, OnOk, OnErr, IfOk, MatchOption};
 ghost use Rattle.std.specs.Option.{option_copied};
 ghost use Rattle.ac_values.specs.Below.{Below};
 ghost use Rattle.ac_values.specs.Values.{MUnit, values, node_value, stands_as};
@@ -58,7 +58,7 @@ impl Store {
     }
 
     /// The node with this number, or none past the last.
-    #[tactic(auto, using(crate::proofs::ValueLaws::stands_for, crate::proofs::ValueLaws::stands_past, crate::proofs::ValueLaws::none_past))]
+    #[tactic(auto, using(crate::proofs::ValueLaws::node_laws))]
     pub fn node(&self, v: Value) -> Option<&Node>
         ensures value { option_copied result ≡ slice_get self.now v.0 }
         ensures parts { MatchOption result (length self.now ≤ v.0) (λ n. Below v.0 n.now) }

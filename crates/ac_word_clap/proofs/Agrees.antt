@@ -25,11 +25,6 @@ new_from b None e run = and-false b
 new_from false (Some m) e run = refl
 new_from true (Some m) e run = absurd (true≢false e)
 
--- one more row, for the first time
-pub more_false : (c : List Rule) (id : Text) (values : List Text) (rows : List Row) (k : ℕ) (words : List Text) → has_row id rows ≡ false
-    → more c id values rows k words ≡ total c (walk_at (rows ++ row (id, values) ∷ []) None idle k) words
-more_false c id values rows k words e = rw e refl
-
 module _ (c : List Rule) (f : Form) (r : Reads c f) where
   -- a place of the form has its rule
   place_fits : (k : ℕ) (q : WordPlace) → place_of_number f k ≡ Some q → PlaceFits c f q

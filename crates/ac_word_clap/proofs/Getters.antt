@@ -2,8 +2,8 @@
 use Rattle.std.proofs.Common.{◌≡◌, ◌∙◌, sym, ap, refl, List, map, Option, Some, None}
 use Rattle.std.specs.Prelude.{find, option_and_then, option_map, slice_get}
 use Rattle.std.specs.Str.{bytes_eq}
-use Rattle.clap.proofs.WalkLemmas.{find-map, first_value-rows, raw_values-rows}
-use Rattle.clap.specs.Words.{Row, all_of, first_of, first_value, found_of, matched_of, raw_values}
+use Rattle.clap.proofs.WalkLemmas.{find-map, first_value-rows}
+use Rattle.clap.specs.Words.{Row, all_of, first_of, first_value, found_of}
 use Rattle.clap.specs.declared.parser.matches.ArgMatches.{ArgMatches}
 use Rattle.ac_words.specs.Form.{Given, Text}
 use Rattle.ac_words.specs.WordValues.{all_in, first_in}
@@ -39,8 +39,3 @@ pub first_found : (m : ArgMatches) (g : Given) (id : Text) → rows_in m ≡ map
 first_found m g id e =
     first_value-rows (found_of m) id ∙ ap (first_of id) e ∙ first_rows (map row g) id
     ∙ ap (option_and_then (λ values. slice_get values 0)) (all_rows g id)
-
--- `get_raw` answers all values, and `contains_id` whether there are any
-pub all_found : (m : ArgMatches) (g : Given) (id : Text) → rows_in m ≡ map row g
-    → option_map raw_values (matched_of (found_of m) id) ≡ all_in id g
-all_found m g id e = raw_values-rows (found_of m) id ∙ ap (all_of id) e ∙ all_rows g id

@@ -23,6 +23,7 @@ pub struct Run<'a> {
 /// What the words of a command line ask for.
 #[derive(Clone, Copy, Debug)]
 pub enum Command<'a> {
+    /// To run a program.
     Run(Run<'a>),
 }
 

@@ -2,6 +2,7 @@
 use Rattle.std.proofs.Common.{◌≡◌, refl}
 use Rattle.std.specs.Fmt.{digits}
 use Rattle.std.specs.Prelude.{[], ◌∷◌, ◌++◌, Some, None, codes}
+use Rattle.ac_types.specs.Exceptions as exceptions
 use Rattle.ac_meaning.specs.Worlds.{exception}
 use Rattle.acute.specs.Lines.{literal, uncaught_line, spent_line}
 
@@ -9,10 +10,10 @@ use Rattle.acute.specs.Lines.{literal, uncaught_line, spent_line}
 pub each_escape : literal (92 ∷ 34 ∷ 10 ∷ 9 ∷ 13 ∷ 0 ∷ 31 ∷ 32 ∷ 126 ∷ 127 ∷ 255 ∷ []) ≡ codes "\"\\\\\\\"\\n\\t\\r\\x00\\x1f ~\\x7f\\xff\""
 each_escape = refl
 
-pub without_a_text : uncaught_line (exception 4 None) ≡ codes "uncaught: Match_failure" ++ 10 ∷ []
+pub without_a_text : uncaught_line (exception exceptions.match_failure None) ≡ codes "uncaught: Match_failure" ++ 10 ∷ []
 without_a_text = refl
 
-pub with_a_text : uncaught_line (exception 1 (Some (codes "string"))) ≡ codes "uncaught: Invalid_argument \"string\"" ++ 10 ∷ []
+pub with_a_text : uncaught_line (exception exceptions.invalid_argument (Some (codes "string"))) ≡ codes "uncaught: Invalid_argument \"string\"" ++ 10 ∷ []
 with_a_text = refl
 
 pub a_budget : spent_line 999 ≡ codes "acute: spent 999" ++ 10 ∷ []

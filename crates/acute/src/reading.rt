@@ -10,7 +10,9 @@ use std::alloc::Global;
 /// Why a file isn't read.
 #[derive(Clone, Copy, Debug, PartialEq, Eq)]
 pub enum ReadFault {
+    /// A read failed.
     Failed,
+    /// Memory ran out.
     Memory,
 }
 

@@ -1,8 +1,0 @@
-use Rattle.ac_terms.specs.Read.{environment_of}
-use Rattle.ac_code.specs.ReadCode.{code_of}
-use Rattle.ac_machine.specs.Seen.{standing}
-use Rattle.ac_machine.proofs.AheadLaws.{pauses_here}
-use Rattle.ac_machine.proofs.tests.ended.Goals as goal
-
-pub go-pause-requires : goal.go-pause-requires
-go-pause-requires c _ = pauses_here (environment_of c.args.env.now) (code_of c.args.table.now) (standing c.args.machine.now) c.requires

@@ -1,0 +1,42 @@
+// Patterns by their names in the table.
+
+use ac_terms::Pat;
+use ac_types::exceptions::{FAILURE, MATCH_FAILURE, NOT_FOUND};
+use ac_types::{Box, Many, Memory, Text, Ty, both};
+use std::alloc::Global;
+
+fn pair(alloc: Global, a: Pat, b: Pat) -> Result<Pat, Memory> {
+    let mut parts = Many::new(alloc);
+    parts.push(a)?;
+    parts.push(b)?;
+    Ok(Pat::Tuple(parts))
+}
+
+fn larger(alloc: Global, name: &str) -> Result<Pat, Memory> {
+    match name {
+        "Some:1" => Box::new(alloc, Pat::Int(1)).map(Pat::Present),
+        "1::[]" => both(Box::new(alloc, Pat::Int(1)), Box::new(alloc, Pat::Nil)).map(|(
+            head,
+            tail,
+        )| Pat::Cons(head, tail)),
+        "1;false" => pair(alloc, Pat::Int(1), Pat::Bool(false)),
+        "x;y" => pair(alloc, Pat::Var(Ty::Int), Pat::Var(Ty::Int)),
+        "Failure:s" => Box::new(alloc, Pat::Var(Ty::Str)).map(|text| Pat::Exn(FAILURE, Some(text))),
+        "\"s\"" => Text::from_slice(alloc, b"s").map(Pat::Str),
+        _ => Ok(Pat::Wild),
+    }
+}
+
+/// The pattern of that name.
+pub fn pattern(alloc: Global, name: &str) -> Result<Pat, Memory> {
+    match name {
+        "()" => Ok(Pat::Unit),
+        "[]" => Ok(Pat::Nil),
+        "None" => Ok(Pat::Absent),
+        "true" => Ok(Pat::Bool(true)),
+        "1" => Ok(Pat::Int(1)),
+        "Not_found" => Ok(Pat::Exn(NOT_FOUND, None)),
+        "Match_failure" => Ok(Pat::Exn(MATCH_FAILURE, None)),
+        _ => larger(alloc, name),
+    }
+}
