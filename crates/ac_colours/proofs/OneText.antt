@@ -21,9 +21,18 @@ use Rattle.ac_rules.proofs.BareLaws.{known_has}
 use Rattle.ac_rules.proofs.RenumberedParts.{types_by, def_parts_by}
 use Rattle.ac_rules.proofs.SameText.{alike, type_in_text}
 use Rattle.ac_rules.proofs.Unspoken.{shown, padded_named, text_shown, text_of_least}
-use Rattle.ac_colours.specs.Births.{Texts, AreOne, Keeps}
 use Rattle.ac_colours.proofs.OwnText.{same_pair, speaks}
 use Rattle.ac_colours.proofs.KnownBoth.{Agreeing}
+
+-- texts of names, of which each name has one, and definitions that have no other
+abbrev pub Texts : Type 1
+Texts = Bytes → Bytes → Type 0
+
+abbrev pub AreOne : Texts → Type 0
+AreOne S = (n s t : Bytes) → S n s → S n t → s ≡ t
+
+abbrev pub Keeps : Texts → Environment → Type 0
+Keeps S E = (i : ℕ) (n t : Bytes) → name_at E i ≡ Some n → text_of_entry E i ≡ Some t → S n t
 
 -- the least entry of a known name, with its text, in which the representation stands
 record Least (E : Environment) (n t : Bytes) : Type 0 where

@@ -248,7 +248,7 @@ module _ (q : Home → Bytes × Bytes → Bool) where
     within_owned f f' g g' wrap done catch o p (Raises y) r n h w k x = x y
     within_owned f f' g g' wrap done catch o p Wrong r n h w k x = tt
 
-    -- the part stands_next in home b
+    -- the part stands in home b
     one_part : (b c : Home) (wrap : Expr → Expr) (done : Value → Act Expr Value) (o p : Option Redex) (a : Act Expr Value) → AtRest a o → NewsOf (or_else o p) → (NewsOf o → Good b a) → ((s : Expr) → O! true b s → O! true c (wrap s)) → ((v : Value) → a ≡ Is v → NewsOf p → V! b v → Good c (done v)) → Good c (part wrap done a)
     one_part b c wrap done o p a r n h w k = within_owned (Owned q true b) (Owned q true c) (ValueOwned q b) (ValueOwned q c) wrap done Raises o p a r n h w k (λ x. tt)
 
@@ -446,6 +446,10 @@ module _ (q : Home → Bytes × Bytes → Bool) where
     news_of : (o : Option Redex) → ((r : Redex) → o ≡ Some r → NewsOwned z r.home r.term) → NewsOf o
     news_of None h = tt
     news_of (Some r) h = h r refl
+
+    -- so does the value of a term that is one
+    pub value_passes : (e : Expr) (c : Home) (v : Value) → Owned q true c e → look Coloured z c e ≡ Is v → ValueOwned q c v
+    value_passes e c v h s = subst (λ a. ActOwned (Owned q true c) (ValueOwned q c) a) s (conserved e c (subst NewsOf (sym (subst (λ a. AtRest a (redex c e)) s (rest Coloured z e c))) tt) h)
 
   -- what passes in a state, in the fields and in what is brought passes in the next state
   pub owned_kept : (N : ℕ) (z : World) (e : Expr) → FieldsOwned z.environment → Owned q true Main e → ((r : Redex) → redex Main e ≡ Some r → NewsOwned z r.home r.term) → StateOwned q (step Coloured N (At e z))

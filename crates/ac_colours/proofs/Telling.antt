@@ -18,7 +18,7 @@ use Rattle.ac_rules.proofs.KnownTypes.{head_known, opened_known}
 use Rattle.ac_rules.proofs.Growth.{head_same, opened_same, bare_same}
 use Rattle.ac_meaning.proofs.Homes.{all_seen, seen_tuple, seen_list, seen_opt, seen_fun, view_again}
 use Rattle.ac_colours.proofs.SealsLaw.{and_left}
-use Rattle.ac_colours.specs.Births.{seal, Birth, told}
+use Rattle.ac_colours.specs.Births.{seal, Birth, birth, told}
 
 -- a value without a function
 abbrev mutual
@@ -130,7 +130,7 @@ pub told_same : (E F : Environment) → Widening E F → (b c : Home) (n t : Byt
 told_same E F g b c n t v T h = ap (λ X. at F (has_function X)) (bare_same E F g (TAbs n t) h.1) ∙ by (has_function (bare E (TAbs n t))) refl
   where
     say : Option PValue → List Birth
-    say o = option_to_list (option_map (λ p. record { name = n; type' = t; said = p }) o)
+    say o = option_to_list (option_map (birth n t) o)
 
     at : Environment → Bool → List Birth
     at G x = cond x [] (say (plain G b v (opened G n t)))

@@ -38,11 +38,10 @@ use Rattle.ac_rules.proofs.Unspoken.{has_a_name}
 use Rattle.ac_rules.proofs.ValueThere.{root_shows}
 use Rattle.ac_rules.proofs.ViewLaws.{within}
 use Rattle.ac_meaning.specs.Packing.{Lands, Landing, admitted, received, landing}
-use Rattle.ac_colours.specs.Births.{Texts, AreOne, Keeps}
 use Rattle.ac_colours.proofs.Brings.{Sits}
 use Rattle.ac_colours.proofs.Carries.{said_carried}
 use Rattle.ac_colours.proofs.KnownBoth.{Agreeing}
-use Rattle.ac_colours.proofs.OneText.{agreeing, speaks_alike}
+use Rattle.ac_colours.proofs.OneText.{Texts, AreOne, Keeps, agreeing, speaks_alike}
 use Rattle.ac_colours.proofs.OwnPacked.{PackedOwned}
 use Rattle.ac_colours.proofs.OwnedCarried.{Passes, homes_pass, value_on}
 use Rattle.ac_colours.proofs.OwnText.{speaks}
