@@ -1,7 +1,7 @@
 // A machine and an engine in its state, which goes ahead: once it has come to a pause, so will the
 // machine.
 
-ghost use Rattle.std.specs.Prelude.{◌≡◌, ◌∷◌, [], Some, option_map, MatchBool, MatchOption, OnOk, IfOk};
+ghost use Rattle.std.specs.Prelude.{◌≡◌, ◌∷◌, [], true, Some, option_map, MatchBool, MatchOption, OnOk, IfOk};
 ghost use Rattle.ac_types.specs.Exceptions.{failure};
 ghost use Rattle.ac_terms.specs.Read.{environment_of, bytes_of};
 ghost use Rattle.ac_code.specs.ReadCode.{code_of};

@@ -28,7 +28,7 @@ struct End<'a> {
     errors: &'a [u8],
 }
 
-fn end<'a>(status: u8, output: &'a [u8], errors: &'a [u8]) -> End<'a> {
+fn made<'a>(status: u8, output: &'a [u8], errors: &'a [u8]) -> End<'a> {
     End {
         status,
         output,
@@ -110,8 +110,13 @@ fn bytes_are_printed(alloc: Global) -> Result<bool, Fail> {
     let plain = print_of(alloc, raw.as_slice())?;
     let written = print_of(alloc, escaped.as_slice())?;
     Ok(
-        ends(alloc, plain.as_slice(), NONE, end(0, raw.as_slice(), b""))?
-            && ends(alloc, written.as_slice(), NONE, end(0, all.as_slice(), b""))?,
+        ends(alloc, plain.as_slice(), NONE, made(0, raw.as_slice(), b""))?
+            && ends(
+                alloc,
+                written.as_slice(),
+                NONE,
+                made(0, all.as_slice(), b""),
+            )?,
     )
 }
 
@@ -129,7 +134,7 @@ fn long_text_is_refused(alloc: Global) -> Result<bool, Fail> {
     }
     text.extend(b"1")?;
     let line = b"acute: refused: too_long at 1048577\n";
-    ends(alloc, text.as_slice(), NONE, end(1, b"", line))
+    ends(alloc, text.as_slice(), NONE, made(1, b"", line))
 }
 
 #[test]
@@ -164,14 +169,14 @@ fn faults_are_told(rt: HostRuntime) -> Result<(), Fail> {
         ..output
     };
     let rows = [
-        (two, reads, end(5, b"", read)),
-        (two, output, end(6, b"", write)),
-        (two, second, end(6, b"1", write)),
-        (two, both, end(6, b"", b"")),
-        (two, errors, end(0, b"12", b"")),
-        (b"1; 2".as_slice(), errors, end(6, b"", b"")),
-        (raises, both, end(6, b"", b"")),
-        (raises, errors, end(6, b"1", b"")),
+        (two, reads, made(5, b"", read)),
+        (two, output, made(6, b"", write)),
+        (two, second, made(6, b"1", write)),
+        (two, both, made(6, b"", b"")),
+        (two, errors, made(0, b"12", b"")),
+        (b"1; 2".as_slice(), errors, made(6, b"", b"")),
+        (raises, both, made(6, b"", b"")),
+        (raises, errors, made(6, b"1", b"")),
     ];
     for (text, faults, end) in rows {
         assert!(rt; ends(alloc, text, faults, end)?);
@@ -182,8 +187,8 @@ fn faults_are_told(rt: HostRuntime) -> Result<(), Fail> {
 #[test]
 fn words_are_read(rt: HostRuntime) -> Result<(), Fail> {
     let alloc = rt.alloc();
-    let refused = end(7, b"", b"acute: words refused\n");
-    let missing = end(5, b"", b"acute: read fault\n");
+    let refused = made(7, b"", b"acute: words refused\n");
+    let missing = made(5, b"", b"acute: read fault\n");
     let rows: [(&[&str], End); 7] = [
         (&[], refused),
         (&["run"], refused),
@@ -191,7 +196,7 @@ fn words_are_read(rt: HostRuntime) -> Result<(), Fail> {
         (&["run", "f", "g"], refused),
         (&["run", "--steps", "1000000001", "a"], refused),
         (&["run", "b"], missing),
-        (&["run", "--steps", "7", "a"], end(0, b"1", b"")),
+        (&["run", "--steps", "7", "a"], made(0, b"1", b"")),
     ];
     for (words, end) in rows {
         assert!(rt; words_end(alloc, words, b"IO.print_int 1", NONE, end)?);

@@ -11,7 +11,7 @@ loop-len-init g c = record {
   later = omega arith;
   begins = λ told. begins_at_all _ _ c.new-text.ensures;
   same = search rules;
-  only = g.met.F.Files.reads_none _ _;
+  only = g.F.Files.reads_none _ _;
 }
 
 pub loop-len-preserved : goal.loop-len-preserved
@@ -27,7 +27,7 @@ loop-len-preserved g c =
           let r = subst (λ (f : Contents). ReadsFrom (got.Bytes c.in-Bytes.count) (f c.args.name.now) c.loop-len.len c.read.new.buf) (i.same told) (b.bytes told) in
           rw o (begins_more _ _ _ _ _ _ i.len_is (i.begins told) r refl);
       same = λ told. b.same told ∙ i.same told;
-      only = g.met.F.Files.reads_on _ _ _ _ i.only (b.reads (omega (arith, i.within)));
+      only = g.F.Files.reads_on _ _ _ _ i.only (b.reads (omega (arith, i.within)));
     }
 
 pub returns-in-End-clause-text : goal.returns-in-End-clause-text
@@ -43,7 +43,7 @@ pub returns-clause-text : goal.returns-clause-text
 returns-clause-text g c = λ told. let i = c.loop-len.invariant in is_full _ _ _ i.len_is i.within c.loop-len-test.false (i.begins told)
 
 pub returns-in-End-clause-only : goal.returns-in-End-clause-only
-returns-in-End-clause-only g c = let i = c.loop-len.invariant in g.met.F.Files.reads_on _ _ _ _ i.only (c.in-End.ensures.reads (omega (arith, i.within)))
+returns-in-End-clause-only g c = let i = c.loop-len.invariant in g.F.Files.reads_on _ _ _ _ i.only (c.in-End.ensures.reads (omega (arith, i.within)))
 
 pub returns-in-Failed-clause-only : goal.returns-in-Failed-clause-only
-returns-in-Failed-clause-only g c = let i = c.loop-len.invariant in g.met.F.Files.reads_on _ _ _ _ i.only (c.in-Failed.ensures.reads (omega (arith, i.within)))
+returns-in-Failed-clause-only g c = let i = c.loop-len.invariant in g.F.Files.reads_on _ _ _ _ i.only (c.in-Failed.ensures.reads (omega (arith, i.within)))
