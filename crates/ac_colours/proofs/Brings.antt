@@ -1,18 +1,17 @@
 -- What unmarshal writes tells nothing but what the packed value says at its type.
-use Rattle.std.proofs.Common.{◌≡◌, refl, sym, ap, ap₂, ◌∙◌, subst, ℕ, zero, suc, ◌+◌, ◌≤◌, Bool, true, false, length, Option, Some, None}
-use Rattle.std.specs.Prelude.{◌&&◌, List, [], ◌∷◌, unwrap_or, cond, option_and_then}
+use Rattle.std.proofs.Common.{◌≡◌, refl, sym, ap, ap₂, ◌∙◌, subst, ℕ, zero, suc, ◌+◌, Bool, true, false, length, Option, Some}
+use Rattle.std.specs.Prelude.{option_and_then}
 use Rattle.std.specs.List.{list_all}
 use mathlib.Core.Bool.{true≢false}
 use native.Mathlib.Omega.{arith}
 use Rattle.ac_types.proofs.Same.{both_true, and_true}
 use Rattle.ac_types.proofs.FirstLaws.{some_eq, given_some}
-use Rattle.ac_types.specs.First.{given}
 use Rattle.ac_types.specs.Types.{Bytes, Typ, TInt, TBool, TStr, TUnit, TExn, TTuple, TList, TOpt, TFun, TAbs, TMine, Typs, no_types, typ, has_function, have_function, mentions, mentions_of_all}
-use Rattle.ac_terms.specs.Terms.{Home, Main, In, Expr, Int, Boolean, Str, Unit', Exn, Nil, Empty, Var, Own, Ref, ExnOf, Tuple, Present, Cons, Lam, Rec, App, Let, If, Seq, Match, Try, Raise, Prim, Marshal, Unmarshal, Val, Evaluated, Bracket, Exprs, no_exprs, expr, Arms, no_arms, arm, PValue, KInt, KBool, KStr, KUnit, KExn, KTuple, KList, KAbsent, KPresent, KFun, PValues, no_pvalues, pvalue, Value, VInt, VBool, VStr, VUnit, VExn, VTuple, VNil, VCons, VAbsent, VPresent, VLam, VRec, VProxy, VSeal, Values, no_values, value}
-use Rattle.ac_terms.specs.Defs.{Environment, find_name, names, name_at, Entry}
-use Rattle.ac_rules.specs.Views.{Plain, Coloured, view, bare, opened, opens, unsealed, head, rounds, is_known, are_known, has_name, representation}
+use Rattle.ac_terms.specs.Terms.{Home, Main, In, Expr, ExnOf, Tuple, Present, Cons, Lam, Rec, App, Let, If, Seq, Match, Try, Raise, Prim, Marshal, Unmarshal, Val, Evaluated, Bracket, Exprs, no_exprs, expr, Arms, no_arms, arm, PValue, KInt, KBool, KStr, KUnit, KExn, KTuple, KList, KAbsent, KPresent, KFun, PValues, no_pvalues, pvalue, Value, VInt, VBool, VStr, VUnit, VExn, VTuple, VAbsent, VPresent, VLam, VRec, VProxy}
+use Rattle.ac_terms.specs.Defs.{Environment, find_name, names, Entry}
+use Rattle.ac_rules.specs.Views.{Plain, Coloured, view, bare, opened, opens, unsealed, head, rounds, is_known, are_known, has_name}
 use Rattle.ac_rules.specs.Typing.{tuple_parts, list_item, option_item}
-use Rattle.ac_rules.specs.Plain.{where_there, in_front, packed, all_packed, all_travel, plain}
+use Rattle.ac_rules.specs.Plain.{where_there, in_front, packed, all_packed, all_travel}
 use Rattle.ac_rules.specs.Coherent.{IsCoherent}
 use Rattle.ac_terms.proofs.AllLaws.{all_left, all_right}
 use Rattle.ac_rules.proofs.EarlierLaws.{found_keeps}

@@ -1,32 +1,23 @@
 -- Other numbers, and other definitions in which names stand for the same: what a packed value says stays.
-use Rattle.std.proofs.Common.{◌≡◌, refl, sym, ap, ap₂, ◌∙◌, subst, ℕ, zero, suc, ◌+◌, ◌≤◌, Bool, true, false, length, Option, Some, None}
-use Rattle.std.specs.Prelude.{◌&&◌, List, [], ◌∷◌, unwrap_or, cond, option_and_then}
+use Rattle.std.proofs.Common.{◌≡◌, refl, sym, ap, ap₂, ◌∙◌, subst, ℕ, zero, suc, true, false, length}
 use Rattle.std.specs.List.{list_all}
 use mathlib.Core.Bool.{true≢false}
-use native.Mathlib.Omega.{arith}
-use Rattle.ac_types.proofs.Same.{both_true, and_true}
-use Rattle.ac_types.proofs.FirstLaws.{some_eq, given_some}
-use Rattle.ac_types.specs.First.{given}
-use Rattle.ac_types.specs.Types.{Bytes, Typ, TInt, TBool, TStr, TUnit, TExn, TTuple, TList, TOpt, TFun, TAbs, TMine, Typs, no_types, typ, has_function, have_function, mentions, mentions_of_all}
-use Rattle.ac_terms.specs.Terms.{Home, Main, In, Expr, Int, Boolean, Str, Unit', Exn, Nil, Empty, Var, Own, Ref, ExnOf, Tuple, Present, Cons, Lam, Rec, App, Let, If, Seq, Match, Try, Raise, Prim, Marshal, Unmarshal, Val, Evaluated, Bracket, Exprs, no_exprs, expr, Arms, no_arms, arm, PValue, KInt, KBool, KStr, KUnit, KExn, KTuple, KList, KAbsent, KPresent, KFun, PValues, no_pvalues, pvalue, Value, VInt, VBool, VStr, VUnit, VExn, VTuple, VNil, VCons, VAbsent, VPresent, VLam, VRec, VProxy, VSeal, Values, no_values, value}
-use Rattle.ac_terms.specs.Defs.{Environment, find_name, names, name_at, Entry}
-use Rattle.ac_rules.specs.Views.{Plain, Coloured, view, bare, opened, opens, unsealed, head, rounds, is_known, are_known, has_name, representation}
-use Rattle.ac_rules.specs.Typing.{tuple_parts, list_item, option_item}
-use Rattle.ac_rules.specs.Plain.{where_there, in_front, packed, all_packed, all_travel, plain}
+use Rattle.ac_types.proofs.Same.{both_true}
+use Rattle.ac_types.specs.Types.{Typ, TInt, TBool, TStr, TUnit, TExn, TTuple, TList, TOpt, TFun, TAbs, TMine, Typs, no_types, typ, has_function, mentions, mentions_of_all}
+use Rattle.ac_terms.specs.Terms.{Expr, ExnOf, Tuple, Present, Cons, Lam, Rec, App, Let, If, Seq, Match, Try, Raise, Prim, Marshal, Unmarshal, Val, Evaluated, Bracket, Exprs, no_exprs, expr, Arms, no_arms, arm, PValue, KInt, KBool, KStr, KUnit, KExn, KTuple, KList, KAbsent, KPresent, KFun, PValues, no_pvalues, pvalue}
+use Rattle.ac_terms.specs.Defs.{Environment}
+use Rattle.ac_rules.specs.Views.{bare, opened, unsealed, head, rounds, is_known, are_known}
+use Rattle.ac_rules.specs.Plain.{all_travel}
 use Rattle.ac_rules.specs.Coherent.{IsCoherent}
 use Rattle.ac_terms.proofs.AllLaws.{all_left, all_right}
-use Rattle.ac_rules.proofs.EarlierLaws.{found_keeps}
-use Rattle.ac_rules.proofs.BareLaws.{known_has}
-use Rattle.ac_meaning.specs.Rebuilding.{parts_of, item_of, argument_of, result_of, home_of_name, at_abstract, sealed, rebuilt, all_rebuilt, list_rebuilt, rebuilt_term, rebuilt_terms, rebuilt_arms}
-use Rattle.ac_rules.proofs.KnownTypes.{rounds_still, opened_known, rounds_known, head_known}
-use Rattle.ac_meaning.proofs.Homes.{all_seen, sees_own, view_again}
-use Rattle.ac_colours.specs.Sealed.{Sealed, AllSealed, ArmsSealed, ValueSealed, ValuesSealed}
-use Rattle.ac_colours.proofs.Telling.{Flat, AllFlat, flat_tuple, flat_list, flat_opt, flat_fun, or_left, or_right}
-use Rattle.ac_colours.proofs.Says.{OfBirth, Here, SaidAt, Said, AllSaid, EachSaid, TermSaid, TermsSaid, ArmsSaid, Told, round_settled, whole}
-use Rattle.ac_colours.proofs.Ground.{Before, before_further, opened_before}
-use Rattle.ac_terms.specs.Renumbered.{home_by, renumbered, all_renumbered, arms_renumbered, value_renumbered, values_renumbered}
+use Rattle.ac_meaning.specs.Rebuilding.{parts_of, item_of}
+use Rattle.ac_rules.proofs.KnownTypes.{rounds_still, opened_known, head_known}
+use Rattle.ac_colours.proofs.Telling.{Flat}
+use Rattle.ac_colours.proofs.Says.{OfBirth, SaidAt, Said, AllSaid, EachSaid, TermSaid, TermsSaid, ArmsSaid, whole}
+use Rattle.ac_colours.proofs.Ground.{Before, opened_before}
+use Rattle.ac_terms.specs.Renumbered.{renumbered, all_renumbered, arms_renumbered, value_renumbered, values_renumbered}
 use Rattle.ac_colours.proofs.KnownBoth.{Agreeing, bare_both, head_both}
-use Rattle.ac_colours.proofs.Brings.{Sits, AllSit, EachSits, TermSits, TermsSit, ArmsSit, IsFlat, AreFlat, flat_data, bare_opened, bare_rounds}
+use Rattle.ac_colours.proofs.Brings.{Sits, AllSit, EachSits, TermSits, TermsSit, ArmsSit, IsFlat, AreFlat, flat_data, bare_opened}
 
 -- first-order data has no number
 mutual
@@ -56,8 +47,8 @@ module _ (E F : Environment) (agreeing : Agreeing E F) (K : OfBirth) (g : ℕ �
       let bare_same : bare E (TAbs n t) ≡ bare F (TAbs n t) = bare_both E F agreeing (TAbs n t) kn kf in (
         λ p a. let e : x ≡ w = f (ap has_function bare_same ∙ p) in subst (K n t) (sym e) (s.0 (ap has_function bare_same ∙ p) (ap all_travel (sym e) ∙ a)),
         subst (λ X. SaidAt F K X i x to) (sym same)
-        (at_carried k i R w x go to (opened_before E coherent n t k b) (opened_known E coherent n t here) (subst (λ X. are_known F X ≡ true) same (opened_known F agreeing.second n t there)) (λ p. f (ap has_function (sym (bare_opened E coherent n t here)) ∙ p))
-        (λ h. subst (λ X. to (rounds i (unsealed F) X)) same (m h)) s.1),
+            (at_carried k i R w x go to (opened_before E coherent n t k b) (opened_known E coherent n t here) (subst (λ X. are_known F X ≡ true) same (opened_known F agreeing.second n t there)) (λ p. f (ap has_function (sym (bare_opened E coherent n t here)) ∙ p))
+            (λ h. subst (λ X. to (rounds i (unsealed F) X)) same (m h)) s.1),
       )
   at_carried zero i TInt w x go to b kn kf f m s = subst to (rounds_still i (unsealed F) TInt refl) (m (subst go (sym (rounds_still zero (unsealed E) TInt refl)) s))
   at_carried (suc k) i TInt w x go to b kn kf f m s = subst to (rounds_still i (unsealed F) TInt refl) (m (subst go (sym (rounds_still (suc k) (unsealed E) TInt refl)) s))

@@ -1,5 +1,5 @@
 -- What holds of each seal in a term holds of each in its list; and what is among two lists.
-use Rattle.std.proofs.Common.{◌≡◌, refl, ap, subst, List, [], ◌∷◌, ◌++◌, ◌⊎◌, inl, inr}
+use Rattle.std.proofs.Common.{◌≡◌, ap, subst, List, [], ◌∷◌, ◌++◌, ◌⊎◌, inl, inr}
 use Rattle.ac_terms.specs.Terms.{Expr, ExnOf, Tuple, Present, Cons, Lam, Rec, App, Let, If, Seq, Match, Try, Raise, Prim, Marshal, Unmarshal, Evaluated, Bracket, Exprs, no_exprs, expr, Arms, no_arms, arm, Value, VTuple, VCons, VPresent, VLam, VRec, VProxy, VSeal, Values, no_values, value}
 use Rattle.ac_colours.specs.Births.{Seal, seals, all_seals, arms_seals, value_seals, values_seals, IsAmong}
 use Rattle.ac_colours.specs.Sealed.{Saying, Sealed, AllSealed, ArmsSealed, ValueSealed, ValuesSealed}

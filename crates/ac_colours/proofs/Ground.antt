@@ -24,9 +24,8 @@ use Rattle.ac_rules.proofs.EarlierLaws.{known_earlier}
 use Rattle.ac_terms.proofs.AllLaws.{all_implies}
 use Rattle.ac_rules.proofs.ViewLaws.{foreign_view, within, rep_earlier}
 use Rattle.ac_rules.proofs.BareLaws.{known_has}
-use Rattle.ac_rules.proofs.LookupLaws.{found_at}
 use Rattle.ac_terms.proofs.TestLaws.{not_where}
-use Rattle.ac_rules.proofs.ListLaws.{any_taken, any_both, take_whole, any_place, any_at}
+use Rattle.ac_rules.proofs.ListLaws.{any_taken, any_both, take_whole}
 use Rattle.ac_rules.proofs.Unspoken.{shown, padded_named, text_shown, text_of_least, same_mentions}
 use Rattle.ac_colours.proofs.Owning.{Writes}
 use Rattle.ac_colours.proofs.OwnText.{same_pair, speaks}

@@ -1,17 +1,15 @@
 -- Where each name has one text over some environments, what is known is opened to the same in each of them, and modules of one name speak of the same.
-use Rattle.std.proofs.Common.{◌≡◌, refl, sym, ap, ◌∙◌, subst, ℕ, ◌<◌, Bool, true, false, List, [], length, flat_map, Option, Some, None}
+use Rattle.std.proofs.Common.{◌≡◌, sym, ap, ◌∙◌, ℕ, ◌<◌, Bool, true, false, [], length, flat_map, Option, Some}
 use Rattle.std.specs.Prelude.{slice_get, option_map, option_and_then, unwrap_or, is_some}
 use Rattle.std.specs.List.{list_any}
 use Rattle.std.specs.Option.{option_map_or}
-use mathlib.Core.Bool.{true≢false}
-use Rattle.ac_types.proofs.FirstLaws.{none≢some, some_eq}
+use Rattle.ac_types.proofs.FirstLaws.{some_eq}
 use Rattle.ac_types.specs.Types.{Bytes, Typ, TAbs, mentions}
 use Rattle.ac_types.specs.Sigs.{named_type}
 use Rattle.ac_terms.specs.Terms.{In}
-use Rattle.ac_terms.specs.Defs.{Environment, Entry, Module, Def, AModule, AnImport, AMark, module_of, find_name, def_of, module_at, name_at}
+use Rattle.ac_terms.specs.Defs.{Environment, Entry, Module, Def, AModule, module_of, find_name, def_of, module_at, name_at}
 use Rattle.ac_terms.specs.Names.{text_of_def, text_of_entry}
 use Rattle.ac_terms.specs.Parts.{part_types, part_mentions, def_parts}
-use Rattle.ac_terms.specs.Renumbered.{def_renumbered}
 use Rattle.ac_terms.proofs.Back.{one, read_name, back_one, back_name}
 use Rattle.ac_terms.proofs.DefBack.{types_of, one_spelling}
 use Rattle.ac_rules.specs.Views.{representation, opened, type_of_entry, is_known}

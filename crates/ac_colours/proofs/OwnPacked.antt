@@ -1,29 +1,12 @@
 -- What code writes stays in its home's text as functions are packed and rebuilt.
-use Rattle.std.proofs.Common.{◌≡◌, refl, sym, ap, ap₂, ◌∙◌, subst, ℕ, zero, suc, ◌+◌, ◌≤◌, Bool, true, false, length, Option, Some, None}
-use Rattle.std.specs.Prelude.{◌&&◌, List, [], ◌∷◌, unwrap_or, cond, option_and_then}
-use Rattle.std.specs.List.{list_all}
-use mathlib.Core.Bool.{true≢false}
-use native.Mathlib.Omega.{arith}
-use Rattle.ac_types.proofs.Same.{both_true, and_true}
-use Rattle.ac_types.proofs.FirstLaws.{some_eq, given_some}
-use Rattle.ac_types.specs.First.{given}
-use Rattle.ac_types.specs.Types.{Bytes, Typ, TInt, TBool, TStr, TUnit, TExn, TTuple, TList, TOpt, TFun, TAbs, TMine, Typs, no_types, typ, has_function, have_function, mentions, mentions_of_all}
-use Rattle.ac_terms.specs.Terms.{Home, Main, In, Expr, Int, Boolean, Str, Unit', Exn, Nil, Empty, Var, Own, Ref, ExnOf, Tuple, Present, Cons, Lam, Rec, App, Let, If, Seq, Match, Try, Raise, Prim, Marshal, Unmarshal, Val, Evaluated, Bracket, Exprs, no_exprs, expr, Arms, no_arms, arm, PValue, KInt, KBool, KStr, KUnit, KExn, KTuple, KList, KAbsent, KPresent, KFun, PValues, no_pvalues, pvalue, Value, VInt, VBool, VStr, VUnit, VExn, VTuple, VNil, VCons, VAbsent, VPresent, VLam, VRec, VProxy, VSeal, Values, no_values, value}
-use Rattle.ac_terms.specs.Defs.{Environment, find_name, names, name_at, Entry}
-use Rattle.ac_rules.specs.Views.{Plain, Coloured, view, bare, opened, opens, unsealed, head, rounds, is_known, are_known, has_name, representation}
+use Rattle.std.proofs.Common.{ℕ, zero, suc, Bool, true, false, length, Option, Some, None}
+use Rattle.ac_types.specs.Types.{Bytes, Typ, TUnit, TAbs, Typs, no_types, typ}
+use Rattle.ac_terms.specs.Terms.{Home, Expr, ExnOf, Tuple, Present, Cons, Lam, Rec, App, Let, If, Seq, Match, Try, Raise, Prim, Marshal, Unmarshal, Val, Evaluated, Bracket, Exprs, no_exprs, expr, Arms, no_arms, arm, PValue, KInt, KBool, KStr, KUnit, KExn, KTuple, KList, KAbsent, KPresent, KFun, PValues, no_pvalues, pvalue, Value, VInt, VBool, VStr, VUnit, VExn, VTuple, VCons, VAbsent, VPresent, VLam, VRec, VProxy, VSeal, Values, no_values, value}
+use Rattle.ac_terms.specs.Defs.{Environment}
+use Rattle.ac_rules.specs.Views.{Coloured, opened, opens, head}
 use Rattle.ac_rules.specs.Typing.{tuple_parts, list_item, option_item}
-use Rattle.ac_rules.specs.Plain.{stays, packed_term, packed_terms, packed_arms, may_travel, where_there, in_front, packed, all_packed, all_travel, plain}
-use Rattle.ac_rules.specs.Coherent.{IsCoherent}
-use Rattle.ac_terms.proofs.AllLaws.{all_left, all_right}
-use Rattle.ac_rules.proofs.EarlierLaws.{found_keeps}
-use Rattle.ac_rules.proofs.BareLaws.{known_has}
+use Rattle.ac_rules.specs.Plain.{stays, packed_term, packed_terms, packed_arms, may_travel, where_there, in_front, packed, all_packed}
 use Rattle.ac_meaning.specs.Rebuilding.{parts_of, item_of, argument_of, result_of, home_of_name, at_abstract, sealed, rebuilt, all_rebuilt, list_rebuilt, rebuilt_term, rebuilt_terms, rebuilt_arms}
-use Rattle.ac_rules.proofs.KnownTypes.{rounds_still, opened_known, rounds_known, head_known}
-use Rattle.ac_meaning.proofs.Homes.{all_seen, sees_own, view_again}
-use Rattle.ac_colours.specs.Sealed.{Sealed, AllSealed, ArmsSealed, ValueSealed, ValuesSealed}
-use Rattle.ac_colours.proofs.Telling.{Flat, AllFlat, flat_tuple, flat_list, flat_opt, flat_fun, or_left, or_right}
-use Rattle.ac_colours.proofs.Says.{OfBirth, Here, SaidAt, Said, AllSaid, EachSaid, TermSaid, TermsSaid, ArmsSaid, Told, round_settled, whole}
-use Rattle.ac_colours.proofs.Ground.{Before, before_further, opened_before}
 use Rattle.ac_colours.proofs.Owning.{Writes, PatternOwned, Owned, AllOwned, ArmsOwned, ValueOwned, ValuesOwned}
 
 module _ (q : Home → Bytes × Bytes → Bool) where

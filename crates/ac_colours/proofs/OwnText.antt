@@ -9,21 +9,20 @@ use Rattle.ac_types.proofs.FirstLaws.{none≢some, some_eq}
 use Rattle.ac_types.specs.Types.{Bytes, same_bytes, Typ, mentions}
 use Rattle.ac_types.specs.Sigs.{Typed_name}
 use Rattle.ac_terms.specs.Terms.{Home, Main, In, Pattern, PVar, PTuple, PCons, PPresent, PExnOf, Patterns, no_patterns, pattern', Expr, ExnOf, Tuple, Present, Cons, Lam, Rec, App, Let, If, Seq, Match, Try, Raise, Prim, Marshal, Unmarshal, Val, Evaluated, Bracket, Exprs, no_exprs, expr, Arms, no_arms, arm, Value, VTuple, VCons, VPresent, VLam, VRec, VProxy, VSeal, Values, no_values, value}
-use Rattle.ac_terms.specs.Defs.{Environment, Entry, Field, Module, Def, AModule, module_at, module_of, def_of}
-use Rattle.ac_terms.specs.Parts.{Portion, OfType, OfRef, OfHome, Captured, pattern_types, all_pattern_types, term_parts, all_term_parts, arm_parts, part_mentions, sig_types, def_parts}
+use Rattle.ac_terms.specs.Defs.{Environment, Entry, Field, Module, AModule, module_at, module_of, def_of}
+use Rattle.ac_terms.specs.Parts.{Portion, OfType, pattern_types, all_pattern_types, term_parts, all_term_parts, arm_parts, part_mentions, sig_types, def_parts}
 use Rattle.ac_rules.specs.Coherent.{IsCoherent}
 use Rattle.ac_rules.proofs.PartLaws.{AllPass, pass_left, pass_right}
 use Rattle.ac_terms.proofs.AllLaws.{all_left, all_right}
 use Rattle.ac_rules.specs.Growth.{Widening}
 use Rattle.ac_meaning.specs.Acts.{Returned, Raised, Spent, Stuck, State, At, Over}
 use Rattle.ac_meaning.specs.Laws.{is_source, are_source, arms_are_source}
-use Rattle.ac_meaning.specs.References.{own_field}
 use Rattle.ac_meaning.proofs.Coherences.{is_field}
 use Rattle.ac_meaning.proofs.KnownNames.{fields_source}
 use Rattle.ac_rules.proofs.Rules.{then_some, map_some}
 use Rattle.ac_rules.proofs.Growth.{there}
 use Rattle.ac_colours.proofs.SealsLaw.{and_left, and_right}
-use Rattle.ac_colours.proofs.Owning.{Writes, Captures, Loose, PatternOwned, PatternsOwned, Owned, AllOwned, ArmsOwned, ValueOwned, ValuesOwned, StateOwned}
+use Rattle.ac_colours.proofs.Owning.{Captures, Loose, PatternOwned, PatternsOwned, Owned, AllOwned, ArmsOwned, ValueOwned, ValuesOwned, StateOwned}
 use Rattle.ac_colours.proofs.OwnedKept.{FieldsOwned}
 
 abbrev pub same_pair : Bytes × Bytes → Bytes × Bytes → Bool

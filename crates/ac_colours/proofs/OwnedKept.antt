@@ -3,7 +3,6 @@ use Rattle.std.proofs.Common.{◌≡◌, refl, sym, subst, ℕ, zero, suc, ◌+�
 use Rattle.std.specs.List.{list_all}
 use Rattle.ac_types.proofs.Same.{both_true, and_true}
 use Rattle.std.specs.Prelude.{option_map, option_and_then, nat_eq, is_some, ◌&&◌}
-use mathlib.Core.Bool.{true≢false}
 use Rattle.ac_types.proofs.FirstLaws.{none≢some, some_eq, given_some}
 use Rattle.ac_types.specs.First.{given, or_else}
 use Rattle.ac_types.specs.Types.{Bytes, same_bytes, mentions, Typ, TInt, TBool, TStr, TUnit, TExn, TTuple, TList, TOpt, TFun, TAbs, Typs, no_types, typ}
@@ -13,7 +12,6 @@ use Rattle.ac_code.specs.Constants.{Const, CInt, CBool, CStr, CUnit, CPart, Prim
 use Rattle.ac_rules.specs.Views.{Coloured, opens, representation}
 use Rattle.ac_rules.specs.Plain.{packed}
 use Rattle.ac_rules.specs.Typing.{is_function}
-use Rattle.ac_rules.specs.Coherent.{IsCoherent}
 use Rattle.ac_meaning.specs.Worlds.{Exception, World, match_failure_exn, counted}
 use Rattle.ac_outside.specs.Frames.{Frame, Whole, Bad, AtEnd, next_frame}
 use Rattle.ac_meaning.specs.Acts.{Act, Is, Goes, Turns, Applies, Raises, Wrong, becomes, or_raises, within, part, Spent, At, Over, after}
@@ -25,7 +23,7 @@ use Rattle.ac_meaning.specs.References.{own_field, Route, Nowhere, Once, Twice, 
 use Rattle.ac_meaning.specs.Packing.{Packing, Refuses, Packs, packs, packing, Arrival, Unfit, Brings, arrival, brings, marshal_step, unmarshal_step}
 use Rattle.ac_meaning.specs.Reduction.{apply, branch, look, look_all, look_main, step}
 use Rattle.ac_meaning.specs.Redexes.{Redex, redex, redex_all, stands_next, crosses}
-use Rattle.ac_colours.proofs.Owning.{Writes, Captures, PatternOwned, PatternsOwned, Owned, AllOwned, ArmsOwned, ValueOwned, ValuesOwned, StateOwned}
+use Rattle.ac_colours.proofs.Owning.{Writes, PatternOwned, PatternsOwned, Owned, AllOwned, ArmsOwned, ValueOwned, ValuesOwned, StateOwned}
 use Rattle.ac_colours.proofs.SealsLaw.{AtRest, rest, rest_all, none_else}
 
 module _ (q : Home → Bytes × Bytes → Bool) where

@@ -1,9 +1,9 @@
 -- What code of a home writes: the types of its marshals, unmarshals, binders and captured values pass a test of the home. Types of brackets, and of values that stand in brackets or where the next step is, are free.
-use Rattle.std.proofs.Common.{◌≡◌, Bool, true, false, List, [], ◌∷◌}
+use Rattle.std.proofs.Common.{◌≡◌, Bool, true, false}
 use Rattle.std.specs.List.{list_all}
 use Rattle.ac_types.specs.Types.{Bytes, Typ, mentions}
 use Rattle.ac_terms.specs.Terms.{Home, Main, Pattern, PVar, PTuple, PCons, PPresent, PExnOf, Patterns, no_patterns, pattern', Expr, ExnOf, Tuple, Present, Cons, Lam, Rec, App, Let, If, Seq, Match, Try, Raise, Prim, Marshal, Unmarshal, Val, Evaluated, Bracket, Exprs, no_exprs, expr, Arms, no_arms, arm, Value, VTuple, VCons, VPresent, VLam, VRec, VProxy, VSeal, Values, no_values, value}
-use Rattle.ac_meaning.specs.Acts.{Act, Is, Turns, Returned, State, At, Over}
+use Rattle.ac_meaning.specs.Acts.{Returned, State, At, Over}
 
 module _ (q : Home → Bytes × Bytes → Bool) where
   -- the home may write the type

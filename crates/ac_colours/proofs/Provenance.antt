@@ -1,64 +1,47 @@
 -- One step of a run in a chain: what it gives is vouched for, what it takes tells births of before, and so what stands in the next state.
-use Rattle.std.proofs.Common.{◌≡◌, refl, sym, ap, ap₂, ◌∙◌, subst, ℕ, Bool, true, false, ◌&&◌, not, nat_lt, cond, List, [], ◌∷◌, ◌++◌, length, append_assoc, ◌⊎◌, inl, inr, Option, Some, None}
-use Rattle.std.specs.Option.{option_map_or}
+use Rattle.std.proofs.Common.{◌≡◌, refl, sym, ap, ◌∙◌, subst, ℕ, Bool, true, false, ◌&&◌, not, cond, List, [], ◌∷◌, ◌++◌, append_assoc, Option, Some, None}
 use native.Mathlib.Omega.{arith}
-use Rattle.ac_types.proofs.FirstLaws.{none≢some}
-use Rattle.ac_types.specs.First.{or_else}
-use Rattle.ac_types.specs.Types.{Bytes, Typ, TStr, TAbs}
-use Rattle.ac_terms.specs.Terms.{Home, Main, In, Expr, Str, Marshal, Unmarshal, Evaluated, Bracket, PValue, Value, VStr}
+use Rattle.ac_types.specs.Types.{Bytes, Typ, TAbs}
+use Rattle.ac_terms.specs.Terms.{Home, Main, Expr, Str, Marshal, Bracket, PValue, Value, VStr}
 use Rattle.ac_terms.specs.Defs.{Environment}
 use Rattle.ac_terms.specs.Spelling.{two_written}
 use Rattle.ac_terms.specs.Heads.{type_heads, value_heads, packed_heads}
-use Rattle.ac_rules.specs.Views.{Coloured, opens, bare, opened}
-use Rattle.ac_rules.specs.Plain.{packed, plain}
+use Rattle.ac_rules.specs.Views.{Coloured, opens}
+use Rattle.ac_rules.specs.Plain.{packed}
 use Rattle.ac_rules.specs.Needed.{mark_at}
 use Rattle.ac_rules.specs.Faults.{Fault, AString, first_fault, behind, cut_at, marshalled}
 use Rattle.ac_rules.specs.RoundTrip.{IsPackable}
 use Rattle.ac_rules.specs.Coherent.{IsCoherent}
-use Rattle.ac_rules.specs.Growth.{Widening}
 use Rattle.ac_rules.proofs.Composed.{value_still}
 use Rattle.ac_rules.proofs.FaultLaws.{none_fails}
-use Rattle.ac_rules.proofs.Growth.{extends_not}
-use Rattle.ac_meaning.specs.Worlds.{Exception, World, counted, grown}
-use Rattle.ac_meaning.specs.Acts.{Act, Is, Goes, Turns, Applies, Raises, Wrong, part, parts, Spent, State, At, Over, after}
-use Rattle.ac_meaning.specs.Packing.{Packing, Refuses, Packs, packs, packing, Landing, Sinks, Lands, landing, brought, brings, marshal_step, unmarshal_step}
+use Rattle.ac_meaning.specs.Worlds.{World}
+use Rattle.ac_meaning.specs.Acts.{Act, Is, Goes, Turns, Applies, Raises, Wrong, parts, State, At, Over}
+use Rattle.ac_meaning.specs.Packing.{Packing, Refuses, Packs, packs, packing, Lands, landing, marshal_step}
 use Rattle.ac_meaning.specs.Rebuilding.{rebuilt}
-use Rattle.ac_meaning.specs.Reduction.{look, look_main, step}
-use Rattle.ac_meaning.specs.Redexes.{Redex, redex, stands_next}
+use Rattle.ac_meaning.specs.Reduction.{look}
 use Rattle.ac_meaning.specs.BareTerms.{bare_value}
 use Rattle.ac_meaning.specs.BarePacking.{bare_packed}
-use Rattle.ac_meaning.specs.Typed.{as_seen, Known, IsHome, Typed, ValueTyped}
-use Rattle.ac_meaning.proofs.Admitted.{arrives, arrived}
-use Rattle.ac_meaning.proofs.Kept.{ActOk, kept}
-use Rattle.ac_meaning.proofs.MarshalledRead.{IsBounded, run_bounded}
+use Rattle.ac_meaning.specs.Typed.{as_seen, Known, ValueTyped}
+use Rattle.ac_meaning.proofs.Admitted.{arrived}
+use Rattle.ac_meaning.proofs.MarshalledRead.{IsBounded}
 use Rattle.ac_meaning.proofs.PackedAlike.{packed_alike}
 use Rattle.ac_colours.proofs.Packable.{packable}
 use Rattle.ac_meaning.proofs.ReadBack.{a_string}
-use Rattle.ac_meaning.proofs.Shapes.{shape}
-use Rattle.ac_meaning.proofs.Within.{Within, ValueWithin, ActWithin, TypeFits}
-use Rattle.ac_meaning.proofs.WithinComes.{comes_within}
+use Rattle.ac_meaning.proofs.Within.{ValueWithin, TypeFits}
 use Rattle.ac_meaning.proofs.WithinPacked.{Fine, fine_both, packed_fits}
 use Rattle.ac_meaning.proofs.WithinSmall.{packed_small}
-use Rattle.ac_meaning.proofs.WithinSteps.{kept_within}
-use Rattle.ac_colours.specs.Births.{Seal, seal, value_seals, Event, Born, Gave, Took, sealing, giving, taken, taking, happening, happening_in, IsAmong, Birth, birth, told, births}
-use Rattle.ac_colours.specs.Sealed.{Sealed, ValueSealed, StateSealed, Sealing, Brought, Arriving, News}
+use Rattle.ac_colours.specs.Births.{Seal, seal, Event, Born, Gave, Took, sealing, giving, happening, IsAmong, told}
+use Rattle.ac_colours.specs.Sealed.{Sealed, ValueSealed}
 use Rattle.ac_colours.proofs.Brings.{rebuilt_told}
-use Rattle.ac_colours.proofs.Collected.{among_one, each_among, value_collected}
-use Rattle.ac_colours.proofs.Conserved.{seals_come, value_conserved}
-use Rattle.ac_colours.proofs.Marshals.{marshal_says}
-use Rattle.ac_colours.proofs.NextRedex.{Ended, NextIn, Comes, next, in_redex, value_is}
+use Rattle.ac_colours.proofs.Collected.{among_one}
 use Rattle.ac_colours.proofs.OneText.{Texts, AreOne, Keeps}
-use Rattle.ac_colours.proofs.Origins.{not_among, among_right, value_weaker}
-use Rattle.ac_colours.proofs.OwnedKept.{FieldsOwned, ArrivingOwned, NewsOwned, owned_kept, value_passes}
-use Rattle.ac_colours.proofs.Owning.{Owned, ValueOwned, StateOwned}
-use Rattle.ac_colours.proofs.OwnPacked.{PackedOwned, packed_owned, rebuilt_owned}
-use Rattle.ac_colours.proofs.OwnText.{speaks, speaks_more, owned_more, fields_owned}
-use Rattle.ac_colours.proofs.RedexSound.{IsReady, Sound, sound}
-use Rattle.ac_colours.proofs.SameDefinitions.{UnmarshalsNext, Stays, stays}
-use Rattle.ac_colours.proofs.Says.{OfBirth, Said, Told}
+use Rattle.ac_colours.proofs.Origins.{not_among, value_weaker}
+use Rattle.ac_colours.proofs.Owning.{Owned}
+use Rattle.ac_colours.proofs.OwnPacked.{PackedOwned}
+use Rattle.ac_colours.proofs.OwnText.{speaks}
+use Rattle.ac_colours.proofs.Says.{OfBirth, Told}
 use Rattle.ac_colours.proofs.Sitting.{holds_sits}
-use Rattle.ac_colours.proofs.ToldGrows.{BornIn, births_both, born_more, born_later, told_is, tells, told_grows}
-use Rattle.ac_colours.proofs.Telling.{told_same}
+use Rattle.ac_colours.proofs.ToldGrows.{BornIn, born_more}
 use Rattle.ac_colours.proofs.Vouching.{Vouched, keeps_after, said_after, owned_after}
 
 -- a state of a run where all that happened is known: each seal in it tells a birth

@@ -4,14 +4,13 @@ use Rattle.std.specs.Prelude.{option_map, is_some}
 use Rattle.ac_types.specs.First.{or_else}
 use Rattle.ac_types.specs.Types.{Bytes, Typ, TInt, TBool, TStr, TUnit, TExn, TTuple, TList, TOpt, TFun, TAbs}
 use Rattle.ac_terms.specs.Terms.{Home, Main, Expr, Int, Boolean, Str, Unit', Exn, ExnOf, Tuple, Nil, Empty, Present, Cons, Var, Own, Ref, Lam, Rec, App, Let, If, Seq, Match, Try, Raise, Prim, Marshal, Unmarshal, Val, Evaluated, Bracket, Exprs, no_exprs, expr, Value, VInt, VBool, VStr, VUnit, VExn, VTuple, VNil, VCons, VAbsent, VPresent, VLam, VRec, VProxy, value}
-use Rattle.ac_terms.specs.Defs.{Environment}
 use Rattle.ac_code.specs.Constants.{PrimitiveAnswer, Gives, Prints, Sends, Receives, Fails, NoSense}
 use Rattle.ac_rules.specs.Plain.{packed}
 use Rattle.ac_rules.specs.Views.{Mode, opens, representation}
 use Rattle.ac_rules.specs.Typing.{is_function}
 use Rattle.ac_outside.specs.Frames.{Frame, Whole, Bad, AtEnd, next_frame}
 use Rattle.ac_meaning.specs.Worlds.{Exception, World, match_failure_exn}
-use Rattle.ac_meaning.specs.Acts.{Act, Is, Goes, Turns, Applies, Raises, Wrong, becomes, or_raises, within, part, parts}
+use Rattle.ac_meaning.specs.Acts.{Act, Is, Goes, Turns, Applies, Raises, Wrong, becomes, or_raises, within, part}
 use Rattle.ac_meaning.specs.Substitution.{inst}
 use Rattle.ac_meaning.specs.Matching.{chosen}
 use Rattle.ac_meaning.specs.PrimitiveSteps.{spelled, primitive, answered, sending, receiving, exception_of, exception_value, thrown}

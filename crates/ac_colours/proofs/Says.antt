@@ -1,13 +1,13 @@
 -- What a packed value says at a type: at each first-order n.t on the way down, that what stands there was sealed at n.t. What is marshalled says nothing but what its seals tell.
-use Rattle.std.proofs.Common.{◌≡◌, refl, sym, ap, ap₂, ◌∙◌, subst, ℕ, zero, suc, Bool, true, false, length, take, ◌++◌, Option, Some, None}
+use Rattle.std.proofs.Common.{◌≡◌, refl, sym, ap, ap₂, ◌∙◌, subst, ℕ, zero, suc, Bool, true, false, length, take, ◌++◌, Some}
 use Rattle.std.specs.Prelude.{◌&&◌, List, [], ◌∷◌}
 use Rattle.std.specs.List.{list_all}
 use mathlib.Core.Bool.{true≢false}
 use Rattle.ac_types.proofs.Same.{both_true}
 use Rattle.ac_types.specs.Types.{Bytes, Typ, TInt, TBool, TStr, TUnit, TExn, TTuple, TList, TOpt, TFun, TAbs, TMine, Typs, no_types, typ, has_function, mentions, mentions_of_all}
-use Rattle.ac_terms.specs.Terms.{Home, Main, In, Expr, Int, Boolean, Str, Unit', Exn, Nil, Empty, Var, Own, Ref, ExnOf, Tuple, Present, Cons, Lam, Rec, App, Let, If, Seq, Match, Try, Raise, Prim, Marshal, Unmarshal, Val, Evaluated, Bracket, Exprs, no_exprs, expr, Arms, no_arms, arm, PValue, KInt, KBool, KStr, KUnit, KExn, KTuple, KList, KAbsent, KPresent, KFun, PValues, no_pvalues, pvalue, Value, VInt, VBool, VStr, VUnit, VExn, VTuple, VNil, VCons, VAbsent, VPresent, VLam, VRec, VProxy, VSeal, Values, no_values, value}
+use Rattle.ac_terms.specs.Terms.{Home, Expr, Int, Boolean, Str, Unit', Exn, Nil, Empty, Var, Own, Ref, ExnOf, Tuple, Present, Cons, Lam, Rec, App, Let, If, Seq, Match, Try, Raise, Prim, Marshal, Unmarshal, Val, Evaluated, Bracket, Exprs, no_exprs, expr, Arms, no_arms, arm, PValue, KInt, KBool, KStr, KUnit, KExn, KTuple, KList, KAbsent, KPresent, KFun, PValues, no_pvalues, pvalue, Value, VInt, VBool, VStr, VUnit, VExn, VTuple, VNil, VCons, VAbsent, VPresent, VLam, VRec, VProxy, VSeal, Values, no_values, value}
 use Rattle.ac_terms.specs.Defs.{Environment}
-use Rattle.ac_rules.specs.Views.{Coloured, view, bare, opened, unsealed, head, rounds, is_known, are_known, has_name}
+use Rattle.ac_rules.specs.Views.{Coloured, bare, opened, unsealed, head, rounds, is_known, are_known}
 use Rattle.ac_types.specs.First.{given}
 use Rattle.ac_types.specs.Types.{agree}
 use Rattle.ac_rules.specs.Typing.{tuple_parts, list_item, option_item, is_function, is_function_home, type_of, all_of, type_seen}
@@ -20,7 +20,7 @@ use Rattle.ac_meaning.specs.Typed.{as_seen, Typed, AllTyped, ArmsTyped, ValueTyp
 use Rattle.ac_rules.proofs.KnownTypes.{rounds_still}
 use Rattle.ac_meaning.proofs.Homes.{sees_own}
 use Rattle.ac_colours.specs.Sealed.{Saying, Sealed, AllSealed, ArmsSealed, ValueSealed, ValuesSealed}
-use Rattle.ac_colours.proofs.Owning.{Writes, Owned, AllOwned, ArmsOwned, ValueOwned, ValuesOwned}
+use Rattle.ac_colours.proofs.Owning.{Owned, AllOwned, ArmsOwned, ValueOwned, ValuesOwned}
 use Rattle.ac_colours.proofs.OwnText.{speaks}
 use Rattle.ac_colours.proofs.Ground.{ground, Before, spoken_before, sees_as_is, opened_before, own_before}
 
@@ -204,9 +204,9 @@ module _ (E : Environment) (K : OfBirth) where
           subst (λ X. Said X (packed E c (VPresent v) X)) (sym t.1)
           (subst (λ X. Said (TOpt A) (where_there (option_item X) (λ U. KPresent (packed E c v U)))) (sym (rounds_still (length E) (unsealed E) (TOpt A) refl))
           (said_packed v c A (subst (λ X. before c X) t.1 b) t.2 o s))
-      said_packed (VLam A e) c T b t o s = subst (λ X. Said X (packed E c (VLam A e) X)) (sym t.1) 
+      said_packed (VLam A e) c T b t o s = subst (λ X. Said X (packed E c (VLam A e) X)) (sym t.1)
           (travel_said (may_travel E c (Lam A (packed_term E c e)) (TFun (as_seen Coloured E c A) t.0)) c (Lam A (packed_term E c e)) (as_seen Coloured E c A) t.0 (term_said e c (as_seen Coloured E c A ∷ []) t.0 t.2 o.1 s))
-      said_packed (VRec A B e) c T b t o s = subst (λ X. Said X (packed E c (VRec A B e) X)) (sym t.0) 
+      said_packed (VRec A B e) c T b t o s = subst (λ X. Said X (packed E c (VRec A B e) X)) (sym t.0)
           (travel_said (may_travel E c (Rec A B (packed_term E c e)) (TFun (as_seen Coloured E c A) (as_seen Coloured E c B))) c (Rec A B (packed_term E c e)) (as_seen Coloured E c A) (as_seen Coloured E c B)
           (term_said e c (as_seen Coloured E c A ∷ TFun (as_seen Coloured E c A) (as_seen Coloured E c B) ∷ []) (as_seen Coloured E c B) t.1 o.2 s))
       said_packed (VProxy d A B f) c T b t o s = subst (λ X. Said X (packed E d f X)) (sym t.0) (fun_said f d (as_seen Coloured E d A) (as_seen Coloured E d B) (as_seen Coloured E c A) (as_seen Coloured E c B) t.3 o s)

@@ -1,18 +1,17 @@
 -- One step of a run in a chain: what it gives is vouched for, what it takes tells births of before, and so does what stands in the next state.
 use Rattle.std.proofs.Common.{◌≡◌, refl, sym, ap, ap₂, ◌∙◌, subst, ℕ, Bool, true, false, ◌&&◌, not, nat_lt, cond, List, [], ◌∷◌, ◌++◌, ◌⊎◌, inl, inr, Option, Some, None}
 use Rattle.std.specs.Option.{option_map_or}
-use Rattle.ac_types.proofs.FirstLaws.{none≢some}
 use Rattle.ac_types.specs.Types.{Bytes, Typ, TStr, TAbs}
-use Rattle.ac_terms.specs.Terms.{Home, Main, In, Expr, Str, Marshal, Unmarshal, Evaluated, Bracket, PValue, Value, VStr, VSeal}
+use Rattle.ac_terms.specs.Terms.{Home, Main, In, Expr, Marshal, Unmarshal, Evaluated, Bracket, PValue, Value, VStr, VSeal}
 use Rattle.ac_terms.specs.Defs.{Environment}
-use Rattle.ac_rules.specs.Views.{Coloured, opens, bare, opened}
+use Rattle.ac_rules.specs.Views.{Coloured, opens}
 use Rattle.ac_rules.specs.Plain.{packed}
 use Rattle.ac_rules.specs.Coherent.{IsCoherent}
 use Rattle.ac_rules.specs.Growth.{Widening}
 use Rattle.ac_rules.proofs.Growth.{extends_not}
-use Rattle.ac_meaning.specs.Worlds.{Exception, World, counted, grown}
-use Rattle.ac_meaning.specs.Acts.{Act, Is, Goes, Turns, Applies, Raises, Wrong, part, parts, Spent, State, At, Over, after}
-use Rattle.ac_meaning.specs.Packing.{Landing, Sinks, Lands, landing, brought, brings, marshal_step, unmarshal_step}
+use Rattle.ac_meaning.specs.Worlds.{World, counted, grown}
+use Rattle.ac_meaning.specs.Acts.{Act, Is, Goes, Turns, Applies, Raises, Wrong, part, Spent, State, At, Over, after}
+use Rattle.ac_meaning.specs.Packing.{Landing, Sinks, Lands, landing, brought, brings, unmarshal_step}
 use Rattle.ac_meaning.specs.Rebuilding.{rebuilt}
 use Rattle.ac_meaning.specs.Reduction.{look, look_main, step}
 use Rattle.ac_meaning.specs.Redexes.{Redex, redex, stands_next}
@@ -24,19 +23,19 @@ use Rattle.ac_meaning.proofs.Shapes.{shape}
 use Rattle.ac_meaning.proofs.Within.{Within, ValueWithin, ActWithin}
 use Rattle.ac_meaning.proofs.WithinComes.{comes_within}
 use Rattle.ac_meaning.proofs.WithinSteps.{kept_within}
-use Rattle.ac_colours.specs.Births.{Seal, seal, seals, value_seals, Event, Born, Gave, Took, sealing, giving, taken, taking, happening, happening_in, IsAmong, Birth, birth, told, births}
+use Rattle.ac_colours.specs.Births.{Seal, seal, seals, value_seals, Event, Born, Gave, Took, sealing, taken, taking, happening, happening_in, IsAmong, Birth, birth, told, births}
 use Rattle.ac_colours.specs.Sealed.{Sealed, ValueSealed, StateSealed, Sealing, Brought, Arriving, News}
 use Rattle.ac_colours.proofs.Collected.{among_one, each_among, value_collected}
 use Rattle.ac_colours.proofs.Conserved.{seals_come, value_conserved}
 use Rattle.ac_colours.proofs.Marshals.{marshal_says}
 use Rattle.ac_colours.proofs.NextRedex.{Ended, NextIn, Comes, next, in_redex, value_is}
 use Rattle.ac_colours.proofs.OneText.{Texts, AreOne, Keeps}
-use Rattle.ac_colours.proofs.Origins.{not_among, among_right}
+use Rattle.ac_colours.proofs.Origins.{not_among}
 use Rattle.ac_colours.proofs.OwnedKept.{FieldsOwned, BroughtOwned, ArrivingOwned, NewsOwned, owned_kept, value_passes}
 use Rattle.ac_colours.proofs.Owning.{Owned, ValueOwned, StateOwned}
 use Rattle.ac_colours.proofs.OwnPacked.{packed_owned, rebuilt_owned}
 use Rattle.ac_colours.proofs.OwnText.{speaks, speaks_more, owned_more, fields_owned}
-use Rattle.ac_colours.proofs.Provenance.{Runs, StateRuns, Given, Taken, given_more, told_weaker, take_given, Packs', marshal_parts, made_string, can_pack, no_took, gave_is, IsBirth, bracket_births}
+use Rattle.ac_colours.proofs.Provenance.{Runs, StateRuns, Given, Taken, told_weaker, take_given, marshal_parts, made_string, can_pack, no_took, gave_is, bracket_births}
 use Rattle.ac_colours.proofs.RedexSound.{Sound, sound}
 use Rattle.ac_colours.proofs.SameDefinitions.{UnmarshalsNext, Stays, stays}
 use Rattle.ac_colours.proofs.Says.{OfBirth, Told}

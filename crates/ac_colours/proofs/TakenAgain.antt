@@ -1,5 +1,5 @@
 -- A string that a marshal step gives is taken again by an unmarshal step at its type, there and over all that has come since.
-use Rattle.std.proofs.Common.{◌≡◌, refl, sym, ap, subst, ℕ, Bool}
+use Rattle.std.proofs.Common.{◌≡◌, sym, ap, subst, ℕ, Bool}
 use Rattle.std.specs.Prelude.{false, IsTrue}
 use Rattle.ac_types.specs.Types.{Bytes, Typ}
 use Rattle.ac_terms.specs.Terms.{Home, Expr, Unmarshal, VStr}

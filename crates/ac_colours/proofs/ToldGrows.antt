@@ -1,15 +1,14 @@
 -- What the seals of a typed term tell stays as the definitions grow.
 use Rattle.std.proofs.Common.{◌≡◌, refl, sym, ap, ◌∙◌, subst, Bool, true, false, cond, List, [], ◌∷◌, ◌++◌, Option, Some, None, append_assoc}
-use Rattle.std.specs.Option.{option_map_or}
 use Rattle.std.specs.Prelude.{option_map, option_to_list}
 use Rattle.ac_types.specs.Types.{Bytes, Typ, TBool, TStr, TExn, TFun, TList, TAbs, Typs, has_function}
-use Rattle.ac_terms.specs.Terms.{Home, Expr, ExnOf, Tuple, Present, Cons, Lam, Rec, App, Let, If, Seq, Match, Try, Raise, Prim, Marshal, Unmarshal, Val, Evaluated, Bracket, Exprs, no_exprs, expr, Arms, no_arms, arm, PValue, KUnit, Value, VTuple, VCons, VPresent, VLam, VRec, VProxy, VSeal, Values, no_values, value}
+use Rattle.ac_terms.specs.Terms.{Home, Expr, ExnOf, Tuple, Present, Cons, Lam, Rec, App, Let, If, Seq, Match, Try, Raise, Prim, Marshal, Unmarshal, Val, Evaluated, Bracket, Exprs, no_exprs, expr, Arms, no_arms, arm, PValue, Value, VTuple, VCons, VPresent, VLam, VRec, VProxy, VSeal, Values, no_values, value}
 use Rattle.ac_terms.specs.Defs.{Environment}
 use Rattle.ac_rules.specs.Views.{Coloured, bare, opened}
 use Rattle.ac_rules.specs.Plain.{plain}
 use Rattle.ac_rules.specs.Growth.{Widening}
 use Rattle.ac_meaning.specs.Typed.{as_seen, Typed, AllTyped, ArmsTyped, ValueTyped, ValuesTyped}
-use Rattle.ac_colours.specs.Births.{Seal, seal, told, Birth, birth, births, Event, Born, Gave, Took, IsAmong}
+use Rattle.ac_colours.specs.Births.{seal, told, Birth, birth, births, Event, Born, Gave, Took, IsAmong}
 use Rattle.ac_colours.specs.Sealed.{Sealed, AllSealed, ArmsSealed, ValueSealed, ValuesSealed}
 use Rattle.ac_colours.proofs.Origins.{among_left, among_right, not_among}
 use Rattle.ac_colours.proofs.Says.{OfBirth, Told}

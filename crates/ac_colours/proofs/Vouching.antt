@@ -1,24 +1,23 @@
 -- A string that a program gave, and what comes of it where it is accepted, where each name has one text.
-use Rattle.std.proofs.Common.{◌≡◌, refl, sym, ap, ◌∙◌, subst, ℕ, ◌<◌, ◌≤◌, Bool, true, false, nat_lt, List, [], ◌∷◌, ◌++◌, length, map, Option, Some, None}
-use Rattle.std.specs.Prelude.{Contains, slice_get, option_and_then, is_some}
+use Rattle.std.proofs.Common.{◌≡◌, refl, sym, ap, ◌∙◌, subst, ℕ, ◌<◌, Bool, true, false, nat_lt, List, [], ◌∷◌, ◌++◌, length, map, Option, Some, None}
+use Rattle.std.specs.Prelude.{Contains, slice_get, is_some}
 use Rattle.std.specs.List.{list_all}
 use Rattle.std.proofs.lemmas.Bool.{ltb-true, ltb-false}
 use Rattle.std.proofs.lemmas.List.Elements.{Contains-append_left}
 use native.Mathlib.Omega.{arith}
 use Rattle.sha2.specs.Sha256.{sha256}
 use Rattle.ac_types.proofs.Same.{both_true, and_true}
-use Rattle.ac_types.specs.Types.{Bytes, Typ, mentions}
-use Rattle.ac_terms.specs.Terms.{Main, In, PValue}
-use Rattle.ac_terms.specs.Defs.{Environment, Entry, Def, Packet, module_at, name_at, find_name}
-use Rattle.ac_terms.specs.Names.{text_of_entry}
-use Rattle.ac_terms.specs.Parts.{Portion, part_refs, part_homes, part_mentions, value_parts}
+use Rattle.ac_types.specs.Types.{Bytes, Typ}
+use Rattle.ac_terms.specs.Terms.{In, PValue}
+use Rattle.ac_terms.specs.Defs.{Environment, Entry, Def, Packet, module_at, name_at}
+use Rattle.ac_terms.specs.Parts.{Portion, part_refs, part_homes, value_parts}
 use Rattle.ac_terms.specs.Renumbered.{value_renumbered}
 use Rattle.ac_terms.specs.Bounds.{Spells}
 use Rattle.ac_terms.specs.PacketReading.{packet_of}
 use Rattle.ac_terms.proofs.SpelledLaws.{spelled_is_read}
-use Rattle.ac_rules.specs.Views.{Coloured, is_known, are_known}
+use Rattle.ac_rules.specs.Views.{Coloured, are_known}
 use Rattle.ac_rules.specs.Needed.{root, spoken_of, needed_by, roots_of, place_in, packet_for}
-use Rattle.ac_rules.specs.Packets.{Cause, Placed, placed_number, alone, places, value_there, cause, Accepts}
+use Rattle.ac_rules.specs.Packets.{Cause, Placed, placed_number, places, value_there, cause, Accepts}
 use Rattle.ac_rules.specs.Faults.{AString, marshalled}
 use Rattle.ac_rules.specs.RoundTrip.{IsPackable}
 use Rattle.ac_rules.specs.Coherent.{IsCoherent}
@@ -28,7 +27,7 @@ use Rattle.ac_rules.proofs.Composed.{value_twice, value_still}
 use Rattle.ac_rules.proofs.NeededEarly.{all_contains, needed_members}
 use Rattle.ac_rules.proofs.NeededKinds.{is_there}
 use Rattle.ac_rules.proofs.Placing.{Stands}
-use Rattle.ac_rules.proofs.RenumberedParts.{part_by, homes_by, value_parts_by}
+use Rattle.ac_rules.proofs.RenumberedParts.{homes_by, value_parts_by}
 use Rattle.ac_rules.proofs.RoundTrip.{marshal_round_trip}
 use Rattle.ac_rules.proofs.Rules.{then_some}
 use Rattle.ac_rules.proofs.Spoken.{value_speaks, homes_modules}
@@ -37,7 +36,7 @@ use Rattle.ac_rules.proofs.Steps.{Facts, Stage}
 use Rattle.ac_rules.proofs.Unspoken.{has_a_name}
 use Rattle.ac_rules.proofs.ValueThere.{root_shows}
 use Rattle.ac_rules.proofs.ViewLaws.{within}
-use Rattle.ac_meaning.specs.Packing.{Lands, Landing, admitted, received, landing}
+use Rattle.ac_meaning.specs.Packing.{Lands, admitted, received, landing}
 use Rattle.ac_colours.proofs.Brings.{Sits}
 use Rattle.ac_colours.proofs.Carries.{said_carried}
 use Rattle.ac_colours.proofs.KnownBoth.{Agreeing}
