@@ -23,7 +23,7 @@ use Rattle.ac_meaning.proofs.Kept.{ActOk, kept}
 use Rattle.ac_colours.proofs.SealsLaw.{AtRest, none_else, rest, rest_becomes, rest_or_raises, rest_bracket, rest_apply, rest_branch, rest_thrown, rest_answer, rest_marshal, rest_unmarshal}
 
 -- a value, or a term for which no rule is
-abbrev Ended : {S A : Type 0} → Act S A → Type 0
+abbrev pub Ended : {S A : Type 0} → Act S A → Type 0
 Ended (Is v) = Unit {0}
 Ended (Goes s) = ⊥
 Ended (Turns z s) = ⊥
@@ -32,7 +32,7 @@ Ended (Raises x) = ⊥
 Ended Wrong = Unit {0}
 
 -- a is next in a term, and r in its redex: a handler may go on where the redex raises
-abbrev Comes : {S A : Type 0} → Act S A → Act Expr Value → Type 0
+abbrev pub Comes : {S A : Type 0} → Act S A → Act Expr Value → Type 0
 Comes (Is v) r = ⊥
 Comes (Goes s) r = ((g : Expr) × (r ≡ Goes g)) ⊎ ((x : Exception) × (r ≡ Raises x))
 Comes (Turns y s) r = (g : Expr) × (r ≡ Turns y g)
@@ -50,7 +50,7 @@ own (Raises x) r h = refl
 own Wrong r h = tt
 
 module _ (mode : Mode) (z : World) where
-  abbrev NextIn : {S A : Type 0} → Act S A → Option Redex → Type 0
+  abbrev pub NextIn : {S A : Type 0} → Act S A → Option Redex → Type 0
   NextIn a None = Ended a
   NextIn a (Some r) = Comes a (look mode z r.home r.term)
 
@@ -108,7 +108,7 @@ module _ (mode : Mode) (z : World) where
   bracket_next b c (TMine t) e v q = stand_next c (Bracket b (TMine t) e) _ q (rest_bracket mode z b c (TMine t) (Bracket b (TMine t) e) v)
 
   mutual
-    next : (e : Expr) (c : Home) → NextIn (look mode z c e) (redex c e)
+    pub next : (e : Expr) (c : Home) → NextIn (look mode z c e) (redex c e)
     next (Int k) c = tt
     next (Boolean b) c = tt
     next (Str s) c = tt
@@ -166,7 +166,7 @@ module _ (mode : Mode) (z : World) where
         (λ v q. last_next (λ y. expr e y) (λ vs. Is (value v vs)) (redex_all c es) (look_all mode z c es) (next_all es c) (λ vs. tt))
 
 -- a typed term without a redex is a value
-value_is : (E : Environment) (P : Environment → Expr → Type 0) (Q : Environment → Value → Type 0) (a : Act Expr Value) → Ended a → ActOk E P Q a → (v : Value) × (a ≡ Is v)
+pub value_is : (E : Environment) (P : Environment → Expr → Type 0) (Q : Environment → Value → Type 0) (a : Act Expr Value) → Ended a → ActOk E P Q a → (v : Value) × (a ≡ Is v)
 value_is E P Q (Is v) h k = (v, refl)
 value_is E P Q (Goes s) h k = absurd h
 value_is E P Q (Turns y s) h k = absurd h

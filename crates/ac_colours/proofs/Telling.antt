@@ -18,7 +18,7 @@ use Rattle.ac_rules.proofs.KnownTypes.{head_known, opened_known}
 use Rattle.ac_rules.proofs.Growth.{head_same, opened_same, bare_same}
 use Rattle.ac_meaning.proofs.Homes.{all_seen, seen_tuple, seen_list, seen_opt, seen_fun, view_again}
 use Rattle.ac_colours.proofs.SealsLaw.{and_left}
-use Rattle.ac_colours.specs.Births.{seal, Birth, told}
+use Rattle.ac_colours.specs.Births.{seal, Birth, birth, told}
 
 -- a value without a function
 abbrev mutual
@@ -82,27 +82,27 @@ module _ (E : Environment) (coherent : IsCoherent E) where
   abbrev pub Flat : Typ → Type 0
   Flat T = has_function (view Plain E Home.Main T) ≡ false
 
-  or_left : (a b : Bool) → (a || b) ≡ false → a ≡ false
+  pub or_left : (a b : Bool) → (a || b) ≡ false → a ≡ false
   or_left true b h = h
   or_left false b h = refl
 
-  or_right : (a b : Bool) → (a || b) ≡ false → b ≡ false
+  pub or_right : (a b : Bool) → (a || b) ≡ false → b ≡ false
   or_right true b h = absurd (true≢false h)
   or_right false b h = h
 
-  abbrev AllFlat : Typs → Type 0
+  abbrev pub AllFlat : Typs → Type 0
   AllFlat Ts = have_function (all_seen E Plain Home.Main Ts) ≡ false
 
-  flat_tuple : (Ts : Typs) → Flat (TTuple Ts) → AllFlat Ts
+  pub flat_tuple : (Ts : Typs) → Flat (TTuple Ts) → AllFlat Ts
   flat_tuple Ts h = sym (ap has_function (seen_tuple E Plain Home.Main Ts)) ∙ h
 
-  flat_list : (T : Typ) → Flat (TList T) → Flat T
+  pub flat_list : (T : Typ) → Flat (TList T) → Flat T
   flat_list T h = sym (ap has_function (seen_list E Plain Home.Main T)) ∙ h
 
-  flat_opt : (T : Typ) → Flat (TOpt T) → Flat T
+  pub flat_opt : (T : Typ) → Flat (TOpt T) → Flat T
   flat_opt T h = sym (ap has_function (seen_opt E Plain Home.Main T)) ∙ h
 
-  flat_fun : (T U : Typ) → Flat (TFun T U) → ⊥
+  pub flat_fun : (T U : Typ) → Flat (TFun T U) → ⊥
   flat_fun T U h = true≢false (sym (ap has_function (seen_fun E Plain Home.Main T U)) ∙ h)
 
   -- what a home sees of it is first-order too
@@ -130,7 +130,7 @@ pub told_same : (E F : Environment) → Widening E F → (b c : Home) (n t : Byt
 told_same E F g b c n t v T h = ap (λ X. at F (has_function X)) (bare_same E F g (TAbs n t) h.1) ∙ by (has_function (bare E (TAbs n t))) refl
   where
     say : Option PValue → List Birth
-    say o = option_to_list (option_map (λ p. record { name = n; type' = t; said = p }) o)
+    say o = option_to_list (option_map (birth n t) o)
 
     at : Environment → Bool → List Birth
     at G x = cond x [] (say (plain G b v (opened G n t)))

@@ -1,0 +1,57 @@
+-- A chain of two programs, computed: the first sends a sealed value, and the second receives it.
+use Rattle.std.proofs.Common.{◌≡◌, refl}
+use Rattle.std.specs.Int.{int_wrap}
+use Rattle.std.specs.Prelude.{pos, true, List, [], ◌∷◌, ◌++◌, codes}
+use Rattle.ac_types.specs.Primitives as primitives
+use Rattle.ac_types.specs.Types.{Bytes, TAbs}
+use Rattle.ac_types.specs.Words as words
+use Rattle.ac_terms.specs.Terms.{In, Expr, Str, Unit', Prim, Marshal, Unmarshal, exprs, Value, VInt}
+use Rattle.ac_rules.specs.Views.{Coloured}
+use Rattle.ac_rules.proofs.Samples.{t, made}
+use Rattle.ac_meaning.specs.Acts.{State, At, Over, iter}
+use Rattle.ac_meaning.specs.Laws.{writes_of}
+use Rattle.ac_meaning.specs.Packing.{packing, landing}
+use Rattle.ac_meaning.specs.Reduction.{step}
+use Rattle.ac_meaning.specs.Worlds.{fresh}
+use Rattle.ac_meaning.specs.Writes.{Channel, written}
+use Rattle.ac_colours.specs.Births.{Event, Born, Gave, Took, seal, events}
+use Rattle.ac_colours.proofs.SentExample.{long_name, cut, seals_of}
+
+abbrev first : Expr
+first = Prim primitives.send (exprs (Marshal (TAbs long_name t) (Str (codes "M")) made ∷ []))
+
+abbrev second : Expr
+second = Unmarshal (TAbs long_name t) (Prim primitives.receive (exprs (Unit' ∷ [])))
+
+-- what the first sent is what the second reads
+abbrev sent_by : State Expr Value → Bytes
+sent_by (At e z) = []
+sent_by (Over o) = written Channel (writes_of o)
+
+abbrev passed : Bytes
+passed = sent_by (iter (step Coloured 1) 30 (At first (fresh cut [] true)))
+
+abbrev all : List Event
+all = events 1 30 (At first (fresh cut [] true)) ++ events 1 30 (At second (fresh cut passed true))
+
+-- the seal is born in the first, and unmarshal writes it in the second
+born_and_taken : seals_of all ≡ seal (In 0) long_name t (VInt (pos 5)) ∷ seal (In 0) long_name t (VInt (pos 5)) ∷ []
+unfolding int_wrap packing landing words.is_reserved
+born_and_taken = refl
+
+abbrev strings_given : List Event → List Bytes
+strings_given [] = []
+strings_given (Born E x ∷ rest) = strings_given rest
+strings_given (Gave s ∷ rest) = s ∷ strings_given rest
+strings_given (Took E s xs ∷ rest) = strings_given rest
+
+abbrev strings_taken : List Event → List Bytes
+strings_taken [] = []
+strings_taken (Born E x ∷ rest) = strings_taken rest
+strings_taken (Gave s ∷ rest) = strings_taken rest
+strings_taken (Took E s xs ∷ rest) = s ∷ strings_taken rest
+
+-- the string that is taken is the one that was given
+it_is_native : strings_taken all ≡ strings_given all
+unfolding int_wrap packing landing words.is_reserved
+it_is_native = refl

@@ -1,0 +1,43 @@
+-- Chains of programs: each reads what the one before it sent; and which strings and births they have.
+use Rattle.std.specs.Prelude.{◌≡◌, ℕ, false, true, Some, IsTrue, List, [], ◌∷◌, ◌++◌}
+use Rattle.ac_types.specs.Types.{Bytes, Typ}
+use Rattle.ac_terms.specs.Terms.{Expr, Value}
+use Rattle.ac_terms.specs.Defs.{Environment, name_at}
+use Rattle.ac_terms.specs.Bounds.{fits_term}
+use Rattle.ac_terms.specs.Names.{text_of_entry}
+use Rattle.ac_rules.specs.Views.{Coloured}
+use Rattle.ac_meaning.specs.Writes.{Channel, written}
+use Rattle.ac_meaning.specs.Worlds.{fresh}
+use Rattle.ac_meaning.specs.Acts.{Outcome, At, Over, iter}
+use Rattle.ac_meaning.specs.Reduction.{step}
+use Rattle.ac_meaning.specs.Laws.{IsTypedProgram, writes_of}
+use Rattle.ac_colours.specs.Births.{Seal, Event, Gave, Took, events, IsAmong, Birth, told, births}
+
+-- programs, each with its definitions
+abbrev pub Programs : Type 0
+Programs = List (Environment × Expr)
+
+-- programs that can be loaded: each is typed over its definitions, and within the bounds of its spelling
+abbrev pub AreLoadable : Programs → Type 0
+AreLoadable [] = Unit {0}
+AreLoadable (p ∷ ps) = (T : Typ) × IsTypedProgram p.0 p.1 T × IsTrue (fits_term false p.1) × AreLoadable ps
+
+-- definitions of one name have one text, also those of two programs
+abbrev pub HaveOneText : Programs → Type 0
+HaveOneText parts =
+    (p q : Environment × Expr) → IsAmong p parts → IsAmong q parts → (i j : ℕ) (n s t : Bytes) → name_at p.0 i ≡ Some n → name_at q.0 j ≡ Some n → text_of_entry p.0 i ≡ Some s → text_of_entry q.0 j ≡ Some t → s ≡ t
+
+-- programs run one after the other, each within N applications and to its end: each reads what the one before it sent. All that happens, in order
+abbrev pub IsChain : ℕ → Programs → Bytes → List Event → Type 0
+IsChain N [] input all = all ≡ []
+IsChain N (p ∷ ps) input all =
+    let start = At p.1 (fresh p.0 input true) in
+    (k : ℕ) × (o : Outcome Value) × (later : List Event) × (iter (step Coloured N) k start ≡ Over o) × (all ≡ events N k start ++ later) × IsChain N ps (written Channel (writes_of o)) later
+
+-- each string that is taken was given earlier
+abbrev pub AreNative : List Event → Type 0
+AreNative all = (before after : List Event) (E : Environment) (s : Bytes) (xs : List Seal) → all ≡ before ++ Took E s xs ∷ after → IsAmong (Gave s) before
+
+-- what each seal says that unmarshal writes is among the births before
+abbrev pub HaveBirths : List Event → Type 0
+HaveBirths all = (before after : List Event) (E : Environment) (s : Bytes) (xs : List Seal) → all ≡ before ++ Took E s xs ∷ after → (x : Seal) → IsAmong x xs → (b : Birth) → IsAmong b (told E x) → IsAmong b (births before)
