@@ -51,9 +51,6 @@ module _ (told : Bool) (left now : Bytes) where
       let b = before_frame told left now rest text.0 short is comes in
       (b.0, b.1, λ input e. (rest, ap next_frame e ∙ b.2, refl))
 
-  pub hears_end : (IsTrue told → left ≡ []) → Comes told Open left Closed now (Heard incoming.End Closed)
-  hears_end is rest comes = ([], is, λ input e. (ap next_frame e, e))
-
   pub hears_bad : (n got : ℕ) → IsBad n got → (IsTrue told → next_frame left ≡ Bad n got) → Comes told Open left Broken now (Heard incoming.Bad Broken)
   hears_bad n got bad is rest comes =
       let b = before_bad told left n got bad is in
@@ -63,12 +60,11 @@ module _ (told : Bool) (left now : Bytes) where
   pub hears_nothing : (P : Bytes → Bytes → Type 0) → ((rest input : Bytes) → P rest input) → Comes told Open left Open now P
   hears_nothing P p rest comes = (left, λ t. refl, λ input e. p rest input)
 
-  -- once there was no frame, or the end has come
-  pub stays_broken : Comes told Broken left Broken now (Heard incoming.Bad Broken)
-  stays_broken rest comes = (rest, tt, λ input e. (e.0, e.1, e.2, e))
-
-  pub stays_closed : Comes told Closed left Closed now (Heard incoming.End Closed)
-  stays_closed rest comes = (rest, tt, λ input e. (ap next_frame e, e))
+-- what is made of what comes
+pub hears_with : (told : Bool) (old : Inbox) (left : Bytes) (new : Inbox) (now : Bytes) (P Q : Bytes → Bytes → Type 0) → ((rest input : Bytes) → P rest input → Q rest input) → Comes told old left new now P → Comes told old left new now Q
+hears_with told old left new now P Q f h rest comes =
+    let b = h rest comes in
+    (b.0, b.1, λ input is. f rest input (b.2 input is))
 
 -- what a machine gets of what was heard
 module _ (m n : MachineSeen) (inbox : Inbox) (rest input : Bytes) where

@@ -1,11 +1,11 @@
-use Rattle.std.proofs.Common.{sym, subst, IsTrue, [], ◌++◌}
-use Rattle.ac_outside.specs.FrameReaders.{Reader, Keeps, Follows, Receives}
+use Rattle.std.proofs.Common.{sym, subst, IsTrue}
+use Rattle.ac_outside.specs.FrameReaders.{Reader, Follows, Receives}
 use Rattle.ac_outside.specs.declared.frames.FrameGot.TheVariants as got
 use Rattle.ac_run.specs.inner.Inboxes.{Comes, Heard}
 use Rattle.ac_run.specs.declared.inbox.Inbox.{Inbox}
-use Rattle.ac_run.specs.declared.inbox.Inbox.TheVariants.{Closed, Broken}
+use Rattle.ac_run.specs.declared.inbox.Inbox.TheVariants.{Broken}
 use Rattle.ac_run.specs.declared.inbox.Incoming.TheVariants as incoming
-use Rattle.ac_run.proofs.Hearing.{hears_frame, hears_end, hears_bad, hears_nothing, stays_broken, stays_closed}
+use Rattle.ac_run.proofs.Hearing.{hears_frame, hears_bad, hears_nothing}
 use Rattle.ac_run.proofs.inbox.Inbox.next.Goals as goal
 
 pub returns-in-Frame-clause-heard : goal.returns-in-Frame-clause-heard
