@@ -2,7 +2,7 @@
 // is answered as want of memory; none is within the bounds.
 
 ghost use Rattle.std.specs.Prelude.{◌≡◌, ◌++◌, ◌∷◌, [], OnOk};
-ghost use Rattle.ac_terms.specs.Spelling.{byte, two, four, eight, truth, word, str};
+ghost use Rattle.ac_terms.specs.Spelling.{byte, two_written, four_written, eight_written, truth, word, str};
 
 use ac_bytes::Out;
 use ac_types::{Memory, Text, Word};
@@ -19,7 +19,7 @@ pub fn put_count_u8(out: &mut Out, n: usize) -> Result<(), Memory>
 
 // A count in two bytes.
 pub fn put_count_u16(out: &mut Out, n: usize) -> Result<(), Memory>
-    ensures { OnOk result (out.new ≡ out.old ++ two n) }
+    ensures { OnOk result (out.new ≡ out.old ++ two_written n) }
 {
     let Ok(n) = u16::try_from(n) else {
         return Err(Memory);
@@ -29,7 +29,7 @@ pub fn put_count_u16(out: &mut Out, n: usize) -> Result<(), Memory>
 
 // A count in four bytes.
 pub fn put_count_u32(out: &mut Out, n: usize) -> Result<(), Memory>
-    ensures { OnOk result (out.new ≡ out.old ++ four n) }
+    ensures { OnOk result (out.new ≡ out.old ++ four_written n) }
 {
     let Ok(n) = u32::try_from(n) else {
         return Err(Memory);
@@ -64,7 +64,7 @@ pub fn put_str(out: &mut Out, text: &Text) -> Result<(), Memory>
 
 // An int behind its tag.
 pub fn put_int(out: &mut Out, tag: u8, n: i64) -> Result<(), Memory>
-    ensures { OnOk result (out.new ≡ out.old ++ tag ∷ eight n) }
+    ensures { OnOk result (out.new ≡ out.old ++ tag ∷ eight_written n) }
 {
     out.put_u8(tag)?;
     out.put_i64(n)
@@ -96,7 +96,7 @@ pub fn put_byte(out: &mut Out, tag: u8, n: u8) -> Result<(), Memory>
 
 // A number of two bytes behind its tag.
 pub fn put_number(out: &mut Out, tag: u8, n: u16) -> Result<(), Memory>
-    ensures { OnOk result (out.new ≡ out.old ++ tag ∷ two n) }
+    ensures { OnOk result (out.new ≡ out.old ++ tag ∷ two_written n) }
 {
     out.put_u8(tag)?;
     out.put_u16(n)

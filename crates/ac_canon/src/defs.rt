@@ -3,7 +3,7 @@
 ghost use Rattle.std.specs.Prelude.{◌≡◌, ◌++◌, [], Some, map, is_some, unwrap_or, OnOk, IfOk, IsSome};
 ghost use Rattle.ac_terms.specs.Defs.{Environment};
 ghost use Rattle.ac_terms.specs.Read.{environment_of, bytes_of, field_of, module_of_code, import_of_code, def_of_code};
-ghost use Rattle.ac_terms.specs.Spelling.{two, listed};
+ghost use Rattle.ac_terms.specs.Spelling.{two_written, listed};
 ghost use Rattle.ac_terms.specs.SpelledBy.{field_bytes, module_bytes, import_bytes};
 ghost use Rattle.ac_terms.specs.Names.{text_of_def, text_of_entry};
 
@@ -111,7 +111,7 @@ fn put_field<S: Spelling>(out: &mut Out, spelling: &S, field: &Field) -> Result<
 // Puts how many fields a module has, and each.
 #[tactic(auto, using(crate::proofs::Lists::lists))]
 fn put_fields<S: Spelling>(out: &mut Out, spelling: &S, fields: &[Field]) -> Result<(), Memory>
-    ensures { OnOk result (out.new ≡ out.old ++ listed two (field_bytes
+    ensures { OnOk result (out.new ≡ out.old ++ listed two_written (field_bytes
         (S.spelled_type spelling.now) (S.spelled_reference spelling.now))
         (map field_of fields.now)) }
 {

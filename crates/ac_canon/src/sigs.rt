@@ -2,7 +2,7 @@
 
 ghost use Rattle.std.specs.Prelude.{◌≡◌, ◌++◌, map, option_map, OnOk};
 ghost use Rattle.ac_types.specs.ReadTypes.{typ_of, typed_of, sig_type_of, sig_of, atom_of, range_of, constraint_of};
-ghost use Rattle.ac_terms.specs.Spelling.{byte, two, listed, atom_bytes, range_bytes, constraint_bytes};
+ghost use Rattle.ac_terms.specs.Spelling.{byte, two_written, listed, atom_bytes, range_bytes, constraint_bytes};
 ghost use Rattle.ac_terms.specs.SpelledBy.{manifest_bytes, sig_type_bytes, typed_bytes, sig_bytes};
 
 use crate::counts::{put_count_u8, put_count_u16, put_truth, put_word};
@@ -126,7 +126,7 @@ fn put_sig_type<S: Spelling>(out: &mut Out, spelling: &S, x: &SigType) -> Result
 #[tactic(auto, using(crate::proofs::Lists::lists))]
 fn put_sig_types<S: Spelling>(out: &mut Out, spelling: &S, types: &[SigType]) -> Result<(), Memory>
     ensures { OnOk result (out.new ≡ out.old ++
-        listed two (sig_type_bytes (S.spelled_type spelling.now)) (map sig_type_of types.now)) }
+        listed two_written (sig_type_bytes (S.spelled_type spelling.now)) (map sig_type_of types.now)) }
 {
     put_count_u16(out, types.len())?;
     for x in types {
@@ -153,7 +153,7 @@ pub fn put_typed_names<S: Spelling>(
     names: &[TyField],
 ) -> Result<(), Memory>
     ensures { OnOk result (out.new ≡ out.old ++
-        listed two (typed_bytes (S.spelled_type spelling.now)) (map typed_of names.now)) }
+        listed two_written (typed_bytes (S.spelled_type spelling.now)) (map typed_of names.now)) }
 {
     put_count_u16(out, names.len())?;
     for x in names {

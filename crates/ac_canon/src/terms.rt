@@ -4,7 +4,7 @@ ghost use Rattle.std.specs.Prelude.{◌≡◌, ◌++◌, ◌∷◌, map, length,
 ghost use Rattle.ac_types.specs.ReadTypes.{typ_of};
 ghost use Rattle.ac_terms.specs.Terms.{exprs, arms, pvalues};
 ghost use Rattle.ac_terms.specs.Read.{environment_of, bytes_of, expr_of, value_of};
-ghost use Rattle.ac_terms.specs.Spelling.{four, two, word, term_bytes};
+ghost use Rattle.ac_terms.specs.Spelling.{four_written, two_written, word, term_bytes};
 ghost use Rattle.ac_terms.specs.SpelledBy.{pattern_bytes, term_bytes as term_by, all_term_bytes, arm_bytes, value_bytes, all_value_bytes};
 ghost use Rattle.ac_canon.specs.Canon.{kept};
 ghost use Rattle.ac_canon.specs.inner.Arms.{arm_of};
@@ -193,7 +193,7 @@ fn put_tuple<S: Spelling>(out: &mut Out, spelling: &S, parts: &[Term]) -> Result
 #[cycle(term)]
 #[tactic(auto, using(crate::proofs::Joins::joins))]
 fn put_sequence<S: Spelling>(out: &mut Out, spelling: &S, parts: &[Term]) -> Result<(), Memory>
-    ensures { OnOk result (out.new ≡ out.old ++ 0x13 ∷ four (length parts.now) ++
+    ensures { OnOk result (out.new ≡ out.old ++ 0x13 ∷ four_written (length parts.now) ++
         all_term_bytes (S.spelled_type spelling.now) (S.spelled_reference spelling.now)
         (exprs (map expr_of parts.now))) }
 {
@@ -237,7 +237,7 @@ fn put_terms<S: Spelling>(out: &mut Out, spelling: &S, terms: &[Term]) -> Result
 #[cycle(term)]
 #[tactic(auto, using(crate::proofs::Joins::joins))]
 fn put_cases<S: Spelling>(out: &mut Out, spelling: &S, cases: &[Arm]) -> Result<(), Memory>
-    ensures { OnOk result (out.new ≡ out.old ++ two (length cases.now) ++
+    ensures { OnOk result (out.new ≡ out.old ++ two_written (length cases.now) ++
         arm_bytes (S.spelled_type spelling.now) (S.spelled_reference spelling.now)
         (arms (map arm_of cases.now))) }
 {
@@ -335,7 +335,7 @@ fn put_value_tuple<S: Spelling>(out: &mut Out, spelling: &S, parts: &[PVal]) -> 
 #[cycle(term)]
 #[tactic(auto, using(crate::proofs::Joins::joins))]
 fn put_value_list<S: Spelling>(out: &mut Out, spelling: &S, parts: &[PVal]) -> Result<(), Memory>
-    ensures { OnOk result (out.new ≡ out.old ++ 0x07 ∷ four (length parts.now) ++
+    ensures { OnOk result (out.new ≡ out.old ++ 0x07 ∷ four_written (length parts.now) ++
         all_value_bytes (S.spelled_type spelling.now) (S.spelled_reference spelling.now)
         (pvalues (map value_of parts.now))) }
 {

@@ -7,7 +7,7 @@ use Rattle.ac_types.specs.ReadTypes.{typ_of}
 use Rattle.ac_types.specs.declared.ty.Ty.{Ty}
 use Rattle.ac_terms.specs.TermTyping.{also, last_of}
 use Rattle.ac_rules.specs.Typing.{are_all}
-use Rattle.ac_check.specs.Checking.{arms_after, arms_from, typs_of}
+use Rattle.ac_check.specs.inner.Parts.{arms_after, arms_from, typs_of}
 use Rattle.ac_check.proofs.PairLaws.{from_item, from_end}
 use Rattle.ac_check.proofs.Collected.{collected, next_item}
 

@@ -13,7 +13,7 @@ use Rattle.ac_terms.specs.Read.{home_of}
 use Rattle.ac_terms.specs.TermTyping.{has}
 use Rattle.ac_rules.specs.Views.{Coloured}
 use Rattle.ac_rules.specs.Typing.{type_of, variables, variables_joined, type_seen}
-use Rattle.ac_check.specs.Checking.{scope_of, arm_type, newest_first}
+use Rattle.ac_check.specs.inner.Parts.{scope_of, arm_type, newest_first}
 use Rattle.ac_check.specs.declared.scope.Site.{Site}
 use Rattle.ac_check.proofs.KeptLaws.{K, kept_is, lam_some, lam_none, rec_none, rec_no_result, rec_some, rec_big, rec_small, let_other, let_same}
 

@@ -10,7 +10,7 @@ use Rattle.ac_types.proofs.Same.{same_eq, same_refl}
 use Rattle.ac_terms.specs.TermTyping.{has}
 use Rattle.ac_rules.specs.Views.{Coloured}
 use Rattle.ac_rules.specs.Typing.{kept_in, a_list, an_option, list_item, option_item}
-use Rattle.ac_check.specs.Checking.{kept_all}
+use Rattle.ac_check.specs.inner.Parts.{kept_all}
 
 abbrev pub K : Option Typ → Option Typ
 K o = kept_in Coloured o

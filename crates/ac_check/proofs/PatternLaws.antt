@@ -15,7 +15,7 @@ use Rattle.ac_terms.specs.declared.pat.Pat.TheViews.{the_lemmas}
 use Rattle.ac_terms.specs.declared.pat.Pat.TheVariants as code
 use Rattle.ac_rules.specs.Views.{Coloured}
 use Rattle.ac_rules.specs.Typing.{variables, variables_of_all, variables_joined, tuple_parts, list_item, option_item}
-use Rattle.ac_check.specs.Checking.{newest_first, typs_of}
+use Rattle.ac_check.specs.inner.Parts.{newest_first, typs_of}
 use Rattle.ac_check.proofs.PairLaws.{from_item, from_end}
 
 pub pattern_out : (p : Pat) → pattern_of p ≡ pattern_layer (map-Pat Pat Pattern pattern_of (out-Pat p))

@@ -7,7 +7,7 @@ use Rattle.ac_types.specs.Types.{Typ}
 use Rattle.ac_types.specs.ReadTypes.{typ_of}
 use Rattle.ac_types.specs.declared.ty.Ty.{Ty}
 use Rattle.ac_terms.proofs.EnvLaws.{slice_get-map}
-use Rattle.ac_check.specs.Checking.{types_in, variables_step, newest_first}
+use Rattle.ac_check.specs.inner.Parts.{types_in, variables_step, newest_first}
 use Rattle.ac_check.specs.declared.scope.Variables.{Variables, out-Variables, map-Variables, fold_out-Variables}
 use Rattle.ac_check.specs.declared.scope.Variables.TheOpen.{Variables-F}
 use Rattle.ac_check.specs.declared.scope.Variables.TheVariants as vars

@@ -11,7 +11,7 @@ use Rattle.ac_terms.specs.Defs.{Environment}
 use Rattle.ac_terms.specs.TermTyping.{also}
 use Rattle.ac_rules.specs.Views.{is_known, are_known}
 use Rattle.ac_rules.specs.Typing.{list_item, option_item, tuple_parts}
-use Rattle.ac_check.specs.Checking.{typs_of, are_known_in, kept_all, ends_of}
+use Rattle.ac_check.specs.inner.Parts.{typs_of, are_known_in, kept_all, ends_of}
 use Rattle.ac_check.proofs.PairLaws.{from_item, from_end}
 use Rattle.ac_check.proofs.KeptLaws.{K, kept_list, kept_option, kept_fun, no_kept_fun, kept_tuple}
 use Rattle.ac_check.proofs.Collected.{collected}

@@ -16,7 +16,7 @@ use Rattle.ac_terms.specs.declared.term.Term.TheVariants as term
 use Rattle.ac_terms.proofs.ReadLaws.{read_arm, read_parts, expr_out, term_laws}
 use Rattle.ac_rules.specs.Views.{Coloured}
 use Rattle.ac_rules.specs.Typing.{Scope, type_of, types_of, arm_types}
-use Rattle.ac_check.specs.Checking.{arm_of, arm_type}
+use Rattle.ac_check.specs.inner.Parts.{arm_of, arm_type}
 use Rattle.ac_check.specs.PlainTerms.{is_plain, are_plain, arms_plain}
 use Rattle.ac_check.proofs.Collected.{collected}
 

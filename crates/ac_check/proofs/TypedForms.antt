@@ -17,7 +17,7 @@ use Rattle.ac_terms.specs.declared.term.Term.TheVariants as term
 use Rattle.ac_terms.proofs.ReadLaws.{expr_out, expr_of-Tuple, expr_of-Seq, expr_of-Prim}
 use Rattle.ac_rules.specs.Views.{Coloured}
 use Rattle.ac_rules.specs.Typing.{Scope, type_of}
-use Rattle.ac_check.specs.Checking.{arm_of}
+use Rattle.ac_check.specs.inner.Parts.{arm_of}
 use Rattle.ac_check.specs.PlainTerms.{IsPlainTerm}
 use Rattle.ac_check.proofs.TermLaws.{layer, expr_of-Match, expr_of-Try}
 use Rattle.ac_check.proofs.FormLaws.{carry}

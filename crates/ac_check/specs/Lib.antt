@@ -1,2 +1,3 @@
 pub mod PlainTerms
 pub mod Checking
+pub mod inner

@@ -5,7 +5,7 @@ ghost use Rattle.ac_types.specs.ReadTypes.{typ_of};
 ghost use Rattle.ac_terms.specs.TermTyping.{both_same, has, also, last_of};
 ghost use Rattle.ac_types.specs.First.{given};
 ghost use Rattle.ac_types.specs.Types.{TBool, Typs};
-ghost use Rattle.ac_check.specs.Checking.{arms_after, arms_from, typs_of};
+ghost use Rattle.ac_check.specs.inner.Parts.{arms_after, arms_from, typs_of};
 
 use crate::types::{Base, is_base, same_types};
 use ac_types::{Many, Ty};

@@ -7,7 +7,7 @@ ghost use Rattle.ac_terms.specs.Read.{home_of};
 ghost use Rattle.ac_terms.specs.TermTyping.{both_same};
 ghost use Rattle.ac_rules.specs.Views.{Coloured};
 ghost use Rattle.ac_rules.specs.Typing.{kept_in, type_seen, a_list, an_option};
-ghost use Rattle.ac_check.specs.Checking.{typs_of, entries_of};
+ghost use Rattle.ac_check.specs.inner.Parts.{typs_of, entries_of};
 
 use crate::scope::Site;
 use crate::seen::seen_type;

@@ -9,7 +9,7 @@ ghost use Rattle.ac_terms.specs.Read.{home_of};
 ghost use Rattle.ac_terms.specs.TermTyping.{has};
 ghost use Rattle.ac_rules.specs.Views.{Coloured};
 ghost use Rattle.ac_rules.specs.Typing.{kept_in, type_seen};
-ghost use Rattle.ac_check.specs.Checking.{entries_of};
+ghost use Rattle.ac_check.specs.inner.Parts.{entries_of};
 
 use crate::scope::Site;
 use crate::seen::seen_type;

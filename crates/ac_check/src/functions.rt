@@ -7,7 +7,7 @@ ghost use Rattle.ac_types.specs.ReadTypes.{typ_of};
 ghost use Rattle.ac_terms.specs.TermTyping.{has};
 ghost use Rattle.ac_rules.specs.Views.{Coloured};
 ghost use Rattle.ac_rules.specs.Typing.{kept_in, type_applied};
-ghost use Rattle.ac_check.specs.Checking.{ends_of, read_ends};
+ghost use Rattle.ac_check.specs.inner.Parts.{ends_of, read_ends};
 
 use crate::types::{kept, same_types};
 use ac_types::{Box, Memory, Ty, both};

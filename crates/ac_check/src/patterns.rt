@@ -7,7 +7,7 @@ ghost use Rattle.ac_terms.specs.Terms.{patterns};
 ghost use Rattle.ac_terms.specs.Read.{pattern_of, home_of};
 ghost use Rattle.ac_rules.specs.Views.{Coloured};
 ghost use Rattle.ac_rules.specs.Typing.{variables, variables_of_all, variables_joined};
-ghost use Rattle.ac_check.specs.Checking.{newest_first, typs_of, entries_of};
+ghost use Rattle.ac_check.specs.inner.Parts.{newest_first, typs_of, entries_of};
 
 use crate::exceptions::{has_text, is_bare};
 use crate::scope::Site;

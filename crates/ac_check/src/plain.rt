@@ -4,7 +4,7 @@ ghost use Rattle.std.specs.Prelude.{◌≡◌, map};
 ghost use Rattle.ac_terms.specs.Terms.{exprs, arms};
 ghost use Rattle.ac_terms.specs.Read.{expr_of};
 ghost use Rattle.ac_check.specs.PlainTerms.{is_plain, are_plain, arms_plain};
-ghost use Rattle.ac_check.specs.Checking.{arm_of};
+ghost use Rattle.ac_check.specs.inner.Parts.{arm_of};
 
 use ac_terms::{Arm, Term};
 

@@ -4,7 +4,7 @@ ghost use Rattle.std.specs.Prelude.{◌≡◌, [], ◌∷◌, length, map, optio
 ghost use Rattle.ac_types.specs.Types.{TInt, TStr, TTuple, no_types, typ, typs, same_all};
 ghost use Rattle.ac_types.specs.ReadTypes.{typ_of};
 ghost use Rattle.ac_terms.specs.PrimitiveTypes.{primitive_type, by_rules, takes_one, takes_two, comparison};
-ghost use Rattle.ac_check.specs.Checking.{base_typ, typs_of};
+ghost use Rattle.ac_check.specs.inner.Parts.{base_typ, typs_of};
 
 use crate::types::{Base, is_base, tuple_parts};
 use ac_types::primitives::{
@@ -86,7 +86,8 @@ fn only(args: &[Ty]) -> Option<&Ty>
 #[tactic(auto, using(ac_types::proofs::SizeLaws::type_laws))]
 fn slice_type(args: &[Ty]) -> Option<Ty>
     ensures { option_map typ_of result ≡ by_rules
-        (takes_one (TTuple (typ TStr (typ TInt (typ TInt no_types)))) TStr ∷ []) (typs_of args.now) }
+        (takes_one (TTuple (typ TStr (typ TInt (typ TInt no_types)))) TStr ∷ [])
+        (typs_of args.now) }
 {
     let Some(arg) = only(args) else {
         return None;

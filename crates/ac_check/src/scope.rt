@@ -5,7 +5,7 @@ ghost use Rattle.std.specs.Option.{option_copied};
 ghost use Rattle.ac_types.specs.ReadTypes.{typ_of};
 ghost use Rattle.ac_rules.specs.Views.{Coloured};
 ghost use Rattle.ac_rules.specs.Typing.{kept_in};
-ghost use Rattle.ac_check.specs.Checking.{types_in};
+ghost use Rattle.ac_check.specs.inner.Parts.{types_in};
 
 use crate::types::small_copy;
 use ac_terms::{Env, Home};

@@ -9,7 +9,7 @@ ghost use Rattle.ac_terms.specs.Read.{environment_of, entry_of, home_of};
 ghost use Rattle.ac_terms.specs.TermTyping.{has};
 ghost use Rattle.ac_rules.specs.Views.{Coloured, declares, is_known, are_known, has_name, opened_at_home, view};
 ghost use Rattle.ac_rules.specs.Typing.{kept_in, type_seen};
-ghost use Rattle.ac_check.specs.Checking.{typs_of, entries_of, are_known_in, kept_all};
+ghost use Rattle.ac_check.specs.inner.Parts.{typs_of, entries_of, are_known_in, kept_all};
 
 use crate::data::{list_type, present_type, tuple_type};
 use crate::functions::{ends, function_type};

@@ -6,7 +6,7 @@ ghost use Rattle.ac_types.specs.Types.{same};
 ghost use Rattle.ac_types.specs.ReadTypes.{typ_of};
 ghost use Rattle.ac_rules.specs.Views.{Coloured};
 ghost use Rattle.ac_rules.specs.Typing.{kept_in, list_item, option_item, tuple_parts};
-ghost use Rattle.ac_check.specs.Checking.{base_typ, typs_of};
+ghost use Rattle.ac_check.specs.inner.Parts.{base_typ, typs_of};
 
 use ac_types::{Many, Memory, Ty, small, ty_eq};
 use std::alloc::Global;

@@ -10,7 +10,8 @@ ghost use Rattle.ac_types.specs.Types.{TExn};
 ghost use Rattle.ac_rules.specs.Views.{Coloured};
 ghost use Rattle.ac_rules.specs.Typing.{type_of, types_of, arm_types, one_of, kept_in, type_seen};
 ghost use Rattle.ac_check.specs.PlainTerms.{IsPlainTerm, are_plain, arms_plain};
-ghost use Rattle.ac_check.specs.Checking.{Answers, entries_of, scope_of, types_in, typs_of, arm_of, arm_type};
+ghost use Rattle.ac_check.specs.Checking.{Answers};
+ghost use Rattle.ac_check.specs.inner.Parts.{entries_of, scope_of, types_in, typs_of, arm_of, arm_type};
 
 use crate::arms::{both_same, go_on, if_type, is_test, sequence_type};
 use crate::data::{cons_type, empty_type, nil_type, present_type, tuple_type};

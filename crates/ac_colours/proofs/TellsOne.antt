@@ -7,7 +7,7 @@ use Rattle.ac_types.specs.First.{given}
 use Rattle.ac_types.specs.Types.{Bytes, Typ, TTuple, TList, TOpt, TUnit, TAbs, Typs, no_types, typ, mentions, mentions_of_all}
 use Rattle.ac_terms.specs.Terms.{Home, PValue, KTuple, KList, KPresent, PValues, no_pvalues, pvalue, Value, VInt, VBool, VStr, VUnit, VExn, VTuple, VNil, VCons, VAbsent, VPresent, VLam, VRec, VProxy, VSeal, Values, no_values, value}
 use Rattle.ac_terms.specs.Defs.{Environment}
-use Rattle.ac_terms.specs.Spelling.{two}
+use Rattle.ac_terms.specs.Spelling.{two_written}
 use Rattle.ac_terms.specs.Heads.{Head, value_heads, all_value_heads}
 use Rattle.ac_rules.specs.Views.{Coloured, view, head, opened, is_known, are_known, IsFirstOrder}
 use Rattle.ac_rules.specs.Typing.{tuple_parts, list_item, option_item}
@@ -47,10 +47,10 @@ module _ (E : Environment) (coherent : IsCoherent E) where
     to : head E from ≡ head E T
 
   abbrev Travels : PValue → Type 0
-  Travels w = (d : ℕ) → travel (value_heads two d w) ≡ true
+  Travels w = (d : ℕ) → travel (value_heads two_written d w) ≡ true
 
   abbrev AllTravel : PValues → Type 0
-  AllTravel ws = (d : ℕ) → travel (all_value_heads two d ws) ≡ true
+  AllTravel ws = (d : ℕ) → travel (all_value_heads two_written d ws) ≡ true
 
   -- a list is packed to a list
   listed : (v : Value) (c : Home) (A T : Typ) → ValueTyped Coloured E v c (TList A) → (ws : PValues) × (packed E c v T ≡ KList ws)
@@ -73,7 +73,7 @@ module _ (E : Environment) (coherent : IsCoherent E) where
   listed (VSeal b n s v) c A T t = let e = t.0 in absurd cc
 
   in_front_travels : (x y : PValue) (ws : PValues) → y ≡ KList ws → Travels x → Travels y → Travels (in_front x y)
-  in_front_travels x y ws e f g = subst (λ y. Travels (in_front x y)) (sym e) (λ d. travel_both (value_heads two (suc d) x) (all_value_heads two (suc d) ws) (f (suc d)) (subst Travels e g d))
+  in_front_travels x y ws e f g = subst (λ y. Travels (in_front x y)) (sym e) (λ d. travel_both (value_heads two_written (suc d) x) (all_value_heads two_written (suc d) ws) (f (suc d)) (subst Travels e g d))
 
   mutual
     travels : (v : Value) (c : Home) (X T : Typ) → IsData v → are_known E T ≡ true → ValueTyped Coloured E v c X → Sees c X T → Travels (packed E c v T)
@@ -120,7 +120,7 @@ module _ (E : Environment) (coherent : IsCoherent E) where
         let one : view Coloured E c T ≡ t.0 = ap first_of (e ∙ t.2) in
         let f = travels v c t.0 T i.0 known t.3 (record { from = T; known = known; seen = sym one; to = refl }) in
         let g = all_travels vs c t.1 Ts i.1 (all_right (is_known E) (mentions T) (mentions_of_all Ts) k) t.4 (ap rest_of (e ∙ t.2)) in
-        λ d. travel_both (value_heads two d (packed E c v T)) (all_value_heads two d (all_packed E c vs Ts)) (f d) (g d)
+        λ d. travel_both (value_heads two_written d (packed E c v T)) (all_value_heads two_written d (all_packed E c vs Ts)) (f d) (g d)
 
 pub tells_one : (E : Environment) (b c : Home) (n t : Bytes) (v : Value) (T : Typ) → IsCoherent E → ValueTyped Coloured E (VSeal b n t v) c T → IsFirstOrder E n t →
     (p : PValue) × PlainValue E b v (opened E n t) p × (told E (seal b n t v) ≡ record { name = n; type' = t; said = p } ∷ [])

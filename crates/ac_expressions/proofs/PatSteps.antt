@@ -1,10 +1,10 @@
 -- The steps of the parsers of patterns, over lists of signs.
-use Rattle.std.proofs.Common.{◌≡◌, ◌<◌, ◌≤◌, ◌+◌, ◌-◌, ℕ, max, Bool, true, false, List, [], ◌∷◌, ◌++◌, Option, Some, None, refl, sym, ◌∙◌, ap, subst, arith}
+use Rattle.std.proofs.Common.{◌≡◌, ◌<◌, ◌≤◌, ◌+◌, ◌-◌, ℕ, max, Bool, true, false, List, [], ◌∷◌, ◌++◌, Some, None, refl, sym, ◌∙◌, ap, subst, arith}
 use Rattle.std.specs.Prelude.{pos, neg_ℤ}
 use Rattle.ac_types.proofs.FirstLaws.{some_eq}
 use Rattle.ac_types.specs.Types.{Bytes}
 use Rattle.ac_syntax.specs.Signs.{Sign, Int, Str, Lower, Upper, Fixed, Other, here}
-use Rattle.ac_syntax.specs.Trees.{NameAt, TypeTree, PatTree, PatWild, PatVar, PatInt, PatBool, PatStr, PatUnit, PatTuple, PatNil, PatCons, PatAbsent, PatPresent, PatExn, PatExnOf, PatTrees, no_pat_trees, pat_tree, pat_trees, pat_height, highest_pat}
+use Rattle.ac_syntax.specs.Trees.{NameAt, TypeTree, PatTree, PatWild, PatVar, PatInt, PatBool, PatStr, PatUnit, PatTuple, PatNil, PatCons, PatAbsent, PatPresent, PatExn, PatExnOf, PatTrees, pat_tree, pat_trees, pat_height, highest_pat}
 use Rattle.ac_syntax.specs.Patterns.{exception_sign, exception_with_string, PatLevel, Pattern, Prefixed, Single, ParsesPat, ParsesPats, no_cons, cons, some, exn_with_string, single, wild, var, number, negative, string, true_, false_, unit, nil, none, exn, parens, tuple, last_pat, more_pats, pat_front, PatStops, IsPatTree}
 use Rattle.ac_syntax.specs.PartParsing.{SymbolAt, NoSymbol}
 use Rattle.ac_syntax.specs.declared.sign.Symbol.{Symbol}
@@ -15,7 +15,7 @@ use Rattle.ac_syntax.proofs.UniquePatterns.{symbol_begins_single, begins_single,
 use Rattle.ac_expressions.specs.declared.front.Prefix.{Prefix}
 use Rattle.ac_expressions.specs.declared.front.Prefix.TheVariants as prefix
 use Rattle.ac_expressions.specs.ExpressionParsing.{Nothing, Before, last, more, IsTypedBinder, NumberAt, NoNumber, begins_lower, IsPrefix, PrefixAt, NoPrefix, NoPat, prefixed_pat, base_pat, PatLeafAt, NoPatLeaf, IsPats, PatTupleOf}
-use Rattle.ac_expressions.proofs.Readers.{One, ManyRead, AllRead, before, before_none, symbol_none, one_before, before_apart, next_read, next_none, all_read, chain_none}
+use Rattle.ac_expressions.proofs.Readers.{One, ManyRead, before, before_none, symbol_none, one_before, before_apart, next_read, next_none, all_read, chain_none}
 
 -- heights
 

@@ -1,48 +1,24 @@
-// Expressions, by recursive descent. Each parser takes the front of the signs and gives what is
-// left. An expression may have the height `depth` at most: what would be higher is refused on the
-// way down.
+// Expressions, by recursive descent. What would be higher than `depth` is refused on the way down.
 
-ghost use Rattle.std.specs.Prelude.{◌≡◌, ◌<◌, ◌≤◌, ◌-◌, ◌^◌, ◌∷◌, true, suc, length, map, IfOk, IfErr, IfSome, MatchOption};
+ghost use Rattle.std.specs.Prelude.{◌≡◌, ◌<◌, ◌≤◌, ◌-◌, ◌^◌, ◌∷◌, true, suc, length, map, IfOk, IfErr};
 ghost use Rattle.ac_syntax.specs.Signs.{Fixed};
 ghost use Rattle.ac_syntax.specs.Trees.{ExApp, arm_trees, height, highest_arm};
-ghost use Rattle.ac_syntax.specs.Expressions.{Expr, Part, Binary, After, Unary, App, Atom, front, ToLeft, ToRight, Once, operator_tree, side_of, IsTree, IsExpr};
+ghost use Rattle.ac_syntax.specs.Expressions.{Expr, Part, Binary, After, Unary, App, Atom, front, ToLeft, ToRight, Once, operator_tree, side_of, IsTree};
 ghost use Rattle.ac_syntax.specs.ReadSigns.{read_signs};
 ghost use Rattle.ac_syntax.specs.ReadTrees.{expr_of, arm_of};
 ghost use Rattle.ac_syntax.specs.PartParsing.{OnSyntax};
-ghost use Rattle.ac_expressions.specs.ExpressionParsing.{NoExpr, Nothing, Before, Made, NoPrefix};
-ghost use Rattle.ac_expressions.specs.inner.Forms.{keyword_symbol, NoTree, measured, operator_read, OperatorAt, NoOperator, IsLastOperand, IsLet, let_tree, IsLetRec, let_rec_tree, IsFun, fun_tree, IsRec, rec_tree, IsIf, if_tree, IsMarshal, marshal_tree, IsUnmarshal, unmarshal_tree, IsRaise, raise_tree, IsParts, sequence_tree, IsItems, tuple_tree, IsArm, IsArms, IsChoice};
+ghost use Rattle.ac_expressions.specs.ExpressionParsing.{Nothing, Before, Made, NoPrefix};
+ghost use Rattle.ac_expressions.specs.inner.Forms.{keyword_symbol, NoTree, measured, operator_read, IsLastOperand, IsLet, let_tree, IsLetRec, let_rec_tree, IsFun, fun_tree, IsRec, rec_tree, IsIf, if_tree, IsMarshal, marshal_tree, IsUnmarshal, unmarshal_tree, IsRaise, raise_tree, IsParts, sequence_tree, IsItems, tuple_tree, IsArm, IsArms, IsChoice};
 
 use crate::binders::{argument, ascribed, function_head, type_behind, typed};
-use crate::build::{self, Choice, Operator, Parsed, operator_of};
+use crate::build::{self, Choice, Operator, Parsed};
 use crate::front::{begins_atom, expect, lone_number, negated, next_prefix};
-use crate::keywords::{Keyword, after_bar, next_keyword};
+use crate::keywords::{Keyword, after_bar, next_keyword, operator};
 use crate::leaves::leaf;
 use crate::patterns::parsed_pattern;
-use ac_syntax::{SArm, SExpr, Sign, SignKind, Stop, Symbol, after, here, next, refused_at};
-use ac_types::primitives::{NEG, NOT};
-use ac_types::{Box, Many};
+use ac_syntax::{SArm, Sign, Stop, Symbol, after, here, refused_at};
+use ac_types::{Box, Many, primitives};
 use std::alloc::Global;
-
-/// How high an expression may be.
-const HIGHEST: u32 = 500;
-
-/// An operator of this level at the front.
-fn operator<'s, 't>(level: u32, signs: &'s [Sign<'t>]) -> Option<(Operator, &'s [Sign<'t>])>
-    ensures found { MatchOption result (NoOperator level (read_signs signs.now))
-        (λ x. OperatorAt level (operator_read x.0) (read_signs signs.now) (read_signs x.1.now)) }
-    ensures shorter { IfSome result (λ x. length x.1.now < length signs.now) }
-{
-    let (first, rest) = next(signs)?;
-    let SignKind::Fixed(symbol) = first.kind else {
-        return None;
-    };
-    let (own, operator) = operator_of(symbol)?;
-    if own == level {
-        Some((operator, rest))
-    } else {
-        None
-    }
-}
 
 /// An expression with this symbol behind it.
 #[cycle(expressions)]
@@ -333,7 +309,7 @@ fn minus<'s, 't>(
         return Ok((build::number(alloc, at, negated(n)?)?, rest));
     }
     let (operand, rest) = unary(alloc, depth - 1, signs)?;
-    Ok((build::operation(alloc, at, NEG, operand)?, rest))
+    Ok((build::operation(alloc, at, primitives::NEG, operand)?, rest))
 }
 
 /// A `-` or a `not` with its operand, or an application.
@@ -361,7 +337,7 @@ fn unary<'s, 't>(
             return Err(refused_at(signs));
         }
         let (operand, rest) = unary(alloc, depth - 1, behind)?;
-        return Ok((build::operation(alloc, at, NOT, operand)?, rest));
+        return Ok((build::operation(alloc, at, primitives::NOT, operand)?, rest));
     }
     app(alloc, depth, signs)
 }
@@ -454,8 +430,7 @@ fn to_right<'s, 't>(
     right_side(alloc, level, depth - 1, at, operator, first, behind)
 }
 
-/// A left side and its operator with the right side that stands here, behind which no further
-/// operator of this level stands.
+/// A left side and its operator with the right side here, the last operator of this level.
 #[cycle(expressions)]
 fn compared<'s, 't>(
     alloc: Global,
@@ -802,7 +777,7 @@ fn sequence<'s, 't>(
 
 /// A part, or a sequence of several.
 #[cycle(expressions)]
-fn expr<'s, 't>(
+pub fn expr<'s, 't>(
     alloc: Global,
     depth: u32,
     signs: &'s [Sign<'t>],
@@ -821,20 +796,4 @@ fn expr<'s, 't>(
         return Err(refused_at(rest));
     }
     sequence(alloc, depth - 1, here(signs), first, behind)
-}
-
-/// The expression at the front, taken as long as it can be, and what is left. It has a height of at
-/// most 500.
-/// `Syntax` where no expression stands there.
-pub fn expression<'s, 't>(
-    alloc: Global,
-    signs: &'s [Sign<'t>],
-) -> Result<(SExpr, &'s [Sign<'t>]), Stop>
-    ensures tree { IfOk result (λ x. IsExpr (read_signs signs.now) (expr_of x.0)
-        (read_signs x.1.now)) }
-    ensures shorter { IfOk result (λ x. length x.1.now < length signs.now) }
-    ensures none { IfErr result (λ e. OnSyntax e (NoExpr (read_signs signs.now))) }
-{
-    let (parsed, rest) = expr(alloc, HIGHEST, signs)?;
-    Ok((parsed.tree.into_inner(), rest))
 }

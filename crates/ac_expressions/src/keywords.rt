@@ -1,11 +1,12 @@
-// Words that begin a part, and the bar in front of arms.
+// Words that begin a part, the bar in front of arms, and operators.
 
 ghost use Rattle.std.specs.Prelude.{◌≡◌, ◌<◌, ◌≤◌, length, IfSome, MatchOption};
 ghost use Rattle.ac_syntax.specs.Expressions.{after_bar};
 ghost use Rattle.ac_syntax.specs.ReadSigns.{read_signs};
 ghost use Rattle.ac_syntax.specs.PartParsing.{SymbolAt};
-ghost use Rattle.ac_expressions.specs.inner.Forms.{keyword_symbol, NoKeyword};
+ghost use Rattle.ac_expressions.specs.inner.Forms.{keyword_symbol, NoKeyword, operator_read, OperatorAt, NoOperator};
 
+use crate::build::{Operator, operator_of};
 use ac_syntax::{Sign, SignKind, Symbol, after, next};
 
 /// A word that begins a part.
@@ -59,4 +60,22 @@ pub fn after_bar<'s, 't>(signs: &'s [Sign<'t>]) -> &'s [Sign<'t>]
         return rest;
     }
     signs
+}
+
+/// An operator of this level at the front.
+pub fn operator<'s, 't>(level: u32, signs: &'s [Sign<'t>]) -> Option<(Operator, &'s [Sign<'t>])>
+    ensures found { MatchOption result (NoOperator level (read_signs signs.now))
+        (λ x. OperatorAt level (operator_read x.0) (read_signs signs.now) (read_signs x.1.now)) }
+    ensures shorter { IfSome result (λ x. length x.1.now < length signs.now) }
+{
+    let (first, rest) = next(signs)?;
+    let SignKind::Fixed(symbol) = first.kind else {
+        return None;
+    };
+    let (own, operator) = operator_of(symbol)?;
+    if own == level {
+        Some((operator, rest))
+    } else {
+        None
+    }
 }

@@ -8,6 +8,7 @@ mod front;
 mod keywords;
 mod leaves;
 mod patterns;
+mod whole;
 
-pub use expressions::expression;
 pub use patterns::pattern;
+pub use whole::expression;

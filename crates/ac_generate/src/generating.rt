@@ -25,7 +25,7 @@ pub fn generate(
 ) -> Result<CodeId, Memory>
     ensures ok { OnOk result (code_of table.new ≡ generated (home_of home) (expr_of term.now)
         (code_of table.old)) }
-    ensures block_number { IfOk result (λ id. id.0 ≡ block_number (expr_of term.now)
+    ensures number { IfOk result (λ id. id.0 ≡ block_number (expr_of term.now)
         (code_of table.old)) }
     ensures blocks { KeepsBlocks table.new table.old }
     ensures fields { table.new.fields ≡ table.old.fields }
@@ -47,7 +47,7 @@ pub fn generate_value(
 ) -> Result<CodeId, Memory>
     ensures ok { OnOk result (code_of table.new ≡ value_generated (value_of value.now)
         (code_of table.old)) }
-    ensures block_number { IfOk result (λ id. id.0 ≡ value_number (value_of value.now)
+    ensures number { IfOk result (λ id. id.0 ≡ value_number (value_of value.now)
         (code_of table.old)) }
     ensures blocks { KeepsBlocks table.new table.old }
     ensures fields { table.new.fields ≡ table.old.fields }
@@ -138,7 +138,7 @@ impl Writer {
         ensures ok { OnOk result (code_of table.new ≡ with_blocks
             ((draft_of self).blocks ++ own_block (home_of home)
             ((draft_of self).instrs ++ instr_of last ∷ []) ∷ []) (code_of table.old)) }
-        ensures block_number { IfOk result (λ id. id.0 ≡ length table.old.blocks + length
+        ensures number { IfOk result (λ id. id.0 ≡ length table.old.blocks + length
             (draft_of self).blocks) }
         ensures blocks { KeepsBlocks table.new table.old }
         ensures fields { table.new.fields ≡ table.old.fields }

@@ -114,12 +114,12 @@ impl Make {
 
     /// A module of that external name and version.
     pub fn module(self, name: u8, version: &[Atom], shape: Shape) -> Made<Module> {
-        let (name, atoms) = both(self.word(name), Many::from_slice(self.0, version))?;
-        let (sig, types) = both(
+        let head = both(self.word(name), Many::from_slice(self.0, version));
+        let inner = both(
             self.sig(shape.types, shape.vals),
             self.all_typed(shape.behind),
-        )?;
-        Ok(Module {
+        );
+        both(head, inner).map(|((name, atoms), (sig, types))| Module {
             name,
             version: Version { atoms },
             sig,
@@ -135,12 +135,12 @@ impl Make {
 
     /// An import of the external name `M`.
     pub fn import(self, shape: Shape, constraint: Constraint, by: &[u8]) -> Made<Import> {
-        let (sig, like) = both(
+        let inner = both(
             self.sig(shape.types, shape.vals),
             self.all_typed(shape.behind),
-        )?;
-        let (name, by) = both(self.word(b'M'), self.resolvespec(by))?;
-        Ok(Import {
+        );
+        let head = both(self.word(b'M'), self.resolvespec(by));
+        both(head, inner).map(|((name, by), (sig, like))| Import {
             name,
             sig,
             constraint,

@@ -11,7 +11,7 @@ use Rattle.ac_syntax.specs.Trees.{TypeTree, TyTuple, TyList, TyOpt, TyFun, TypeT
 use Rattle.ac_syntax.specs.TypeForms as types
 use Rattle.ac_syntax.specs.TypeForms.{TypeLevel, Suffixes, ParsesType, ParsesFactors, IsType}
 use Rattle.ac_syntax.specs.Patterns as patterns
-use Rattle.ac_syntax.specs.Patterns.{ParsesPat, ParsesPats, PatLevel, IsPattern, exception_sign, exception_with_string}
+use Rattle.ac_syntax.specs.Patterns.{ParsesPat, ParsesPats, PatLevel, exception_sign, exception_with_string}
 use Rattle.ac_syntax.specs.Expressions as expressions
 use Rattle.ac_syntax.specs.Expressions.{Operator, Prim, Consing, Both, Either, operator_of, operator_tree, Level, After, Args, Ending, Parses, ParsesParts, ParsesItems, ParsesArms, after_bar}
 use Rattle.ac_syntax.specs.declared.sign.Symbol.{Symbol}

@@ -1,7 +1,7 @@
-// Which terms are valuable, which signatures are covered, and which likespecs are missing.
+// Which signatures are covered, and which likespecs are missing.
 
-use ac_modules::{covers, like_missing, valuable};
-use ac_terms::{Arm, Field, Import, Module, PVal, Pat, Term};
+use ac_modules::{covers, like_missing};
+use ac_terms::{Field, Import, Module, Term};
 use ac_types::{
     Box, Constraint, Many, Memory, Name, Sig, SigType, Text, Ty, TyField, Version, Word, both,
 };
@@ -10,42 +10,7 @@ use std::test::Fail;
 
 type Made<T> = Result<T, Memory>;
 
-/// A term, and whether it is valuable.
-#[derive(Drop)]
-struct Row {
-    term: Term,
-    valuable: bool,
-}
-
-/// Rows, and whether memory ran out for one.
-#[derive(Drop)]
-struct Rows {
-    rows: Many<Row>,
-    lost: bool,
-}
-
-impl Rows {
-    fn add(&mut self, valuable: bool, term: Made<Term>) {
-        match term {
-            Ok(term) => {
-                if self.rows.push(Row { term, valuable }).is_err() {
-                    self.lost = true;
-                }
-            }
-            Err(_) => self.lost = true,
-        }
-    }
-}
-
-fn int() -> Made<Term> {
-    Ok(Term::Int(1))
-}
-
-fn var() -> Made<Term> {
-    Ok(Term::Var(0))
-}
-
-/// What makes terms and types.
+/// What makes modules and types.
 #[derive(Clone, Copy)]
 struct Make(Global);
 
@@ -60,81 +25,6 @@ impl Make {
         parts.push(a)?;
         parts.push(b)?;
         Ok(parts)
-    }
-
-    fn text(self) -> Made<Term> {
-        Text::from_slice(self.0, b"s").map(Term::Str)
-    }
-
-    fn pair(self, a: Made<Term>, b: Made<Term>) -> Made<Term> {
-        self.list(a, b).map(Term::Tuple)
-    }
-
-    fn exn(self, t: Made<Term>) -> Made<Term> {
-        self.boxed(t).map(|t| Term::ExnVal(0, Some(t)))
-    }
-
-    fn some(self, t: Made<Term>) -> Made<Term> {
-        self.boxed(t).map(Term::Present)
-    }
-
-    fn cons(self, a: Made<Term>, b: Made<Term>) -> Made<Term> {
-        both(self.boxed(a), self.boxed(b)).map(|(a, b)| Term::Cons(a, b))
-    }
-
-    fn reference(self) -> Made<Term> {
-        self.word(b'x').map(|word| Term::Ref(0, word))
-    }
-
-    fn lam(self, body: Made<Term>) -> Made<Term> {
-        self.boxed(body).map(|body| Term::Lam(Ty::Int, body))
-    }
-
-    fn rec(self, body: Made<Term>) -> Made<Term> {
-        self.boxed(body)
-            .map(|body| Term::Rec(Ty::Int, Ty::Int, body))
-    }
-
-    fn app(self, f: Made<Term>, a: Made<Term>) -> Made<Term> {
-        both(self.boxed(f), self.boxed(a)).map(|(f, a)| Term::App(f, a))
-    }
-
-    fn bind(self, bound: Made<Term>, body: Made<Term>) -> Made<Term> {
-        both(self.boxed(bound), self.boxed(body)).map(|(a, b)| Term::Let(Ty::Int, a, b))
-    }
-
-    fn choice(self, test: Made<Term>, a: Made<Term>, b: Made<Term>) -> Made<Term> {
-        let (a, b) = both(self.boxed(a), self.boxed(b))?;
-        self.boxed(test).map(|test| Term::If(test, a, b))
-    }
-
-    fn arms(self) -> Made<Many<Arm>> {
-        let mut arms = Many::new(self.0);
-        arms.push(Arm {
-            pat: Pat::Wild,
-            body: Term::Int(1),
-        })?;
-        Ok(arms)
-    }
-
-    fn matched(self, of: Made<Term>) -> Made<Term> {
-        both(self.boxed(of), self.arms()).map(|(of, arms)| Term::Match(of, arms))
-    }
-
-    fn tried(self, of: Made<Term>) -> Made<Term> {
-        both(self.boxed(of), self.arms()).map(|(of, arms)| Term::Try(of, arms))
-    }
-
-    fn raise(self, t: Made<Term>) -> Made<Term> {
-        self.boxed(t).map(|t| Term::Raise(Ty::Int, t))
-    }
-
-    fn marshal(self, mark: Made<Term>, of: Made<Term>) -> Made<Term> {
-        both(self.boxed(mark), self.boxed(of)).map(|(a, b)| Term::Marshal(Ty::Int, a, b))
-    }
-
-    fn unmarshal(self, of: Made<Term>) -> Made<Term> {
-        self.boxed(of).map(|of| Term::Unmarshal(Ty::Int, of))
     }
 
     /// The identifier of that letter.
@@ -241,9 +131,9 @@ impl Make {
     }
 
     fn module(self, sig: Made<Sig>, types: &[u8], fields: &[u8]) -> Made<Module> {
-        let (name, sig) = both(self.word(b'M'), sig)?;
-        let (types, fields) = both(self.all_typed(types), self.fields(fields))?;
-        Ok(Module {
+        let head = both(self.word(b'M'), sig);
+        let inner = both(self.all_typed(types), self.fields(fields));
+        both(head, inner).map(|((name, sig), (types, fields))| Module {
             name,
             version: Version {
                 atoms: Many::new(self.0),
@@ -255,9 +145,8 @@ impl Make {
     }
 
     fn import(self, types: &[u8], like: &[u8]) -> Made<Import> {
-        let (name, sig) = both(self.word(b'I'), self.sig(types, b"xt"))?;
-        let like = self.all_typed(like)?;
-        Ok(Import {
+        let head = both(self.word(b'I'), self.sig(types, b"xt"));
+        both(head, self.all_typed(like)).map(|((name, sig), like)| Import {
             name,
             sig,
             constraint: Constraint::Ranges {
@@ -268,68 +157,6 @@ impl Make {
             by: Many::new(self.0),
         })
     }
-}
-
-// The forms that compute nothing.
-fn still(rows: &mut Rows, m: Make) {
-    rows.add(true, int());
-    rows.add(true, Ok(Term::Bool(true)));
-    rows.add(true, m.text());
-    rows.add(true, Ok(Term::Unit));
-    rows.add(true, Ok(Term::ExnVal(2, None)));
-    rows.add(true, Ok(Term::Nil(Ty::Int)));
-    rows.add(true, Ok(Term::Empty(Ty::Int)));
-    rows.add(true, Ok(Term::Own(0)));
-    rows.add(true, m.reference());
-    rows.add(true, m.lam(var()));
-    rows.add(true, m.rec(var()));
-}
-
-// The forms that do as their parts do.
-fn built(rows: &mut Rows, m: Make) {
-    rows.add(true, m.exn(m.text()));
-    rows.add(false, m.exn(var()));
-    rows.add(true, m.pair(int(), int()));
-    rows.add(false, m.pair(var(), int()));
-    rows.add(false, m.pair(int(), var()));
-    rows.add(true, m.some(int()));
-    rows.add(false, m.some(var()));
-    rows.add(true, m.cons(int(), Ok(Term::Nil(Ty::Int))));
-    rows.add(false, m.cons(var(), Ok(Term::Nil(Ty::Int))));
-    rows.add(false, m.cons(int(), var()));
-}
-
-// The forms that compute.
-fn computed(rows: &mut Rows, m: Make) {
-    rows.add(false, var());
-    rows.add(false, m.app(m.lam(int()), int()));
-    rows.add(false, m.bind(int(), int()));
-    rows.add(false, m.choice(Ok(Term::Bool(true)), int(), int()));
-    rows.add(false, m.list(int(), int()).map(Term::Seq));
-    rows.add(false, m.matched(int()));
-    rows.add(false, m.tried(int()));
-    rows.add(false, m.raise(Ok(Term::ExnVal(2, None))));
-    rows.add(false, m.list(int(), int()).map(|args| Term::Prim(0, args)));
-    rows.add(false, m.marshal(m.text(), int()));
-    rows.add(false, m.unmarshal(m.text()));
-    rows.add(false, Ok(Term::Val(Ty::Int, PVal::Int(1))));
-}
-
-#[test]
-fn each_form(rt: HostRuntime) -> Result<(), Fail> {
-    let mut rows = Rows {
-        rows: Many::new(rt.alloc()),
-        lost: false,
-    };
-    let m = Make(rt.alloc());
-    still(&mut rows, m);
-    built(&mut rows, m);
-    computed(&mut rows, m);
-    assert!(rt; !rows.lost);
-    for row in rows.rows.as_slice() {
-        assert_eq!(rt; valuable(&row.term), row.valuable);
-    }
-    Ok(())
 }
 
 /// A module: the types and the values of its signature, the types and the fields of its struct,

@@ -6,7 +6,7 @@ use Rattle.ac_types.specs.First.{or_else}
 use Rattle.ac_types.specs.Types.{Bytes, Typ, TStr, TExn, TBool, TFun, TList, Typs}
 use Rattle.ac_terms.specs.Terms.{Home, Main, Expr, Int, Boolean, Str, Unit', Exn, ExnOf, Tuple, Nil, Empty, Present, Cons, Var, Own, Ref, Lam, Rec, App, Let, If, Seq, Match, Try, Raise, Prim, Marshal, Unmarshal, Val, Evaluated, Bracket, Exprs, no_exprs, expr, PValue, Value, VStr}
 use Rattle.ac_terms.specs.Defs.{Environment}
-use Rattle.ac_terms.specs.Spelling.{two}
+use Rattle.ac_terms.specs.Spelling.{two_written}
 use Rattle.ac_terms.specs.Bounds.{fits_term}
 use Rattle.ac_terms.specs.Heads.{type_heads, value_heads, packed_heads}
 use Rattle.ac_rules.specs.Plain.{packed}
@@ -147,17 +147,17 @@ marshal_parts z c T m w s (Raises x) b e = absurd cc
 marshal_parts z c T m w s Wrong b e = absurd cc
 
 -- the string of a packed value: all of the value travels and is short
-string_fine : (E : Environment) (mark : Bytes) (T : Typ) (v : PValue) (s : Bytes) → marshalled E mark T v ≡ AString s → Fine (value_heads two 1 v)
+string_fine : (E : Environment) (mark : Bytes) (T : Typ) (v : PValue) (s : Bytes) → marshalled E mark T v ≡ AString s → Fine (value_heads two_written 1 v)
 string_fine E mark T v s e = by_mark (mark_at E mark) e
   where
-    by_parts : (m : ℕ) (o : Option Fault) → first_fault 500 1048576 0 (packed_heads T v) ≡ o → behind E m T v o ≡ AString s → Fine (value_heads two 1 v)
+    by_parts : (m : ℕ) (o : Option Fault) → first_fault 500 1048576 0 (packed_heads T v) ≡ o → behind E m T v o ≡ AString s → Fine (value_heads two_written 1 v)
     by_parts m (Some f) r h = absurd cc
     by_parts m None r h =
         let fine = none_fails 500 1048576 0 (packed_heads T v) r in
         let short = fine.short (omega arith) in
-        (fine_both (type_heads T) (value_heads two 1 v) (record { travels = fine.travels; short = omega (arith, short) })).1
+        (fine_both (type_heads T) (value_heads two_written 1 v) (record { travels = fine.travels; short = omega (arith, short) })).1
 
-    by_mark : (o : Option ℕ) → cut_at E T v o ≡ AString s → Fine (value_heads two 1 v)
+    by_mark : (o : Option ℕ) → cut_at E T v o ≡ AString s → Fine (value_heads two_written 1 v)
     by_mark None h = absurd cc
     by_mark (Some m) h = by_parts m (first_fault 500 1048576 0 (packed_heads T v)) refl h
 

@@ -10,7 +10,7 @@ use Rattle.ac_types.specs.Types.{Bytes, Typ, Typs, no_types, typ, agree}
 use Rattle.ac_terms.specs.Terms.{Home, Main, In, Expr, Int, Boolean, Str, Unit', Exn, ExnOf, Tuple, Nil, Empty, Present, Cons, Var, Own, Ref, Lam, Rec, App, Let, If, Seq, Match, Try, Raise, Prim, Marshal, Unmarshal, Val, Evaluated, Bracket, Exprs, no_exprs, expr, Arms, no_arms, arm, PValue, KInt, KBool, KStr, KUnit, KExn, KTuple, KList, KAbsent, KPresent, KFun, PValues, no_pvalues, pvalue, Value, VInt, VBool, VStr, VUnit, VExn, VTuple, VNil, VCons, VAbsent, VPresent, VLam, VRec, VProxy, VSeal, Values, no_values, value}
 use Rattle.ac_terms.specs.Defs.{Environment, Entry, def_of, module_of, module_at}
 use Rattle.ac_terms.specs.PrimitiveTypes.{primitives}
-use Rattle.ac_terms.specs.Spelling.{two, term_count, arm_count, value_count}
+use Rattle.ac_terms.specs.Spelling.{two_written, term_count, arm_count, value_count}
 use Rattle.ac_terms.specs.Heads.{Head, before, type_heads, pattern_heads, term_heads, all_term_heads, arm_heads, value_heads, all_value_heads}
 use Rattle.ac_terms.specs.Bounds.{is_two, is_four, is_width, is_lambda, fits_home, takes, fits_type, fits_term, fit_terms, fit_arms, fits_value, fit_values}
 use Rattle.ac_terms.proofs.HeadLaws.{spelling, joined, preceded}
@@ -60,7 +60,7 @@ fine_before bs hs f =
     record { travels = travel_before bs hs f.travels; short = omega (arith, l, s) }
 
 -- each value has a byte at least
-value_byte : (d : ℕ) (v : PValue) → 1 ≤ length (spelling (value_heads two d v))
+value_byte : (d : ℕ) (v : PValue) → 1 ≤ length (spelling (value_heads two_written d v))
 value_byte d (KInt n) = omega arith
 value_byte d (KBool b) = omega arith
 value_byte d (KStr s) = omega arith
@@ -72,11 +72,11 @@ value_byte d KAbsent = omega arith
 value_byte d (KPresent v) = omega arith
 value_byte d (KFun h l) = omega arith
 
-values_bytes : (d : ℕ) (vs : PValues) → value_count vs ≤ length (spelling (all_value_heads two d vs))
+values_bytes : (d : ℕ) (vs : PValues) → value_count vs ≤ length (spelling (all_value_heads two_written d vs))
 values_bytes d no_pvalues = omega arith
 values_bytes d (pvalue v vs) =
-    let l : length (spelling (value_heads two d v ++ all_value_heads two d vs)) ≡ length (spelling (value_heads two d v)) + length (spelling (all_value_heads two d vs)) =
-    ap length (joined (value_heads two d v) (all_value_heads two d vs)) ∙ length-append (spelling (value_heads two d v)) (spelling (all_value_heads two d vs)) in
+    let l : length (spelling (value_heads two_written d v ++ all_value_heads two_written d vs)) ≡ length (spelling (value_heads two_written d v)) + length (spelling (all_value_heads two_written d vs)) =
+    ap length (joined (value_heads two_written d v) (all_value_heads two_written d vs)) ∙ length-append (spelling (value_heads two_written d v)) (spelling (all_value_heads two_written d vs)) in
     let a = value_byte d v in
     let b = values_bytes d vs in
     omega (arith, l, a, b)
@@ -86,10 +86,10 @@ four_of n h = grind (arith, nat_tests)
 
 -- a list by its items, any other value by itself
 abbrev FitsWhere : ℕ → PValue → Type 0
-FitsWhere d (KList vs) = Fine (all_value_heads two (suc d) vs) → fit_values vs ≡ true
-FitsWhere d v = Fine (value_heads two d v) → fits_value v ≡ true
+FitsWhere d (KList vs) = Fine (all_value_heads two_written (suc d) vs) → fit_values vs ≡ true
+FitsWhere d v = Fine (value_heads two_written d v) → fits_value v ≡ true
 
-list_fits : (d : ℕ) (vs : PValues) → fit_values vs ≡ true → Fine (all_value_heads two (suc d) vs) → fits_value (KList vs) ≡ true
+list_fits : (d : ℕ) (vs : PValues) → fit_values vs ≡ true → Fine (all_value_heads two_written (suc d) vs) → fits_value (KList vs) ≡ true
 list_fits d vs h f =
     let a = values_bytes (suc d) vs in
     let b = f.short in
@@ -99,8 +99,8 @@ list_fits d vs h f =
 stays_where : (d : ℕ) → FitsWhere d stays
 stays_where d f = absurd (true≢false (sym f.travels))
 
-whole : (d : ℕ) (v : PValue) → FitsWhere d v → Fine (value_heads two d v) → fits_value v ≡ true
-whole d (KList vs) h f = let g = fine_rest _ (all_value_heads two (suc d) vs) f in list_fits d vs (h g) g
+whole : (d : ℕ) (v : PValue) → FitsWhere d v → Fine (value_heads two_written d v) → fits_value v ≡ true
+whole d (KList vs) h f = let g = fine_rest _ (all_value_heads two_written (suc d) vs) f in list_fits d vs (h g) g
 whole d (KInt n) h f = h f
 whole d (KBool b) h f = h f
 whole d (KStr s) h f = h f
@@ -114,7 +114,7 @@ whole d (KFun c l) h f = h f
 in_front_where : (d : ℕ) (x y : PValue) → FitsWhere (suc d) x → FitsWhere d y → FitsWhere d (in_front x y)
 in_front_where d x (KList ys) h k =
     λ f.
-    let p = fine_both (value_heads two (suc d) x) (all_value_heads two (suc d) ys) f in
+    let p = fine_both (value_heads two_written (suc d) x) (all_value_heads two_written (suc d) ys) f in
     and_true {a = fits_value x} {b = fit_values ys} (whole (suc d) x h p.0) (k p.1)
 in_front_where d x (KInt n) h k = stays_where d
 in_front_where d x (KBool b) h k = stays_where d
@@ -145,7 +145,7 @@ module _ (E : Environment) (coherent : IsCoherent E) where
       let f = coherent.few in
       home_two k (omega (arith, l, f))
 
-  travelling_where : (d : ℕ) (c : Home) (l : Expr) (T : Typ) → is_lambda l ≡ true → (Fine (term_heads two (suc d) l) → fits_term true l ≡ true) → FitsWhere d (travelling E c l T)
+  travelling_where : (d : ℕ) (c : Home) (l : Expr) (T : Typ) → is_lambda l ≡ true → (Fine (term_heads two_written (suc d) l) → fits_term true l ≡ true) → FitsWhere d (travelling E c l T)
   travelling_where d c l T il h = by (may_travel E c l T) refl
     where
       by : (b : Bool) → may_travel E c l T ≡ b → FitsWhere d (elim b as (λ z. PValue) [ true ↦ KFun c l | false ↦ stays ])
@@ -154,12 +154,12 @@ module _ (E : Environment) (coherent : IsCoherent E) where
           let p = both_true (is_function (head E T) && is_function_home E c) (agree (type_of Coloured true E (all_of E c) l) (type_seen Coloured true E c (head E T))) q in
           let r = both_true (is_function (head E T)) (is_function_home E c) p.0 in
           λ f.
-          let g = fine_rest _ (term_heads two (suc d) l) f in
+          let g = fine_rest _ (term_heads two_written (suc d) l) f in
           and_true {a = fits_home c && is_lambda l} {b = fits_term true l} (and_true {a = fits_home c} {b = is_lambda l} (home_fits c r.1) il) (h g)
 
-  count_packed : (d : ℕ) (vs : Values) (c : Home) (Ts : Typs) → Fine (all_value_heads two d (all_packed E (bare_values c vs) Ts)) → value_count (all_packed E (bare_values c vs) Ts) ≡ width vs
+  count_packed : (d : ℕ) (vs : Values) (c : Home) (Ts : Typs) → Fine (all_value_heads two_written d (all_packed E (bare_values c vs) Ts)) → value_count (all_packed E (bare_values c vs) Ts) ≡ width vs
   count_packed d no_values c no_types f = refl
-  count_packed d (value v vs) c (typ T Ts) f = ap (λ n. suc n) (count_packed d vs c Ts (fine_both (value_heads two d (packed E (bare_value c v) T)) (all_value_heads two d (all_packed E (bare_values c vs) Ts)) f).1)
+  count_packed d (value v vs) c (typ T Ts) f = ap (λ n. suc n) (count_packed d vs c Ts (fine_both (value_heads two_written d (packed E (bare_value c v) T)) (all_value_heads two_written d (all_packed E (bare_values c vs) Ts)) f).1)
   count_packed d no_values c (typ T Ts) f = absurd (true≢false (sym f.travels))
   count_packed d (value v vs) c no_types f = absurd (true≢false (sym f.travels))
 
@@ -183,7 +183,7 @@ module _ (E : Environment) (coherent : IsCoherent E) where
   p! c e = packed_term E (bare c e)
 
   abbrev hs! : ℕ → Home → Expr → List Head
-  hs! d c e = term_heads two d (packed_term E (bare c e))
+  hs! d c e = term_heads two_written d (packed_term E (bare c e))
 
   mutual
     value_where : (v : Value) (c : Home) (T : Typ) (d : ℕ) → ValueWithin v → FitsWhere d (packed E (bare_value c v) T)
@@ -195,7 +195,7 @@ module _ (E : Environment) (coherent : IsCoherent E) where
     value_where (VTuple vs) c T d h =
         there_where d (tuple_parts (head E T)) (λ Ts. KTuple (all_packed E (bare_values c vs) Ts))
         (λ Ts f.
-        let g = fine_rest _ (all_value_heads two (suc d) (all_packed E (bare_values c vs) Ts)) f in
+        let g = fine_rest _ (all_value_heads two_written (suc d) (all_packed E (bare_values c vs) Ts)) f in
         and_true {a = is_width (value_count (all_packed E (bare_values c vs) Ts))} {b = fit_values (all_packed E (bare_values c vs) Ts)} (ap is_width (count_packed (suc d) vs c Ts g) ∙ h.0) (values_fit vs c Ts (suc d) h.1 g))
     value_where (VNil U) c T d h = λ f. refl
     value_where (VCons v w) c T d h =
@@ -204,7 +204,7 @@ module _ (E : Environment) (coherent : IsCoherent E) where
     value_where (VAbsent U) c T d h = λ f. refl
     value_where (VPresent v) c T d h =
         there_where d (option_item (head E T)) (λ U. KPresent (packed E (bare_value c v) U))
-        (λ U f. let g = fine_rest _ (value_heads two (suc d) (packed E (bare_value c v) U)) f in whole (suc d) (packed E (bare_value c v) U) (value_where v c U (suc d) h) g)
+        (λ U f. let g = fine_rest _ (value_heads two_written (suc d) (packed E (bare_value c v) U)) f in whole (suc d) (packed E (bare_value c v) U) (value_where v c U (suc d) h) g)
     value_where (VLam U e) c T d h =
         travelling_where d c (Lam U (p! c e)) T refl
         (λ f. let g = (fine_both (type_heads U) (hs! (suc (suc d)) c e) (fine_rest _ _ f)).1 in and_true {a = fits_type false U} {b = fits_term true (p! c e)} h.0.0 (term_fits e c (suc (suc d)) h.1 g))
@@ -214,10 +214,10 @@ module _ (E : Environment) (coherent : IsCoherent E) where
     value_where (VProxy b U W g) c T d h = value_where g b T d h
     value_where (VSeal b n t v) c T d h = value_where v b T d h
 
-    values_fit : (vs : Values) (c : Home) (Ts : Typs) (d : ℕ) → ValuesWithin vs → Fine (all_value_heads two d (all_packed E (bare_values c vs) Ts)) → fit_values (all_packed E (bare_values c vs) Ts) ≡ true
+    values_fit : (vs : Values) (c : Home) (Ts : Typs) (d : ℕ) → ValuesWithin vs → Fine (all_value_heads two_written d (all_packed E (bare_values c vs) Ts)) → fit_values (all_packed E (bare_values c vs) Ts) ≡ true
     values_fit no_values c no_types d h f = refl
     values_fit (value v vs) c (typ T Ts) d h f =
-        let p = fine_both (value_heads two d (packed E (bare_value c v) T)) (all_value_heads two d (all_packed E (bare_values c vs) Ts)) f in
+        let p = fine_both (value_heads two_written d (packed E (bare_value c v) T)) (all_value_heads two_written d (all_packed E (bare_values c vs) Ts)) f in
         and_true {a = fits_value (packed E (bare_value c v) T)} {b = fit_values (all_packed E (bare_values c vs) Ts)} (whole d (packed E (bare_value c v) T) (value_where v c T d h.0) p.0) (values_fit vs c Ts d h.1 p.1)
     values_fit no_values c (typ T Ts) d h f = absurd (true≢false (sym f.travels))
     values_fit (value v vs) c no_types d h f = absurd (true≢false (sym f.travels))
@@ -229,7 +229,7 @@ module _ (E : Environment) (coherent : IsCoherent E) where
     term_fits Unit' c d h f = refl
     term_fits (Exn k) c d h f = h
     term_fits (ExnOf k e) c d h f = and_true h.0 (term_fits e c (suc d) h.1 (fine_rest _ (hs! (suc d) c e) f))
-    term_fits (Tuple es) c d h f = and_true (ap is_width (terms_packed es c) ∙ h.0) (terms_fit es c (suc d) h.1 (fine_rest _ (all_term_heads two (suc d) (packed_terms E (bare_all c es))) f))
+    term_fits (Tuple es) c d h f = and_true (ap is_width (terms_packed es c) ∙ h.0) (terms_fit es c (suc d) h.1 (fine_rest _ (all_term_heads two_written (suc d) (packed_terms E (bare_all c es))) f))
     term_fits (Nil T) c d h f = h.0
     term_fits (Empty T) c d h f = h.0
     term_fits (Present e) c d h f = term_fits e c (suc d) h (fine_rest _ (hs! (suc d) c e) f)
@@ -254,19 +254,19 @@ module _ (E : Environment) (coherent : IsCoherent E) where
         three (fits_term true (p! c x)) (fits_term true (p! c a)) (fits_term true (p! c b)) (term_fits x c (suc d) h.0 k.0) (term_fits a c (suc d) h.1 k.1) (term_fits b c (suc d) h.2 g.1)
     term_fits (Seq es) c d h f =
         and_true {a = nat_le 2 (term_count (packed_terms E (bare_all c es))) && is_four (term_count (packed_terms E (bare_all c es)))} {b = fit_terms true (packed_terms E (bare_all c es))}
-        (ap (λ n. nat_le 2 n && is_four n) (terms_packed es c) ∙ h.0) (terms_fit es c (suc d) h.1 (fine_rest _ (all_term_heads two (suc d) (packed_terms E (bare_all c es))) f))
+        (ap (λ n. nat_le 2 n && is_four n) (terms_packed es c) ∙ h.0) (terms_fit es c (suc d) h.1 (fine_rest _ (all_term_heads two_written (suc d) (packed_terms E (bare_all c es))) f))
     term_fits (Match e arms) c d h f =
-        let g = fine_both (hs! (suc d) c e) (before (two (arm_count (packed_arms E (bare_arms c arms)))) (arm_heads two (suc d) (packed_arms E (bare_arms c arms)))) (fine_rest _ _ f) in
+        let g = fine_both (hs! (suc d) c e) (before (two_written (arm_count (packed_arms E (bare_arms c arms)))) (arm_heads two_written (suc d) (packed_arms E (bare_arms c arms)))) (fine_rest _ _ f) in
         let n = arm_count (packed_arms E (bare_arms c arms)) in
         arms_all (fits_term true (p! c e)) (fit_arms true (packed_arms E (bare_arms c arms))) (nat_le 1 n) (nat_le n 1024) (term_fits e c (suc d) h.0 g.0)
-        (arms_fit arms c (suc d) h.1 (fine_before (two n) (arm_heads two (suc d) (packed_arms E (bare_arms c arms))) g.1)) (ap (λ m. nat_le 1 m && nat_le m 1024) (arms_packed arms c) ∙ h.2)
+        (arms_fit arms c (suc d) h.1 (fine_before (two_written n) (arm_heads two_written (suc d) (packed_arms E (bare_arms c arms))) g.1)) (ap (λ m. nat_le 1 m && nat_le m 1024) (arms_packed arms c) ∙ h.2)
     term_fits (Try e arms) c d h f =
-        let g = fine_both (hs! (suc d) c e) (before (two (arm_count (packed_arms E (bare_arms c arms)))) (arm_heads two (suc d) (packed_arms E (bare_arms c arms)))) (fine_rest _ _ f) in
+        let g = fine_both (hs! (suc d) c e) (before (two_written (arm_count (packed_arms E (bare_arms c arms)))) (arm_heads two_written (suc d) (packed_arms E (bare_arms c arms)))) (fine_rest _ _ f) in
         let n = arm_count (packed_arms E (bare_arms c arms)) in
         arms_all (fits_term true (p! c e)) (fit_arms true (packed_arms E (bare_arms c arms))) (nat_le 1 n) (nat_le n 1024) (term_fits e c (suc d) h.0 g.0)
-        (arms_fit arms c (suc d) h.1 (fine_before (two n) (arm_heads two (suc d) (packed_arms E (bare_arms c arms))) g.1)) (ap (λ m. nat_le 1 m && nat_le m 1024) (arms_packed arms c) ∙ h.2)
+        (arms_fit arms c (suc d) h.1 (fine_before (two_written n) (arm_heads two_written (suc d) (packed_arms E (bare_arms c arms))) g.1)) (ap (λ m. nat_le 1 m && nat_le m 1024) (arms_packed arms c) ∙ h.2)
     term_fits (Raise T e) c d h f = and_true h.0.0 (term_fits e c (suc d) h.1 (fine_both (type_heads T) (hs! (suc d) c e) (fine_rest _ _ f)).1)
-    term_fits (Prim k es) c d h f = and_true (ap (takes primitives k) (terms_packed es c) ∙ h.0) (terms_fit es c (suc d) h.1 (fine_rest _ (all_term_heads two (suc d) (packed_terms E (bare_all c es))) f))
+    term_fits (Prim k es) c d h f = and_true (ap (takes primitives k) (terms_packed es c) ∙ h.0) (terms_fit es c (suc d) h.1 (fine_rest _ (all_term_heads two_written (suc d) (packed_terms E (bare_all c es))) f))
     term_fits (Marshal T a b) c d h f =
         let g = fine_both (type_heads T ++ hs! (suc d) c a) (hs! (suc d) c b) (fine_rest _ _ f) in
         let k = fine_both (type_heads T) (hs! (suc d) c a) g.0 in
@@ -275,22 +275,22 @@ module _ (E : Environment) (coherent : IsCoherent E) where
     term_fits (Val T v) c d h f = absurd h
     term_fits (Evaluated T v) c d h f =
         let w = packed E (bare_value c v) T in
-        let g = (fine_both (type_heads T) (value_heads two (suc d) w) (fine_rest _ _ f)).1 in
+        let g = (fine_both (type_heads T) (value_heads two_written (suc d) w) (fine_rest _ _ f)).1 in
         and_true h.0.0 (whole (suc d) w (value_where v c T (suc d) h.1) g)
     term_fits (Bracket b T e) c d h f = absurd (true≢false (sym f.travels))
 
-    terms_fit : (es : Exprs) (c : Home) (d : ℕ) → AllWithin true es → Fine (all_term_heads two d (packed_terms E (bare_all c es))) → fit_terms true (packed_terms E (bare_all c es)) ≡ true
+    terms_fit : (es : Exprs) (c : Home) (d : ℕ) → AllWithin true es → Fine (all_term_heads two_written d (packed_terms E (bare_all c es))) → fit_terms true (packed_terms E (bare_all c es)) ≡ true
     terms_fit no_exprs c d h f = refl
     terms_fit (expr e es) c d h f =
-        let g = fine_both (hs! d c e) (all_term_heads two d (packed_terms E (bare_all c es))) f in
+        let g = fine_both (hs! d c e) (all_term_heads two_written d (packed_terms E (bare_all c es))) f in
         and_true (term_fits e c d h.0 g.0) (terms_fit es c d h.1 g.1)
 
-    arms_fit : (arms : Arms) (c : Home) (d : ℕ) → ArmsWithin arms → Fine (arm_heads two d (packed_arms E (bare_arms c arms))) → fit_arms true (packed_arms E (bare_arms c arms)) ≡ true
+    arms_fit : (arms : Arms) (c : Home) (d : ℕ) → ArmsWithin arms → Fine (arm_heads two_written d (packed_arms E (bare_arms c arms))) → fit_arms true (packed_arms E (bare_arms c arms)) ≡ true
     arms_fit no_arms c d h f = refl
     arms_fit (arm p e rest) c d h f =
-        let g = fine_both (pattern_heads d p ++ hs! d c e) (arm_heads two d (packed_arms E (bare_arms c rest))) f in
+        let g = fine_both (pattern_heads d p ++ hs! d c e) (arm_heads two_written d (packed_arms E (bare_arms c rest))) f in
         let k = fine_both (pattern_heads d p) (hs! d c e) g.0 in
         three _ (fits_term true (p! c e)) (fit_arms true (packed_arms E (bare_arms c rest))) h.0.0 (term_fits e c d h.1 k.1) (arms_fit rest c d h.2 g.1)
 
-  pub packed_fits : (v : Value) (c : Home) (T : Typ) (d : ℕ) → ValueWithin v → Fine (value_heads two d (packed E (bare_value c v) T)) → fits_value (packed E (bare_value c v) T) ≡ true
+  pub packed_fits : (v : Value) (c : Home) (T : Typ) (d : ℕ) → ValueWithin v → Fine (value_heads two_written d (packed E (bare_value c v) T)) → fits_value (packed E (bare_value c v) T) ≡ true
   packed_fits v c T d h f = whole d (packed E (bare_value c v) T) (value_where v c T d h) f

@@ -1,11 +1,11 @@
 -- The steps of the parsers of imports, over lists of signs.
-use Rattle.std.proofs.Common.{◌≡◌, ℕ, Bool, List, [], ◌∷◌, ◌++◌, Option, Some, None, refl, sym, ◌∙◌, ap, subst, append_assoc, append-nil}
+use Rattle.std.proofs.Common.{◌≡◌, ℕ, Bool, List, [], ◌∷◌, ◌++◌, Option, Some, None, refl, sym, ◌∙◌, ap, subst, append_assoc}
 use Rattle.ac_types.specs.Sigs.{Range, Constraint, Ranges, Exact, Resolve}
 use Rattle.ac_version.specs.declared.read.VToken.{VToken}
 use Rattle.ac_version.specs.VersionReading.{RangeAt, Ranged, last_range, starred_range, more_ranges, IsConstraint, ranged, ReadsConstraint}
 use Rattle.ac_syntax.specs.Signs.{Sign, Upper, Fixed}
 use Rattle.ac_syntax.specs.Trees.{NameAt, AbbrevTree, SigTree, WantsTree, WantsVersion, WantsName, DefTree, ImportDef}
-use Rattle.ac_syntax.specs.Programs.{IsSig, ParsesAbbrevs, vtoken_of, VTokens, no_vtokens, vtoken_, ParsesLike, no_like, like, resolve_sign, ParsesResolve, last_resolve, more_resolve, ParsesDef, import_version, import_name, placed_name}
+use Rattle.ac_syntax.specs.Programs.{IsSig, ParsesAbbrevs, VTokens, no_vtokens, vtoken_, ParsesLike, no_like, like, resolve_sign, ParsesResolve, last_resolve, more_resolve, ParsesDef, import_version, import_name, placed_name}
 use Rattle.ac_syntax.specs.PartParsing.{SymbolAt, NoSymbol}
 use Rattle.ac_syntax.specs.declared.sign.Symbol.TheVariants.{By, Comma, Equals, Import, Like, NameWord, Struct, Version}
 use Rattle.ac_syntax.proofs.Exceptions.{nothing_there, same_value}

@@ -1,10 +1,10 @@
 -- Lists of items that end with an `end`, read from the front.
 use Rattle.std.proofs.Common.{◌≡◌, List, [], ◌∷◌, ◌++◌, refl, sym, ◌∙◌, ap, subst, append_assoc, append-nil}
-use Rattle.ac_syntax.specs.Signs.{Sign, Fixed}
+use Rattle.ac_syntax.specs.Signs.{Sign}
 use Rattle.ac_syntax.specs.PartParsing.{SymbolAt, NoSymbol}
 use Rattle.ac_syntax.specs.declared.sign.Symbol.TheVariants.{Struct}
 use Rattle.ac_syntax.proofs.UniqueTypes.{tail_eq}
-use Rattle.ac_parser.specs.inner.ProgramParsing.{OnlyRead, NoRead, Anything, StructOf, Others, ItemAt}
+use Rattle.ac_parser.specs.inner.ProgramParsing.{OnlyRead, NoRead, Anything, StructOf, ItemAt}
 
 -- the items are those done and those that stand at the rest
 pub record LeftItems {A : Type 0} (Reads : List Sign → List A → List Sign → Type 0) (done : List A) (rest : List Sign) (items : List A) (end : List Sign) : Type 0 where

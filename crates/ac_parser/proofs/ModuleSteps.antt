@@ -12,7 +12,7 @@ use Rattle.ac_syntax.proofs.UniqueTypes.{tail_eq, same_type}
 use Rattle.ac_syntax.proofs.UniqueExpressions.{same_expr}
 use Rattle.ac_expressions.specs.ExpressionParsing.{NoExpr}
 use Rattle.ac_parser.specs.inner.ProgramParsing.{OnlyRead, NoRead, Anything, NoComma, StructOf, Others, ItemAt, AbbrevAt, NoAbbrev, HeadAt, VersionAt}
-use Rattle.ac_parser.proofs.Fronts.{lower_eq, name_eq, type_at, type_to, sig_at, same_abbrev}
+use Rattle.ac_parser.proofs.Fronts.{lower_eq, name_eq, type_at, type_to, same_abbrev}
 use Rattle.ac_parser.proofs.Lists.{item_at}
 
 -- abbreviations

@@ -7,7 +7,7 @@ use Rattle.ac_types.specs.Sigs.{Atom, Constraint, Ranges, Exact}
 use Rattle.ac_version.specs.declared.read.VToken.{VToken}
 use Rattle.ac_version.specs.declared.read.VersionFault.{VersionFault}
 use Rattle.ac_version.specs.declared.read.VersionFault.TheVariants as bad
-use Rattle.ac_version.specs.VersionReading.{IsVersion, NoVersion, IsConstraint, ReadsConstraint, NoConstraint, OnBad}
+use Rattle.ac_version.specs.VersionReading.{IsVersion, NoVersion, ReadsConstraint, NoConstraint, OnBad}
 use Rattle.ac_version.proofs.Unique.{same_version, same_constraint}
 use Rattle.ac_syntax.specs.Signs.{Sign, Fixed}
 use Rattle.ac_syntax.specs.declared.sign.Sign as code

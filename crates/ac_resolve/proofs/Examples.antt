@@ -1,7 +1,8 @@
 -- Small cases, which compute. A name is written with its place.
 use Rattle.std.proofs.Common.{◌≡◌, refl, ◌+◌, ℕ, false, true, List, [], ◌∷◌, codes, Some, None, pos}
 use Rattle.std.specs.Prelude.{replicate}
-use Rattle.ac_types.specs.Types.{Bytes, TInt, TBool, TStr, TFun, no_types, typ}
+use Rattle.ac_types.specs.Primitives as primitives
+use Rattle.ac_types.specs.Types.{Bytes, TInt, TBool, TFun, typ}
 use Rattle.ac_terms.specs.Terms.{PTuple, PVar, patterns, Int, Boolean, Unit', Var, Lam, Rec, App, Let, If, Match, Prim, exprs, no_arms, arm}
 use Rattle.ac_syntax.specs.Trees.{NameAt, TyInt, TyBool, TyLocal, TyOf, TyList, PatTree, PatVar, PatTuple, PatWild, pat_trees, Tree, ExInt, ExBool, ExUnit, ExTuple, ExVar, ExOf, ExFun, ExRec, ExApp, ExLet, ExLetRec, ExMatch, ExAnd, ExOr, ExRaise, trees, arm_trees}
 use Rattle.ac_resolve.specs.Elaboration.{elaborated}
@@ -45,13 +46,13 @@ either_side : elaborated [] (ExOr 0 (ExBool 0 true) (ExBool 8 false)) ≡ If (Bo
 either_side = refl
 
 -- `IO.print_int` by itself, `IO.print_int 5`, and `Str.of_int 5 6`
-by_itself : elaborated [] (ExOf 0 (name 0 (codes "IO")) (name 3 (codes "print_int"))) ≡ Lam TInt (Prim 10 (exprs (Var 0 ∷ [])))
+by_itself : elaborated [] (ExOf 0 (name 0 (codes "IO")) (name 3 (codes "print_int"))) ≡ Lam TInt (Prim primitives.print_int (exprs (Var 0 ∷ [])))
 by_itself = refl
 
-at_its_argument : elaborated [] (ExApp 0 (ExOf 0 (name 0 (codes "IO")) (name 3 (codes "print_int"))) (ExInt 13 (pos 5))) ≡ Prim 10 (exprs (Int (pos 5) ∷ []))
+at_its_argument : elaborated [] (ExApp 0 (ExOf 0 (name 0 (codes "IO")) (name 3 (codes "print_int"))) (ExInt 13 (pos 5))) ≡ Prim primitives.print_int (exprs (Int (pos 5) ∷ []))
 at_its_argument = refl
 
-at_two_arguments : elaborated [] (ExApp 0 (ExApp 0 (ExOf 0 (name 0 (codes "Str")) (name 4 (codes "of_int"))) (ExInt 11 (pos 5))) (ExInt 13 (pos 6))) ≡ App (Prim 16 (exprs (Int (pos 5) ∷ []))) (Int (pos 6))
+at_two_arguments : elaborated [] (ExApp 0 (ExApp 0 (ExOf 0 (name 0 (codes "Str")) (name 4 (codes "of_int"))) (ExInt 11 (pos 5))) (ExInt 13 (pos 6))) ≡ App (Prim primitives.of_int (exprs (Int (pos 5) ∷ []))) (Int (pos 6))
 at_two_arguments = refl
 
 -- `match () with ((x : int), (y : int)) -> x end`: of the pattern's variables the last is the newest

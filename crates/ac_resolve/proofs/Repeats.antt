@@ -4,7 +4,6 @@ use Rattle.std.specs.Prelude.{option_map, is_some, if◌then◌else◌}
 use Rattle.std.specs.Cmp.Lexicographic.{pointwise}
 use Rattle.ac_types.specs.Types.{Bytes, same_bytes}
 use Rattle.ac_syntax.specs.declared.surface.SName.{SName}
-use Rattle.ac_syntax.specs.Trees.{NameAt}
 use Rattle.ac_syntax.specs.ReadTrees.{name_of}
 use Rattle.ac_resolve.specs.ScopedNames.{binders_to, least}
 use Rattle.ac_resolve.specs.Elaboration.{scope_with}

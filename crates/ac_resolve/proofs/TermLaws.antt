@@ -1,6 +1,6 @@
 -- The reading of terms, in the forms that hold lists or options.
 use Rattle.std.proofs.Common.{◌≡◌, ◌∙◌, ap, ap₂, refl, ℕ, List, [], ◌∷◌, map, Some}
-use Rattle.ac_terms.specs.Terms.{Expr, Pattern, ExnOf, Var, Match, Try, arms}
+use Rattle.ac_terms.specs.Terms.{Expr, ExnOf, Var, Match, Try, arms}
 use Rattle.ac_terms.specs.Read.{expr_of, value_layer, expr_layer, arm_layer}
 use Rattle.ac_terms.specs.declared.term.Term.{Term}
 use Rattle.ac_terms.specs.declared.term.PVal.{PVal}

@@ -1,5 +1,5 @@
 -- The core term of a tree in which each name is in scope. Where a name isn't, what is given for it is of no matter: such a tree is refused.
-use Rattle.std.specs.Prelude.{ℕ, true, false, List, [], ◌∷◌, ◌++◌, Option, Some, None, unwrap_or}
+use Rattle.std.specs.Prelude.{true, false, List, [], ◌∷◌, ◌++◌, Option, Some, None, unwrap_or}
 use Rattle.ac_types.specs.Types.{Bytes, Typ, TInt, TBool, TStr, TUnit, TExn, TTuple, TList, TOpt, TFun, Typs, no_types, typ}
 use Rattle.ac_terms.specs.Terms.{Pattern, PWild, PVar, PInt, PBool, PStr, PUnit, PTuple, PNil, PCons, PAbsent, PPresent, PExn, PExnOf, Patterns, no_patterns, pattern', Expr, Int, Boolean, Str, Unit', Exn, ExnOf, Tuple, Nil, Empty, Present, Cons, Var, Lam, Rec, App, Let, If, Seq, Match, Try, Raise, Prim, Marshal, Unmarshal, Exprs, no_exprs, expr, Arms, no_arms, arm}
 use Rattle.ac_syntax.specs.Trees.{NameAt, TypeTree, TyInt, TyBool, TyStr, TyUnit, TyExn, TyLocal, TyOf, TyTuple, TyList, TyOpt, TyFun, TypeTrees, no_type_trees, type_tree, PatTree, PatWild, PatVar, PatInt, PatBool, PatStr, PatUnit, PatTuple, PatNil, PatCons, PatAbsent, PatPresent, PatExn, PatExnOf, PatTrees, no_pat_trees, pat_tree, Tree, ExInt, ExBool, ExStr, ExUnit, ExExn, ExExnOf, ExTuple, ExNil, ExAbsent, ExPresent, ExCons, ExVar, ExOf, ExFun, ExRec, ExApp, ExLet, ExLetRec, ExIf, ExSeq, ExMatch, ExTry, ExRaise, ExAnd, ExOr, ExOp, ExMarshal, ExUnmarshal, Trees, no_trees, tree, ArmTrees, no_arm_trees, arm_tree}
@@ -74,7 +74,33 @@ scope_with (x ∷ xs) names = scope_with xs (x.word ∷ names)
 -- the primitive that a tree names
 abbrev pub primitive_at : Tree → Option Primitive
 primitive_at (ExOf at m x) = primitive_named m.word x.word
-primitive_at e = None
+primitive_at (ExInt at n) = None
+primitive_at (ExBool at b) = None
+primitive_at (ExStr at text) = None
+primitive_at (ExUnit at) = None
+primitive_at (ExExn at number) = None
+primitive_at (ExExnOf at number argument) = None
+primitive_at (ExTuple at parts) = None
+primitive_at (ExNil at ty) = None
+primitive_at (ExAbsent at ty) = None
+primitive_at (ExPresent at item) = None
+primitive_at (ExCons at head tail) = None
+primitive_at (ExVar at x) = None
+primitive_at (ExFun at name ty body) = None
+primitive_at (ExRec at name argument ty result body) = None
+primitive_at (ExApp at f a) = None
+primitive_at (ExLet at name ty bound body) = None
+primitive_at (ExLetRec at name argument ty result bound body) = None
+primitive_at (ExIf at test so otherwise) = None
+primitive_at (ExSeq at parts) = None
+primitive_at (ExMatch at of arms) = None
+primitive_at (ExTry at of arms) = None
+primitive_at (ExRaise at exception ty) = None
+primitive_at (ExAnd at a b) = None
+primitive_at (ExOr at a b) = None
+primitive_at (ExOp at number parts) = None
+primitive_at (ExMarshal at mark value ty) = None
+primitive_at (ExUnmarshal at text ty) = None
 
 abbrev pub primitive_of : Primitive → Expr → Expr
 primitive_of p a = Prim (primitive_number p) (expr a no_exprs)

@@ -4,7 +4,7 @@ use Rattle.std.specs.List.{list_any}
 use Rattle.ac_types.specs.Types.{Bytes, Typ, mentions, same_bytes}
 use Rattle.ac_terms.specs.Terms.{PValue}
 use Rattle.ac_types.specs.Sigs.{Exact, Resolve, HereAlready, Uri}
-use Rattle.ac_terms.specs.Defs.{Environment, Entry, Module, Def, AModule, AnImport, AMark, Seen, Shelf, Packet, find_name}
+use Rattle.ac_terms.specs.Defs.{Environment, Entry, Module, Def, AModule, AnImport, AMark, Seen, Own', Shelf, Arrived, Packet, find_name}
 use Rattle.ac_terms.specs.Parts.{Portion, part_refs, part_homes, part_mentions, def_parts, value_parts}
 use Rattle.ac_terms.specs.Renumbered.{def_renumbered, value_renumbered}
 

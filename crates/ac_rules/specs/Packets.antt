@@ -9,7 +9,7 @@ use Rattle.ac_terms.specs.Defs.{Environment, Entry, Import, Def, AModule, AnImpo
 use Rattle.ac_rules.specs.Views.{Coloured, is_known}
 use Rattle.ac_rules.specs.Typing.{holds}
 use Rattle.ac_types.specs.First.{given, first_some, first_failing, first_wrong}
-use Rattle.ac_terms.specs.Spelling.{def_bytes, four, module_bytes}
+use Rattle.ac_terms.specs.Spelling.{def_bytes, four_written, module_bytes}
 use Rattle.ac_terms.specs.Names.{name_by, text_of_entry}
 use Rattle.ac_rules.specs.Links.{linked, InPacket, is_exact}
 use Rattle.ac_terms.specs.Parts.{part_refs, part_homes, part_mentions, value_parts, def_parts}
@@ -30,7 +30,7 @@ is_unresolved ps k = option_map_or (λ (p : Place). p.unresolved) (slice_get ps 
 
 -- a definition's spelling with references of four bytes, so that no number of an entry is cut
 abbrev pub wide_bytes : Def → Bytes
-wide_bytes (AModule m) = module_bytes four m
+wide_bytes (AModule m) = module_bytes four_written m
 wide_bytes (AnImport i) = def_bytes (AnImport i)
 wide_bytes (AMark t) = def_bytes (AMark t)
 

@@ -6,7 +6,7 @@ use native.Mathlib.Omega.{arith}
 use Rattle.ac_types.proofs.Same.{both_true, and_true}
 use Rattle.ac_types.specs.Types.{Bytes, Typ}
 use Rattle.ac_terms.specs.Terms.{Pattern, PWild, PVar, PInt, PBool, PStr, PUnit, PTuple, PNil, PCons, PAbsent, PPresent, PExn, PExnOf, Patterns, no_patterns, pattern', Expr, Int, Boolean, Str, Unit', Exn, ExnOf, Tuple, Nil, Empty, Present, Cons, Var, Own, Ref, Lam, Rec, App, Let, If, Seq, Match, Try, Raise, Prim, Marshal, Unmarshal, Val, Evaluated, Bracket, Exprs, no_exprs, expr, Arms, no_arms, arm, PValue, KInt, KBool, KStr, KUnit, KExn, KTuple, KList, KAbsent, KPresent, KFun, PValues, no_pvalues, pvalue}
-use Rattle.ac_terms.specs.Spelling.{two, arm_count}
+use Rattle.ac_terms.specs.Spelling.{two_written, arm_count}
 use Rattle.ac_terms.specs.Nesting.{pattern_nesting, pattern_depth, nesting, depth, arm_depth, value_nesting, value_depth}
 use Rattle.ac_terms.specs.Heads.{Head, before, type_heads, pattern_heads, all_pattern_heads, term_heads, all_term_heads, arm_heads, value_heads, all_value_heads, packed_heads}
 use Rattle.ac_terms.proofs.HeadLaws.{nest_to, value_deep}
@@ -94,11 +94,11 @@ module _ (ref : ℕ → Bytes) (k : ℕ) where
         first d k (all_term_heads ref (suc d) es) (omega (arith, l))
         (terms_low (suc d) es (omega (arith, l)))
     term_low d (Match e arms) l =
-        first d k (th (suc d) e ++ before (two (arm_count arms)) (arm_heads ref (suc d) arms)) (omega (arith, l))
-        (behind k (th (suc d) e) (before (two (arm_count arms)) (arm_heads ref (suc d) arms)) (term_low (suc d) e (omega (arith, l))) (counted k (two (arm_count arms)) (arm_heads ref (suc d) arms) (arms_low (suc d) arms (omega (arith, l)))))
+        first d k (th (suc d) e ++ before (two_written (arm_count arms)) (arm_heads ref (suc d) arms)) (omega (arith, l))
+        (behind k (th (suc d) e) (before (two_written (arm_count arms)) (arm_heads ref (suc d) arms)) (term_low (suc d) e (omega (arith, l))) (counted k (two_written (arm_count arms)) (arm_heads ref (suc d) arms) (arms_low (suc d) arms (omega (arith, l)))))
     term_low d (Try e arms) l =
-        first d k (th (suc d) e ++ before (two (arm_count arms)) (arm_heads ref (suc d) arms)) (omega (arith, l))
-        (behind k (th (suc d) e) (before (two (arm_count arms)) (arm_heads ref (suc d) arms)) (term_low (suc d) e (omega (arith, l))) (counted k (two (arm_count arms)) (arm_heads ref (suc d) arms) (arms_low (suc d) arms (omega (arith, l)))))
+        first d k (th (suc d) e ++ before (two_written (arm_count arms)) (arm_heads ref (suc d) arms)) (omega (arith, l))
+        (behind k (th (suc d) e) (before (two_written (arm_count arms)) (arm_heads ref (suc d) arms)) (term_low (suc d) e (omega (arith, l))) (counted k (two_written (arm_count arms)) (arm_heads ref (suc d) arms) (arms_low (suc d) arms (omega (arith, l)))))
     term_low d (Raise T e) l =
         first d k (type_heads T ++ th (suc d) e) (omega (arith, l))
         (behind k (type_heads T) (th (suc d) e) (typed k T) (term_low (suc d) e (omega (arith, l))))
@@ -163,9 +163,9 @@ nest_alike T v k = same_test (nest_to k (packed_heads T v)) (nat_le (value_nesti
   where
     down : nest_to k (packed_heads T v) ≡ true → nat_le (value_nesting v) k ≡ true
     down e =
-        let a = both_true (nat_le 0 k) (nest_to k (value_heads two 1 v)) e in
-        let d : 1 + value_nesting v ≤ suc k = value_deep two k 1 v a.1 in
+        let a = both_true (nat_le 0 k) (nest_to k (value_heads two_written 1 v)) e in
+        let d : 1 + value_nesting v ≤ suc k = value_deep two_written k 1 v a.1 in
         le_is (value_nesting v) k (omega (arith, d))
 
     up : nat_le (value_nesting v) k ≡ true → nest_to k (packed_heads T v) ≡ true
-    up e = let l = le_true (value_nesting v) k e in behind k (type_heads T) (value_heads two 1 v) (typed k T) (value_low two k 1 v (omega (arith, l)))
+    up e = let l = le_true (value_nesting v) k e in behind k (type_heads T) (value_heads two_written 1 v) (typed k T) (value_low two_written k 1 v (omega (arith, l)))

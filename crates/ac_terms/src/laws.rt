@@ -6,7 +6,7 @@ ghost use Rattle.std.specs.List.{list_all};
 ghost use Rattle.ac_types.specs.Types.{Bytes, Typ};
 ghost use Rattle.ac_terms.specs.Terms.{PValue};
 ghost use Rattle.ac_terms.specs.Defs.{Packet};
-ghost use Rattle.ac_terms.specs.Spelling.{two, type_bytes, value_bytes};
+ghost use Rattle.ac_terms.specs.Spelling.{two_written, type_bytes, value_bytes};
 ghost use Rattle.ac_terms.specs.Nesting.{value_nesting};
 ghost use Rattle.ac_terms.specs.Bounds.{Spells};
 ghost use Rattle.ac_terms.specs.PacketReading.{packet_of};
@@ -22,7 +22,7 @@ pub fn read_as_spelled()
 /// and nest as the value does.
 pub fn heads_are_the_spelling()
     ensures bytes { (T : Typ) (v : PValue) → flat_map (λ (h : Head). h.bytes)
-        (packed_heads T v) ≡ type_bytes T ++ value_bytes two v }
+        (packed_heads T v) ≡ type_bytes T ++ value_bytes two_written v }
     ensures nesting { (T : Typ) (v : PValue) (k : ℕ) →
         list_all (λ (h : Head). nat_le h.nesting k) (packed_heads T v) ≡
         nat_le (value_nesting v) k }

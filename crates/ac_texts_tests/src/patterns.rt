@@ -2,10 +2,11 @@
 // left where there is none.
 
 use ac_expressions::pattern;
-use ac_lexer::lex;
-use ac_syntax::{SPatKind, Stop, signs};
-use std::alloc::{AllocError, Global};
-use std::test::Fail;
+use ac_lexer::{Token, lex};
+use ac_page::Page;
+use ac_syntax::{SPatKind, Sign, Stop, signs};
+use ac_types::exceptions::{FAILURE, NOT_FOUND};
+use std::alloc::Global;
 
 const PATTERNS: [(&[u8], &[u8]); 22] = [
     (b"_", b"wild 0"),
@@ -45,41 +46,47 @@ fn form(kind: &SPatKind) -> &'static [u8] {
         SPatKind::Cons(_, _) => b"cons",
         SPatKind::Absent => b"none",
         SPatKind::Present(_) => b"some",
-        SPatKind::Exn(0, Some(_)) => b"exn0 of",
-        SPatKind::Exn(2, None) => b"exn2",
+        SPatKind::Exn(FAILURE, Some(_)) => b"exn0 of",
+        SPatKind::Exn(NOT_FOUND, None) => b"exn2",
         SPatKind::Exn(_, _) => b"exn",
     }
 }
 
-fn answer(alloc: Global, text: &[u8]) -> Result<Vec<u8>, AllocError> {
-    let mut out = Vec::new(alloc);
-    let Ok(tokens) = lex(alloc, text) else {
-        return Ok(out);
-    };
-    let Ok(signs) = signs(alloc, tokens.as_slice()) else {
-        return Ok(out);
-    };
-    match pattern(alloc, signs.as_slice()) {
+fn write_pattern(alloc: Global, page: &mut Page, signs: &[Sign<'_>]) {
+    match pattern(alloc, signs) {
         Ok((p, rest)) => {
-            out.extend_from_slice(form(&p.kind))?;
-            let left = rest.len();
-            let left = format!(in alloc; " {left}")?;
-            out.extend_from_slice(left.as_bytes())?;
+            page.put(form(&p.kind));
+            page.put(b" ");
+            page.number(rest.len() as u64);
         }
-        Err(Stop::Memory) => out.push(b'?')?,
+        Err(Stop::Memory) => page.lose(),
         Err(Stop::Syntax(left)) => {
-            let left = format!(in alloc; "!{left}")?;
-            out.extend_from_slice(left.as_bytes())?;
+            page.put(b"!");
+            page.number(left as u64);
         }
     }
-    Ok(out)
+}
+
+fn write_tokens(alloc: Global, page: &mut Page, tokens: &[Token]) {
+    match signs(alloc, tokens) {
+        Ok(signs) => write_pattern(alloc, page, signs.as_slice()),
+        Err(_) => page.lose(),
+    }
+}
+
+fn answer(alloc: Global, text: &[u8]) -> Page {
+    let mut page = Page::new(alloc);
+    match lex(alloc, text) {
+        Ok(tokens) => write_tokens(alloc, &mut page, tokens.as_slice()),
+        Err(_) => page.lose(),
+    }
+    page
 }
 
 #[test]
-fn texts_and_their_patterns(rt: HostRuntime) -> Result<(), Fail> {
+fn texts_and_their_patterns(rt: HostRuntime) {
     for (text, want) in PATTERNS {
-        let got = answer(rt.alloc(), text)?;
-        assert_eq!(rt; got.as_slice(), want);
+        let page = answer(rt.alloc(), text);
+        assert_eq!(rt; page.bytes(), Some(want));
     }
-    Ok(())
 }

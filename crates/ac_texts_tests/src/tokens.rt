@@ -2,7 +2,8 @@
 // place where a text has none.
 
 use ac_lexer::{LexFault, Token, TokenKind, lex};
-use std::alloc::{AllocError, Global};
+use ac_page::Page;
+use std::alloc::Global;
 use std::test::Fail;
 
 const CASES: [(&[u8], &[u8]); 71] = [
@@ -118,76 +119,95 @@ const CASES: [(&[u8], &[u8]); 71] = [
     (b"(\"(*\")", b"f:(@0 s:(*@1 f:)@5 "),
 ];
 
-// The bytes that a token holds.
-fn holds(alloc: Global, kind: &TokenKind, out: &mut Vec<u8>) -> Result<(), AllocError> {
+// Adds the bytes that a token holds.
+fn write_kind(page: &mut Page, kind: &TokenKind) {
     match kind {
         TokenKind::Lower(word) => {
-            out.extend_from_slice(b"l:")?;
-            out.extend_from_slice(word.text().as_slice())
+            page.put(b"l:");
+            page.put(word.text().as_slice());
         }
         TokenKind::Upper(word) => {
-            out.extend_from_slice(b"U:")?;
-            out.extend_from_slice(word.text().as_slice())
+            page.put(b"U:");
+            page.put(word.text().as_slice());
         }
         TokenKind::Int(n) => {
-            let digits = format!(in alloc; "i:{n}")?;
-            out.extend_from_slice(digits.as_bytes())
+            page.put(b"i:");
+            page.number(*n);
         }
         TokenKind::Str(text) => {
-            out.extend_from_slice(b"s:")?;
-            out.extend_from_slice(text.as_slice())
+            page.put(b"s:");
+            page.put(text.as_slice());
         }
         TokenKind::Fixed(text) => {
-            out.extend_from_slice(b"f:")?;
-            out.extend_from_slice(text.as_slice())
+            page.put(b"f:");
+            page.put(text.as_slice());
         }
     }
 }
 
-fn shown(alloc: Global, token: &Token, out: &mut Vec<u8>) -> Result<(), AllocError> {
-    holds(alloc, &token.kind, out)?;
-    let at = token.at;
-    let place = format!(in alloc; "@{at} ")?;
-    out.extend_from_slice(place.as_bytes())
+fn write_token(page: &mut Page, token: &Token) {
+    write_kind(page, &token.kind);
+    page.put(b"@");
+    page.number(u64::from(token.at));
+    page.put(b" ");
 }
 
-fn answer(alloc: Global, text: &[u8]) -> Result<Vec<u8>, AllocError> {
-    let mut out = Vec::new(alloc);
+fn write_fault(page: &mut Page, fault: LexFault) {
+    match fault {
+        LexFault::Lexical { at } => {
+            page.put(b"!");
+            page.number(u64::from(at));
+        }
+        LexFault::TooLong { .. } | LexFault::Memory => page.lose(),
+    }
+}
+
+fn answer(alloc: Global, text: &[u8]) -> Page {
+    let mut page = Page::new(alloc);
     match lex(alloc, text) {
         Ok(tokens) => {
             for token in tokens.as_slice() {
-                shown(alloc, token, &mut out)?;
+                write_token(&mut page, token);
             }
         }
-        Err(LexFault::Lexical { at }) => {
-            let place = format!(in alloc; "!{at}")?;
-            out.extend_from_slice(place.as_bytes())?;
-        }
-        Err(_) => out.push(b'?')?,
+        Err(fault) => write_fault(&mut page, fault),
     }
-    Ok(out)
+    page
 }
 
 #[test]
-fn texts_and_their_tokens(rt: HostRuntime) -> Result<(), Fail> {
+fn texts_and_their_tokens(rt: HostRuntime) {
     for (text, want) in CASES {
-        let got = answer(rt.alloc(), text)?;
-        assert_eq!(rt; got.as_slice(), want);
+        let page = answer(rt.alloc(), text);
+        assert_eq!(rt; page.bytes(), Some(want));
     }
+}
+
+fn is_lexed(alloc: Global, text: &[u8]) -> bool {
+    lex(alloc, text).is_ok()
+}
+
+fn fault(alloc: Global, text: &[u8]) -> Option<LexFault> {
+    lex(alloc, text).err()
+}
+
+#[test]
+fn lengths_of_names(rt: HostRuntime) -> Result<(), Fail> {
+    let alloc = rt.alloc();
+    let letters = vec![in alloc; b'a'; 256]?;
+    assert!(rt; is_lexed(alloc, &letters.as_slice()[..255]));
+    let longer = fault(alloc, letters.as_slice());
+    assert_eq!(rt; longer, Some(LexFault::Lexical { at: 0 }));
     Ok(())
 }
 
 #[test]
-fn limits(rt: HostRuntime) -> Result<(), Fail> {
-    let longest = vec![in rt.alloc(); b'a'; 255]?;
-    assert!(rt; lex(rt.alloc(), longest.as_slice()).is_ok());
-    let longer = vec![in rt.alloc(); b'a'; 256]?;
-    let fault = lex(rt.alloc(), longer.as_slice()).err();
-    assert_eq!(rt; fault, Some(LexFault::Lexical { at: 0 }));
-    let long = vec![in rt.alloc(); b' '; 1_048_576]?;
-    assert!(rt; lex(rt.alloc(), long.as_slice()).is_ok());
-    let too_long = vec![in rt.alloc(); b'#'; 1_048_577]?;
-    let fault = lex(rt.alloc(), too_long.as_slice()).err();
+fn lengths_of_texts(rt: HostRuntime) -> Result<(), Fail> {
+    let alloc = rt.alloc();
+    let long = vec![in alloc; b' '; 1_048_576]?;
+    assert!(rt; is_lexed(alloc, long.as_slice()));
+    let longer = vec![in alloc; b'#'; 1_048_577]?;
+    let fault = fault(alloc, longer.as_slice());
     assert_eq!(rt; fault, Some(LexFault::TooLong { len: 1_048_577 }));
     Ok(())
 }

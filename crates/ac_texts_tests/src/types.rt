@@ -3,9 +3,10 @@
 // `!` with a place where the text begins with none.
 
 use ac_lexer::{Token, lex};
-use ac_syntax::{ParseFault, SSig, SSpec, SType, STypeKind, deep, parse_sig, parse_type};
-use ac_types::{Many, Word};
-use std::alloc::{AllocError, Global};
+use ac_page::Page;
+use ac_syntax::{ParseFault, SName, SSig, SSpec, SType, STypeKind, deep, parse_sig, parse_type};
+use ac_types::Many;
+use std::alloc::Global;
 use std::test::Fail;
 
 // Texts, the token at which to begin, and what stands there.
@@ -185,101 +186,98 @@ const OPENERS: [(&[(&[u8], u32)], Option<u32>); 18] = [
     (&[(b"(", 199), (b"x \"(((\"", 1), (b"(", 1)], None),
 ];
 
-fn add(out: &mut Vec<u8>, text: &str) -> Result<(), AllocError> {
-    out.extend_from_slice(text.as_bytes())
+fn write_leaf(page: &mut Page, text: &[u8], at: u32) {
+    page.put(text);
+    page.put(b"@");
+    page.number(u64::from(at));
 }
 
-fn placed(alloc: Global, text: &str, at: u32, out: &mut Vec<u8>) -> Result<(), AllocError> {
-    add(out, format!(in alloc; "{text}@{at}")?.as_str())
+fn write_name(page: &mut Page, name: &SName) {
+    write_leaf(page, name.word.text().as_slice(), name.at);
 }
 
-fn word(alloc: Global, word: &Word, at: u32, out: &mut Vec<u8>) -> Result<(), AllocError> {
-    out.extend_from_slice(word.text().as_slice())?;
-    placed(alloc, "", at, out)
+#[cycle(types)]
+fn write_item(page: &mut Page, item: &SType) {
+    page.put(b" ");
+    write_type(page, item);
 }
 
-#[cycle(shown)]
-fn shown(alloc: Global, ty: &SType, out: &mut Vec<u8>) -> Result<(), AllocError> {
+#[cycle(types)]
+fn write_type(page: &mut Page, ty: &SType) {
     let at = ty.at;
     match &ty.kind {
-        STypeKind::Int => placed(alloc, "int", at, out),
-        STypeKind::Bool => placed(alloc, "bool", at, out),
-        STypeKind::Str => placed(alloc, "string", at, out),
-        STypeKind::Unit => placed(alloc, "unit", at, out),
-        STypeKind::Exn => placed(alloc, "exn", at, out),
-        STypeKind::Local(name) => word(alloc, name, at, out),
-        STypeKind::Of(module, ty) => {
-            placed(alloc, "(.", at, out)?;
-            add(out, " ")?;
-            word(alloc, &module.word, module.at, out)?;
-            add(out, " ")?;
-            word(alloc, &ty.word, ty.at, out)?;
-            add(out, ")")
+        STypeKind::Int => write_leaf(page, b"int", at),
+        STypeKind::Bool => write_leaf(page, b"bool", at),
+        STypeKind::Str => write_leaf(page, b"string", at),
+        STypeKind::Unit => write_leaf(page, b"unit", at),
+        STypeKind::Exn => write_leaf(page, b"exn", at),
+        STypeKind::Local(name) => write_leaf(page, name.text().as_slice(), at),
+        STypeKind::Of(module, name) => {
+            write_leaf(page, b"(.", at);
+            page.put(b" ");
+            write_name(page, module);
+            page.put(b" ");
+            write_name(page, name);
+            page.put(b")");
         }
         STypeKind::Tuple(parts) => {
-            placed(alloc, "(*", at, out)?;
-            all_shown(alloc, parts, out)?;
-            add(out, ")")
+            write_leaf(page, b"(*", at);
+            write_types(page, parts.as_slice());
+            page.put(b")");
         }
         STypeKind::List(item) => {
-            placed(alloc, "(list", at, out)?;
-            add(out, " ")?;
-            shown(alloc, item, out)?;
-            add(out, ")")
+            write_leaf(page, b"(list", at);
+            write_item(page, item);
+            page.put(b")");
         }
         STypeKind::Opt(item) => {
-            placed(alloc, "(option", at, out)?;
-            add(out, " ")?;
-            shown(alloc, item, out)?;
-            add(out, ")")
+            write_leaf(page, b"(option", at);
+            write_item(page, item);
+            page.put(b")");
         }
         STypeKind::Fun(from, to) => {
-            placed(alloc, "(->", at, out)?;
-            add(out, " ")?;
-            shown(alloc, from, out)?;
-            add(out, " ")?;
-            shown(alloc, to, out)?;
-            add(out, ")")
+            write_leaf(page, b"(->", at);
+            write_item(page, from);
+            write_item(page, to);
+            page.put(b")");
         }
     }
 }
 
-#[cycle(shown)]
-fn all_shown(alloc: Global, types: &Many<SType>, out: &mut Vec<u8>) -> Result<(), AllocError> {
-    for ty in types.as_slice() {
-        add(out, " ")?;
-        shown(alloc, ty, out)?;
+#[cycle(types)]
+fn write_types(page: &mut Page, types: &[SType]) {
+    for ty in types {
+        write_item(page, ty);
     }
-    Ok(())
 }
 
-fn spec_shown(alloc: Global, spec: &SSpec, out: &mut Vec<u8>) -> Result<(), AllocError> {
+fn write_spec(page: &mut Page, spec: &SSpec) {
     match spec {
         SSpec::Abstract(name) => {
-            add(out, " type ")?;
-            word(alloc, &name.word, name.at, out)
+            page.put(b" type ");
+            write_name(page, name);
         }
         SSpec::Manifest(abbreviation) => {
-            add(out, " type ")?;
-            word(alloc, &abbreviation.name.word, abbreviation.name.at, out)?;
-            add(out, " = ")?;
-            shown(alloc, &abbreviation.ty, out)
+            page.put(b" type ");
+            write_name(page, &abbreviation.name);
+            page.put(b" = ");
+            write_type(page, &abbreviation.ty);
         }
         SSpec::Val(name, ty) => {
-            add(out, " val ")?;
-            word(alloc, &name.word, name.at, out)?;
-            add(out, " : ")?;
-            shown(alloc, ty, out)
+            page.put(b" val ");
+            write_name(page, name);
+            page.put(b" : ");
+            write_type(page, ty);
         }
     }
 }
 
-fn sig_shown(alloc: Global, sig: &SSig, out: &mut Vec<u8>) -> Result<(), AllocError> {
-    placed(alloc, "(sig", sig.at, out)?;
+fn write_sig(page: &mut Page, sig: &SSig) {
+    write_leaf(page, b"(sig", sig.at);
     for spec in sig.specs.as_slice() {
-        spec_shown(alloc, spec, out)?;
+        write_spec(page, spec);
     }
-    add(out, ")")
+    page.put(b")");
 }
 
 // What is parsed at this token: `Memory` where openers are too deep, which no row has.
@@ -297,35 +295,46 @@ fn sig_at(alloc: Global, tokens: &[Token], from: u32) -> Result<(SSig, u32), Par
     }
 }
 
-fn refusal(alloc: Global, fault: ParseFault) -> Result<String, AllocError> {
+fn write_behind(page: &mut Page, number: u32) {
+    page.put(b" ");
+    page.number(u64::from(number));
+}
+
+fn write_fault(page: &mut Page, fault: ParseFault) {
     match fault {
-        ParseFault::Syntax { at } => format!(in alloc; "!{at}"),
-        _ => format!(in alloc; "?"),
+        ParseFault::Syntax { at } => {
+            page.put(b"!");
+            page.number(u64::from(at));
+        }
+        ParseFault::TooLong { .. }
+        | ParseFault::Lexical { .. }
+        | ParseFault::TooDeep { .. }
+        | ParseFault::Memory => page.lose(),
     }
 }
 
-fn type_text(alloc: Global, text: &[u8], from: u32) -> Result<Vec<u8>, Fail> {
-    let mut out = Vec::new(alloc);
-    match type_at(alloc, lex(alloc, text)?.as_slice(), from) {
+fn type_page(alloc: Global, tokens: &[Token], from: u32) -> Page {
+    let mut page = Page::new(alloc);
+    match type_at(alloc, tokens, from) {
         Ok((ty, number)) => {
-            shown(alloc, &ty, &mut out)?;
-            add(&mut out, format!(in alloc; " {number}")?.as_str())?;
+            write_type(&mut page, &ty);
+            write_behind(&mut page, number);
         }
-        Err(fault) => add(&mut out, refusal(alloc, fault)?.as_str())?,
+        Err(fault) => write_fault(&mut page, fault),
     }
-    Ok(out)
+    page
 }
 
-fn sig_text(alloc: Global, text: &[u8], from: u32) -> Result<Vec<u8>, Fail> {
-    let mut out = Vec::new(alloc);
-    match sig_at(alloc, lex(alloc, text)?.as_slice(), from) {
+fn sig_page(alloc: Global, tokens: &[Token], from: u32) -> Page {
+    let mut page = Page::new(alloc);
+    match sig_at(alloc, tokens, from) {
         Ok((sig, number)) => {
-            sig_shown(alloc, &sig, &mut out)?;
-            add(&mut out, format!(in alloc; " {number}")?.as_str())?;
+            write_sig(&mut page, &sig);
+            write_behind(&mut page, number);
         }
-        Err(fault) => add(&mut out, refusal(alloc, fault)?.as_str())?,
+        Err(fault) => write_fault(&mut page, fault),
     }
-    Ok(out)
+    page
 }
 
 fn built(alloc: Global, pieces: &[(&[u8], u32)]) -> Result<Many<Token>, Fail> {
@@ -338,31 +347,54 @@ fn built(alloc: Global, pieces: &[(&[u8], u32)]) -> Result<Many<Token>, Fail> {
     Ok(lex(alloc, text.as_slice())?)
 }
 
+fn type_end(alloc: Global, tokens: &[Token]) -> Option<u32> {
+    type_at(alloc, tokens, 0).ok().map(|(_, number)| number)
+}
+
+fn sig_end(alloc: Global, tokens: &[Token]) -> Option<u32> {
+    sig_at(alloc, tokens, 0).ok().map(|(_, number)| number)
+}
+
 #[test]
-fn types_and_signatures(rt: HostRuntime) -> Result<(), Fail> {
+fn types(rt: HostRuntime) -> Result<(), Fail> {
     for (text, from, want) in TYPES {
-        let got = type_text(rt.alloc(), text, from)?;
-        assert_eq!(rt; got.as_slice(), want);
-    }
-    for (text, from, want) in SIGNATURES {
-        let got = sig_text(rt.alloc(), text, from)?;
-        assert_eq!(rt; got.as_slice(), want);
+        let tokens = lex(rt.alloc(), text)?;
+        let page = type_page(rt.alloc(), tokens.as_slice(), from);
+        assert_eq!(rt; page.bytes(), Some(want));
     }
     Ok(())
 }
 
 #[test]
-fn heights_and_openers(rt: HostRuntime) -> Result<(), Fail> {
+fn signatures(rt: HostRuntime) -> Result<(), Fail> {
+    for (text, from, want) in SIGNATURES {
+        let tokens = lex(rt.alloc(), text)?;
+        let page = sig_page(rt.alloc(), tokens.as_slice(), from);
+        assert_eq!(rt; page.bytes(), Some(want));
+    }
+    Ok(())
+}
+
+#[test]
+fn heights(rt: HostRuntime) -> Result<(), Fail> {
     for (pieces, want) in HEIGHTS {
         let tokens = built(rt.alloc(), pieces)?;
-        let got = type_at(rt.alloc(), tokens.as_slice(), 0);
-        assert_eq!(rt; got.ok().map(|x| x.1), want);
+        assert_eq!(rt; type_end(rt.alloc(), tokens.as_slice()), want);
     }
+    Ok(())
+}
+
+#[test]
+fn heights_in_signatures(rt: HostRuntime) -> Result<(), Fail> {
     for (pieces, want) in SIGNATURE_HEIGHTS {
         let tokens = built(rt.alloc(), pieces)?;
-        let got = sig_at(rt.alloc(), tokens.as_slice(), 0);
-        assert_eq!(rt; got.ok().map(|x| x.1), want);
+        assert_eq!(rt; sig_end(rt.alloc(), tokens.as_slice()), want);
     }
+    Ok(())
+}
+
+#[test]
+fn openers(rt: HostRuntime) -> Result<(), Fail> {
     for (pieces, want) in OPENERS {
         let tokens = built(rt.alloc(), pieces)?;
         assert_eq!(rt; deep(tokens.as_slice()), want);

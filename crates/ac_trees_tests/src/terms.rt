@@ -1,32 +1,32 @@
 // Calls that can answer want of memory, where memory suffices.
 
-use crate::words::word;
+use crate::words::{Made, boxed, one, two, word};
 use ac_terms::{
     Arm, Def, Entry, Env, Exn, Field, Home, Import, Module, PDef, PVal, Packet, Pat, Seen, Term,
 };
-use ac_types::{
-    Atom, Box, Constraint, Many, Memory, Name, Resolve, Sig, Text, Ty, TyField, Version,
-};
+use ac_types::exceptions::FAILURE;
+use ac_types::{Atom, Box, Constraint, Many, Name, Resolve, Sig, Text, Ty, TyField, Version, both};
 use std::alloc::Global;
 
-/// `module C : sig val y : int end = struct val y : int = 6 end`.
-fn six(alloc: Global) -> Result<Module, Memory> {
-    let mut vals = Many::new(alloc);
-    vals.push(TyField {
-        name: word(alloc, b"y")?,
-        ty: Ty::Int,
-    })?;
-    let mut fields = Many::new(alloc);
-    fields.push(Field {
-        name: word(alloc, b"y")?,
+fn int_y(alloc: Global) -> Made<TyField> {
+    word(alloc, b"y").map(|name| TyField { name, ty: Ty::Int })
+}
+
+fn six_y(alloc: Global) -> Made<Field> {
+    word(alloc, b"y").map(|name| Field {
+        name,
         ty: Ty::Int,
         term: Term::Int(6),
-    })?;
-    Ok(Module {
-        name: word(alloc, b"C")?,
-        version: Version {
-            atoms: Many::from_slice(alloc, [Atom::MyName].as_slice())?,
-        },
+    })
+}
+
+/// `module C : sig val y : int end = struct val y : int = 6 end`.
+fn six(alloc: Global) -> Made<Module> {
+    let head = both(word(alloc, b"C"), one(alloc, Ok(Atom::MyName)));
+    let inner = both(one(alloc, int_y(alloc)), one(alloc, six_y(alloc)));
+    both(head, inner).map(|((name, atoms), (vals, fields))| Module {
+        name,
+        version: Version { atoms },
         sig: Sig {
             types: Many::new(alloc),
             vals,
@@ -36,30 +36,30 @@ fn six(alloc: Global) -> Result<Module, Memory> {
     })
 }
 
+fn entry(def: Def, name: Option<Name>) -> Entry {
+    Entry {
+        def,
+        name,
+        seen: Seen::Own,
+        link: None,
+    }
+}
+
 /// A mark and then the module, under a name.
-fn sample(alloc: Global) -> Result<Env, Memory> {
-    let mark = Def::Mark(Text::from_slice(alloc, b"MK")?);
-    let mut entries = Many::new(alloc);
-    entries.push(Entry {
-        def: mark,
-        name: None,
-        seen: Seen::Own,
-        link: None,
-    })?;
-    let module = Def::Module(six(alloc)?);
-    entries.push(Entry {
-        def: module,
-        name: Some(Name([7; 32])),
-        seen: Seen::Own,
-        link: None,
-    })?;
-    Ok(Env { entries })
+fn sample(alloc: Global) -> Made<Env> {
+    let mark = Text::from_slice(alloc, b"MK").map(|text| entry(Def::Mark(text), None));
+    let module = six(alloc).map(|module| entry(Def::Module(module), Some(Name([7; 32]))));
+    two(alloc, mark, module).map(|entries| Env { entries })
+}
+
+fn copied(alloc: Global) -> Made<Env> {
+    let env = sample(alloc)?;
+    env.copy(alloc)
 }
 
 #[test]
 fn copies_an_environment(rt: HostRuntime) {
-    let env = sample(rt.alloc()).expect(&rt, "memory");
-    let copy = env.copy(rt.alloc()).expect(&rt, "memory");
+    let copy = copied(rt.alloc()).expect(&rt, "memory");
     assert!(rt; copy.entries.len() == 2);
     assert_eq!(rt; copy.find(&Name([7; 32])), Some(1));
     assert_eq!(rt; copy.find(&Name([8; 32])), None);
@@ -68,11 +68,9 @@ fn copies_an_environment(rt: HostRuntime) {
 }
 
 /// `import C : sig end version * by Here_Already`.
-fn any_c(alloc: Global) -> Result<Import, Memory> {
-    let mut by = Many::new(alloc);
-    by.push(Resolve::HereAlready)?;
-    Ok(Import {
-        name: word(alloc, b"C")?,
+fn any_c(alloc: Global) -> Made<Import> {
+    both(word(alloc, b"C"), one(alloc, Ok(Resolve::HereAlready))).map(|(name, by)| Import {
+        name,
         sig: Sig {
             types: Many::new(alloc),
             vals: Many::new(alloc),
@@ -86,43 +84,56 @@ fn any_c(alloc: Global) -> Result<Import, Memory> {
     })
 }
 
-#[test]
-fn copies_a_packet(rt: HostRuntime) {
-    let alloc = rt.alloc();
-    let mut defs = Many::new(alloc);
-    let import = any_c(alloc).expect(&rt, "memory");
-    defs.push(PDef::Import(import)).expect(&rt, "memory");
-    let text = Text::from_slice(alloc, b"s").expect(&rt, "memory");
-    let value = PVal::Exn(Exn {
-        number: 0,
+fn failure(alloc: Global) -> Made<PVal> {
+    Text::from_slice(alloc, b"s").map(|text| PVal::Exn(Exn {
+        number: FAILURE,
         text: Some(text),
-    });
-    let packet = Packet {
+    }))
+}
+
+fn packet(alloc: Global) -> Made<Packet> {
+    let defs = one(alloc, any_c(alloc).map(PDef::Import));
+    both(defs, failure(alloc)).map(|(defs, value)| Packet {
         defs,
         ty: Ty::Exn,
         value,
-    }
-    .copy(alloc)
-    .expect(&rt, "memory");
+    })
+}
+
+fn copied_packet(alloc: Global) -> Made<Packet> {
+    let packet = packet(alloc)?;
+    packet.copy(alloc)
+}
+
+#[test]
+fn copies_a_packet(rt: HostRuntime) {
+    let packet = copied_packet(rt.alloc()).expect(&rt, "memory");
     assert_eq!(rt; packet.defs.len(), 1);
     assert!(rt; matches!(packet.value, PVal::Exn(_)));
 }
 
-/// `fun (x : int) -> match x with _ -> x`, of the main program.
-fn arms(alloc: Global) -> Result<PVal, Memory> {
-    let mut cases = Many::new(alloc);
-    cases.push(Arm {
+fn arm() -> Arm {
+    Arm {
         pat: Pat::Wild,
         body: Term::Var(0),
-    })?;
-    let body = Term::Match(Box::new(alloc, Term::Var(0))?, cases);
-    let lambda = Term::Lam(Ty::Int, Box::new(alloc, body)?);
-    Ok(PVal::Fun(Home::Main, Box::new(alloc, lambda)?))
+    }
+}
+
+/// `fun (x : int) -> match x with _ -> x`, of the main program.
+fn arms(alloc: Global) -> Made<PVal> {
+    let parts = both(Box::new(alloc, Term::Var(0)), one(alloc, Ok(arm())));
+    let body = parts.map(|(of, cases)| Term::Match(of, cases));
+    let lambda = boxed(alloc, body).map(|body| Term::Lam(Ty::Int, body));
+    boxed(alloc, lambda).map(|lambda| PVal::Fun(Home::Main, lambda))
+}
+
+fn copied_function(alloc: Global) -> Made<PVal> {
+    let value = arms(alloc)?;
+    value.copy(alloc)
 }
 
 #[test]
 fn copies_a_function(rt: HostRuntime) {
-    let value = arms(rt.alloc()).expect(&rt, "memory");
-    let copy = value.copy(rt.alloc()).expect(&rt, "memory");
+    let copy = copied_function(rt.alloc()).expect(&rt, "memory");
     assert!(rt; matches!(copy, PVal::Fun(Home::Main, _)));
 }

@@ -1,35 +1,39 @@
 // Calls that can answer want of memory, where memory suffices.
 
-use crate::words::word;
+use crate::words::{Made, boxed, one, two, word};
 use ac_types::{
-    Atom, Box, Constraint, Many, Memory, Range, Resolve, Sig, SigType, Text, Ty, TyField, Version,
-    eq_under, small, ty_eq,
+    Atom, Constraint, Range, Resolve, Sig, SigType, Text, Ty, TyField, Version, both, eq_under,
+    small, ty_eq,
 };
 use std::alloc::Global;
 
-/// `t -> int list`, with an own type `t`.
-fn sample(alloc: Global) -> Result<Ty, Memory> {
-    let from = Box::new(alloc, Ty::Mine(word(alloc, b"t")?))?;
-    let to = Box::new(alloc, Ty::List(Box::new(alloc, Ty::Int)?))?;
-    Ok(Ty::Fun(from, to))
+fn own(alloc: Global, name: &[u8]) -> Made<Ty> {
+    word(alloc, name).map(Ty::Mine)
 }
 
-fn sample_sig(alloc: Global) -> Result<Sig, Memory> {
-    let mut types = Many::new(alloc);
-    types.push(SigType {
-        name: word(alloc, b"t")?,
-        manifest: None,
-    })?;
-    types.push(SigType {
-        name: word(alloc, b"u")?,
-        manifest: Some(Ty::Bool),
-    })?;
-    let mut vals = Many::new(alloc);
-    vals.push(TyField {
-        name: word(alloc, b"get")?,
-        ty: sample(alloc)?,
-    })?;
-    Ok(Sig { types, vals })
+/// `t -> int list`, with an own type `t`.
+fn sample(alloc: Global) -> Made<Ty> {
+    let from = boxed(alloc, own(alloc, b"t"));
+    let to = boxed(alloc, boxed(alloc, Ok(Ty::Int)).map(Ty::List));
+    both(from, to).map(|(from, to)| Ty::Fun(from, to))
+}
+
+fn spec(alloc: Global, name: &[u8], manifest: Option<Ty>) -> Made<SigType> {
+    word(alloc, name).map(|name| SigType { name, manifest })
+}
+
+fn value(alloc: Global) -> Made<TyField> {
+    both(word(alloc, b"get"), sample(alloc)).map(|(name, ty)| TyField { name, ty })
+}
+
+/// In the signature `t` is abstract, and `u` is manifest as bool.
+fn sample_sig(alloc: Global) -> Made<Sig> {
+    let types = two(
+        alloc,
+        spec(alloc, b"t", None),
+        spec(alloc, b"u", Some(Ty::Bool)),
+    );
+    both(types, one(alloc, value(alloc))).map(|(types, vals)| Sig { types, vals })
 }
 
 #[test]
@@ -41,24 +45,38 @@ fn copies_a_type(rt: HostRuntime) {
     assert!(rt; !ty_eq(&copy, &Ty::Int));
 }
 
+fn copied_sig(alloc: Global) -> Made<Sig> {
+    let sig = sample_sig(alloc)?;
+    sig.copy(alloc)
+}
+
 #[test]
 fn copies_a_signature(rt: HostRuntime) {
-    let sig = sample_sig(rt.alloc()).expect(&rt, "memory");
-    let copy = sig.copy(rt.alloc()).expect(&rt, "memory");
+    let copy = copied_sig(rt.alloc()).expect(&rt, "memory");
     assert_eq!(rt; copy.types.len(), 2);
     assert_eq!(rt; copy.vals.len(), 1);
 }
 
+fn copied_version(alloc: Global) -> Made<Version> {
+    let version = two(alloc, Ok(Atom::Number(1)), Ok(Atom::MyName)).map(|atoms| Version { atoms })?;
+    version.copy(alloc)
+}
+
 #[test]
-fn copies_a_version_and_what_it_meets(rt: HostRuntime) {
-    let alloc = rt.alloc();
-    let atoms = Many::from_slice(alloc, &[Atom::Number(1), Atom::MyName]).expect(&rt, "memory");
-    let version = Version { atoms }.copy(alloc).expect(&rt, "memory");
+fn copies_a_version(rt: HostRuntime) {
+    let version = copied_version(rt.alloc()).expect(&rt, "memory");
     assert_eq!(rt; version.atoms.get(1), Some(&Atom::MyName));
-    let atoms = Many::from_slice(alloc, &[Range::Between(2, 4)]).expect(&rt, "memory");
-    let constraint = Constraint::Ranges { atoms, star: true }
-        .copy(alloc)
-        .expect(&rt, "memory");
+}
+
+fn copied_constraint(alloc: Global) -> Made<Constraint> {
+    let atoms = one(alloc, Ok(Range::Between(2, 4)));
+    let constraint = atoms.map(|atoms| Constraint::Ranges { atoms, star: true })?;
+    constraint.copy(alloc)
+}
+
+#[test]
+fn copies_a_constraint(rt: HostRuntime) {
+    let constraint = copied_constraint(rt.alloc()).expect(&rt, "memory");
     assert!(rt;
         matches!(
             constraint,
@@ -68,16 +86,19 @@ fn copies_a_version_and_what_it_meets(rt: HostRuntime) {
             }
         )
     );
-    let uri = Text::from_slice(alloc, b"lib:c").expect(&rt, "memory");
-    let by = Resolve::Uri(uri).copy(alloc).expect(&rt, "memory");
+}
+
+fn copied_resolve(alloc: Global) -> Made<Resolve> {
+    let by = Text::from_slice(alloc, b"lib:c").map(Resolve::Uri)?;
+    by.copy(alloc)
+}
+
+#[test]
+fn copies_a_resolvespec(rt: HostRuntime) {
+    let by = copied_resolve(rt.alloc()).expect(&rt, "memory");
     assert!(rt; matches!(by, Resolve::Uri(_)));
 }
 
-fn own(alloc: Global, name: &[u8]) -> Result<Ty, Memory> {
-    word(alloc, name).map(Ty::Mine)
-}
-
-// In the signature `t` is abstract, and `u` is manifest as bool.
 #[test]
 fn an_abstract_type_stands_for_itself(rt: HostRuntime) {
     let sig = sample_sig(rt.alloc()).expect(&rt, "memory");

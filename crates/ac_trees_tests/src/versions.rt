@@ -1,7 +1,8 @@
 // Tokens as a text, `m` for `myname`, and what they are: numbers, `n..m` for a range, a last `*`;
 // `!` where they are nothing.
 
-use ac_types::{Atom, Constraint, Name, Range};
+use ac_page::Page;
+use ac_types::{Atom, Constraint, Name, Range, Text, Version};
 use ac_version::{
     VToken, VersionFault, constraint_text, meets, read_constraint, read_version, version_text,
 };
@@ -107,65 +108,95 @@ fn tokens(alloc: Global, text: &[u8]) -> Result<Vec<VToken>, AllocError> {
     Ok(found)
 }
 
-fn fault(fault: VersionFault) -> &'static [u8] {
+fn write_fault(page: &mut Page, fault: VersionFault) {
     match fault {
-        VersionFault::Bad => b"!",
-        VersionFault::Memory => b"?",
+        VersionFault::Bad => page.put(b"!"),
+        VersionFault::Memory => page.lose(),
     }
 }
 
-fn version(alloc: Global, text: &[u8]) -> Result<Vec<u8>, AllocError> {
-    let mut out = Vec::new(alloc);
-    match read_version(alloc, tokens(alloc, text)?.as_slice()) {
-        Ok(version) => {
-            for atom in version.atoms.as_slice() {
-                let shown = match atom {
-                    Atom::Number(n) => format!(in alloc; "{n} ")?,
-                    Atom::MyName => format!(in alloc; "m ")?,
-                };
-                out.extend_from_slice(shown.as_bytes())?;
-            }
-        }
-        Err(e) => out.extend_from_slice(fault(e))?,
+fn write_atom(page: &mut Page, atom: Atom) {
+    match atom {
+        Atom::Number(n) => page.number(u64::from(n)),
+        Atom::MyName => page.put(b"m"),
     }
-    Ok(out)
+    page.put(b" ");
 }
 
-fn range(alloc: Global, range: Range) -> Result<String, AllocError> {
+fn write_version(page: &mut Page, version: &Version) {
+    for atom in version.atoms.as_slice() {
+        write_atom(page, *atom);
+    }
+}
+
+fn version(alloc: Global, tokens: &[VToken]) -> Page {
+    let mut page = Page::new(alloc);
+    match read_version(alloc, tokens) {
+        Ok(version) => write_version(&mut page, &version),
+        Err(fault) => write_fault(&mut page, fault),
+    }
+    page
+}
+
+fn write_range(page: &mut Page, range: Range) {
     match range {
-        Range::One(n) => format!(in alloc; "{n} "),
-        Range::Between(n, m) => format!(in alloc; "{n}..{m} "),
-        Range::UpTo(m) => format!(in alloc; "..{m} "),
-        Range::From(n) => format!(in alloc; "{n}.. "),
+        Range::One(n) => page.number(u64::from(n)),
+        Range::Between(n, m) => {
+            page.number(u64::from(n));
+            page.put(b"..");
+            page.number(u64::from(m));
+        }
+        Range::UpTo(m) => {
+            page.put(b"..");
+            page.number(u64::from(m));
+        }
+        Range::From(n) => {
+            page.number(u64::from(n));
+            page.put(b"..");
+        }
+    }
+    page.put(b" ");
+}
+
+fn write_constraint(page: &mut Page, constraint: &Constraint) {
+    match constraint {
+        Constraint::Ranges { atoms, star } => {
+            for atom in atoms.as_slice() {
+                write_range(page, *atom);
+            }
+            if *star {
+                page.put(b"*");
+            }
+        }
+        Constraint::Exact(_) => page.put(b"by name"),
     }
 }
 
-fn constraint(alloc: Global, text: &[u8]) -> Result<Vec<u8>, AllocError> {
-    let mut out = Vec::new(alloc);
-    match read_constraint(alloc, tokens(alloc, text)?.as_slice()) {
-        Ok(Constraint::Ranges { atoms, star }) => {
-            for atom in atoms.as_slice() {
-                out.extend_from_slice(range(alloc, *atom)?.as_bytes())?;
-            }
-            if star {
-                out.push(b'*')?;
-            }
-        }
-        Ok(Constraint::Exact(_)) => out.extend_from_slice(b"by name")?,
-        Err(e) => out.extend_from_slice(fault(e))?,
+fn constraint(alloc: Global, tokens: &[VToken]) -> Page {
+    let mut page = Page::new(alloc);
+    match read_constraint(alloc, tokens) {
+        Ok(constraint) => write_constraint(&mut page, &constraint),
+        Err(fault) => write_fault(&mut page, fault),
     }
-    Ok(out)
+    page
 }
 
 #[test]
-fn versions_and_constraints(rt: HostRuntime) -> Result<(), Fail> {
+fn versions(rt: HostRuntime) -> Result<(), Fail> {
     for (text, want) in VERSIONS {
-        let got = version(rt.alloc(), text)?;
-        assert_eq!(rt; got.as_slice(), want);
+        let tokens = tokens(rt.alloc(), text)?;
+        let page = version(rt.alloc(), tokens.as_slice());
+        assert_eq!(rt; page.bytes(), Some(want));
     }
+    Ok(())
+}
+
+#[test]
+fn constraints(rt: HostRuntime) -> Result<(), Fail> {
     for (text, want) in CONSTRAINTS {
-        let got = constraint(rt.alloc(), text)?;
-        assert_eq!(rt; got.as_slice(), want);
+        let tokens = tokens(rt.alloc(), text)?;
+        let page = constraint(rt.alloc(), tokens.as_slice());
+        assert_eq!(rt; page.bytes(), Some(want));
     }
     Ok(())
 }
@@ -184,46 +215,32 @@ const MEETINGS: [(&[u8], &[u8], bool); 7] = [
 // A constraint or a version, and how it is printed.
 const PRINTED: [(&[u8], &[u8]); 3] = [(b"1.2-4.*", b"1.2-4.*"), (b"-3.4-", b"-3.4-"), (b"*", b"*")];
 
-fn is_met(alloc: Global, wanted: &[u8], had: &[u8]) -> Result<Option<bool>, AllocError> {
-    let wanted = tokens(alloc, wanted)?;
-    let had = tokens(alloc, had)?;
-    let Ok(wanted) = read_constraint(alloc, wanted.as_slice()) else {
-        return Ok(None);
-    };
-    match read_version(alloc, had.as_slice()) {
-        Ok(had) => Ok(Some(meets(&had, &wanted, &Name([0; 32])))),
-        Err(_) => Ok(None),
+fn is_met(alloc: Global, wanted: &[VToken], had: &[VToken]) -> Option<bool> {
+    let wanted = read_constraint(alloc, wanted);
+    let had = read_version(alloc, had);
+    match (wanted, had) {
+        (Ok(wanted), Ok(had)) => Some(meets(&had, &wanted, &Name([0; 32]))),
+        _ => None,
     }
 }
 
-fn printed(alloc: Global, text: &[u8]) -> Result<Vec<u8>, AllocError> {
-    let mut out = Vec::new(alloc);
-    let tokens = tokens(alloc, text)?;
-    if let Ok(constraint) = read_constraint(alloc, tokens.as_slice()) {
-        match constraint_text(alloc, &constraint) {
-            Ok(text) => out.extend_from_slice(text.as_slice())?,
-            Err(_) => out.push(b'?')?,
-        }
-    }
-    Ok(out)
+fn printed(alloc: Global, tokens: &[VToken]) -> Option<Text> {
+    let constraint = read_constraint(alloc, tokens).ok()?;
+    constraint_text(alloc, &constraint).ok()
 }
 
-fn printed_version(alloc: Global, text: &[u8]) -> Result<Vec<u8>, AllocError> {
-    let mut out = Vec::new(alloc);
-    let tokens = tokens(alloc, text)?;
-    if let Ok(version) = read_version(alloc, tokens.as_slice()) {
-        match version_text(alloc, &version) {
-            Ok(text) => out.extend_from_slice(text.as_slice())?,
-            Err(_) => out.push(b'?')?,
-        }
-    }
-    Ok(out)
+fn printed_version(alloc: Global, tokens: &[VToken]) -> Option<Text> {
+    let version = read_version(alloc, tokens).ok()?;
+    version_text(alloc, &version).ok()
 }
 
 #[test]
 fn versions_meet_constraints(rt: HostRuntime) -> Result<(), Fail> {
     for (wanted, had, holds) in MEETINGS {
-        assert_eq!(rt; is_met(rt.alloc(), wanted, had)?, Some(holds));
+        let wanted = tokens(rt.alloc(), wanted)?;
+        let had = tokens(rt.alloc(), had)?;
+        let found = is_met(rt.alloc(), wanted.as_slice(), had.as_slice());
+        assert_eq!(rt; found, Some(holds));
     }
     Ok(())
 }
@@ -231,10 +248,17 @@ fn versions_meet_constraints(rt: HostRuntime) -> Result<(), Fail> {
 #[test]
 fn prints_constraints(rt: HostRuntime) -> Result<(), Fail> {
     for (text, want) in PRINTED {
-        let got = printed(rt.alloc(), text)?;
-        assert_eq!(rt; got.as_slice(), want);
+        let tokens = tokens(rt.alloc(), text)?;
+        let found = printed(rt.alloc(), tokens.as_slice()).expect(&rt, "a constraint");
+        assert_eq!(rt; found.as_slice(), want);
     }
-    let got = printed_version(rt.alloc(), b"1.m.20")?;
-    assert_eq!(rt; got.as_slice(), b"1.myname.20".as_slice());
+    Ok(())
+}
+
+#[test]
+fn prints_a_version(rt: HostRuntime) -> Result<(), Fail> {
+    let tokens = tokens(rt.alloc(), b"1.m.20")?;
+    let found = printed_version(rt.alloc(), tokens.as_slice()).expect(&rt, "a version");
+    assert_eq!(rt; found.as_slice(), b"1.myname.20".as_slice());
     Ok(())
 }

@@ -7,7 +7,7 @@ use Rattle.ac_resolve.specs.ScopedNames.{least}
 use Rattle.ac_resolve.specs.Elaboration.{variables, scope_with}
 use Rattle.ac_resolve.specs.Unbound.{unbound_type, unbound_types, unbound_pat, unbound_pats, unbound, unbound_all, unbound_arms}
 use Rattle.ac_resolve.specs.Repeated.{repeated_name, repeated, repeated_all, repeated_arms}
-use Rattle.ac_resolve.specs.Counts.{over, wide_type, wide_types, large_type, large_pat, large_pats, too_many, too_many_in_all, too_many_in_arms}
+use Rattle.ac_resolve.specs.Counts.{wide_type, wide_types, large_type, large_pat, large_pats, too_many, too_many_in_all, too_many_in_arms}
 
 abbrev pub no_flaws : Flaws
 no_flaws = record { unbound = None; repeated = None; count = None }

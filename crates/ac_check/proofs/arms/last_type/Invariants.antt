@@ -1,6 +1,6 @@
 use Rattle.std.proofs.Common.{◌≡◌, drop}
 use Rattle.ac_terms.specs.TermTyping.{last_of}
-use Rattle.ac_check.specs.Checking.{typs_of}
+use Rattle.ac_check.specs.inner.Parts.{typs_of}
 use Rattle.ac_check.proofs.ArmLaws.{last_from}
 use Rattle.ac_check.proofs.arms.last_type.Given as goal
 

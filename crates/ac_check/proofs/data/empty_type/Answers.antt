@@ -3,7 +3,7 @@ use Rattle.std.specs.Prelude.{option_map, is_some}
 use Rattle.ac_types.specs.ReadTypes.{typ_of}
 use Rattle.ac_terms.specs.Read.{home_of}
 use Rattle.ac_rules.specs.Views.{Coloured}
-use Rattle.ac_check.specs.Checking.{entries_of}
+use Rattle.ac_check.specs.inner.Parts.{entries_of}
 use Rattle.ac_rules.specs.Typing.{type_seen, option_item}
 use Rattle.ac_check.proofs.KeptLaws.{empty_none}
 use Rattle.ac_check.proofs.data.empty_type.Goals as goal

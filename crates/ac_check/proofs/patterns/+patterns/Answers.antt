@@ -8,7 +8,7 @@ use Rattle.ac_terms.specs.Terms.{Pattern, PCons, PExnOf}
 use Rattle.ac_terms.specs.PrimitiveTypes.{has_text}
 use Rattle.ac_terms.specs.Read.{home_of, pattern_of}
 use Rattle.ac_rules.specs.Typing.{variables_joined}
-use Rattle.ac_check.specs.Checking.{newest_first, entries_of}
+use Rattle.ac_check.specs.inner.Parts.{newest_first, entries_of}
 use Rattle.ac_check.proofs.PatternLaws.{vars, form_laws, other_lengths, pattern_some, cons_none, cons_some, text_some}
 use Rattle.ac_check.proofs.patterns.+patterns.Goals as goal
 

@@ -1,7 +1,7 @@
 use Rattle.std.proofs.Common.{◌≡◌, length, drop, Some}
 use Rattle.ac_terms.specs.Read.{home_of}
 use Rattle.ac_rules.specs.Typing.{variables_joined}
-use Rattle.ac_check.specs.Checking.{newest_first, entries_of}
+use Rattle.ac_check.specs.inner.Parts.{newest_first, entries_of}
 use Rattle.ac_check.proofs.PatternLaws.{vars_of_all}
 use Rattle.ac_check.proofs.patterns.+patterns.Given as goal
 

@@ -2,7 +2,7 @@ use Rattle.std.proofs.Common.{◌≡◌, drop, map}
 use Rattle.ac_terms.specs.Terms.{exprs, arms}
 use Rattle.ac_terms.specs.Read.{expr_of}
 use Rattle.ac_check.specs.PlainTerms.{are_plain, arms_plain}
-use Rattle.ac_check.specs.Checking.{arm_of}
+use Rattle.ac_check.specs.inner.Parts.{arm_of}
 use Rattle.ac_check.proofs.plain.+plain.Given as goal
 
 abbrev pub invariant-are_plain-loop-t : goal.invariant-are_plain-loop-t

@@ -1,6 +1,6 @@
 use Rattle.std.proofs.Common.{sym}
 use Rattle.ac_types.specs.ReadTypes.{typ_of}
-use Rattle.ac_check.specs.Checking.{base_typ}
+use Rattle.ac_check.specs.inner.Parts.{base_typ}
 use Rattle.ac_check.proofs.PairLaws.{unlike_lengths}
 use Rattle.ac_check.proofs.primitives.are.Goals as goal
 

@@ -2,7 +2,7 @@ use Rattle.std.proofs.Common.{◌-◌, arith, length, sym, ap, ◌∙◌}
 use Rattle.std.specs.Prelude.{option_map, slice_get}
 use Rattle.ac_types.specs.ReadTypes.{typ_of}
 use Rattle.ac_terms.proofs.EnvLaws.{slice_get-map}
-use Rattle.ac_check.specs.Checking.{types_in}
+use Rattle.ac_check.specs.inner.Parts.{types_in}
 use Rattle.ac_check.proofs.ScopeLaws.{types_in-Given, types_in-More, newest_found, outer_found}
 use Rattle.ac_check.proofs.scope.+find.Goals as goal
 

@@ -2,7 +2,7 @@ use Rattle.std.proofs.Common.{◌≡◌, length, drop}
 use Rattle.ac_types.specs.Types.{same_all, all_with_each}
 use Rattle.ac_terms.specs.Read.{home_of}
 use Rattle.ac_rules.specs.Views.{opened_at_home}
-use Rattle.ac_check.specs.Checking.{typs_of, entries_of}
+use Rattle.ac_check.specs.inner.Parts.{typs_of, entries_of}
 use Rattle.ac_check.proofs.seen.+compare.Given as goal
 
 abbrev pub invariant-are_viewed_as-loop-i : goal.invariant-are_viewed_as-loop-i

@@ -1,6 +1,6 @@
 use Rattle.std.proofs.Common.{◌≡◌, drop}
 use Rattle.ac_terms.specs.Read.{environment_of}
-use Rattle.ac_check.specs.Checking.{typs_of, are_known_in}
+use Rattle.ac_check.specs.inner.Parts.{typs_of, are_known_in}
 use Rattle.ac_check.proofs.seen.+known.Given as goal
 
 abbrev pub invariant-all_are_known-loop-ty : goal.invariant-all_are_known-loop-ty

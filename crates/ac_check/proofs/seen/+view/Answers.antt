@@ -6,7 +6,7 @@ use Rattle.ac_types.specs.declared.ty.Ty.{Ty}
 use Rattle.ac_types.proofs.SizeLaws.{type_laws}
 use Rattle.ac_terms.specs.Read.{home_of}
 use Rattle.ac_rules.specs.Views.{opened_at_home}
-use Rattle.ac_check.specs.Checking.{entries_of}
+use Rattle.ac_check.specs.inner.Parts.{entries_of}
 use Rattle.ac_check.proofs.KeptLaws.{K, fun_viewed}
 use Rattle.ac_check.proofs.Collected.{ahead, collected, item_none, item_some, items_all}
 use Rattle.ac_check.proofs.SeenLaws.{kept_views}

@@ -4,7 +4,7 @@ use Rattle.ac_types.specs.ReadTypes.{typ_of}
 use Rattle.ac_types.specs.declared.ty.Ty.{Ty}
 use Rattle.ac_terms.specs.Read.{home_of}
 use Rattle.ac_rules.specs.Views.{opened_at_home}
-use Rattle.ac_check.specs.Checking.{typs_of, entries_of, kept_all}
+use Rattle.ac_check.specs.inner.Parts.{typs_of, entries_of, kept_all}
 use Rattle.ac_check.proofs.KeptLaws.{K}
 use Rattle.ac_check.proofs.Collected.{ahead, collected}
 use Rattle.ac_check.proofs.seen.+view.Given as goal

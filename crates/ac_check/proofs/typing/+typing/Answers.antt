@@ -17,7 +17,7 @@ use Rattle.ac_terms.specs.declared.term.Arm.{Arm}
 use Rattle.ac_terms.specs.declared.term.PVal.TheViews.{the_lemmas}
 use Rattle.ac_rules.specs.Views.{Coloured}
 use Rattle.ac_rules.specs.Typing.{type_of, arm_types, one_of, type_seen, type_applied}
-use Rattle.ac_check.specs.Checking.{entries_of, scope_of, types_in, newest_first, arm_of, arm_type}
+use Rattle.ac_check.specs.inner.Parts.{entries_of, scope_of, types_in, newest_first, arm_of, arm_type}
 use Rattle.ac_check.specs.PlainTerms.{is_plain, arms_plain}
 use Rattle.ac_check.proofs.KeptLaws.{K}
 use Rattle.ac_check.proofs.Collected.{ahead, collected, item_none, item_some, items_all}

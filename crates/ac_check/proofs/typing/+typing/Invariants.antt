@@ -7,7 +7,7 @@ use Rattle.ac_terms.specs.declared.term.Term.{Term}
 use Rattle.ac_terms.specs.declared.term.Arm.{Arm}
 use Rattle.ac_rules.specs.Views.{Coloured}
 use Rattle.ac_rules.specs.Typing.{type_of, types_of, arm_types, one_of}
-use Rattle.ac_check.specs.Checking.{entries_of, scope_of, types_in, arm_of, arm_type, arms_after}
+use Rattle.ac_check.specs.inner.Parts.{entries_of, scope_of, types_in, arm_of, arm_type, arms_after}
 use Rattle.ac_check.proofs.Collected.{ahead, collected}
 use Rattle.ac_check.proofs.typing.+typing.Given as goal
 

@@ -1,4 +1,4 @@
-use Rattle.std.proofs.Common.{◌+◌, ◌∙◌, ap, sym, arith}
+use Rattle.std.proofs.Common.{◌∙◌, ap, sym, arith}
 use Rattle.ac_syntax.specs.Trees.{height}
 use Rattle.ac_syntax.specs.ReadTrees.{expr_of}
 use Rattle.ac_expressions.specs.declared.front.Prefix.{Prefix}

@@ -1,10 +1,9 @@
 use Rattle.std.proofs.Common.{rules, ◌≡◌, ◌<◌, ◌≤◌, ◌-◌, ◌+◌, ℕ, suc, List, [], ◌∷◌, map, refl, sym, ap, subst, ◌∙◌, arith, ◌++◌}
-use Rattle.std.specs.Prelude.{neg_ℤ}
 use Rattle.std.proofs.lemmas.List.{map-append}
 use Rattle.std.proofs.lemmas.Result.{IfOk-weaker, IfErr-weaker, err_from_is_err_and}
-use Rattle.std.proofs.Common.{rules, ◌∷◌, ◌∙◌, ap, sym, subst, w64, ℤ, FitsSigned}
+use Rattle.std.proofs.Common.{rules, ◌∷◌, ◌∙◌, ap, sym, subst, w64, FitsSigned}
 use Rattle.std.proofs.lemmas.Int.{to_z-of_z}
-use Rattle.ac_syntax.specs.Signs.{Sign, Fixed}
+use Rattle.ac_syntax.specs.Signs.{Sign}
 use Rattle.ac_syntax.specs.Trees.{PatTree, Tree, ExInt, trees, arm_trees, height, highest, highest_arm}
 use Rattle.ac_syntax.specs.Expressions.{Operator, Expr, Part, Binary, After, Unary, App, Args, Atom, front, IsTree}
 use Rattle.ac_syntax.specs.ReadSigns.{read_signs}
@@ -12,15 +11,15 @@ use Rattle.ac_syntax.specs.ReadTrees.{pat_of, expr_of, arm_of}
 use Rattle.ac_syntax.specs.declared.surface.SExpr.{SExpr}
 use Rattle.ac_syntax.specs.declared.surface.SArm.{SArm}
 use Rattle.ac_syntax.specs.declared.surface.SPat.{SPat}
-use Rattle.ac_syntax.specs.declared.sign.Symbol.TheVariants.{Arrow, Close, Comma, Semicolon, Else, Equals, In, Then, With}
+use Rattle.ac_syntax.specs.declared.sign.Symbol.TheVariants.{Close, Comma, Semicolon, In}
 use Rattle.ac_syntax.proofs.OnStop.{on_syntax_more, refused}
 use Rattle.ac_expressions.specs.ExpressionParsing.{Nothing, Before, Made}
 use Rattle.ac_expressions.specs.inner.Forms.{Same, NoTree, IsLastPart, operator_read, OperatorAt, IsLastOperand, IsArm, IsArms, IsParts, sequence_tree}
 use Rattle.ac_expressions.proofs.ExprLaws.{arm_of-made}
-use Rattle.ac_expressions.proofs.Readers.{word_at, second_read, then, first_none, later_none, behind, no_symbol, behind_none, before, before_none, symbol_none, one_before, one_typed, one_argument, one_head}
-use Rattle.ac_expressions.proofs.Levels.{flat_none, one_tree, same_start, same_then, same_none, args_ended, argument_none, argument_high, next_argument, applied_none, same_applied, same_operand, prefixed_none, prefixed_tree, second_none, lone_tree, minus_none, minus_tree, not_none, not_tree, app_tree, app_none, unary_tree, unary_none, joined_height, operand_none, binary_tree, after_none, after_ended, left_step, right_step, once_step, goes_on, past_operator}
+use Rattle.ac_expressions.proofs.Readers.{word_at, second_read, then, first_none, behind, no_symbol, behind_none, before, before_none}
+use Rattle.ac_expressions.proofs.Levels.{flat_none, one_tree, same_then, same_none, args_ended, argument_none, argument_high, next_argument, applied_none, same_applied, same_operand, prefixed_none, prefixed_tree, second_none, lone_tree, minus_none, minus_tree, not_none, not_tree, app_tree, app_none, unary_tree, unary_none, joined_height, operand_none, binary_tree, after_none, after_ended, left_step, right_step, once_step, goes_on, past_operator}
 use Rattle.ac_expressions.proofs.Words.{operators_tree, operators_none, let_back, let_none, let_rec_back, let_rec_none, fun_back, fun_none, rec_back, rec_none, if_back, if_none, marshal_back, marshal_none, unmarshal_back, unmarshal_none, raise_back, raise_none}
-use Rattle.ac_expressions.proofs.Atoms.{one_pattern, first_arm, next_arm, highest_next_arm, item_read, next_part, highest_next, unit_tree, nil_tree, absent_tree, parens_tree, tuple_high, tuple_none, tuple_made, second_item_none, second_part_none, arms_none, next_arm_none, unended_arms, all_arms, item_none, unended_items, all_items, next_part_none, all_parts, last_none, part_none, alone_tree, sequence_high, sequence_none, sequence_made, match_none, match_tree, try_none, try_tree, nil_none, absent_none, opened_none, unclosed_none, leaf_tree, leaf_none}
+use Rattle.ac_expressions.proofs.Atoms.{first_arm, next_arm, highest_next_arm, item_read, next_part, highest_next, unit_tree, nil_tree, absent_tree, parens_tree, tuple_high, tuple_none, tuple_made, second_item_none, second_part_none, arms_none, next_arm_none, unended_arms, all_arms, item_none, unended_items, all_items, next_part_none, all_parts, part_none, alone_tree, sequence_high, sequence_none, sequence_made, match_none, match_tree, try_none, try_tree, nil_none, absent_none, opened_none, unclosed_none, leaf_tree, leaf_none}
 use Rattle.ac_expressions.proofs.NoForms.{unbefore, arm_no_pattern, arm_no_arrow, arm_no_body, choice_no_arms, let_no_bound, let_no_body, let_rec_no_bound, let_rec_no_body, rec_no_body, fun_no_arrow, fun_no_body, if_no_so, if_no_otherwise, marshal_no_value, marshal_no_type, unmarshal_no_type, raise_no_type}
 use Rattle.ac_expressions.proofs.expressions.+expressions.Goals as goal
 

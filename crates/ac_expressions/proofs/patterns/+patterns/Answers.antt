@@ -11,7 +11,7 @@ use Rattle.ac_syntax.proofs.OnStop.{on_syntax_more, refused}
 use Rattle.ac_expressions.specs.ExpressionParsing.{NoPat}
 use Rattle.ac_expressions.proofs.Readers.{word_at}
 use Rattle.ac_expressions.proofs.PatLaws.{pat_of-Tuple, pat_of-Unit}
-use Rattle.ac_expressions.proofs.PatSteps.{flat_pat, one_pat, pat_alone, pat_none, pat_cons, cons_none, cons_high, prefixed_tree, prefixed_none, single_tree, single_none, unit_pat, var_pat, var_none, opened_none, unclosed_none, tuple_high, tuple_none, tuple_tree, parens_tree, leaf_tree, leaf_none, tuple_of, second_none, part_none, part_read, unended_none, highest_next}
+use Rattle.ac_expressions.proofs.PatSteps.{flat_pat, pat_alone, pat_none, pat_cons, cons_none, cons_high, prefixed_tree, prefixed_none, single_tree, single_none, unit_pat, var_pat, var_none, opened_none, unclosed_none, tuple_high, tuple_none, tuple_tree, parens_tree, leaf_tree, leaf_none, tuple_of, second_none, part_none, part_read, unended_none, highest_next}
 use Rattle.ac_expressions.proofs.patterns.+patterns.Goals as goal
 
 pub whole-returns-in_err-head-clause-none : goal.whole-returns-in_err-head-clause-none

@@ -1,4 +1,4 @@
-use Rattle.std.proofs.Common.{◌≡◌, ◌<◌, ◌≤◌, ◌+◌, ◌*◌, ◌-◌, map, length}
+use Rattle.std.proofs.Common.{◌≡◌, ◌<◌, ◌+◌, ◌*◌, ◌-◌, map, length}
 use Rattle.ac_syntax.specs.Trees.{pat_trees, highest_pat}
 use Rattle.ac_syntax.specs.Patterns.{Pattern, IsPatTree}
 use Rattle.ac_syntax.specs.ReadSigns.{read_signs}

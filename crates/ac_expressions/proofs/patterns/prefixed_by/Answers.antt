@@ -1,4 +1,4 @@
-use Rattle.std.proofs.Common.{◌+◌, ◌∙◌, ap, sym, arith}
+use Rattle.std.proofs.Common.{◌∙◌, ap, sym, arith}
 use Rattle.ac_syntax.specs.Trees.{PatExnOf, pat_height}
 use Rattle.ac_syntax.specs.ReadTrees.{pat_of}
 use Rattle.ac_syntax.specs.declared.surface.SPat.{SPat}

@@ -1,6 +1,5 @@
 use Rattle.std.proofs.Common.{refl}
 use Rattle.std.proofs.lemmas.Result.{err_from_is_err_and}
-use Rattle.ac_syntax.specs.Programs.{ParsesDef}
 use Rattle.ac_syntax.proofs.OnStop.{on_syntax_more}
 use Rattle.ac_syntax.specs.declared.sign.Symbol.TheVariants as symbol
 use Rattle.ac_parser.proofs.Lists.{read_at}

@@ -1,6 +1,6 @@
 use Rattle.ac_syntax.specs.ReadTrees.{name_of}
-use Rattle.ac_syntax.proofs.OnStop.{on_syntax_more, refused}
-use Rattle.ac_parser.proofs.Fronts.{unnamed, no_equals, untyped, abbreviated}
+use Rattle.ac_syntax.proofs.OnStop.{refused}
+use Rattle.ac_parser.proofs.Fronts.{no_equals}
 use Rattle.ac_parser.proofs.front.abbreviation.Goals as goal
 
 pub returns-in_default-after-clause-none : goal.returns-in_default-after-clause-none

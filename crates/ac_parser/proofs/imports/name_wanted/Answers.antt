@@ -1,6 +1,6 @@
 use Rattle.ac_syntax.specs.ReadTrees.{name_of}
 use Rattle.ac_syntax.proofs.OnStop.{refused}
-use Rattle.ac_parser.proofs.ImportSteps.{unequal, unnamed, no_by_there, name_wanted}
+use Rattle.ac_parser.proofs.ImportSteps.{unequal, no_by_there}
 use Rattle.ac_parser.proofs.imports.name_wanted.Goals as goal
 
 pub returns-in_default-clause-none : goal.returns-in_default-clause-none

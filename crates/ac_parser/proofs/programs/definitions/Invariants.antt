@@ -1,4 +1,4 @@
-use Rattle.std.proofs.Common.{◌<◌, map, length}
+use Rattle.std.proofs.Common.{map, length}
 use Rattle.ac_syntax.specs.ReadSigns.{read_signs}
 use Rattle.ac_syntax.specs.ReadTrees.{def_tree_of}
 use Rattle.ac_parser.specs.inner.ProgramParsing.{DefsSoFar}

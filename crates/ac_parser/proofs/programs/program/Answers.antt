@@ -4,7 +4,7 @@ use Rattle.ac_syntax.specs.Programs.{IsProgram}
 use Rattle.ac_syntax.specs.ReadSigns.{read_signs}
 use Rattle.ac_syntax.specs.ReadTrees.{def_tree_of, expr_of}
 use Rattle.std.proofs.lemmas.Result.{err_from_is_err_and}
-use Rattle.ac_syntax.proofs.OnStop.{on_syntax_more, refused}
+use Rattle.ac_syntax.proofs.OnStop.{on_syntax_more}
 use Rattle.ac_parser.proofs.ProgramSteps.{no_expression, more_behind, program_read}
 use Rattle.ac_parser.proofs.programs.program.Goals as goal
 

@@ -1,4 +1,4 @@
-use Rattle.std.proofs.Common.{List, sym, subst}
+use Rattle.std.proofs.Common.{List, subst}
 use Rattle.ac_lexer.specs.declared.tokens.Token.{Token}
 use Rattle.ac_syntax.specs.Signs.{signs}
 use Rattle.ac_syntax.specs.Openers.{IsDeep}

@@ -1,8 +1,8 @@
 use Rattle.std.proofs.Common.{List, subst}
 use Rattle.ac_version.specs.declared.read.VToken.{VToken}
-use Rattle.ac_version.specs.VersionReading.{ReadsConstraint, NoConstraint}
+use Rattle.ac_version.specs.VersionReading.{ReadsConstraint}
 use Rattle.ac_types.specs.ReadTypes.{constraint_of}
-use Rattle.ac_parser.proofs.VersionSteps.{constraint_read, bad_constraint, stop_of}
+use Rattle.ac_parser.proofs.VersionSteps.{constraint_read}
 use Rattle.ac_parser.proofs.versions.constraint.Goals as goal
 
 pub returns-in-Ok-clause-constraint : goal.returns-in-Ok-clause-constraint

@@ -1,8 +1,8 @@
 use Rattle.std.proofs.Common.{List, subst}
 use Rattle.ac_version.specs.declared.read.VToken.{VToken}
-use Rattle.ac_version.specs.VersionReading.{IsVersion, NoVersion}
+use Rattle.ac_version.specs.VersionReading.{IsVersion}
 use Rattle.ac_syntax.specs.ReadTrees.{version_of}
-use Rattle.ac_parser.proofs.VersionSteps.{unversioned, versioned, bad_version, stop_of}
+use Rattle.ac_parser.proofs.VersionSteps.{unversioned, versioned}
 use Rattle.ac_parser.proofs.versions.written.Goals as goal
 
 pub returns-in_default-clause-version : goal.returns-in_default-clause-version

@@ -1,4 +1,4 @@
-use Rattle.std.proofs.Common.{◌≡◌, ◌∙◌, ◌<◌, ap, sym, rules, ℕ, Option}
+use Rattle.std.proofs.Common.{◌∙◌, ◌<◌, ap, sym, rules, ℕ, Option}
 use Rattle.std.specs.Prelude.{unwrap_or}
 use Rattle.ac_terms.specs.Terms.{Var}
 use Rattle.ac_resolve.specs.inner.NameScopes.{names_in}

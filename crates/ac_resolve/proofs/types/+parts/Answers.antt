@@ -1,4 +1,4 @@
-use Rattle.std.proofs.Common.{◌≡◌, ◌∙◌, ap, arith, List, map, length, drop, [], ◌+◌, ℕ}
+use Rattle.std.proofs.Common.{◌≡◌, ap, arith, List, map, length, drop, ◌+◌, ℕ}
 use Rattle.ac_types.specs.Types.{parts, parts_of_all}
 use Rattle.ac_syntax.specs.declared.surface.SType.{SType}
 use Rattle.ac_syntax.specs.Trees.{type_trees}

@@ -23,7 +23,7 @@ loop-preserved c =
     record {
       rest = c.in-Some.ensures.1;
       within = subst (All P) (sym c.in_ok-push-in-Some.ensures.items) (All-append P c.loop.parts.items _ c.loop.invariant.within (all_one P c.in-Some.part c.in-Some.ensures.0));
-      newest_taken = c.loop.invariant.taken ∙ taken_more c.args.n c.loop.counter _ _ _ _ c.loop-test.true c.in-Some.ensures.2
+      taken = c.loop.invariant.taken ∙ taken_more c.args.n c.loop.counter _ _ _ _ c.loop-test.true c.in-Some.ensures.2
           ∙ ap (λ (g : List MValue). newest_taken (c.args.n - (c.loop.counter + 1)) g (stack_at m c.in-Some.older))
           (sym (ap (λ (vs : List Value). stack_of (values m.store) (reverse vs)) c.in_ok-push-in-Some.ensures.items ∙ stack_more (values m.store) c.loop.parts.items c.in-Some.part));
     }

@@ -1,4 +1,4 @@
-use Rattle.std.proofs.Common.{◌≡◌, ℕ, List, [], ◌∷◌, Some, None, refl, sym, ap, ◌∙◌}
+use Rattle.std.proofs.Common.{◌≡◌, ℕ, List, [], ◌∷◌, Some, refl, sym, ap, ◌∙◌}
 use Rattle.ac_syntax.specs.Signs.{Sign, Fixed}
 use Rattle.ac_syntax.specs.Expressions.{Operator, operator_of}
 use Rattle.ac_syntax.specs.ReadSigns.{read_kind, read_signs}
@@ -7,7 +7,7 @@ use Rattle.ac_syntax.specs.declared.sign.SignKind.{SignKind}
 use Rattle.ac_syntax.specs.declared.sign.SignKind.TheVariants as kind
 use Rattle.ac_syntax.proofs.Exceptions.{nothing_there, same_value}
 use Rattle.ac_expressions.specs.inner.Forms.{NoOperator, operator_read}
-use Rattle.ac_expressions.proofs.expressions.operator.Goals as goal
+use Rattle.ac_expressions.proofs.keywords.operator.Goals as goal
 
 nothing_here : {level : ℕ} {ts : List Sign} → ts ≡ [] → NoOperator level ts
 nothing_here none o r w = let e = sym none ∙ w.is in cc

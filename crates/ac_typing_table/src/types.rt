@@ -1,0 +1,71 @@
+// Types, read and written.
+
+use crate::pile::{Pile, several};
+use crate::site::word;
+use ac_page::Page;
+use ac_types::{Many, Name, Ty};
+
+/// The name that the module keeps.
+pub const NAME: Name = Name([7; 32]);
+
+impl Pile {
+    /// The type of that form, whose parts are on top.
+    pub fn ty(&mut self, form: &str) -> Option<Ty> {
+        match form {
+            "int" => Some(Ty::Int),
+            "bool" => Some(Ty::Bool),
+            "string" => Some(Ty::Str),
+            "unit" => Some(Ty::Unit),
+            "exn" => Some(Ty::Exn),
+            "tuple" => {
+                let count = self.small()?;
+                several(self.alloc, &mut self.types, count).map(Ty::Tuple)
+            }
+            "list" => self.boxed_type().map(Ty::List),
+            "option" => self.boxed_type().map(Ty::Opt),
+            "fun" => {
+                let from = self.boxed_type()?;
+                Some(Ty::Fun(from, self.boxed_type()?))
+            }
+            "abstract" => word(self.alloc).ok().map(|word| Ty::Abs(NAME, word)),
+            _ => None,
+        }
+    }
+}
+
+/// Adds the words of a type.
+#[cycle(write_type)]
+pub fn write_type(page: &mut Page, ty: &Ty) {
+    match ty {
+        Ty::Int => page.put(b" int"),
+        Ty::Bool => page.put(b" bool"),
+        Ty::Str => page.put(b" string"),
+        Ty::Unit => page.put(b" unit"),
+        Ty::Exn => page.put(b" exn"),
+        Ty::Tuple(parts) => write_tuple(page, parts),
+        Ty::List(item) => {
+            page.put(b" list");
+            write_type(page, item);
+        }
+        Ty::Opt(item) => {
+            page.put(b" option");
+            write_type(page, item);
+        }
+        Ty::Fun(from, to) => {
+            page.put(b" fun");
+            write_type(page, from);
+            write_type(page, to);
+        }
+        Ty::Abs(_, _) => page.put(b" abstract"),
+        Ty::Mine(_) => page.put(b" mine"),
+    }
+}
+
+#[cycle(write_type)]
+fn write_tuple(page: &mut Page, parts: &Many<Ty>) {
+    page.put(b" tuple ");
+    page.number(parts.len() as u64);
+    for ty in parts.as_slice() {
+        write_type(page, ty);
+    }
+}
