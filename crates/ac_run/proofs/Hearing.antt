@@ -75,17 +75,17 @@ module _ (m n : MachineSeen) (inbox : Inbox) (rest input : Bytes) where
   -- an exception is the answer, or memory ran out
   gets_raised : (f : Frame) (s : Streams) → next_frame input ≡ f → (e : Exn) (r : Option RunEnd) → Served false (with_raise e.number (option_map bytes_of e.text)) [] m n s s r → (r ≡ Some end.WriteFault → ⊥)
       → (Served false (with_raise e.number (option_map bytes_of e.text)) [] m n s s None → HasGotFrame inbox rest input m n f) → Received inbox rest input m n r
-  gets_raised f s is e None got no has = subst (HasGotFrame inbox rest input m n) (sym is) (has got)
-  gets_raised f s is e (Some end.Memory) got no has = tt
-  gets_raised f s is e (Some end.WriteFault) got no has = absurd (no refl)
-  gets_raised f s is e (Some end.ReadFault) got no has = absurd got
-  gets_raised f s is e (Some end.Finished) got no has = absurd got
-  gets_raised f s is e (Some (end.Uncaught x)) got no has = absurd got
-  gets_raised f s is e (Some (end.Spent k)) got no has = absurd got
+  gets_raised f s is e None got never has = subst (HasGotFrame inbox rest input m n) (sym is) (has got)
+  gets_raised f s is e (Some end.Memory) got never has = tt
+  gets_raised f s is e (Some end.WriteFault) got never has = absurd (never refl)
+  gets_raised f s is e (Some end.ReadFault) got never has = absurd got
+  gets_raised f s is e (Some end.Finished) got never has = absurd got
+  gets_raised f s is e (Some (end.Uncaught x)) got never has = absurd got
+  gets_raised f s is e (Some (end.Spent k)) got never has = absurd got
 
   pub gets_end : (s : Streams) → next_frame input ≡ AtEnd → IsLeft inbox rest input → (e : Exn) → exn_of e ≡ end_of_file_exn → (r : Option RunEnd) → Served false (with_raise e.number (option_map bytes_of e.text)) [] m n s s r → (r ≡ Some end.WriteFault → ⊥) → Received inbox rest input m n r
-  gets_end s is l e exn r got no = gets_raised AtEnd s is e r got no (λ g. ((subst (λ x. Served false (with_raise x.number x.text) [] m n s s None) exn g).0, l))
+  gets_end s is l e exn r got never = gets_raised AtEnd s is e r got never (λ g. ((subst (λ x. Served false (with_raise x.number x.text) [] m n s s None) exn g).0, l))
 
   pub gets_bad : (s : Streams) (k j : ℕ) → next_frame input ≡ Bad k j → IsLeft inbox rest input → (x : Result Exn Memory) → IfOk x (λ e. exn_of e ≡ bad_frame) → (r : Option RunEnd) → ((e : Exn) → x ≡ Ok e → Served false (with_raise e.number (option_map bytes_of e.text)) [] m n s s r) → (IsErr x → r ≡ Some end.Memory) → (r ≡ Some end.WriteFault → ⊥) → Received inbox rest input m n r
-  gets_bad s k j is l (Ok e) exn r got fault no = gets_raised (Bad k j) s is e r (got e refl) no (λ g. ((subst (λ x. Served false (with_raise x.number x.text) [] m n s s None) exn g).0, l))
-  gets_bad s k j is l (Err v) exn r got fault no = subst (Received inbox rest input m n) (sym (fault refl)) tt
+  gets_bad s k j is l (Ok e) exn r got fault never = gets_raised (Bad k j) s is e r (got e refl) never (λ g. ((subst (λ x. Served false (with_raise x.number x.text) [] m n s s None) exn g).0, l))
+  gets_bad s k j is l (Err v) exn r got fault never = subst (Received inbox rest input m n) (sym (fault refl)) tt
