@@ -36,6 +36,7 @@ fn write_end(listing: &mut Page, end: &RunEnd) {
             listing.number(*steps);
             listing.put(b", status 3\n");
         }
+        RunEnd::ReadFault => listing.put(b"read fault, status 5\n"),
         RunEnd::WriteFault => listing.put(b"write fault, status 6\n"),
         RunEnd::Memory => listing.put(b"out of memory, status 4\n"),
     }
@@ -51,7 +52,7 @@ fn run_in<W: World>(
         (typ_of loaded.ty) }
 {
     let mut session = Session::new(alloc, loaded, steps, false)?;
-    Ok(session.run(world))
+    Ok(session.run_without_input(world))
 }
 
 fn write_run(alloc: Global, listing: &mut Page, loaded: Loaded, steps: u64)

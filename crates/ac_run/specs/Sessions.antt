@@ -1,21 +1,26 @@
 -- Sessions, how they end, and what they leave on console and channel.
-use Rattle.std.specs.Prelude.{◌≡◌, ◌⊎◌, ℕ, Bool, false, IsTrue, List, [], ◌∷◌, ◌++◌, Option}
+use Rattle.std.specs.Prelude.{◌≡◌, ◌⊎◌, ℕ, Bool, false, IsTrue, List, ◌∷◌, ◌++◌, Option}
 use Rattle.ac_types.specs.Types.{Bytes}
 use Rattle.ac_terms.specs.Terms.{Expr, Value}
 use Rattle.ac_terms.specs.Defs.{Environment}
 use Rattle.ac_terms.specs.Read.{expr_of, environment_of}
+use Rattle.ac_code.specs.Code.{Code}
+use Rattle.ac_generate.specs.Generated.{program_code}
 use Rattle.ac_outside.specs.Outside.{Extends}
 use Rattle.ac_outside.specs.Frames.{frame_of}
 use Rattle.ac_rules.specs.Views.{Mode}
 use Rattle.ac_rules.specs.declared.loaded.Loaded.{Loaded}
-use Rattle.ac_machine.specs.States.{Core, Ask, AskDone, AskRaised, AskSpent, Paused}
+use Rattle.ac_machine.specs.States.{Core, beginning, Ask, AskReceive, AskDone, AskRaised, AskSpent, Run, Paused}
 use Rattle.ac_machine.specs.Resumes as standing
 use Rattle.ac_machine.specs.Seen.{MachineSeen, standing}
 use Rattle.ac_meaning.specs.Writes.{Write, Print, Send, Console, Channel, written}
-use Rattle.ac_meaning.specs.Worlds.{World}
+use Rattle.ac_meaning.specs.Worlds.{World, fresh}
 use Rattle.ac_meaning.specs.ReadExn.{exn_of}
-use Rattle.ac_meaning.specs.Acts.{Outcome, Returned, Raised, Spent, Stuck}
+use Rattle.ac_meaning.specs.Acts.{Outcome, Returned, Raised, Spent, Stuck, Leads}
+use Rattle.ac_meaning.specs.Laws.{writes_of}
 use Rattle.ac_meaning.specs.Reduction.{Ends}
+use Rattle.ac_simulation.specs.Running.{Running, on, machine_step}
+use Rattle.ac_simulation.specs.Alike.{program_block}
 use Rattle.ac_run.specs.declared.end.RunEnd.{RunEnd}
 use Rattle.ac_run.specs.declared.end.RunEnd.TheVariants as end
 
@@ -37,10 +42,9 @@ main s = expr_of s.program.main
 abbrev pub ProgramEnds : Mode → Session → Bytes → Outcome Value → Type 0
 ProgramEnds mode s input o = Ends mode (environment s) (main s) input s.sends s.steps o
 
--- a program gets this input: what its world has left to read, where that is told. Until sessions read, none has one
-pub record HasInput (told : Bool) (left input : Bytes) : Type 0 where
-  pub there : IsTrue told → left ≡ input
-  pub none : input ≡ []
+-- a program gets this input: what its world has left to read, where that is told
+abbrev pub HasInput : Bool → Bytes → Bytes → Type 0
+HasInput told left input = IsTrue told → left ≡ input
 
 -- a session's machine has stopped for this reason, and definitions and applications are those of this world
 pub record HasStopped (s : Session) (why : Ask) (z : World) : Type 0 where
@@ -64,6 +68,7 @@ IsEnd (end.Spent steps) (Returned v z) s = ⊥
 IsEnd (end.Spent steps) (Raised x z) s = ⊥
 IsEnd (end.Spent steps) (Spent z) s = (steps ≡ s.steps) × HasStopped s AskSpent z
 IsEnd (end.Spent steps) Stuck s = ⊥
+IsEnd end.ReadFault o s = Unit {0}
 IsEnd end.WriteFault o s = Unit {0}
 IsEnd end.Memory o s = Unit {0}
 
@@ -99,10 +104,31 @@ pub record StopsBehind (told : Bool) (all : List Write) (old new : Streams) : Ty
   pub order : all ≡ before ++ after
   pub made : IsTrue told → new ≡ with_writes before old
 
--- what a session leaves of the writes of its program: all of them; after a fault of writing those before one of them and a prefix of it; and want of memory may come anywhere
+-- what a session leaves of the writes of its program: all of them; after a fault of reading some of them and then none; after a fault of writing those before one of them and a prefix of it; and want of memory may come anywhere
 abbrev pub Leaves : RunEnd → Bool → List Write → Streams → Streams → Type 0
 Leaves end.Finished told all old new = IsTrue told → new ≡ with_writes all old
 Leaves (end.Uncaught e) told all old new = IsTrue told → new ≡ with_writes all old
 Leaves (end.Spent steps) told all old new = IsTrue told → new ≡ with_writes all old
+Leaves end.ReadFault told all old new = StopsBehind told all old new
 Leaves end.WriteFault told all old new = StopsIn told all old new
 Leaves end.Memory told all old new = StopsIn told all old new ⊎ StopsBehind told all old new
+
+-- the run of a session's program on its machine, in front of the first instruction
+abbrev pub begins : Session → Bytes → Running
+begins s input = on (program_code (environment s) (main s)) (Run (beginning (program_block (environment s) (main s)) s.steps)) (fresh (environment s) input s.sends)
+
+-- over these definitions this machine stands at a receive to which this run comes, and the writes that it has made in front of it were made, and no others
+pub record AtReceive (told : Bool) (from : Running) (E : Environment) (m : MachineSeen) (old new : Streams) : Type 0 where
+  pub code : Code
+  pub core : Core
+  pub world : World
+  pub comes : Leads machine_step from (on code (Paused AskReceive core) world)
+  pub able : m.lost ≡ false
+  pub stands : standing m ≡ standing.Waits standing.Receiving core
+  pub defines : E ≡ world.environment
+  pub made : IsTrue told → new ≡ with_writes world.writes old
+
+-- with this input a session ends so, as the reduction in each mode does, with what it leaves; where a read has failed, it stands at a receive
+pub record RunsTo (told : Bool) (s t : Session) (input : Bytes) (r : RunEnd) (old new : Streams) : Type 0 where
+  pub ends : (mode : Mode) (o : Outcome Value) → ProgramEnds mode s input o → IsEnd r o t × Leaves r told (writes_of o) old new
+  pub receives : r ≡ end.ReadFault → AtReceive told (begins s input) (environment t) t.machine old new

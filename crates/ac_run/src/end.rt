@@ -17,6 +17,8 @@ pub enum RunEnd {
     /// It has made as many applications as it may, these, and would make another; all that it
     /// printed and sent before is written.
     Spent { steps: u64 },
+    /// A read failed, and nothing was written after it.
+    ReadFault,
     /// A print or a send failed, and nothing was written after it.
     WriteFault,
     /// Memory ran out, and nothing was written after that.
@@ -32,6 +34,7 @@ impl RunEnd {
             RunEnd::Finished => Ok(RunEnd::Finished),
             RunEnd::Uncaught(exn) => Ok(RunEnd::Uncaught(exn.copy(alloc)?)),
             RunEnd::Spent { steps } => Ok(RunEnd::Spent { steps: *steps }),
+            RunEnd::ReadFault => Ok(RunEnd::ReadFault),
             RunEnd::WriteFault => Ok(RunEnd::WriteFault),
             RunEnd::Memory => Ok(RunEnd::Memory),
         }

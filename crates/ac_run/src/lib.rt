@@ -3,6 +3,7 @@
 
 mod driver;
 mod end;
+mod inbox;
 mod session;
 
 pub use end::RunEnd;

@@ -139,6 +139,7 @@ fn run_program<O: Sink, E: Sink>(
             RunEnd::Finished => Status::FINISHED,
             RunEnd::Uncaught(exn) => tell_uncaught(alloc, &exn, errors),
             RunEnd::Spent { steps } => tell_spent(alloc, steps, errors),
+            RunEnd::ReadFault => say(errors, b"acute: read fault\n", Status::READ_FAULT),
             RunEnd::WriteFault => say(errors, b"acute: write fault\n", Status::WRITE_FAULT),
             RunEnd::Memory => no_memory(errors),
         },

@@ -80,6 +80,7 @@ pub fn run_on<O: Sink>(session: &mut Session, output: &mut O) -> RunEnd
         IsEnd result o session.new × Leaves result O.told (writes_of o)
         (streams (O.written output.old) []) (streams (O.written output.new) []) }
     ensures steps { session.old.end ≡ None → session.new.steps ≡ session.old.steps }
+    ensures reads { session.old.end ≡ None → result ≡ RunEnd.ReadFault → ⊥ }
     ensures cause { session.old.end ≡ None → result ≡ RunEnd.WriteFault →
         Rose (O.faults output.old) (O.faults output.new) }
 {
@@ -101,6 +102,7 @@ fn run_at<'a, O: Sink, K: Named>(
         IsEnd end.new o session.new × Leaves end.new O.told (writes_of o)
         (streams (O.written output.old) []) (streams (O.written result.now) []) }
     ensures steps { session.old.end ≡ None → session.new.steps ≡ session.old.steps }
+    ensures reads { session.old.end ≡ None → end.new ≡ RunEnd.ReadFault → ⊥ }
     ensures cause { session.old.end ≡ None → end.new ≡ RunEnd.WriteFault →
         Rose (O.faults output.old) (O.faults result.now) }
     ensures same_reference { result.ghost_name ≡ output.entry.ghost_name }
@@ -109,7 +111,7 @@ fn run_at<'a, O: Sink, K: Named>(
         output,
         name: PhantomData,
     };
-    *end = session.run(&mut world);
+    *end = session.run_without_input(&mut world);
     let SinkWorld { output, name: _ } = world;
     output
 }

@@ -1,59 +1,104 @@
 -- A run on its way: what an answer to the machine makes of it, and what one turn does.
-use Rattle.std.specs.Prelude.{◌≡◌, ◌⊎◌, ◌≤◌, ℕ, Bool, false, List, [], ◌∷◌, ◌++◌, length, Some, None, Option, IsTrue}
+use Rattle.std.specs.Prelude.{◌≡◌, ◌⊎◌, ◌≤◌, ℕ, Bool, false, List, ◌∷◌, ◌++◌, length, Some, None, Option, IsTrue}
+use Rattle.ac_types.specs.Types.{Bytes}
 use Rattle.ac_types.specs.Limits.{longest_frame}
 use Rattle.ac_terms.specs.Defs.{Environment}
 use Rattle.ac_code.specs.Code.{Code}
+use Rattle.ac_outside.specs.Frames.{Frame, Whole, Bad, AtEnd, next_frame}
 use Rattle.ac_values.specs.Values.{MValue}
 use Rattle.ac_machine.specs.States.{Core, MState}
 use Rattle.ac_machine.specs.Resumes as standing
-use Rattle.ac_machine.specs.Resumes.{resumed}
+use Rattle.ac_machine.specs.Resumes.{resumed, resumed_text, with_raise}
 use Rattle.ac_machine.specs.Seen.{MachineSeen, standing}
 use Rattle.ac_meaning.specs.Writes.{Write, string_of}
-use Rattle.ac_meaning.specs.Worlds.{World}
+use Rattle.ac_meaning.specs.Worlds.{Exception, World, end_of_file_exn, bad_frame}
 use Rattle.ac_meaning.specs.Acts.{Outcome, Stuck, Over, Leads}
 use Rattle.ac_meaning.specs.Laws.{writes_of}
-use Rattle.ac_simulation.specs.Running.{on, machine_step}
-use Rattle.ac_run.specs.Sessions.{Session, environment, Streams, with_writes, StopsIn, StopsBehind, IsEnd, Leaves}
+use Rattle.ac_simulation.specs.Running.{Running, on, machine_step}
+use Rattle.ac_run.specs.Sessions.{Session, environment, Streams, with_writes, StopsIn, StopsBehind, IsEnd, Leaves, AtReceive}
+use Rattle.ac_run.specs.inner.Inboxes.{MayCome, IsLeft}
 use Rattle.ac_run.specs.declared.end.RunEnd.{RunEnd}
 use Rattle.ac_run.specs.declared.end.RunEnd.TheVariants as end
+use Rattle.ac_run.specs.declared.inbox.Inbox.{Inbox}
 
--- the machine has got this answer, and these writes were made; or a fault came in one of them, or want of memory anywhere
+-- the machine has got this answer
+abbrev pub HasGot : (Core → MState) → MachineSeen → MachineSeen → Type 0
+HasGot answer m n = (n.lost ≡ false) × (standing n ≡ resumed answer (standing m))
+
+-- it has got it, and these writes were made; or a fault came in one of them, or want of memory anywhere
 abbrev pub Served : Bool → (Core → MState) → List Write → MachineSeen → MachineSeen → Streams → Streams → Option RunEnd → Type 0
-Served told answer writes m n old new None = (n.lost ≡ false) × (standing n ≡ resumed answer (standing m)) × (IsTrue told → new ≡ with_writes writes old)
+Served told answer writes m n old new None = HasGot answer m n × (IsTrue told → new ≡ with_writes writes old)
 Served told answer writes m n old new (Some end.Finished) = ⊥
 Served told answer writes m n old new (Some (end.Uncaught e)) = ⊥
 Served told answer writes m n old new (Some (end.Spent steps)) = ⊥
+Served told answer writes m n old new (Some end.ReadFault) = ⊥
 Served told answer writes m n old new (Some end.WriteFault) = StopsIn told writes old new
 Served told answer writes m n old new (Some end.Memory) = StopsIn told writes old new ⊎ StopsBehind told writes old new
+
+abbrev pub HasRaised : Exception → MachineSeen → MachineSeen → Type 0
+HasRaised x m n = HasGot (with_raise x.number x.text) m n
+
+-- the machine has got the frame that comes next, or the exception of why there is none
+abbrev pub HasGotFrame : Inbox → Bytes → Bytes → MachineSeen → MachineSeen → Frame → Type 0
+HasGotFrame inbox rest input m n (Whole s left) = HasGot (resumed_text s) m n × IsLeft inbox rest left
+HasGotFrame inbox rest input m n (Bad k got) = HasRaised bad_frame m n × IsLeft inbox rest input
+HasGotFrame inbox rest input m n AtEnd = HasRaised end_of_file_exn m n × IsLeft inbox rest input
+
+-- it has got it; or a read has failed and it stands as it did, or memory ran out
+abbrev pub Received : Inbox → Bytes → Bytes → MachineSeen → MachineSeen → Option RunEnd → Type 0
+Received inbox rest input m n None = HasGotFrame inbox rest input m n (next_frame input)
+Received inbox rest input m n (Some end.Finished) = ⊥
+Received inbox rest input m n (Some (end.Uncaught e)) = ⊥
+Received inbox rest input m n (Some (end.Spent steps)) = ⊥
+Received inbox rest input m n (Some end.ReadFault) = n ≡ m
+Received inbox rest input m n (Some end.WriteFault) = ⊥
+Received inbox rest input m n (Some end.Memory) = Unit {0}
 
 -- each of these writes has a string that a frame holds
 abbrev pub AreShort : List Write → Type 0
 AreShort writes = (before after : List Write) (w : Write) → writes ≡ before ++ w ∷ after → length (string_of w) ≤ longest_frame
 
-module _ (E : Environment) (K : Code) (sends told : Bool) where
-  -- over these definitions and this code the machine stands on the way to this end, where it isn't stuck and all writes are short, in a world without input; where that is told, the writes since the start were made
-  pub record OnItsWay (start : Streams) (o : Outcome (Code × MValue)) (m : MachineSeen) (now : Streams) : Type 0 where
-    pub able : m.lost ≡ false
+-- where a run stands: its definitions, its code and its machine, and what it has left to read and has written
+pub record Point : Type 0 where
+  pub environment : Environment
+  pub code : Code
+  pub machine : MachineSeen
+  pub inbox : Inbox
+  pub left : Bytes
+  pub streams : Streams
+
+abbrev pub point : Environment → Code → MachineSeen → Inbox → Bytes → Streams → Point
+point E K m inbox left now = record { environment = E; code = K; machine = m; inbox = inbox; left = left; streams = now }
+
+module _ (sends told : Bool) where
+  -- a run that began there is on its way to this end, where it isn't stuck and all writes are short, and this is what comes; where that is told, the writes since the start were made
+  pub record OnItsWay (p : Point) (rest : Bytes) (from : Running) (start : Streams) (o : Outcome (Code × MValue)) : Type 0 where
+    pub able : p.machine.lost ≡ false
     pub state : MState
     pub world : World
-    pub defines : world.environment ≡ E
-    pub stands : standing m ≡ standing.At state
-    pub ends : Leads machine_step (on K state world) (Over o)
+    pub defines : world.environment ≡ p.environment
+    pub stands : standing p.machine ≡ standing.At state
+    pub came : Leads machine_step from (on p.code state world)
+    pub ends : Leads machine_step (on p.code state world) (Over o)
     pub not_stuck : o ≡ Stuck → ⊥
     pub short : AreShort (writes_of o)
-    pub no_input : world.input ≡ []
+    pub input : IsLeft p.inbox rest world.input
     pub channel : world.has_channel ≡ sends
-    pub so_far : IsTrue told → now ≡ with_writes world.writes start
+    pub so_far : IsTrue told → p.streams ≡ with_writes world.writes start
 
-  -- it is on the way to an end
-  abbrev pub CanRun : MachineSeen → Streams → Type 0
-  CanRun m now = (o : Outcome (Code × MValue)) × (start : Streams) × OnItsWay start o m now
+  -- whatever comes, it is on the way to an end
+  abbrev pub CanRun : Point → Type 0
+  CanRun p = (rest : Bytes) → MayCome p.inbox told p.left rest → (o : Outcome (Code × MValue)) × (from : Running) × (start : Streams) × OnItsWay p rest from start o
 
   -- each session with these definitions, this budget and this machine has ended so
-  abbrev pub EndsSo : ℕ → RunEnd → Outcome (Code × MValue) → MachineSeen → Type 0
-  EndsSo N r o m = (s : Session) → environment s ≡ E → s.steps ≡ N → s.machine ≡ m → IsEnd r o s
+  abbrev pub EndsSo : ℕ → Point → RunEnd → Outcome (Code × MValue) → Type 0
+  EndsSo N p r o = (s : Session) → environment s ≡ p.environment → s.steps ≡ N → s.machine ≡ p.machine → IsEnd r o s
 
-  -- after a turn it is on its way, over the definitions and the code then, or the run has ended
-  abbrev pub Turned : ℕ → Streams → Outcome (Code × MValue) → MachineSeen → Streams → Option RunEnd → Type 0
-  Turned N start o m now None = OnItsWay start o m now
-  Turned N start o m now (Some r) = EndsSo N r o m × Leaves r told (writes_of o) start now
+  -- it is on its way, or has ended
+  abbrev pub Turned : ℕ → Point → Bytes → Running → Streams → Outcome (Code × MValue) → Option RunEnd → Type 0
+  Turned N p rest from start o None = OnItsWay p rest from start o
+  Turned N p rest from start o (Some r) = EndsSo N p r o × Leaves r told (writes_of o) start p.streams × (r ≡ end.ReadFault → AtReceive told from p.environment p.machine start p.streams)
+
+  -- whatever comes later, something comes now with which a run that is on its way gets from the first point to the second, or ends there
+  abbrev pub Goes : ℕ → Point → Point → Option RunEnd → Type 0
+  Goes N p q r = (rest : Bytes) → MayCome q.inbox told q.left rest → (before : Bytes) × MayCome p.inbox told p.left before × ((from : Running) (start : Streams) (o : Outcome (Code × MValue)) → OnItsWay p before from start o → Turned N q rest from start o r)

@@ -21,6 +21,9 @@ pub returns-in-Spent : goal.returns-in-Spent
 returns-in-Spent g c = λ text accepted request files means.
     has_spent request files _ _ accepted c.requires.loaded.program means c.in-Spent.steps (has_run c.args.loaded c.args.steps c.in-Ok.session c.run_on.new.session _ _ c.requires.loaded.program c.in-Ok.ensures c.in-Spent.ensures.steps c.in-Spent.ensures.ends) _ c.tell_spent.ensures
 
+pub returns-in-ReadFault : goal.returns-in-ReadFault
+returns-in-ReadFault g c = λ text accepted request files means. absurd (c.in-ReadFault.ensures.reads (is_fresh c.args.loaded c.args.steps c.in-Ok.session c.in-Ok.ensures) refl)
+
 pub returns-in-WriteFault : goal.returns-in-WriteFault
 returns-in-WriteFault g c = λ text accepted request files means.
     has_failed request files _ _ accepted c.requires.loaded.program means (has_run c.args.loaded c.args.steps c.in-Ok.session c.run_on.new.session _ _ c.requires.loaded.program c.in-Ok.ensures c.in-WriteFault.ensures.steps c.in-WriteFault.ensures.ends)
