@@ -27,7 +27,7 @@ returns-in-ReadFault g c = λ text accepted request files means. absurd (c.in-Re
 pub returns-in-WriteFault : goal.returns-in-WriteFault
 returns-in-WriteFault g c = λ text accepted request files means.
     has_failed request files _ _ accepted c.requires.loaded.program means (has_run c.args.loaded c.args.steps c.in-Ok.session c.run_on.new.session _ _ c.requires.loaded.program c.in-Ok.ensures c.in-WriteFault.ensures.steps c.in-WriteFault.ensures.ends)
-    (c.in-WriteFault.ensures.cause (is_fresh c.args.loaded c.args.steps c.in-Ok.session c.in-Ok.ensures) refl) _ c.say.ensures
+    (c.in-WriteFault.ensures.cause (is_fresh c.args.loaded c.args.steps c.in-Ok.session c.in-Ok.ensures) refl) _ c.say-in-WriteFault.ensures
 
 pub returns-in-Ok : goal.returns-in-Ok
 returns-in-Ok g c = λ text accepted request files means.
