@@ -1,16 +1,13 @@
 -- What the map of names has for a name, after each entry that goes in.
-use Rattle.std.proofs.Common.{◌≡◌, ◌≢◌, refl, sym, ap, ◌∙◌, ℕ, suc, ◌<◌, ◌≤◌, Bool, true, false, cond, eqb, arith, List, [], ◌∷◌, map, length, drop, get_or, Option, Some, None, position, drop-cons, add-one, ⊎_elim}
-use Rattle.std.specs.Prelude.{nat_eq, nat_lt, ◌&&◌}
-use Rattle.std.specs.List.{position_from, position_or_len}
+use Rattle.std.proofs.Common.{◌≡◌, refl, sym, ap, ◌∙◌, ℕ, suc, ◌<◌, ◌≤◌, cond, arith, List, [], ◌∷◌, map, length, drop, get_or, Option, Some, None, drop-cons, add-one}
+use Rattle.std.specs.List.{position_from}
 use Rattle.std.specs.Ordering.{nat_cmp, is_eq}
-use Rattle.std.specs.Cmp.Lexicographic.{slice_cmp, pointwise}
+use Rattle.std.specs.Cmp.Lexicographic.{slice_cmp}
 use Rattle.std.specs.BTreeMap.{BTreeMap, IsEmpty, Updates, get}
-use Rattle.std.proofs.lemmas.Cmp.{ranked, by_ranked}
 use Rattle.std.proofs.lemmas.Bool.Decides.{nat_tests}
 use Rattle.std.proofs.lemmas.List.{drop_all}
 use Rattle.std.proofs.lemmas.Iterator.Adapters.{position_from-zero}
 use Rattle.ac_types.specs.Types.{Bytes, same_bytes}
-use Rattle.ac_types.specs.declared.text.Name.{Name}
 use Rattle.ac_terms.specs.declared.def.Entry as code
 use Rattle.ac_terms.specs.Defs.{Entry, names, find_name}
 use Rattle.ac_terms.specs.Read.{entry_of}

@@ -8,12 +8,12 @@ use Rattle.std.proofs.lemmas.List.Folds.{list_any-append}
 use Rattle.std.proofs.lemmas.List.Elements.{filter_map-append}
 use mathlib.Core.Bool.{true≢false}
 use Rattle.ac_terms.proofs.TestLaws.{eq_true, eq_self}
-use Rattle.ac_types.specs.Types.{Bytes, Typ, mentions}
+use Rattle.ac_types.specs.Types.{Bytes, mentions}
 use Rattle.ac_terms.specs.Terms.{Home, Main, In}
 use Rattle.ac_terms.specs.Defs.{Environment, Entry, find_name}
 use Rattle.ac_terms.specs.Parts.{Portion, OfType, OfRef, OfHome, Captured, part_homes, part_refs, part_mentions, def_parts}
 use Rattle.ac_rules.specs.Needed.{packet_form, spoken_of, uses, needed_below, needed_by}
-use Rattle.ac_closure.specs.inner.Chosen.{with_entry, with_entries, with_found, with_home, with_mentions, with_type, with_part, with_parts}
+use Rattle.ac_closure.specs.inner.Chosen.{with_entry, with_entries, with_found, with_home, with_mentions, with_part, with_parts}
 use Rattle.ac_closure.specs.inner.Pass.{with_form, chosen_below}
 
 -- a set keeps its length

@@ -14,7 +14,7 @@ use Rattle.ac_terms.specs.declared.term.PVal.TheVariants as value
 use Rattle.ac_terms.specs.declared.term.PVal.TheOpen.{Term-F, PVal-F}
 use Rattle.ac_terms.specs.declared.term.PVal.TheFolds.{map-PVal, fold_out-PVal, fold_out-Arm}
 use Rattle.ac_terms.specs.declared.term.PVal.TheViews.{out-PVal}
-use Rattle.ac_terms.specs.Terms.{Pattern, PTuple, patterns, Expr, Match, Try, exprs, arms, PValue, KTuple, KList, pvalues}
+use Rattle.ac_terms.specs.Terms.{Pattern, PTuple, patterns, Expr, Match, Try, arms, PValue, KTuple, KList, pvalues}
 use Rattle.ac_terms.specs.Parts.{Portion, OfType}
 use Rattle.ac_terms.specs.Read.{pattern_of, pattern_layer, expr_of, value_of, value_layer, expr_layer, arm_layer}
 use Rattle.ac_terms.proofs.ReadLaws.{read_arm, read_parts, expr_out, term_laws as read_terms}
