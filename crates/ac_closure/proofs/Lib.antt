@@ -1,0 +1,4 @@
+pub mod FormLaws
+pub mod NameLaws
+pub mod PassLaws
+pub mod WalkLaws

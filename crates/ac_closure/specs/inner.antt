@@ -1,0 +1,5 @@
+pub mod Arms
+pub mod Chosen
+pub mod Forms
+pub mod Names
+pub mod Pass
