@@ -1,6 +1,6 @@
-mod References
+pub mod References
 pub mod AddedEntries
-mod Samples
+pub mod Samples
 mod HidingExamples
 mod OwnTypeExamples
 mod OutsideExamples
