@@ -1,0 +1,3 @@
+mod DrawExamples
+mod ProgramExamples
+pub mod Steps
