@@ -1,11 +1,11 @@
 -- A chain of two programs, computed: the first sends a sealed value, and the second receives it.
 use Rattle.std.proofs.Common.{◌≡◌, refl}
 use Rattle.std.specs.Int.{int_wrap}
-use Rattle.std.specs.Prelude.{pos, true, List, [], ◌∷◌, ◌++◌, codes}
+use Rattle.std.specs.Prelude.{pos, true, false, List, [], ◌∷◌, ◌++◌, codes}
 use Rattle.ac_types.specs.Primitives as primitives
-use Rattle.ac_types.specs.Types.{Bytes, TAbs}
+use Rattle.ac_types.specs.Types.{Bytes, TAbs, same_bytes}
 use Rattle.ac_types.specs.Words as words
-use Rattle.ac_terms.specs.Terms.{In, Expr, Str, Unit', Prim, Marshal, Unmarshal, exprs, Value, VInt}
+use Rattle.ac_terms.specs.Terms.{In, Expr, Str, Unit', Prim, Marshal, Unmarshal, Evaluated, exprs, Value, VInt, VSeal}
 use Rattle.ac_rules.specs.Views.{Coloured}
 use Rattle.ac_rules.proofs.Samples.{t, made}
 use Rattle.ac_meaning.specs.Acts.{State, At, Over, iter}
@@ -15,6 +15,7 @@ use Rattle.ac_meaning.specs.Reduction.{step}
 use Rattle.ac_meaning.specs.Worlds.{fresh}
 use Rattle.ac_meaning.specs.Writes.{Channel, written}
 use Rattle.ac_colours.specs.Births.{Event, Born, Gave, Took, seal, events}
+use Rattle.ac_colours.specs.Veils.{DifferInside}
 use Rattle.ac_colours.proofs.SentExample.{long_name, cut, seals_of}
 
 abbrev first : Expr
@@ -55,3 +56,21 @@ strings_taken (Took E s xs ∷ rest) = s ∷ strings_taken rest
 it_is_native : strings_taken all ≡ strings_given all
 unfolding int_wrap packing landing words.is_reserved
 it_is_native = refl
+
+-- marshal looks inside a seal: of two terms that differ only there it gives two strings
+abbrev marshalled : Value → Expr
+marshalled v = Marshal (TAbs long_name t) (Str (codes "M")) (Evaluated (TAbs long_name t) (VSeal (In 0) long_name t v))
+
+differ_inside : DifferInside long_name t (marshalled (VInt (pos 5))) (marshalled (VInt (pos 6)))
+differ_inside = refl
+
+abbrev front : List Bytes → Bytes
+front [] = []
+front (s ∷ rest) = s
+
+abbrev given : Value → Bytes
+given v = front (strings_given (events 0 1 (At (marshalled v) (fresh cut [] false))))
+
+strings_differ : same_bytes (given (VInt (pos 5))) (given (VInt (pos 6))) ≡ false
+unfolding packing words.is_reserved
+strings_differ = refl

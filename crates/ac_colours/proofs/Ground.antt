@@ -1,32 +1,26 @@
 -- What code of a home may write is known before the first entry of the home's name, and so is all that is reached from it through representations. So the home opens nothing of it.
 use Rattle.std.proofs.Common.{◌≡◌, refl, sym, ap, ◌∙◌, subst, ℕ, zero, suc, ◌<◌, ◌≤◌, Bool, true, false, List, [], ◌∷◌, length, Option, Some, None, take}
-use Rattle.std.specs.Prelude.{◌&&◌, ◌||◌, not, nat_lt, slice_get, option_map, option_and_then, is_some, unwrap_or}
+use Rattle.std.specs.Prelude.{◌||◌, not, unwrap_or}
 use Rattle.std.specs.List.{list_all, list_any}
 use Rattle.std.specs.Option.{option_map_or}
-use Rattle.std.proofs.lemmas.Bool.{ltb-true}
-use Rattle.std.proofs.lemmas.Bool.Decides.{nat_tests}
 use mathlib.Core.Bool.{true≢false}
 use native.Mathlib.Omega.{arith}
 use Rattle.ac_types.proofs.Same.{both_true, and_true, bytes_eq}
 use Rattle.ac_types.proofs.FirstLaws.{none≢some, some_eq}
 use Rattle.ac_types.specs.Types.{Bytes, same_bytes, Typ, TAbs, mentions}
 use Rattle.ac_terms.specs.Terms.{Home, Main, In}
-use Rattle.ac_terms.specs.Defs.{Environment, Entry, Module, Def, AModule, AnImport, AMark, module_at, module_of, def_of, name_at, names, find_name, signature_at}
-use Rattle.ac_terms.specs.Parts.{part_refs, part_mentions, def_parts}
-use Rattle.ac_terms.specs.Names.{text_of_def, text_of_entry}
-use Rattle.ac_terms.specs.Spelling.{module_bytes}
-use Rattle.ac_terms.proofs.DefBack.{one_text-one_kind}
+use Rattle.ac_terms.specs.Defs.{Environment, Entry, Module, Def, AModule, module_at, module_of, def_of, name_at, names, find_name}
+use Rattle.ac_terms.specs.Parts.{part_mentions, def_parts}
 use Rattle.ac_rules.specs.Views.{Coloured, view, has_name, opened, representation, is_known, are_known, declares}
-use Rattle.ac_rules.specs.Modules.{refers_back}
 use Rattle.ac_rules.specs.Coherent.{IsCoherent}
-use Rattle.ac_rules.proofs.Rules.{then_some, map_some}
+use Rattle.ac_rules.proofs.Rules.{then_some}
 use Rattle.ac_rules.proofs.EarlierLaws.{known_earlier}
 use Rattle.ac_terms.proofs.AllLaws.{all_implies}
-use Rattle.ac_rules.proofs.ViewLaws.{foreign_view, within, rep_earlier}
+use Rattle.ac_rules.proofs.ViewLaws.{foreign_view, rep_earlier}
 use Rattle.ac_rules.proofs.BareLaws.{known_has}
 use Rattle.ac_terms.proofs.TestLaws.{not_where}
 use Rattle.ac_rules.proofs.ListLaws.{any_taken, any_both, take_whole}
-use Rattle.ac_rules.proofs.Unspoken.{shown, padded_named, text_shown, text_of_least, same_mentions}
+use Rattle.ac_rules.proofs.Unspoken.{shown, padded_named, same_mentions, own_least}
 use Rattle.ac_colours.proofs.Owning.{Writes}
 use Rattle.ac_colours.proofs.OwnText.{same_pair, speaks}
 
@@ -46,55 +40,10 @@ module _ (E : Environment) (coherent : IsCoherent E) where
 
   -- a module's text speaks of what is before the least entry of its name
   module _ (i : ℕ) (m : Module) (n : Bytes) (l : ℕ) (there : def_of E i ≡ Some (AModule m)) (named : name_at E i ≡ Some n) (found : find_name E n ≡ Some l) where
-    inside : i < length E
-    inside = let e = map_some (λ (x : Entry). x.def) (slice_get E i) (AModule m) there in within E i e.0 e.1
-
-    still_back : refers_back E (length E) (AModule m) ≡ true
-    still_back = all_implies (λ j. nat_lt j i && is_some (signature_at E j)) (λ j. nat_lt j (length E) && is_some (signature_at E j)) further (part_refs (def_parts (AModule m))) (coherent.refers i (AModule m) there)
-      where
-        below : (a b c : ℕ) → a < b → b < c → nat_lt a c ≡ true
-        below a b c l k = grind (arith, nat_tests)
-
-        further : (j : ℕ) → (nat_lt j i && is_some (signature_at E j)) ≡ true → (nat_lt j (length E) && is_some (signature_at E j)) ≡ true
-        further j q =
-            let r = both_true (nat_lt j i) (is_some (signature_at E j)) q in
-            and_true {a = nat_lt j (length E)} {b = is_some (signature_at E j)} (below j i (length E) (ltb-true j i r.0) inside) r.1
-
-    still_known : list_all (is_known E) (part_mentions (def_parts (AModule m))) ≡ true
-    still_known = all_implies (is_known (take i E)) (is_known E) (λ p q. any_taken (declares p.0 p.1) i E q) (part_mentions (def_parts (AModule m))) (coherent.mentions i (AModule m) there)
-
-    own_text : (j : ℕ) (s t : Bytes) → name_at E j ≡ Some n → text_of_entry E j ≡ Some s → text_of_def E (AModule m) ≡ Some t → s ≡ t
-    own_text j s t a p q = coherent.one_text j i n s t a named p (ap (option_and_then (text_of_def E)) there ∙ q)
-
-    -- the least entry is a module of the same text
-    least_module : (k : Module) × (def_of E l ≡ Some (AModule k)) × (module_bytes (shown E coherent) m ≡ module_bytes (shown E coherent) k)
-    least_module = by (text_of_least E coherent n l found)
-      where
-        here : Bytes
-        here = module_bytes (λ j. unwrap_or (name_at E j) []) m
-
-        by : (e : Entry) × (t : Bytes) × (slice_get E l ≡ Some e) × (e.name ≡ Some n) × (text_of_def E e.def ≡ Some t) → (k : Module) × (def_of E l ≡ Some (AModule k)) × (module_bytes (shown E coherent) m ≡ module_bytes (shown E coherent) k)
-        by x = kind x.0.def refl
-          where
-            d : def_of E l ≡ Some x.0.def
-            d = ap (option_map (λ (e : Entry). e.def)) x.2
-
-            same : x.1 ≡ here
-            same = own_text l x.1 here (ap (option_and_then (λ (e : Entry). e.name)) x.2 ∙ x.3) (ap (option_and_then (text_of_def E)) d ∙ x.4) refl
-
-            kind : (c : Def) → x.0.def ≡ c → (k : Module) × (def_of E l ≡ Some (AModule k)) × (module_bytes (shown E coherent) m ≡ module_bytes (shown E coherent) k)
-            kind (AModule k) q =
-                let dk : def_of E l ≡ Some (AModule k) = d ∙ ap Some q in
-                let that : text_of_def E (AModule k) ≡ Some here = ap (text_of_def E) (sym q) ∙ x.4 ∙ ap Some same in
-                (k, dk, some_eq (sym (text_shown E coherent (length E) (AModule m) (coherent.within_bounds i (AModule m) there) still_back) ∙ sym that ∙ text_shown E coherent l (AModule k) (coherent.within_bounds l (AModule k) dk) (coherent.refers l (AModule k) dk)))
-            kind (AnImport j) q =
-                absurd (one_text-one_kind (λ j. unwrap_or (name_at E j) []) m j here refl (ap (text_of_def E) (sym q) ∙ x.4 ∙ ap Some same))
-            kind (AMark t) q = absurd (none≢some (ap (text_of_def E) (sym q) ∙ x.4))
-
     pub text_before : list_all (is_known (take l E)) (part_mentions (def_parts (AModule m))) ≡ true
     text_before =
         let w = coherent.within_bounds i (AModule m) there in
-        let k = least_module in
+        let k = own_least E coherent i m n there named l found in
         let v = coherent.within_bounds l (AModule k.0) k.1 in
         ap (list_all (is_known (take l E))) (same_mentions (shown E coherent) (λ j. padded_named (unwrap_or (name_at E j) [])) m k.0 w v k.2) ∙ coherent.mentions l (AModule k.0) k.1
 

@@ -5,30 +5,12 @@ use native.Mathlib.Omega.{arith}
 use Rattle.ac_types.proofs.Same.{both_true}
 use Rattle.ac_types.specs.Types.{Bytes, Typ, TTuple, TList, TOpt, TFun, TAbs, Typs, no_types, typ, mentions, mentions_of_all, with_each, all_with_each}
 use Rattle.ac_terms.specs.Defs.{Environment}
-use Rattle.ac_terms.proofs.AllLaws.{all_left, all_right, all_append}
+use Rattle.ac_terms.proofs.AllLaws.{all_left, all_right}
 use Rattle.ac_rules.specs.Views.{opened, rounds, bare, unsealed, head, is_known, are_known}
 use Rattle.ac_rules.specs.Coherent.{IsCoherent}
 use Rattle.ac_rules.proofs.BareLaws.{bare_mentions_none, closed}
-use Rattle.ac_rules.proofs.KnownTypes.{rounds_plus, rounds_still, opened_known, rounds_known, settled}
-
--- what a known type is opened to is known
-module _ (E : Environment) (coherent : IsCoherent E) where
-  mutual
-    round_known : (T : Typ) → are_known E T ≡ true → are_known E (with_each (opened E) T) ≡ true
-    round_known (TTuple Ts) h = all_round_known Ts h
-    round_known (TList T) h = round_known T h
-    round_known (TOpt T) h = round_known T h
-    round_known (TFun T U) h =
-        all_append (is_known E) (mentions (with_each (opened E) T)) (mentions (with_each (opened E) U))
-        (round_known T (all_left (is_known E) (mentions T) (mentions U) h)) (round_known U (all_right (is_known E) (mentions T) (mentions U) h))
-    round_known (TAbs n t) h = opened_known E coherent n t (both_true (is_known E (n, t)) true h).0
-    round_known _ h = refl
-
-    all_round_known : (Ts : Typs) → list_all (is_known E) (mentions_of_all Ts) ≡ true → list_all (is_known E) (mentions_of_all (all_with_each (opened E) Ts)) ≡ true
-    all_round_known no_types h = refl
-    all_round_known (typ T Ts) h =
-        all_append (is_known E) (mentions (with_each (opened E) T)) (mentions_of_all (all_with_each (opened E) Ts))
-        (round_known T (all_left (is_known E) (mentions T) (mentions_of_all Ts) h)) (all_round_known Ts (all_right (is_known E) (mentions T) (mentions_of_all Ts) h))
+use Rattle.ac_rules.proofs.Growth.{round_known}
+use Rattle.ac_rules.proofs.KnownTypes.{rounds_plus, rounds_still, rounds_known, settled}
 
 -- what is known in both is opened to the same
 pub record Agreeing (E F : Environment) : Type 0 where

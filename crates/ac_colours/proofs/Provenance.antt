@@ -1,22 +1,17 @@
 -- One step of a run in a chain: what it gives is vouched for, what it takes tells births of before, and so what stands in the next state.
-use Rattle.std.proofs.Common.{◌≡◌, refl, sym, ap, ◌∙◌, subst, ℕ, Bool, true, false, ◌&&◌, not, cond, List, [], ◌∷◌, ◌++◌, append_assoc, Option, Some, None}
-use native.Mathlib.Omega.{arith}
+use Rattle.std.proofs.Common.{◌≡◌, sym, ap, ◌∙◌, subst, Bool, true, false, ◌&&◌, not, cond, List, [], ◌∷◌, ◌++◌, append_assoc}
 use Rattle.ac_types.specs.Types.{Bytes, Typ, TAbs}
-use Rattle.ac_terms.specs.Terms.{Home, Main, Expr, Str, Marshal, Bracket, PValue, Value, VStr}
+use Rattle.ac_terms.specs.Terms.{Home, Main, Expr, Str, Bracket, PValue, Value}
 use Rattle.ac_terms.specs.Defs.{Environment}
-use Rattle.ac_terms.specs.Spelling.{two_written}
-use Rattle.ac_terms.specs.Heads.{type_heads, value_heads, packed_heads}
 use Rattle.ac_rules.specs.Views.{Coloured, opens}
 use Rattle.ac_rules.specs.Plain.{packed}
-use Rattle.ac_rules.specs.Needed.{mark_at}
-use Rattle.ac_rules.specs.Faults.{Fault, AString, first_fault, behind, cut_at, marshalled}
+use Rattle.ac_rules.specs.Faults.{AString, marshalled}
 use Rattle.ac_rules.specs.RoundTrip.{IsPackable}
 use Rattle.ac_rules.specs.Coherent.{IsCoherent}
 use Rattle.ac_rules.proofs.Composed.{value_still}
-use Rattle.ac_rules.proofs.FaultLaws.{none_fails}
 use Rattle.ac_meaning.specs.Worlds.{World}
-use Rattle.ac_meaning.specs.Acts.{Act, Is, Goes, Turns, Applies, Raises, Wrong, parts, State, At, Over}
-use Rattle.ac_meaning.specs.Packing.{Packing, Refuses, Packs, packs, packing, Lands, landing, marshal_step}
+use Rattle.ac_meaning.specs.Acts.{Act, Is, Goes, Turns, Applies, Raises, Wrong, State, At, Over}
+use Rattle.ac_meaning.specs.Packing.{Packs, packing, Lands, landing}
 use Rattle.ac_meaning.specs.Rebuilding.{rebuilt}
 use Rattle.ac_meaning.specs.Reduction.{look}
 use Rattle.ac_meaning.specs.BareTerms.{bare_value}
@@ -25,12 +20,13 @@ use Rattle.ac_meaning.specs.Typed.{as_seen, Known, ValueTyped}
 use Rattle.ac_meaning.proofs.Admitted.{arrived}
 use Rattle.ac_meaning.proofs.MarshalledRead.{IsBounded}
 use Rattle.ac_meaning.proofs.PackedAlike.{packed_alike}
-use Rattle.ac_colours.proofs.Packable.{packable}
+use Rattle.ac_meaning.proofs.PackedHolds.{packable}
+use Rattle.ac_meaning.proofs.MarshalledRead.{string_fine}
 use Rattle.ac_meaning.proofs.ReadBack.{a_string}
 use Rattle.ac_meaning.proofs.Within.{ValueWithin, TypeFits}
-use Rattle.ac_meaning.proofs.WithinPacked.{Fine, fine_both, packed_fits}
+use Rattle.ac_meaning.proofs.WithinPacked.{packed_fits}
 use Rattle.ac_meaning.proofs.WithinSmall.{packed_small}
-use Rattle.ac_colours.specs.Births.{Seal, seal, Event, Born, Gave, Took, sealing, giving, happening, IsAmong, told}
+use Rattle.ac_colours.specs.Births.{Seal, seal, Event, Born, Gave, Took, sealing, giving, happening, IsAmong}
 use Rattle.ac_colours.specs.Sealed.{Sealed, ValueSealed}
 use Rattle.ac_colours.proofs.Brings.{rebuilt_told}
 use Rattle.ac_colours.proofs.Collected.{among_one}
@@ -86,49 +82,9 @@ take_given S one all s g E coherent keeps c T F v lands =
       keeps = keeps_after S one K s g.vouched E coherent keeps T F v lands;
     }
 
--- where marshal gives a string, its parts are values: a mark, and what is packed
-pub record Packs' (z : World) (c : Home) (T : Typ) (s : Bytes) (a b : Act Expr Value) : Type 0 where
-  pub mark : Bytes
-  pub value : Value
-  pub valued : b ≡ Is value
-  pub packs_so : packing z T mark (packed z.environment c value T) ≡ Packs s
-
-packed_string : (p : Packing) (s : Bytes) → packs p ≡ Goes (Str s) → p ≡ Packs s
-packed_string (Refuses x) s e = absurd cc
-packed_string (Packs r) s e = let q : r ≡ s = cc in ap Packs q
-
-pub marshal_parts : (z : World) (c : Home) (T : Typ) (m w : Expr) (s : Bytes) (a b : Act Expr Value) → parts (Marshal T) m w (marshal_step z c T) a b ≡ Goes (Str s) → Packs' z c T s a b
-marshal_parts z c T m w s (Is (VStr mark)) (Is v) e = record { mark = mark; value = v; valued = refl; packs_so = packed_string (packing z T mark (packed z.environment c v T)) s e }
-marshal_parts z c T m w s (Is _) (Is v) e = absurd cc
-marshal_parts z c T m w s (Is u) (Goes t) e = absurd cc
-marshal_parts z c T m w s (Is u) (Turns y t) e = absurd cc
-marshal_parts z c T m w s (Is u) (Applies t) e = absurd cc
-marshal_parts z c T m w s (Is u) (Raises x) e = absurd cc
-marshal_parts z c T m w s (Is u) Wrong e = absurd cc
-marshal_parts z c T m w s (Goes t) b e = absurd cc
-marshal_parts z c T m w s (Turns y t) b e = absurd cc
-marshal_parts z c T m w s (Applies t) b e = absurd cc
-marshal_parts z c T m w s (Raises x) b e = absurd cc
-marshal_parts z c T m w s Wrong b e = absurd cc
-
 pub made_string : (z : World) (T : Typ) (mark s : Bytes) (w : PValue) → packing z T mark w ≡ Packs s → marshalled z.environment mark T w ≡ AString s
 unfolding packing
 made_string z T mark s w e = a_string (marshalled z.environment mark T w) s e
-
--- the string of a packed value: all of the value travels and is short
-string_fine : (E : Environment) (mark : Bytes) (T : Typ) (v : PValue) (s : Bytes) → marshalled E mark T v ≡ AString s → Fine (value_heads two_written 1 v)
-string_fine E mark T v s e = by_mark (mark_at E mark) e
-  where
-    by_parts : (m : ℕ) (o : Option Fault) → first_fault 500 1048576 0 (packed_heads T v) ≡ o → behind E m T v o ≡ AString s → Fine (value_heads two_written 1 v)
-    by_parts m (Some f) r h = absurd cc
-    by_parts m None r h =
-        let fine = none_fails 500 1048576 0 (packed_heads T v) r in
-        let short = fine.short (omega arith) in
-        (fine_both (type_heads T) (value_heads two_written 1 v) (record { travels = fine.travels; short = omega (arith, short) })).1
-
-    by_mark : (o : Option ℕ) → cut_at E T v o ≡ AString s → Fine (value_heads two_written 1 v)
-    by_mark None h = absurd cc
-    by_mark (Some m) h = by_parts m (first_fault 500 1048576 0 (packed_heads T v)) refl h
 
 -- a typed value within the bounds that a string is made of can be packed
 pub can_pack : (E : Environment) (c : Home) (T : Typ) (mark s : Bytes) (v : Value) → IsCoherent E → Known Coloured E T → ValueTyped Coloured E v c (as_seen Coloured E c T) → TypeFits T → ValueWithin v → marshalled E mark T (packed E c v T) ≡ AString s → IsPackable E T (packed E c v T)

@@ -35,7 +35,8 @@ use Rattle.ac_colours.proofs.OwnedKept.{FieldsOwned, BroughtOwned, ArrivingOwned
 use Rattle.ac_colours.proofs.Owning.{Owned, ValueOwned, StateOwned}
 use Rattle.ac_colours.proofs.OwnPacked.{packed_owned, rebuilt_owned}
 use Rattle.ac_colours.proofs.OwnText.{speaks, speaks_more, owned_more, fields_owned}
-use Rattle.ac_colours.proofs.Provenance.{Runs, StateRuns, Given, Taken, told_weaker, take_given, marshal_parts, made_string, can_pack, no_took, gave_is, bracket_births}
+use Rattle.ac_meaning.proofs.MarshalledRead.{marshal_parts}
+use Rattle.ac_colours.proofs.Provenance.{Runs, StateRuns, Given, Taken, told_weaker, take_given, made_string, can_pack, no_took, gave_is, bracket_births}
 use Rattle.ac_colours.proofs.RedexSound.{Sound, sound}
 use Rattle.ac_colours.proofs.SameDefinitions.{UnmarshalsNext, Stays, stays}
 use Rattle.ac_colours.proofs.Says.{OfBirth, Told}

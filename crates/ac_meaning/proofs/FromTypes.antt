@@ -27,16 +27,16 @@ use Rattle.ac_rules.proofs.KnownTypes.{opened_known, head_known, rounds_still}
 use Rattle.ac_meaning.specs.Typed.{own_type, IsHome, IsLast, HasArm, Fits, AllFit, Typed, AllTyped, ArmsTyped, ValueTyped, ValuesTyped}
 use Rattle.ac_meaning.proofs.Homes.{all_seen, seen_tuple, seen_list, seen_opt, seen_fun, seen_int, seen_bool, seen_str, seen_unit, seen_exn, view_shut, view_open, opened_is, lower, all_lower, lower_tuple, lower_list, lower_opt, lower_fun, lower_int, lower_bool, lower_str, lower_unit, lower_exn, lower_seen}
 
-a_list_is : (X T : Typ) → a_list X ≡ Some T → (B : Typ) × (T ≡ TList B) × (X ≡ T)
+pub a_list_is : (X T : Typ) → a_list X ≡ Some T → (B : Typ) × (T ≡ TList B) × (X ≡ T)
 a_list_is (TList B) T e = (B, sym (some_eq e), some_eq e)
 a_list_is _ T e = absurd (none≢some e)
 
-an_option_is : (X T : Typ) → an_option X ≡ Some T → (B : Typ) × (T ≡ TOpt B) × (X ≡ T)
+pub an_option_is : (X T : Typ) → an_option X ≡ Some T → (B : Typ) × (T ≡ TOpt B) × (X ≡ T)
 an_option_is (TOpt B) T e = (B, sym (some_eq e), some_eq e)
 an_option_is _ T e = absurd (none≢some e)
 
 -- each of some types is T
-abbrev EachIs : Typ → Typs → Type 0
+abbrev pub EachIs : Typ → Typs → Type 0
 EachIs T no_types = Unit {0}
 EachIs T (typ U Us) = (U ≡ T) × EachIs T Us
 
@@ -44,7 +44,7 @@ all_are : (T : Typ) (Us : Typs) → are_all T Us ≡ true → EachIs T Us
 all_are T no_types h = tt
 all_are T (typ U Us) h = let p = both_true (same U T) (are_all T Us) h in (same_eq U T p.0, all_are T Us p.1)
 
-one_is : (Ts : Typs) (T : Typ) → one_of Ts ≡ Some T → EachIs T Ts
+pub one_is : (Ts : Typs) (T : Typ) → one_of Ts ≡ Some T → EachIs T Ts
 one_is no_types T e = absurd (none≢some e)
 one_is (typ U Us) T e =
     let p = given_some (are_all U Us) (Some U) e in
@@ -334,7 +334,7 @@ module _ (E : Environment) (coherent : IsCoherent E) (known : KnownTypes E) (mod
   abbrev seen_as : Environment → Home → Typ → Option Typ
   seen_as G c T = type_seen Coloured false G c T
 
-  agreed : (c : Home) (T : Typ) (t : Option Typ) → agree t (seen_as E c T) ≡ true → t ≡ Some (view Coloured E c T)
+  pub agreed : (c : Home) (T : Typ) (t : Option Typ) → agree t (seen_as E c T) ≡ true → t ≡ Some (view Coloured E c T)
   agreed c T t h =
       let a = agree_some t (seen_as E c T) h in
       a.1 ∙ ap Some (sym (some_eq (given_some (are_known E T) (Some (view Coloured E c T)) a.2).1))
@@ -345,14 +345,14 @@ module _ (E : Environment) (coherent : IsCoherent E) (known : KnownTypes E) (mod
   has_signature (AnImport m) t k R h = refl
   has_signature (AMark s) t k R h = absurd (none≢some h)
 
-  name_home : (n t : Bytes) → is_known E (n, t) ≡ true → is_home E (home_of_name mode E n) ≡ true
+  pub name_home : (n t : Bytes) → is_known E (n, t) ≡ true → is_home E (home_of_name mode E n) ≡ true
   name_home n t h =
       let x = known_has E coherent n t h in
       let p = then_some (λ i. option_and_then (λ (e : Entry). type_of_entry E t e.def e.link) (slice_get E i)) (find_name E n) x.1 x.4 in
       let e = then_some (λ (e : Entry). type_of_entry E t e.def e.link) (slice_get E p.0) x.1 p.2 in
       ap (λ o. is_home E (home_at o)) p.1 ∙ ap (λ o. is_some (option_and_then signature (option_map (λ (y : Entry). y.def) o))) e.1 ∙ has_signature e.0.def t e.0.link x.1 e.2
 
-  name_opens : (m : Mode) (n t : Bytes) → is_known E (n, t) ≡ true → opens m E (home_of_name mode E n) n ≡ true
+  pub name_opens : (m : Mode) (n t : Bytes) → is_known E (n, t) ≡ true → opens m E (home_of_name mode E n) n ≡ true
   name_opens Plain n t h = refl
   name_opens Coloured n t h =
       let x = known_has E coherent n t h in

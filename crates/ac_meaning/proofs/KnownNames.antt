@@ -26,7 +26,7 @@ source_at (y ∷ fs) zero x h e = subst (λ (z : Field). is_source z.term ≡ tr
 source_at (y ∷ fs) (suc f) x h e = source_at fs f x (both_true (is_lower y.name && fits_type false y.ty && fits_term false y.term) _ h).1 e
 
 module _ (E : Environment) (coherent : IsCoherent E) where
-  own_there : (m : Module) (j f : ℕ) (x : Field) → def_of E j ≡ Some (AModule m) → slice_get m.fields f ≡ Some x → own_type E (In j) f ≡ Some x.ty
+  pub own_there : (m : Module) (j f : ℕ) (x : Field) → def_of E j ≡ Some (AModule m) → slice_get m.fields f ≡ Some x → own_type E (In j) f ≡ Some x.ty
   own_there m j f x d g =
       ap (λ (o : Option Module). option_map (λ (y : Field). y.ty) (slice_get (elim o as (λ z. List Field) [ None ↦ [] | Some n ↦ n.fields ]) f)) (ap (option_and_then module_of) d) ∙ ap (option_map (λ (y : Field). y.ty)) g
 

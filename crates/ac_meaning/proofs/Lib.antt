@@ -40,7 +40,7 @@ pub mod BareInst
 pub mod BareReduces
 pub mod BareEndings
 pub mod PackedAlike
-mod PackedHolds
+pub mod PackedHolds
 pub mod ReadBack
 pub mod Within
 pub mod WithinLaws

@@ -121,18 +121,18 @@ module _ (mode : Mode) (E : Environment) where
     all_redex_fine (expr e es) c Ts i h w = or_fine (redex c e) (redex_all c es) (redex_fine e c h.0 i h.3 w.0) (all_redex_fine es c h.1 i h.4 w.1)
 
 -- where marshal gives a string, its parts are values: a mark, and what is packed
-record Packs' (z : World) (c : Home) (T : Typ) (s : Bytes) (a b : Act Expr Value) : Type 0 where
-  mark : Bytes
-  value : Value
-  marked : a ≡ Is (VStr mark)
-  valued : b ≡ Is value
-  packs_so : packing z T mark (packed z.environment c value T) ≡ Packs s
+pub record Packs' (z : World) (c : Home) (T : Typ) (s : Bytes) (a b : Act Expr Value) : Type 0 where
+  pub mark : Bytes
+  pub value : Value
+  pub marked : a ≡ Is (VStr mark)
+  pub valued : b ≡ Is value
+  pub packs_so : packing z T mark (packed z.environment c value T) ≡ Packs s
 
 packed_string : (p : Packing) (s : Bytes) → packs p ≡ Goes (Str s) → p ≡ Packs s
 packed_string (Refuses x) s e = absurd cc
 packed_string (Packs r) s e = let q : r ≡ s = cc in ap Packs q
 
-marshal_parts : (z : World) (c : Home) (T : Typ) (m w : Expr) (s : Bytes) (a b : Act Expr Value) → parts (Marshal T) m w (marshal_step z c T) a b ≡ Goes (Str s) → Packs' z c T s a b
+pub marshal_parts : (z : World) (c : Home) (T : Typ) (m w : Expr) (s : Bytes) (a b : Act Expr Value) → parts (Marshal T) m w (marshal_step z c T) a b ≡ Goes (Str s) → Packs' z c T s a b
 marshal_parts z c T m w s (Is (VStr mark)) (Is v) e = record { mark = mark; value = v; marked = refl; valued = refl; packs_so = packed_string (packing z T mark (packed z.environment c v T)) s e }
 marshal_parts z c T m w s (Is _) (Is v) e = absurd cc
 marshal_parts z c T m w s (Is u) (Goes t) e = absurd cc
@@ -147,7 +147,7 @@ marshal_parts z c T m w s (Raises x) b e = absurd cc
 marshal_parts z c T m w s Wrong b e = absurd cc
 
 -- the string of a packed value: all of the value travels and is short
-string_fine : (E : Environment) (mark : Bytes) (T : Typ) (v : PValue) (s : Bytes) → marshalled E mark T v ≡ AString s → Fine (value_heads two_written 1 v)
+pub string_fine : (E : Environment) (mark : Bytes) (T : Typ) (v : PValue) (s : Bytes) → marshalled E mark T v ≡ AString s → Fine (value_heads two_written 1 v)
 string_fine E mark T v s e = by_mark (mark_at E mark) e
   where
     by_parts : (m : ℕ) (o : Option Fault) → first_fault 500 1048576 0 (packed_heads T v) ≡ o → behind E m T v o ≡ AString s → Fine (value_heads two_written 1 v)

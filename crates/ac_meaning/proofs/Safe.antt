@@ -127,7 +127,7 @@ part_of s (pos i) (pos n) = tested (nat_le (i + n) (length s)) TStr (Gives (CStr
 part_of s _ _ = tt
 
 -- a string with two ints
-abbrev PartTypes : Typs
+abbrev pub PartTypes : Typs
 PartTypes = typ TStr (typ TInt (typ TInt no_types))
 
 a_part : (ks : List Const) → ConstsOf (typ (TTuple PartTypes) no_types) ks → AnswerOf TStr (primitive_answer (Meaning.One part_of_string) ks)
@@ -139,7 +139,7 @@ a_unit : (ks : List Const) → ConstsOf (typ TUnit no_types) ks → AnswerOf TSt
 a_unit ks k = let s = one_const ks TUnit k in subst (λ x. AnswerOf TStr (primitive_answer (Meaning.One received_string) x)) (sym (s.1 ∙ ap (λ a. a ∷ []) s.2)) refl
 
 -- the types of constants
-abbrev ConstType : Typ → Type 0
+abbrev pub ConstType : Typ → Type 0
 ConstType TInt = Unit {0}
 ConstType TBool = Unit {0}
 ConstType TStr = Unit {0}

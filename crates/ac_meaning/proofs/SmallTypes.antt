@@ -23,7 +23,7 @@ use Rattle.ac_meaning.proofs.WithinSources.{kept_small, small_seen}
 use Rattle.ac_meaning.proofs.WithinSmall.{Small, both, first, each}
 
 -- parts of a small type
-abbrev AllSmall : Typs → Type 0
+abbrev pub AllSmall : Typs → Type 0
 AllSmall no_types = Unit {0}
 AllSmall (typ T Ts) = (is_small T ≡ true) × AllSmall Ts
 
@@ -43,23 +43,23 @@ bounded T h = let p = both_true (nat_le (parts T) 4096) (nat_le (height T) 100) 
 small : (T : Typ) → parts T ≤ 4096 → height T ≤ 100 → is_small T ≡ true
 small T p q = and_true {a = nat_le (parts T) 4096} {b = nat_le (height T) 100} (is_at_most (parts T) 4096 p) (is_at_most (height T) 100 q)
 
-small_argument : (A B : Typ) → is_small (TFun A B) ≡ true → is_small A ≡ true
+pub small_argument : (A B : Typ) → is_small (TFun A B) ≡ true → is_small A ≡ true
 small_argument A B h = let b = bounded (TFun A B) h in let f = b.few in let l = b.low in small A (omega (arith, f)) (omega (arith, l))
 
-small_result : (A B : Typ) → is_small (TFun A B) ≡ true → is_small B ≡ true
+pub small_result : (A B : Typ) → is_small (TFun A B) ≡ true → is_small B ≡ true
 small_result A B h = let b = bounded (TFun A B) h in let f = b.few in let l = b.low in small B (omega (arith, f)) (omega (arith, l))
 
-small_item : (A : Typ) → is_small (TList A) ≡ true → is_small A ≡ true
+pub small_item : (A : Typ) → is_small (TList A) ≡ true → is_small A ≡ true
 small_item A h = let b = bounded (TList A) h in let f = b.few in let l = b.low in small A (omega (arith, f)) (omega (arith, l))
 
-small_option : (A : Typ) → is_small (TOpt A) ≡ true → is_small A ≡ true
+pub small_option : (A : Typ) → is_small (TOpt A) ≡ true → is_small A ≡ true
 small_option A h = let b = bounded (TOpt A) h in let f = b.few in let l = b.low in small A (omega (arith, f)) (omega (arith, l))
 
 all_small : (Ts : Typs) → parts_of_all Ts ≤ 4096 → height_of_all Ts ≤ 100 → AllSmall Ts
 all_small no_types p q = tt
 all_small (typ T Ts) p q = (small T (omega (arith, p)) (omega (arith, q)), all_small Ts (omega (arith, p)) (omega (arith, q)))
 
-small_tuple : (Ts : Typs) → is_small (TTuple Ts) ≡ true → AllSmall Ts
+pub small_tuple : (Ts : Typs) → is_small (TTuple Ts) ≡ true → AllSmall Ts
 small_tuple Ts h = let b = bounded (TTuple Ts) h in let f = b.few in let l = b.low in all_small Ts (omega (arith, f)) (omega (arith, l))
 
 -- the last of some types, and the one that all are

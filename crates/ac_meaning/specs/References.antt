@@ -1,9 +1,9 @@
 -- Own fields, and references to those of other definitions.
-use Rattle.std.specs.Prelude.{ℕ, Bool, true, false, not, List, Option, Some, None, option_and_then, option_map, slice_get, position}
+use Rattle.std.specs.Prelude.{ℕ, Bool, true, false, not, Option, Some, None, option_and_then, option_map, slice_get}
 use Rattle.std.specs.Option.{option_map_or}
-use Rattle.ac_types.specs.Types.{Bytes, Typ, same_bytes}
+use Rattle.ac_types.specs.Types.{Bytes, Typ}
 use Rattle.ac_terms.specs.Terms.{Home, In, Expr, Bracket}
-use Rattle.ac_terms.specs.Defs.{Environment, Entry, Field, Def, AModule, AnImport, AMark, def_of, module_behind, field_number}
+use Rattle.ac_terms.specs.Defs.{Environment, Field, Def, AModule, AnImport, AMark, def_of, module_behind, field_number}
 use Rattle.ac_rules.specs.Views.{Coloured, view}
 use Rattle.ac_rules.specs.Links.{is_exact}
 use Rattle.ac_rules.specs.Typing.{fields_of, value_in}

@@ -42,7 +42,7 @@ grows_on E F G g h =
 -- what a known type is opened to is known
 module _ (E : Environment) (coherent : IsCoherent E) where
   mutual
-    round_known : (T : Typ) → are_known E T ≡ true → are_known E (with_each (opened E) T) ≡ true
+    pub round_known : (T : Typ) → are_known E T ≡ true → are_known E (with_each (opened E) T) ≡ true
     round_known (TTuple Ts) h = all_round_known Ts h
     round_known (TList T) h = round_known T h
     round_known (TOpt T) h = round_known T h
