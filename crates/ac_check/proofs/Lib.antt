@@ -1,11 +1,5 @@
-pub mod Equalities
-pub mod ScopeLaws
-pub mod PairLaws
-pub mod Collected
-pub mod KeptLaws
-pub mod SeenLaws
-pub mod PatternLaws
-pub mod TermLaws
-pub mod ArmLaws
-pub mod FormLaws
-pub mod TypedForms
+pub mod Strict
+pub mod CapturedLaws
+pub mod CodeTerms
+pub mod ValueForms
+pub mod HoldLaws

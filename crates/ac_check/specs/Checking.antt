@@ -1,5 +1,5 @@
 -- What the checker answers.
-use Rattle.std.specs.Prelude.{◌≡◌, ⊤, Option, Some, None, Result, Ok, Err}
+use Rattle.std.specs.Prelude.{◌≡◌, ⊤, Bool, false, Option, Some, None, Result, Ok, Err}
 use Rattle.ac_types.specs.Types.{Typ}
 use Rattle.ac_types.specs.ReadTypes.{typ_of}
 use Rattle.ac_types.specs.declared.ty.Ty.{Ty}
@@ -11,3 +11,8 @@ abbrev pub Answers : Result Ty CheckFault → Option Typ → Type 0
 Answers (Ok t) o = o ≡ Some (typ_of t)
 Answers (Err fault.IllTyped) o = o ≡ None
 Answers (Err fault.Memory) o = ⊤
+
+-- a value is refused as ill-typed exactly where it isn't of the type, or for want of memory
+abbrev pub RefusesWhere : CheckFault → Bool → Type 0
+RefusesWhere fault.IllTyped b = b ≡ false
+RefusesWhere fault.Memory b = ⊤

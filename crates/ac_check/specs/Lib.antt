@@ -1,3 +1,2 @@
-pub mod PlainTerms
 pub mod Checking
 pub mod inner

@@ -1,101 +1,113 @@
-// Functions.
+// Functions of packed values, and their homes.
 
-ghost use Rattle.std.specs.Prelude.{◌≡◌, IfOk, Some, option_map};
-ghost use Rattle.ac_types.specs.First.{given};
-ghost use Rattle.ac_types.specs.Types.{TFun};
+ghost use Rattle.std.specs.Prelude.{◌≡◌, ◌<◌, ◌^◌, IfOk, length, option_map};
 ghost use Rattle.ac_types.specs.ReadTypes.{typ_of};
-ghost use Rattle.ac_terms.specs.TermTyping.{has};
-ghost use Rattle.ac_rules.specs.Views.{Coloured};
-ghost use Rattle.ac_rules.specs.Typing.{kept_in, type_applied};
-ghost use Rattle.ac_check.specs.inner.Parts.{ends_of, read_ends};
+ghost use Rattle.ac_terms.specs.PrimitiveTypes.{is_exception};
+ghost use Rattle.ac_terms.specs.Read.{environment_of, home_of, expr_of, bytes_of};
+ghost use Rattle.ac_rules.specs.Plain.{may_travel};
+ghost use Rattle.ac_rules.specs.Typing.{fields_of, is_function_home};
+ghost use Rattle.ac_check.specs.inner.Captured.{declared_agrees};
 
-use crate::types::{kept, same_types};
-use ac_types::{Box, Memory, Ty, both};
+use ac_terms::{Def, Env, Exn, Home, Term};
+use ac_types::{Many, Memory, Ty};
+use ac_typing::{declared_type, has_text, is_bare};
+use ac_views::{Site, ends, head, is_seen_as};
 use std::alloc::Global;
 
-/// The type of a function whose argument and result have these types.
-#[tactic(auto, using(ac_types::proofs::SizeLaws::type_laws))]
-pub fn function_type(alloc: Global, from: Ty, to: Option<Ty>) -> Result<Option<Ty>, Memory>
-    ensures { IfOk result (λ o. option_map typ_of o ≡ kept_in Coloured
-        (option_map (TFun (typ_of from)) (option_map typ_of to))) }
+/// Whether an exception has a text exactly where its number asks for one.
+pub fn is_exception(exn: &Exn) -> bool
+    ensures { result ≡ is_exception exn.now.number (option_map bytes_of exn.now.text) }
 {
-    let Some(to) = to else {
-        drop(from);
-        return Ok(None);
-    };
-    let (from, to) = both(Box::new(alloc, from), Box::new(alloc, to))?;
-    Ok(kept(Ty::Fun(from, to)))
-}
-
-/// The type of an application, where the function and its argument have these types.
-#[tactic(auto, using(ac_types::proofs::SizeLaws::type_laws))]
-pub fn applied(function: Option<Ty>, argument: Option<Ty>) -> Option<Ty>
-    ensures { option_map typ_of result ≡ type_applied (option_map typ_of function)
-        (option_map typ_of argument) }
-{
-    let Some(function) = function else {
-        drop(argument);
-        return None;
-    };
-    let Some(argument) = argument else {
-        drop(function);
-        return None;
-    };
-    match function {
-        Ty::Fun(from, to) => {
-            let same = same_types(&argument, &from);
-            drop(argument);
-            drop(from);
-            if same {
-                Some(to.into_inner())
-            } else {
-                drop(to);
-                None
-            }
-        }
-        other => {
-            drop(other);
-            drop(argument);
-            None
-        }
+    match &exn.text {
+        None => is_bare(exn.number),
+        Some(_) => has_text(exn.number),
     }
 }
 
-/// The type of a recursive function of this type, whose body has the type `found`.
-pub fn recursive_type(own: Ty, to: &Ty, found: Option<Ty>) -> Option<Ty>
-    ensures { option_map typ_of result ≡ given (has (option_map typ_of found) (typ_of to.now))
-        (Some (typ_of own)) }
+/// How many fields a home has.
+#[tactic(auto, using(ac_terms::proofs::EnvLaws::env_laws))]
+fn field_count(env: &Env, home: Home) -> usize
+    ensures { result ≡ length (fields_of (environment_of env.now) (home_of home)) }
 {
-    let Some(found) = found else {
-        drop(own);
-        return None;
+    match home {
+        Home::Main => 0,
+        Home::In(i) => match env.entry(i) {
+            None => 0,
+            Some(entry) => match &entry.def {
+                Def::Module(m) => m.fields.len(),
+                Def::Import(_) => 0,
+                Def::Mark(_) => 0,
+            },
+        },
+    }
+}
+
+/// Whether a home is the main program or a module.
+#[tactic(auto, using(ac_terms::proofs::EnvLaws::env_laws))]
+fn is_function_home(env: &Env, home: Home) -> bool
+    ensures { result ≡ is_function_home (environment_of env.now) (home_of home) }
+{
+    match home {
+        Home::Main => true,
+        Home::In(i) => match env.entry(i) {
+            None => false,
+            Some(entry) => match &entry.def {
+                Def::Module(_) => true,
+                Def::Import(_) => false,
+                Def::Mark(_) => false,
+            },
+        },
+    }
+}
+
+/// Whether a function has in its home a type as that home sees it, each captured value counting as
+/// of the type beside it.
+fn is_declared_as<'a>(
+    alloc: Global,
+    env: &'a Env,
+    home: Home,
+    l: &'a Term,
+    ty: &'a Ty,
+) -> Result<bool, Memory>
+    requires { length env.now.entries < 2 ^ 32 }
+    ensures { IfOk result (λ b. b ≡ declared_agrees (environment_of env.now) (home_of home)
+        (expr_of l.now) (typ_of ty.now)) }
+{
+    let site = Site {
+        env,
+        home,
+        own: field_count(env, home),
+        refs: env.entries.len(),
     };
-    let same = same_types(&found, to);
+    let vars = Many::new(alloc);
+    let Some(found) = declared_type(alloc, &site, &vars, l)? else {
+        return Ok(false);
+    };
+    let fits = is_seen_as(ty, &found, &site);
     drop(found);
-    if same {
-        Some(own)
-    } else {
-        drop(own);
-        None
-    }
+    Ok(fits)
 }
 
-/// The argument's and the result's type of a function type.
-#[tactic(auto, using(ac_types::proofs::SizeLaws::type_laws))]
-pub fn ends(ty: &Ty) -> Option<(&Ty, &Ty)>
-    ensures { option_map read_ends result ≡ ends_of (typ_of ty.now) }
+/// Whether a function of a home may travel at a type: the home is the main program or a module, and
+/// the function has there the type as the home sees it, each captured value counting as of the type
+/// beside it.
+pub fn may_travel<'a>(
+    alloc: Global,
+    env: &'a Env,
+    home: Home,
+    l: &'a Term,
+    ty: &'a Ty,
+) -> Result<bool, Memory>
+    requires { length env.now.entries < 2 ^ 32 }
+    ensures { IfOk result (λ b. b ≡ may_travel (environment_of env.now) (home_of home)
+        (expr_of l.now) (typ_of ty.now)) }
 {
-    match ty {
-        Ty::Fun(from, to) => Some((from, to)),
-        Ty::Int => None,
-        Ty::Bool => None,
-        Ty::Str => None,
-        Ty::Unit => None,
-        Ty::Exn => None,
-        Ty::Tuple(_) => None,
-        Ty::List(_) => None,
-        Ty::Opt(_) => None,
-        Ty::Abs(_, _) => None,
-        Ty::Mine(_) => None,
+    let at = head(env, ty);
+    if ends(at).is_none() {
+        return Ok(false);
     }
+    if !is_function_home(env, home) {
+        return Ok(false);
+    }
+    is_declared_as(alloc, env, home, l, at)
 }

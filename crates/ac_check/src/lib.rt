@@ -1,19 +1,12 @@
-//! The type of a term, exactly where the rules of typing give one.
+//! The type of a term, exactly where the rules of typing give one, and whether a packed value is of
+//! a type.
 #![tactic(auto)]
 
-mod arms;
-mod data;
-mod exceptions;
+mod checking;
 mod fault;
 mod functions;
-mod patterns;
-mod plain;
-mod primitives;
-mod scope;
-mod seen;
-mod types;
-mod typing;
+mod holding;
 
+pub use checking::{check_value, type_of};
 pub use fault::CheckFault;
-pub use plain::is_plain;
-pub use typing::type_of;
+pub use functions::may_travel;

@@ -1,7 +1,7 @@
 // The first part of a program that has no type.
 
 use crate::parts::{Part, parts_of};
-use ac_check::{CheckFault, is_plain, type_of};
+use ac_check::{CheckFault, type_of};
 use ac_syntax::SExpr;
 use ac_terms::{Env, Home, Term};
 use ac_types::{Many, Memory, Ty};
@@ -34,9 +34,6 @@ enum Way<'a> {
 
 // The type of a term, where it has one.
 fn type_in(alloc: Global, term: &Term, vars: &Many<Ty>) -> Result<Option<Ty>, Memory> {
-    if !is_plain(term) {
-        return Ok(None);
-    }
     let env = Env {
         entries: Many::new(alloc),
     };

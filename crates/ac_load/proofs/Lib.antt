@@ -1,7 +1,7 @@
 pub mod LoadLaws
 pub mod Mentions
 pub mod NoDefinitions
-pub mod PlainTerms
+pub mod SourceTerms
 pub mod SignBounds
 pub mod TermBounds
 pub mod TextLaws

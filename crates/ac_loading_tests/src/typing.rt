@@ -1,6 +1,6 @@
 // Types of 4,096 parts, and of more.
 
-use ac_check::{CheckFault, is_plain, type_of};
+use ac_check::{CheckFault, type_of};
 use ac_terms::{Env, Home, Term};
 use ac_types::{Box, Many, Memory, Ty, both, ty_eq};
 use std::alloc::Global;
@@ -33,11 +33,7 @@ fn type_alone(alloc: Global, term: &Term) -> Result<Ty, CheckFault> {
     let env = Env {
         entries: Many::new(alloc),
     };
-    if is_plain(term) {
-        type_of(alloc, &env, Home::Main, 0, 0, &Many::new(alloc), term)
-    } else {
-        Err(CheckFault::Memory)
-    }
+    type_of(alloc, &env, Home::Main, 0, 0, &Many::new(alloc), term)
 }
 
 fn typed(alloc: Global, term: Result<Term, Memory>) -> Result<Ty, CheckFault> {

@@ -2,7 +2,7 @@
 
 use crate::pile::{Pile, several};
 use crate::site::{text, word};
-use ac_terms::{Arm, PVal, Term};
+use ac_terms::{Arm, Home, PVal, Term};
 use ac_types::{Box, Many, Ty};
 
 impl Pile {
@@ -45,7 +45,12 @@ impl Pile {
             "Present" => self.boxed_term().map(Term::Present),
             "Var" => self.short().map(Term::Var),
             "Own" => self.short().map(Term::Own),
-            "Ref" => word(self.alloc).ok().map(|word| Term::Ref(0, word)),
+            "Ref" => {
+                let number = self.small()?;
+                word(self.alloc)
+                    .ok()
+                    .map(|word| Term::Ref(u32::from(number), word))
+            }
             "Seq" => self.parts().map(Term::Seq),
             "Prim" => {
                 let number = self.small()?;
@@ -85,7 +90,16 @@ impl Pile {
             "Unmarshal" => self
                 .type_and_term()
                 .map(|(ty, inner)| Term::Unmarshal(ty, inner)),
-            "Val" => Some(Term::Val(Ty::Int, PVal::Int(1))),
+            "Val" => {
+                let ty = self.types.pop()?;
+                Some(Term::Val(ty, PVal::Int(self.numbers.pop()?)))
+            }
+            "Carried" => self
+                .type_and_term()
+                .map(|(ty, l)| Term::Val(ty, PVal::Fun(Home::In(0), l))),
+            "Foreign" => self
+                .type_and_term()
+                .map(|(ty, l)| Term::Val(ty, PVal::Fun(Home::In(1), l))),
             _ => None,
         }
     }

@@ -8,6 +8,9 @@ use ac_types::{Many, Name, Ty};
 /// The name that the module keeps.
 pub const NAME: Name = Name([7; 32]);
 
+/// The name that the import by version keeps.
+pub const OTHER: Name = Name([8; 32]);
+
 impl Pile {
     /// The type of that form, whose parts are on top.
     pub fn ty(&mut self, form: &str) -> Option<Ty> {
@@ -28,6 +31,7 @@ impl Pile {
                 Some(Ty::Fun(from, self.boxed_type()?))
             }
             "abstract" => word(self.alloc).ok().map(|word| Ty::Abs(NAME, word)),
+            "imported" => word(self.alloc).ok().map(|word| Ty::Abs(OTHER, word)),
             _ => None,
         }
     }
@@ -56,6 +60,7 @@ pub fn write_type(page: &mut Page, ty: &Ty) {
             write_type(page, from);
             write_type(page, to);
         }
+        Ty::Abs(name, _) if name.0 == OTHER.0 => page.put(b" imported"),
         Ty::Abs(_, _) => page.put(b" abstract"),
         Ty::Mine(_) => page.put(b" mine"),
     }

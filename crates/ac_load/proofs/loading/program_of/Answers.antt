@@ -4,7 +4,7 @@ use Rattle.ac_types.specs.ReadTypes.{typ_of}
 use Rattle.ac_terms.specs.Read.{environment_of, entry_of, expr_of}
 use Rattle.ac_load.specs.Loading.{not_built}
 use Rattle.ac_load.proofs.LoadLaws.{source, parse_fault, scope_fault, at_main, has_term, untyped}
-use Rattle.ac_load.proofs.TextLaws.{plain_term, loads}
+use Rattle.ac_load.proofs.TextLaws.{loads}
 use Rattle.ac_load.proofs.loading.program_of.Goals as goal
 
 pub returns-in_err-surface-clause-refused : goal.returns-in_err-surface-clause-refused
@@ -19,9 +19,6 @@ pub returns-in_err-raw-clause-refused : goal.returns-in_err-raw-clause-refused
 returns-in_err-raw-clause-refused c =
     let p = err_from_is_err_and c.from_residual-in_err-raw.result c.from_residual-in_err-raw.ensures.1 in
     rw (p.1, p.2) (scope_fault _ _ _ (source c.in_ok-surface.ensures.tree (sym c.in_default.ensures)) c.in_err-raw.ensures.refused)
-
-pub type_of-requires-clause-plain : goal.type_of-requires-clause-plain
-type_of-requires-clause-plain c = plain_term (source c.in_ok-surface.ensures.tree (sym c.in_default.ensures)) c.in_ok-raw.ensures.main
 
 pub returns-in-Ok-clause-has_term : goal.returns-in-Ok-clause-has_term
 returns-in-Ok-clause-has_term c =

@@ -1,0 +1,71 @@
+// The type of a term, and whether a packed value is of a type.
+
+ghost use Rattle.std.specs.Prelude.{◌≡◌, ◌<◌, ◌^◌, IfErr, OnOk, false, length, map};
+ghost use Rattle.ac_types.specs.ReadTypes.{typ_of};
+ghost use Rattle.ac_terms.specs.Read.{environment_of, home_of, expr_of, value_of};
+ghost use Rattle.ac_rules.specs.Views.{Coloured};
+ghost use Rattle.ac_rules.specs.Typing.{Holds, type_of, holds};
+ghost use Rattle.ac_check.specs.Checking.{Answers, RefusesWhere};
+
+use crate::fault::CheckFault;
+use crate::holding::{captured_hold, holds};
+use ac_terms::{Env, Home, PVal, Term};
+use ac_types::{Many, Ty};
+use ac_typing::declared_type;
+use ac_views::Site;
+use std::alloc::Global;
+
+/// The type of a term, where the variables have the types `ctx`, the newest first. A term may speak
+/// of the own fields before `own` and of the entries before `refs`; a function in a captured value
+/// may speak of all of its home's.
+pub fn type_of(
+    alloc: Global,
+    env: &Env,
+    home: Home,
+    own: u32,
+    refs: u32,
+    ctx: &Many<Ty>,
+    t: &Term,
+) -> Result<Ty, CheckFault>
+    requires { length env.now.entries < 2 ^ 32 }
+    ensures { Answers result (type_of Coloured false (environment_of env.now)
+        (record { home = home_of home; own = own; refs = refs; vars = map typ_of ctx.now })
+        (expr_of t.now)) }
+{
+    let site = Site {
+        env,
+        home,
+        own: own as usize,
+        refs: refs as usize,
+    };
+    match declared_type(alloc, &site, ctx, t) {
+        Err(_) => Err(CheckFault::Memory),
+        Ok(None) => Err(CheckFault::IllTyped),
+        Ok(Some(ty)) => match captured_hold(alloc, t, env) {
+            Ok(true) => Ok(ty),
+            Ok(false) => {
+                drop(ty);
+                Err(CheckFault::IllTyped)
+            }
+            Err(_) => {
+                drop(ty);
+                Err(CheckFault::Memory)
+            }
+        },
+    }
+}
+
+/// Whether a packed value is of a type: an abstract type is its representation, and nothing of a
+/// type is written out.
+pub fn check_value(alloc: Global, env: &Env, t: &Ty, v: &PVal) -> Result<(), CheckFault>
+    requires { length env.now.entries < 2 ^ 32 }
+    ensures accepted { OnOk result (Holds (environment_of env.now) (value_of v.now) (typ_of t.now)) }
+    ensures refused { IfErr result (λ f. RefusesWhere f (holds Coloured false
+        (environment_of env.now) (value_of v.now) (typ_of t.now))) }
+{
+    match holds(alloc, v, t, env) {
+        Ok(true) => Ok(()),
+        Ok(false) => Err(CheckFault::IllTyped),
+        Err(_) => Err(CheckFault::Memory),
+    }
+}

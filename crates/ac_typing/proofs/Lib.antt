@@ -1,0 +1,9 @@
+pub mod Equalities
+pub mod ScopeLaws
+pub mod Collected
+pub mod KeptLaws
+pub mod PatternLaws
+pub mod TermLaws
+pub mod ArmLaws
+pub mod FormLaws
+pub mod TypedForms

@@ -1,0 +1,81 @@
+// Functions.
+
+ghost use Rattle.std.specs.Prelude.{◌≡◌, IfOk, Some, option_map};
+ghost use Rattle.ac_types.specs.First.{given};
+ghost use Rattle.ac_types.specs.Types.{TFun};
+ghost use Rattle.ac_types.specs.ReadTypes.{typ_of};
+ghost use Rattle.ac_terms.specs.TermTyping.{has};
+ghost use Rattle.ac_rules.specs.Views.{Coloured};
+ghost use Rattle.ac_rules.specs.Typing.{kept_in, type_applied};
+ghost use Rattle.ac_views.specs.Sites.{ends_of, read_ends};
+
+use ac_types::{Box, Memory, Ty, both};
+use ac_views::{kept, same_types};
+use std::alloc::Global;
+
+/// The type of a function whose argument and result have these types.
+#[tactic(auto, using(ac_types::proofs::SizeLaws::type_laws))]
+pub fn function_type(alloc: Global, from: Ty, to: Option<Ty>) -> Result<Option<Ty>, Memory>
+    ensures { IfOk result (λ o. option_map typ_of o ≡ kept_in Coloured
+        (option_map (TFun (typ_of from)) (option_map typ_of to))) }
+{
+    let Some(to) = to else {
+        drop(from);
+        return Ok(None);
+    };
+    let (from, to) = both(Box::new(alloc, from), Box::new(alloc, to))?;
+    Ok(kept(Ty::Fun(from, to)))
+}
+
+/// The type of an application, where the function and its argument have these types.
+#[tactic(auto, using(ac_types::proofs::SizeLaws::type_laws))]
+pub fn applied(function: Option<Ty>, argument: Option<Ty>) -> Option<Ty>
+    ensures { option_map typ_of result ≡ type_applied (option_map typ_of function)
+        (option_map typ_of argument) }
+{
+    let Some(function) = function else {
+        drop(argument);
+        return None;
+    };
+    let Some(argument) = argument else {
+        drop(function);
+        return None;
+    };
+    match function {
+        Ty::Fun(from, to) => {
+            let same = same_types(&argument, &from);
+            drop(argument);
+            drop(from);
+            if same {
+                Some(to.into_inner())
+            } else {
+                drop(to);
+                None
+            }
+        }
+        other => {
+            drop(other);
+            drop(argument);
+            None
+        }
+    }
+}
+
+/// The type of a recursive function of this type, whose body has the type `found`.
+pub fn recursive_type(own: Ty, to: &Ty, found: Option<Ty>) -> Option<Ty>
+    ensures { option_map typ_of result ≡ given (has (option_map typ_of found) (typ_of to.now))
+        (Some (typ_of own)) }
+{
+    let Some(found) = found else {
+        drop(own);
+        return None;
+    };
+    let same = same_types(&found, to);
+    drop(found);
+    if same {
+        Some(own)
+    } else {
+        drop(own);
+        None
+    }
+}

@@ -1,0 +1,16 @@
+//! The type of a term, exactly where the rules of typing give one, each captured value counting as
+//! of the type beside it.
+#![tactic(auto)]
+
+mod arms;
+mod data;
+mod exceptions;
+mod functions;
+mod patterns;
+mod primitives;
+mod scope;
+mod typing;
+mod written;
+
+pub use exceptions::{has_text, is_bare};
+pub use typing::declared_type;
