@@ -1,0 +1,9 @@
+pub mod FrontLaws
+pub mod Lists
+pub mod OuterLaws
+pub mod Places
+pub mod Scoping
+pub mod TermForms
+pub mod TypeForms
+pub mod TypeLists
+pub mod VariableForms

@@ -1,0 +1,4 @@
+pub mod Entries
+pub mod Fronts
+pub mod Primitives
+pub mod inner

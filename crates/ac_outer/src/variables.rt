@@ -1,0 +1,76 @@
+// The variables in scope.
+
+ghost use Rattle.std.specs.Prelude.{◌≡◌, List, None, min, map, length, option_map};
+ghost use Rattle.ac_types.specs.Types.{Bytes};
+ghost use Rattle.ac_syntax.specs.ReadTrees.{name_of};
+ghost use Rattle.ac_scopes.specs.Scopes.{binders_to, scope_with};
+ghost use Rattle.ac_scopes.specs.Counts.{over, scope_limit};
+ghost use Rattle.ac_outer.specs.inner.VariableNames.{names_in, passed};
+
+use ac_syntax::SName;
+use ac_types::Word;
+
+/// The variables in scope, the newest first.
+#[derive(Clone, Copy)]
+pub enum Variables<'a> {
+    /// None.
+    Empty,
+    /// One more than those around.
+    Inner(&'a Variables<'a>, &'a SName),
+    /// Those of a pattern, from left to right, and those around.
+    Arm(&'a Variables<'a>, &'a [SName]),
+}
+
+/// A number that no variable has: past it, none is counted.
+const NO_VARIABLE: usize = 65536;
+
+/// How many binders stand between a name and its own, at most 65,536, `None` exactly where it isn't
+/// in scope.
+#[tactic(auto, using(crate::proofs::VariableForms::variable_laws))]
+fn binders_to(variables: &Variables, word: &Word) -> Option<usize>
+    ensures { result ≡ option_map (λ i. min i 65536) (binders_to word.now (names_in
+        variables.now)) }
+{
+    match variables {
+        Variables::Empty => None,
+        Variables::Inner(outer, name) => {
+            if name.word.text().as_slice() == word.text().as_slice() {
+                return Some(0);
+            }
+            let i = binders_to(outer, word)?;
+            Some((i + 1).min(NO_VARIABLE))
+        }
+        Variables::Arm(outer, names) => match behind(names, word) {
+            Some(i) => Some(i.min(NO_VARIABLE)),
+            None => {
+                let i = binders_to(outer, word)?;
+                Some((names.len() + i).min(NO_VARIABLE))
+            }
+        },
+    }
+}
+
+/// How many binders stand between a name and its own, `None` exactly where it isn't in scope.
+pub fn number_of(variables: &Variables, word: &Word) -> Option<u16>
+    requires { over scope_limit (length (names_in variables.now)) ≡ None }
+    ensures { result ≡ binders_to word.now (names_in variables.now) }
+{
+    let number = binders_to(variables, word)?;
+    Some(number as u16)
+}
+
+/// How many of these names stand behind the last that is this one.
+fn behind(names: &[SName], word: &Word) -> Option<usize>
+    ensures { (outer : List Bytes) → binders_to word.now
+        (scope_with (map name_of names.now) outer) ≡ passed result (length names.now)
+        (binders_to word.now outer) }
+{
+    let mut left = names.len();
+    while left > 0 {
+        left -= 1;
+        if names[left].word.text().as_slice() == word.text().as_slice() {
+            return Some(names.len() - 1 - left);
+        }
+    }
+    None
+}
