@@ -1,23 +1,13 @@
--- What doesn't run yet: definitions, marshalling, and the channels.
+-- What doesn't run yet: definitions and marshalling.
 use Rattle.std.specs.Prelude.{ℕ, [], ◌∷◌, Option, Some, None, option_and_then}
 use Rattle.std.specs.Option.{option_or}
 use Rattle.ac_syntax.specs.Trees.{Tree, ExInt, ExBool, ExStr, ExUnit, ExExn, ExExnOf, ExTuple, ExNil, ExAbsent, ExPresent, ExCons, ExVar, ExOf, ExFun, ExRec, ExApp, ExLet, ExLetRec, ExIf, ExSeq, ExMatch, ExTry, ExRaise, ExAnd, ExOr, ExOp, ExMarshal, ExUnmarshal, Trees, no_trees, tree, ArmTrees, no_arm_trees, arm_tree, DefTree, ModuleDef, ImportDef, MarkDef, ProgramTree}
-use Rattle.ac_resolve.specs.declared.primitive.Primitive.{Primitive}
-use Rattle.ac_resolve.specs.declared.primitive.Primitive.TheVariants.{Send, Receive}
-use Rattle.ac_resolve.specs.ScopedNames.{primitive_named}
-
--- the place of `IO.send` and `IO.receive`; the other primitives run
-abbrev pub unbuilt_primitive : ℕ → Option Primitive → Option ℕ
-unbuilt_primitive at (Some Send) = Some at
-unbuilt_primitive at (Some Receive) = Some at
-unbuilt_primitive at other = None
 
 -- the place of the first form in a tree that doesn't run yet, where a form comes before its parts
 abbrev mutual
   pub unbuilt : Tree → Option ℕ
   unbuilt (ExMarshal at mark value ty) = Some at
   unbuilt (ExUnmarshal at text ty) = Some at
-  unbuilt (ExOf at m x) = unbuilt_primitive at (primitive_named m.word x.word)
   unbuilt (ExExnOf at number argument) = unbuilt argument
   unbuilt (ExTuple at parts) = unbuilt_all parts
   unbuilt (ExPresent at item) = unbuilt item
@@ -43,6 +33,7 @@ abbrev mutual
   unbuilt (ExNil at ty) = None
   unbuilt (ExAbsent at ty) = None
   unbuilt (ExVar at x) = None
+  unbuilt (ExOf at m x) = None
 
   pub unbuilt_all : Trees → Option ℕ
   unbuilt_all no_trees = None

@@ -3,20 +3,9 @@
 ghost use Rattle.std.specs.Prelude.{◌≡◌, map};
 ghost use Rattle.ac_syntax.specs.Trees.{trees, arm_trees};
 ghost use Rattle.ac_syntax.specs.ReadTrees.{surface_of, expr_of, arm_of};
-ghost use Rattle.ac_load.specs.Built.{unbuilt_primitive, unbuilt, unbuilt_all, unbuilt_arms, first_unbuilt};
+ghost use Rattle.ac_load.specs.Built.{unbuilt, unbuilt_all, unbuilt_arms, first_unbuilt};
 
-use ac_resolve::{Primitive, named};
 use ac_syntax::{SArm, SExpr, SExprKind, Surface};
-
-/// The place of a primitive that sends or receives.
-fn in_primitive(at: u32, primitive: Option<Primitive>) -> Option<u32>
-    ensures { result ≡ unbuilt_primitive at primitive }
-{
-    match primitive {
-        Some(Primitive::Send | Primitive::Receive) => Some(at),
-        Some(_) | None => None,
-    }
-}
 
 #[cycle(forms)]
 #[tactic(auto, using(ac_syntax::proofs::ReadLaws::expr_laws))]
@@ -25,7 +14,6 @@ fn in_tree(tree: &SExpr) -> Option<u32>
 {
     match &tree.kind {
         SExprKind::Marshal(_, _, _) | SExprKind::Unmarshal(_, _) => Some(tree.at),
-        SExprKind::Of(owner, name) => in_primitive(tree.at, named(&owner.word, &name.word)),
         SExprKind::Exn(_, Some(part))
         | SExprKind::Present(part)
         | SExprKind::Fun(_, _, part)
@@ -53,7 +41,8 @@ fn in_tree(tree: &SExpr) -> Option<u32>
         | SExprKind::Exn(_, None)
         | SExprKind::Nil(_)
         | SExprKind::Absent(_)
-        | SExprKind::Var(_) => None,
+        | SExprKind::Var(_)
+        | SExprKind::Of(_, _) => None,
     }
 }
 

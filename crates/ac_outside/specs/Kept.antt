@@ -1,4 +1,4 @@
--- What sinks and files in memory keep.
+-- What sinks, sources and files in memory keep.
 use Rattle.std.specs.Prelude.{◌≡◌, ℕ, zero, suc, List, [], ◌∷◌, true, false, if◌then◌else◌, bytes_eq, string_bytes, Some, None}
 use Rattle.ac_outside.specs.Outside.{Contents}
 use Rattle.ac_outside.specs.declared.calls.Calls.{Calls}
@@ -8,6 +8,11 @@ use Rattle.ac_outside.specs.declared.files.MemoryFile.{MemoryFile}
 pub record Sunk : Type 0 where
   pub bytes : List ℕ
   pub writes : Calls
+
+-- a source: the bytes that are left, and its reads
+pub record Fed : Type 0 where
+  pub left : List ℕ
+  pub reads : Calls
 
 -- a world: the bytes that its input has left, and those of console and channel
 pub record Around : Type 0 where

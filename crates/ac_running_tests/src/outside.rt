@@ -1,8 +1,8 @@
 // Calls with ample memory, and each fault once.
 
 use ac_outside::{
-    Files, Got, MemoryFile, MemoryFiles, MemorySink, MemoryWorld, Put, RealFiles, Sink, Source,
-    SureSink, SureWorld, World,
+    Files, Got, MemoryFile, MemoryFiles, MemorySink, MemorySource, MemoryWorld, Put, RealFiles,
+    RealSource, Sink, Source, SureSink, SureSource, SureWorld, World,
 };
 use ac_types::{Many, Memory, Text};
 use std::alloc::Global;
@@ -85,6 +85,56 @@ fn a_missing_file_of_the_system_is_a_failed_read(rt: HostRuntime) -> Result<(), 
     let mut buf = [0u8; 1];
     let missing = files.read("no/such/file", 0, &mut buf) == Got::Failed;
     assert!(rt; missing);
+    Ok(())
+}
+
+// Whether what the file `made` has is this.
+fn made_has<F: Files>(files: &mut F, bytes: &[u8]) -> bool {
+    let mut buf = [0u8; 8];
+    match files.read("made", 0, &mut buf) {
+        Got::Bytes(count) => &buf[..count] == bytes,
+        Got::End => bytes.is_empty(),
+        Got::Failed => false,
+    }
+}
+
+#[test]
+fn files_of_the_system_are_made_and_added_to(rt: HostRuntime) -> Result<(), Fail> {
+    let mut files = RealFiles::new(rt.clone()?);
+    let made = files.create("made") == Put::Done && made_has(&mut files, b"");
+    let added = files.append("made", b"ab") == Put::Done && files.append("made", b"c") == Put::Done;
+    let whole = made_has(&mut files, b"abc");
+    let emptied = files.create("made") == Put::Done && made_has(&mut files, b"");
+    let unmade = files.create("no/such/file") == Put::Failed;
+    std::fs::remove_file(&rt, "made")?;
+    assert!(rt; made && added && whole && emptied && unmade);
+    Ok(())
+}
+
+/// Whether a source gives these bytes, two at a time, and then its end.
+fn gives_abc<S: Source>(source: &mut S) -> bool {
+    let mut buf = [0u8; 2];
+    let two = source.read(&mut buf) == Got::Bytes(2) && buf == [b'a', b'b'];
+    let one = source.read(&mut buf) == Got::Bytes(1) && buf[0] == b'c';
+    two && one && source.read(&mut buf) == Got::End
+}
+
+/// Whether a source whose first read fails gives the same then.
+fn source_fails(alloc: Global) -> Result<bool, Memory> {
+    let bytes = Text::from_slice(alloc, b"abc")?;
+    let mut source = MemorySource::new(bytes, numbers(alloc, &[0])?);
+    let mut buf = [0u8; 1];
+    Ok(source.read(&mut buf) == Got::Failed && gives_abc(&mut source))
+}
+
+#[test]
+fn sources_are_read(rt: HostRuntime) -> Result<(), Fail> {
+    let alloc = rt.alloc();
+    let mut sure = SureSource::new(Text::from_slice(alloc, b"abc")?);
+    assert!(rt; gives_abc(&mut sure));
+    assert!(rt; source_fails(alloc)?);
+    let mut real = RealSource::new(b"abc".as_slice());
+    assert!(rt; gives_abc(&mut real));
     Ok(())
 }
 
