@@ -16,13 +16,13 @@ unfolding front_of
 returns-in_err-entry-clause-there c =
     ap is_some c.from_residual-in_err-entry.ensures
     ∙ called_there (environment_of c.args.self.now.env) c.args.called.now c.args.self.now.externals c.in_ok-number.field-0.now None c.args.self.now.called (sym c.find.ensures ∙ ap option_copied c.in_ok-number.was)
-        (entry_get c.args.self.now.env c.in_ok-number.field-0.now ∙ ap (option_map entry_of) (sym c.entry.ensures ∙ ap option_copied c.in_err-entry.was))
+    (entry_get c.args.self.now.env c.in_ok-number.field-0.now ∙ ap (option_map entry_of) (sym c.entry.ensures ∙ ap option_copied c.in_err-entry.was))
 
 pub returns-clause-name : goal.returns-clause-name
 unfolding front_of
 returns-clause-name c =
     sym (kept_name (environment_of c.args.self.now.env) (beside_name c.args.called.now c.args.self.now.externals) c.in_ok-number.field-0.now (option_map entry_of (option_copied c.entry.result)) (sym c.find.ensures ∙ ap option_copied c.in_ok-number.was)
-      (entry_get c.args.self.now.env c.in_ok-number.field-0.now ∙ ap (option_map entry_of) (sym c.entry.ensures))
+    (entry_get c.args.self.now.env c.in_ok-number.field-0.now ∙ ap (option_map entry_of) (sym c.entry.ensures))
     ∙ ap (λ r. option_and_then (λ (e : Entry). e.name) (option_map entry_of (option_copied r))) c.in_ok-entry.was)
 
 is_mapped : (o : Option Name) → is_some (option_map name_of_code o) ≡ is_some o
@@ -34,4 +34,4 @@ unfolding front_of
 returns-clause-there c =
     sym (is_mapped c.in_ok-entry.field-0.now.name) ∙ ap (λ (o : Option Bytes). is_some o) (sym (ap (λ r. option_and_then (λ (e : Entry). e.name) (option_map entry_of (option_copied r))) c.in_ok-entry.was))
     ∙ called_there (environment_of c.args.self.now.env) c.args.called.now c.args.self.now.externals c.in_ok-number.field-0.now (option_map entry_of (option_copied c.entry.result)) c.args.self.now.called (sym c.find.ensures ∙ ap option_copied c.in_ok-number.was)
-        (entry_get c.args.self.now.env c.in_ok-number.field-0.now ∙ ap (option_map entry_of) (sym c.entry.ensures))
+    (entry_get c.args.self.now.env c.in_ok-number.field-0.now ∙ ap (option_map entry_of) (sym c.entry.ensures))

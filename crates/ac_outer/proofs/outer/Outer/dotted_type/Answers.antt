@@ -21,5 +21,5 @@ unfolding outer_of
 returns-in-Some-entry c =
     subst (λ (p : Option Typ). IfOk c.type_outside.result (λ o. option_map typ_of o ≡ p))
     (sym (dotted_entry (outer_of c.args.self.now) c.args.m.now c.args.t.now c.in-Some.number.now (entry_of c.in-Some-entry.entry.now) (sym c.is_standard.ensures ∙ c.if-is_standard.false) (sym c.find.ensures ∙ ap option_copied c.in-Some.is)
-      (entry_get c.args.self.now.env.now c.in-Some.number.now ∙ ap (option_map entry_of) (sym c.entry.ensures ∙ ap option_copied c.in-Some-entry.is))))
+    (entry_get c.args.self.now.env.now c.in-Some.number.now ∙ ap (option_map entry_of) (sym c.entry.ensures ∙ ap option_copied c.in-Some-entry.is))))
     c.type_outside.ensures
