@@ -1,0 +1,14 @@
+pub mod Counted
+pub mod DefsAre
+pub mod ExprsAre
+pub mod Forms
+pub mod Knowing
+pub mod Leasts
+pub mod Loops
+pub mod Lookups
+pub mod Repeats
+pub mod Scoping
+pub mod Sizes
+pub mod SurfacesAre
+pub mod TreeLaws
+pub mod TypesAre

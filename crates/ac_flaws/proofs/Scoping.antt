@@ -1,0 +1,56 @@
+-- Scopes: how many names they hold.
+use Rattle.std.proofs.Common.{◌≡◌, ◌∙◌, ap, refl, arith, ℕ, suc, ◌+◌, Bool, true, false, ◌||◌, Bor, List, [], ◌∷◌, map, length, Option, Some, None}
+use Rattle.std.specs.Prelude.{is_some, option_map}
+use Rattle.std.specs.List.{list_any}
+use Rattle.ac_types.specs.Types.{Bytes, same_bytes}
+use Rattle.ac_syntax.specs.declared.surface.SName.{SName}
+use Rattle.ac_scopes.specs.Scopes.{binders_to, scope_with}
+use Rattle.ac_flaws.specs.declared.named.Named.{Named}
+use Rattle.ac_flaws.specs.declared.scope.Scope.{Scope, out-Scope, map-Scope, fold_out-Scope}
+use Rattle.ac_flaws.specs.declared.scope.Scope.TheOpen.{Scope-F}
+use Rattle.ac_flaws.specs.declared.scope.Scope.TheVariants as scope
+use Rattle.ac_flaws.specs.inner.Reads.{named, names_in, scope_layer}
+
+scope_out : (s : Scope) → names_in s ≡ scope_layer (map-Scope Scope (List Bytes) names_in (out-Scope s))
+unfolding names_in
+scope_out s = fold_out-Scope (List Bytes) scope_layer s
+
+abbrev one_scope : Scope-F Scope → List Bytes
+one_scope x = scope_layer (map-Scope Scope (List Bytes) names_in x)
+
+pub names_in-Empty : names_in scope.Empty ≡ []
+names_in-Empty = scope_out scope.Empty ∙ ap one_scope scope.outs-Empty
+
+pub names_in-Inner : (outer : Bor Scope) (name : Bor SName) → names_in (scope.Inner outer name) ≡ name.now.word ∷ names_in outer.now
+names_in-Inner outer name = scope_out (scope.Inner outer name) ∙ ap one_scope (scope.outs-Inner outer name)
+
+pub names_in-Arm : (outer : Bor Scope) (names : Bor (List Named)) → names_in (scope.Arm outer names) ≡ scope_with (map named names.now) (names_in outer.now)
+names_in-Arm outer names = scope_out (scope.Arm outer names) ∙ ap one_scope (scope.outs-Arm outer names)
+
+pub bound-length : (names : List Named) (outer : List Bytes) → length (scope_with (map named names) outer) ≡ length outer + length names
+bound-length [] outer = omega arith
+bound-length (x ∷ names) outer = omega (arith, bound-length names (x.word.now ∷ outer))
+
+-- a name among those of a pattern, or in the scope around
+pub any_first : (b c : Bool) (o : Option ℕ) → (c || is_some (elim b [ true ↦ Some 0 | false ↦ option_map suc o ])) ≡ ((b || c) || is_some o)
+any_first true true o = refl
+any_first true false o = refl
+any_first false true o = refl
+any_first false false None = refl
+any_first false false (Some i) = refl
+
+pub bound_among : (w : Bytes) (names : List Named) (outer : List Bytes) → is_some (binders_to w (scope_with (map named names) outer)) ≡ (list_any (λ (n : Named). same_bytes n.word.now w) names || is_some (binders_to w outer))
+bound_among w [] outer = refl
+bound_among w (x ∷ names) outer = bound_among w names (x.word.now ∷ outer) ∙ any_first (same_bytes x.word.now w) (list_any (λ (n : Named). same_bytes n.word.now w) names) (binders_to w outer)
+
+pub bound_first : (b : Bool) (o : Option ℕ) → is_some (elim b [ true ↦ Some 0 | false ↦ option_map suc o ]) ≡ (b || is_some o)
+bound_first true o = refl
+bound_first false None = refl
+bound_first false (Some i) = refl
+
+pub bound_inner : (w y : Bytes) (outer : List Bytes) → is_some (binders_to w (y ∷ outer)) ≡ (same_bytes y w || is_some (binders_to w outer))
+bound_inner w y outer = bound_first (same_bytes y w) (binders_to w outer)
+
+pub ruleset bound_laws = (names_in-Empty, names_in-Inner, names_in-Arm, bound_among, bound_inner)
+
+pub ruleset scope_laws = (names_in-Empty, names_in-Inner, names_in-Arm, bound-length)

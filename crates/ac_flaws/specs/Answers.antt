@@ -1,0 +1,9 @@
+-- The faults of the code as those of surfaces.
+use Rattle.ac_flaws.specs.declared.fault.FirstFault.{FirstFault}
+use Rattle.ac_flaws.specs.declared.fault.FirstFault.TheVariants as code
+use Rattle.ac_scopes.specs.Surfaces.{SurfaceFault, Unbound, Repeated, TooMany}
+
+abbrev pub fault_of : FirstFault → SurfaceFault
+fault_of (code.Unbound at) = Unbound at
+fault_of (code.Repeated at) = Repeated at
+fault_of (code.TooMany count) = TooMany count

@@ -1,0 +1,77 @@
+-- What is wrong with expressions, by what is known of a scope and the variables in it.
+use Rattle.std.specs.Prelude.{ℕ, Bool, true, false, ◌||◌, is_some, List, [], ◌∷◌, length, Option, Some, None}
+use Rattle.ac_types.specs.Types.{Bytes}
+use Rattle.ac_syntax.specs.Trees.{NameAt, TypeTree, PatTree, Tree, ExInt, ExBool, ExStr, ExUnit, ExExn, ExExnOf, ExTuple, ExNil, ExAbsent, ExPresent, ExCons, ExVar, ExOf, ExFun, ExRec, ExApp, ExLet, ExLetRec, ExIf, ExSeq, ExMatch, ExTry, ExRaise, ExAnd, ExOr, ExOp, ExMarshal, ExUnmarshal, Trees, no_trees, tree, ArmTrees, no_arm_trees, arm_tree}
+use Rattle.ac_scopes.specs.Standard.{is_standard, primitive_named}
+use Rattle.ac_scopes.specs.Scopes.{binders_to, scope_with}
+use Rattle.ac_scopes.specs.Written.{variables}
+use Rattle.ac_scopes.specs.Searches.{tree_count, arms_written}
+use Rattle.ac_scopes.specs.Repeated.{repeated_name}
+use Rattle.ac_scopes.specs.Counts.{over, width_limit, arms_limit, scope_limit}
+use Rattle.ac_flaws.specs.declared.flaws.Flaws.{Flaws}
+use Rattle.ac_flaws.specs.inner.Joined.{no_flaws, missing, repeats, counts, flaws_joined}
+use Rattle.ac_flaws.specs.inner.Known.{Known, is_value_behind}
+use Rattle.ac_flaws.specs.inner.TypeFlaws.{type_flaws, pat_flaws}
+
+-- the place, where a test fails
+abbrev pub place_unless : Bool → ℕ → Option ℕ
+place_unless true at = None
+place_unless false at = Some at
+
+-- of `M.x` the first name is unbound, or the second
+abbrev pub place_behind : Bool → Bool → NameAt → NameAt → Option ℕ
+place_behind false there m x = Some m.at
+place_behind true there m x = place_unless there x.at
+
+-- at a leaf the most variables are in scope
+abbrev pub leaf_flaws : List Bytes → Flaws
+leaf_flaws names = counts (over scope_limit (length names))
+
+abbrev pub variable_flaws : Known → List Bytes → ℕ → Bytes → Flaws
+variable_flaws K names at x = missing (place_unless (is_some (binders_to x names) || K.fields x) at)
+
+abbrev pub dotted_flaws : Known → NameAt → NameAt → Flaws
+dotted_flaws K m x = missing (place_behind (is_standard m.word || is_some (K.outer m.word)) (is_some (primitive_named m.word x.word) || is_value_behind K m.word x.word) m x)
+
+module _ (K : Known) where
+  abbrev mutual
+    pub flaws : List Bytes → Tree → Flaws
+    flaws names (ExInt at n) = leaf_flaws names
+    flaws names (ExBool at b) = leaf_flaws names
+    flaws names (ExStr at text) = leaf_flaws names
+    flaws names (ExUnit at) = leaf_flaws names
+    flaws names (ExExn at number) = leaf_flaws names
+    flaws names (ExExnOf at number a) = flaws names a
+    flaws names (ExTuple at parts) = flaws_joined (counts (over width_limit (tree_count parts))) (flaws_of_all names parts)
+    flaws names (ExNil at T) = flaws_joined (type_flaws K T) (leaf_flaws names)
+    flaws names (ExAbsent at T) = flaws_joined (type_flaws K T) (leaf_flaws names)
+    flaws names (ExPresent at a) = flaws names a
+    flaws names (ExCons at a b) = flaws_joined (flaws names a) (flaws names b)
+    flaws names (ExVar at x) = flaws_joined (variable_flaws K names at x) (leaf_flaws names)
+    flaws names (ExOf at m x) = flaws_joined (dotted_flaws K m x) (leaf_flaws names)
+    flaws names (ExFun at x T b) = flaws_joined (type_flaws K T) (flaws (x.word ∷ names) b)
+    flaws names (ExRec at f x T U b) = flaws_joined (type_flaws K T) (flaws_joined (type_flaws K U) (flaws (x.word ∷ f.word ∷ names) b))
+    flaws names (ExApp at f a) = flaws_joined (flaws names f) (flaws names a)
+    flaws names (ExLet at x T a b) = flaws_joined (type_flaws K T) (flaws_joined (flaws names a) (flaws (x.word ∷ names) b))
+    flaws names (ExLetRec at f x T U a b) = flaws_joined (type_flaws K T) (flaws_joined (type_flaws K U) (flaws_joined (flaws (x.word ∷ f.word ∷ names) a) (flaws (f.word ∷ names) b)))
+    flaws names (ExIf at c a b) = flaws_joined (flaws names c) (flaws_joined (flaws names a) (flaws names b))
+    flaws names (ExSeq at parts) = flaws_of_all names parts
+    flaws names (ExMatch at a arms) = flaws_joined (counts (over arms_limit (arms_written arms))) (flaws_joined (flaws names a) (flaws_of_arms names arms))
+    flaws names (ExTry at a arms) = flaws_joined (counts (over arms_limit (arms_written arms))) (flaws_joined (flaws names a) (flaws_of_arms names arms))
+    flaws names (ExRaise at a T) = flaws_joined (type_flaws K T) (flaws names a)
+    flaws names (ExAnd at a b) = flaws_joined (flaws names a) (flaws names b)
+    flaws names (ExOr at a b) = flaws_joined (flaws names a) (flaws names b)
+    flaws names (ExOp at number parts) = flaws_of_all names parts
+    flaws names (ExMarshal at a b T) = flaws_joined (type_flaws K T) (flaws_joined (flaws names a) (flaws names b))
+    flaws names (ExUnmarshal at a T) = flaws_joined (type_flaws K T) (flaws names a)
+
+    pub flaws_of_all : List Bytes → Trees → Flaws
+    flaws_of_all names no_trees = no_flaws
+    flaws_of_all names (tree t ts) = flaws_joined (flaws names t) (flaws_of_all names ts)
+
+    pub flaws_of_arms : List Bytes → ArmTrees → Flaws
+    flaws_of_arms names no_arm_trees = no_flaws
+    flaws_of_arms names (arm_tree p b arms) = flaws_joined (flaws_joined (flaws_joined (pat_flaws K p) (repeats (repeated_name [] (variables p)))) (flaws (scope_with (variables p) names) b)) (flaws_of_arms names arms)
+
+  abbrev pub arm_flaws : List Bytes → PatTree × Tree → Flaws
+  arm_flaws names arm = flaws_joined (flaws_joined (pat_flaws K arm.0) (repeats (repeated_name [] (variables arm.0)))) (flaws (scope_with (variables arm.0) names) arm.1)

@@ -1,0 +1,243 @@
+// Definitions.
+
+ghost use Rattle.std.specs.Prelude.{◌≡◌, [], map, option_map, unwrap_or, IfOk, OnOk};
+ghost use Rattle.ac_types.specs.ReadTypes.{resolve_of};
+ghost use Rattle.ac_syntax.specs.ReadTrees.{name_of, abbrev_of, abbrevs_of, spec_of, field_tree_of, wants_of, def_tree_of};
+ghost use Rattle.ac_flaws.specs.inner.Joined.{flaws_joined};
+ghost use Rattle.ac_flaws.specs.inner.Known.{known_outside};
+ghost use Rattle.ac_flaws.specs.inner.DefFlaws.{past_abbrev, past_field, abbrev_flaws, field_flaws, flaws_in, shown, sig_flaws, struct_flaws, like_flaws, wants_flaws, name_flaws, demand_flaws, def_flaws, past_def};
+ghost use Rattle.ac_flaws.specs.inner.Reads.{known_of, behind_of, outer_of};
+
+use crate::atoms::atom_flaws;
+use crate::exprs::flaws;
+use crate::flaws::Flaws;
+use crate::known::Scan;
+use crate::lists::{field_types, field_values, like_types, list_flaws};
+use crate::outside::{Externals, outside_of, put_outside};
+use crate::scope::Scope;
+use crate::sigs::{Shown, sig};
+use crate::standard::is_standard;
+use crate::types::{measure, type_flaws};
+use ac_syntax::{SAbbrev, SDef, SDefKind, SField, SName, SSpec, SWants};
+use ac_types::{Many, Memory, Resolve};
+use std::alloc::Global;
+
+/// What is wrong with a definition, behind which it is called by its name.
+pub fn def_flaws<'a>(
+    alloc: Global,
+    externals: &mut Externals<'a>,
+    def: &'a SDef,
+) -> Result<Flaws, Memory>
+    ensures flaws { IfOk result (λ f. f ≡ def_flaws (outer_of externals.old)
+        (def_tree_of def.now)) }
+    ensures externals { OnOk result (outer_of externals.new
+        ≡ past_def (outer_of externals.old) (def_tree_of def.now)) }
+{
+    match &def.kind {
+        SDefKind::Module {
+            name,
+            sig,
+            version: _,
+            fields,
+        } => {
+            let specs = sig.specs.as_slice();
+            let shown = module_flaws(alloc, externals, name, specs, fields.as_slice())?;
+            put_outside(externals, &name.word, shown.outside)?;
+            Ok(shown.flaws)
+        }
+        SDefKind::Import {
+            name,
+            sig,
+            wants,
+            like,
+            by,
+        } => {
+            let demand = demand_flaws(externals, name, wants, by.as_slice());
+            let specs = sig.specs.as_slice();
+            let shown = import_flaws(alloc, externals, demand, specs, like)?;
+            put_outside(externals, &name.word, shown.outside)?;
+            Ok(shown.flaws)
+        }
+        SDefKind::Mark { .. } => Ok(Flaws::none()),
+    }
+}
+
+fn module_flaws<'a>(
+    alloc: Global,
+    externals: &Externals<'a>,
+    name: &SName,
+    specs: &'a [SSpec],
+    fields: &'a [SField],
+) -> Result<Shown<'a>, Memory>
+    ensures flaws { IfOk result (λ s. s.flaws ≡ flaws_joined (name_flaws (name_of name.now))
+        (flaws_joined (sig_flaws (outer_of externals.now) (map spec_of specs.now))
+        (struct_flaws (outer_of externals.now) (map field_tree_of fields.now)))) }
+    ensures outside { IfOk result (λ s. behind_of s.outside
+        ≡ shown (known_outside (outer_of externals.now)) (map spec_of specs.now)) }
+{
+    let found = sig(alloc, externals, specs)?;
+    let body = struct_flaws(alloc, externals, fields)?;
+    Ok(Shown {
+        flaws: name_flaws(name).join(found.flaws.join(body)),
+        outside: found.outside,
+    })
+}
+
+fn import_flaws<'a>(
+    alloc: Global,
+    externals: &Externals<'a>,
+    demand: Flaws,
+    specs: &'a [SSpec],
+    like: &'a Option<Many<SAbbrev>>,
+) -> Result<Shown<'a>, Memory>
+    ensures flaws { IfOk result (λ s. s.flaws ≡ flaws_joined demand
+        (flaws_joined (sig_flaws (outer_of externals.now) (map spec_of specs.now))
+        (like_flaws (outer_of externals.now)
+        (unwrap_or (option_map abbrevs_of like.now) [])))) }
+    ensures outside { IfOk result (λ s. behind_of s.outside
+        ≡ shown (known_outside (outer_of externals.now)) (map spec_of specs.now)) }
+{
+    let found = sig(alloc, externals, specs)?;
+    let like = match like {
+        None => Flaws::none(),
+        Some(like) => like_flaws(alloc, externals, like.as_slice())?,
+    };
+    Ok(Shown {
+        flaws: demand.join(found.flaws.join(like)),
+        outside: found.outside,
+    })
+}
+
+/// What is wrong with the name of an import, what it wants and where it looks for it.
+fn demand_flaws<'a>(
+    externals: &Externals<'a>,
+    name: &SName,
+    wants: &'a SWants,
+    by: &[Resolve],
+) -> Flaws
+    ensures { result ≡ demand_flaws (outer_of externals.now) (name_of name.now)
+        (wants_of wants.now) (map resolve_of by.now) }
+{
+    name_flaws(name).join(wants_flaws(externals, wants).join(atom_flaws(by)))
+}
+
+fn wants_flaws<'a>(externals: &Externals<'a>, wants: &'a SWants) -> Flaws
+    ensures { result ≡ wants_flaws (outer_of externals.now) (wants_of wants.now) }
+{
+    match wants {
+        SWants::Ranges(_) => Flaws::none(),
+        SWants::NameOf(name) => match outside_of(externals, &name.word) {
+            None => Flaws::missing(Some(name.at)),
+            Some(_) => Flaws::none(),
+        },
+    }
+}
+
+/// The names of the standard modules are taken.
+fn name_flaws(name: &SName) -> Flaws
+    ensures { result ≡ name_flaws (name_of name.now) }
+{
+    if is_standard(&name.word) {
+        return Flaws::repeated(Some(name.at));
+    }
+    Flaws::none()
+}
+
+/// What is wrong with a struct.
+fn struct_flaws<'a>(
+    alloc: Global,
+    externals: &Externals<'a>,
+    fields: &'a [SField],
+) -> Result<Flaws, Memory>
+    ensures { IfOk result (λ f. f
+        ≡ struct_flaws (outer_of externals.now) (map field_tree_of fields.now)) }
+{
+    let types = field_types(alloc, fields)?;
+    let type_list = list_flaws(alloc, types.as_slice())?;
+    let values = field_values(alloc, fields)?;
+    let value_list = list_flaws(alloc, values.as_slice())?;
+    let walked = walk_fields(alloc, externals, fields)?;
+    Ok(type_list.join(value_list).join(walked))
+}
+
+fn walk_fields<'a>(
+    alloc: Global,
+    externals: &Externals<'a>,
+    fields: &'a [SField],
+) -> Result<Flaws, Memory>
+    ensures { IfOk result (λ f. f ≡ flaws_in past_field field_flaws
+        (known_outside (outer_of externals.now)) (map field_tree_of fields.now)) }
+{
+    let mut scan = Scan::new(alloc, externals);
+    let mut found = Flaws::none();
+    for field in fields {
+        let here = walk_field(alloc, &mut scan, field)?;
+        found = found.join(here);
+    }
+    Ok(found)
+}
+
+#[tactic(auto, using(crate::proofs::Scoping::scope_laws))]
+fn walk_field<'a>(
+    alloc: Global,
+    scan: &mut Scan<'_, 'a>,
+    field: &'a SField,
+) -> Result<Flaws, Memory>
+    ensures flaws { IfOk result (λ f. f
+        ≡ field_flaws (known_of scan.old) (field_tree_of field.now)) }
+    ensures scan { OnOk result (known_of scan.new
+        ≡ past_field (known_of scan.old) (field_tree_of field.now)) }
+{
+    match field {
+        SField::Abbrev(alias) => walk_abbrev(scan, alias),
+        SField::Val(name, ty, body) => {
+            let scope = Scope::Empty;
+            let ty = type_flaws(ty, scan);
+            let body = flaws(alloc, body, scan, &scope)?;
+            scan.put_field(&name.word)?;
+            Ok(ty.join(body))
+        }
+    }
+}
+
+fn walk_abbrev<'a>(scan: &mut Scan<'_, 'a>, alias: &'a SAbbrev) -> Result<Flaws, Memory>
+    ensures flaws { IfOk result (λ f. f ≡ abbrev_flaws (known_of scan.old) (abbrev_of alias.now)) }
+    ensures scan { OnOk result (known_of scan.new
+        ≡ past_abbrev (known_of scan.old) (abbrev_of alias.now)) }
+{
+    let found = measure(&alias.ty, scan);
+    scan.put_type(&alias.name.word, found.size)?;
+    Ok(found.flaws())
+}
+
+/// What is wrong with a likespec.
+fn like_flaws<'a>(
+    alloc: Global,
+    externals: &Externals<'a>,
+    like: &'a [SAbbrev],
+) -> Result<Flaws, Memory>
+    ensures { IfOk result (λ f. f
+        ≡ like_flaws (outer_of externals.now) (map abbrev_of like.now)) }
+{
+    let types = like_types(alloc, like)?;
+    let list = list_flaws(alloc, types.as_slice())?;
+    let walked = walk_like(alloc, externals, like)?;
+    Ok(list.join(walked))
+}
+
+fn walk_like<'a>(
+    alloc: Global,
+    externals: &Externals<'a>,
+    like: &'a [SAbbrev],
+) -> Result<Flaws, Memory>
+    ensures { IfOk result (λ f. f ≡ flaws_in past_abbrev abbrev_flaws
+        (known_outside (outer_of externals.now)) (map abbrev_of like.now)) }
+{
+    let mut scan = Scan::new(alloc, externals);
+    let mut found = Flaws::none();
+    for alias in like {
+        let here = walk_abbrev(&mut scan, alias)?;
+        found = found.join(here);
+    }
+    Ok(found)
+}

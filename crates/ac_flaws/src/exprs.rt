@@ -1,0 +1,298 @@
+// Expressions.
+
+ghost use Rattle.std.specs.Prelude.{◌≡◌, ◌∷◌, [], map, IfOk};
+ghost use Rattle.ac_syntax.specs.Trees.{trees, arm_trees};
+ghost use Rattle.ac_syntax.specs.ReadTrees.{expr_of, arm_of, type_of, pat_of, name_of};
+ghost use Rattle.ac_scopes.specs.Written.{variables};
+ghost use Rattle.ac_scopes.specs.Repeated.{repeated_name};
+ghost use Rattle.ac_flaws.specs.inner.Joined.{flaws_joined, repeats, missing};
+ghost use Rattle.ac_flaws.specs.inner.Joining.{JoinsTyped};
+ghost use Rattle.ac_flaws.specs.inner.TypeFlaws.{pat_flaws};
+ghost use Rattle.ac_flaws.specs.inner.ExprFlaws.{place_unless, leaf_flaws, variable_flaws, dotted_flaws, flaws, flaws_of_all, arm_flaws, flaws_of_arms};
+ghost use Rattle.ac_flaws.specs.inner.Reads.{known_of, named, names_in};
+
+use crate::flaws::{Flaws, behind, join};
+use crate::known::Scan;
+use crate::named::{Named, repeated_name};
+use crate::outside::{has, outside_of};
+use crate::patterns::{pat_flaws, variables};
+use crate::scope::{Scope, depth, is_bound};
+use crate::standard::{is_primitive, is_standard};
+use crate::types::{WIDTH_LIMIT, type_flaws};
+use ac_syntax::{SArm, SExpr, SExprKind, SName, SPat, SType};
+use ac_types::{Memory, Word};
+use std::alloc::Global;
+
+/// The most arms of a match or a try.
+const ARMS_LIMIT: u32 = 1024;
+
+/// The most variables in scope at one place.
+const SCOPE_LIMIT: u32 = 65535;
+
+/// What is wrong with a leaf: too many variables may be in scope.
+#[tactic(auto, using(crate::proofs::Counted::over_laws))]
+fn leaf(scope: &Scope) -> Flaws
+    ensures { result ≡ leaf_flaws (names_in scope.now) }
+{
+    Flaws::counted(SCOPE_LIMIT, depth(scope))
+}
+
+/// What is wrong with a variable or a field.
+fn variable<'a>(at: u32, word: &'a Word, scan: &Scan<'_, 'a>, scope: &Scope) -> Flaws
+    ensures { result ≡ variable_flaws (known_of scan.now) (names_in scope.now) at word.now }
+{
+    if is_bound(scope, word) || has(&scan.fields, word) {
+        return Flaws::none();
+    }
+    Flaws::missing(Some(at))
+}
+
+/// What is wrong with a name behind a definition's name and a dot.
+fn dotted<'a>(owner: &'a SName, name: &'a SName, scan: &Scan<'_, 'a>) -> Flaws
+    ensures { result ≡ dotted_flaws (known_of scan.now) (name_of owner.now) (name_of name.now) }
+{
+    if is_standard(&owner.word) {
+        return unless(is_primitive(&owner.word, &name.word), name.at);
+    }
+    match outside_of(scan.externals, &owner.word) {
+        None => Flaws::missing(Some(owner.at)),
+        Some(outside) => unless(has(&outside.values, &name.word), name.at),
+    }
+}
+
+/// A name isn't in scope, where a test fails.
+fn unless(there: bool, at: u32) -> Flaws
+    ensures { result ≡ missing (place_unless there at) }
+{
+    if there {
+        return Flaws::none();
+    }
+    Flaws::missing(Some(at))
+}
+
+/// What is wrong with an expression under the variables in scope.
+#[cycle(flaws)]
+#[tactic(auto, using(crate::proofs::Forms::flaw_forms))]
+pub fn flaws<'s, 'a>(
+    alloc: Global,
+    tree: &'a SExpr,
+    scan: &Scan<'_, 'a>,
+    scope: &'s Scope<'s, 'a>,
+) -> Result<Flaws, Memory>
+    ensures { IfOk result (λ f. f ≡ flaws (known_of scan.now) (names_in scope.now) (expr_of tree.now)) }
+{
+    match &tree.kind {
+        SExprKind::Int(_) => Ok(leaf(scope)),
+        SExprKind::Bool(_) => Ok(leaf(scope)),
+        SExprKind::Str(_) => Ok(leaf(scope)),
+        SExprKind::Unit => Ok(leaf(scope)),
+        SExprKind::Exn(_, None) => Ok(leaf(scope)),
+        SExprKind::Exn(_, Some(argument)) => flaws(alloc, argument, scan, scope),
+        SExprKind::Tuple(parts) => {
+            let width = Flaws::counted(WIDTH_LIMIT, parts.len());
+            behind(width, all(alloc, parts.as_slice(), scan, scope))
+        },
+        SExprKind::Nil(ty) => Ok(type_flaws(ty, scan).join(leaf(scope))),
+        SExprKind::Absent(ty) => Ok(type_flaws(ty, scan).join(leaf(scope))),
+        SExprKind::Present(item) => flaws(alloc, item, scan, scope),
+        SExprKind::Cons(head, tail) => {
+            join(
+                flaws(alloc, head, scan, scope),
+                flaws(alloc, tail, scan, scope),
+            )
+        }
+        SExprKind::Var(word) => Ok(variable(tree.at, word, scan, scope).join(leaf(scope))),
+        SExprKind::Of(owner, name) => Ok(dotted(owner, name, scan).join(leaf(scope))),
+        SExprKind::Fun(name, ty, body) => {
+            behind(type_flaws(ty, scan), under(alloc, body, name, scan, scope))
+        }
+        SExprKind::Rec(fun) => {
+            let inner = in_fun(alloc, &fun.body, &fun.name, &fun.arg, scan, scope);
+            with_types(&fun.ty, &fun.result, scan, inner)
+        }
+        SExprKind::App(function, argument) => {
+            join(
+                flaws(alloc, function, scan, scope),
+                flaws(alloc, argument, scan, scope),
+            )
+        }
+        SExprKind::Let(name, ty, bound, body) => {
+            let inner = join(
+                flaws(alloc, bound, scan, scope),
+                under(alloc, body, name, scan, scope),
+            );
+            behind(type_flaws(ty, scan), inner)
+        }
+        SExprKind::LetRec(fun, body) => {
+            let bound = in_fun(alloc, &fun.body, &fun.name, &fun.arg, scan, scope);
+            let inner = join(bound, under(alloc, body, &fun.name, scan, scope));
+            with_types(&fun.ty, &fun.result, scan, inner)
+        }
+        SExprKind::If(test, so, otherwise) => {
+            let ways = join(
+                flaws(alloc, so, scan, scope),
+                flaws(alloc, otherwise, scan, scope),
+            );
+            join(flaws(alloc, test, scan, scope), ways)
+        }
+        SExprKind::Seq(parts) => all(alloc, parts.as_slice(), scan, scope),
+        SExprKind::Match(of, cases) => {
+            let inner = join(
+                flaws(alloc, of, scan, scope),
+                arms(alloc, cases.as_slice(), scan, scope),
+            );
+            behind(Flaws::counted(ARMS_LIMIT, cases.len()), inner)
+        }
+        SExprKind::Try(of, cases) => {
+            let inner = join(
+                flaws(alloc, of, scan, scope),
+                arms(alloc, cases.as_slice(), scan, scope),
+            );
+            behind(Flaws::counted(ARMS_LIMIT, cases.len()), inner)
+        }
+        SExprKind::Raise(exception, ty) => {
+            behind(type_flaws(ty, scan), flaws(alloc, exception, scan, scope))
+        }
+        SExprKind::And(left, right) => {
+            join(
+                flaws(alloc, left, scan, scope),
+                flaws(alloc, right, scan, scope),
+            )
+        }
+        SExprKind::Or(left, right) => {
+            join(
+                flaws(alloc, left, scan, scope),
+                flaws(alloc, right, scan, scope),
+            )
+        }
+        SExprKind::Op(_, parts) => all(alloc, parts.as_slice(), scan, scope),
+        SExprKind::Marshal(mark, value, ty) => {
+            let inner = join(
+                flaws(alloc, mark, scan, scope),
+                flaws(alloc, value, scan, scope),
+            );
+            behind(type_flaws(ty, scan), inner)
+        }
+        SExprKind::Unmarshal(text, ty) => behind(
+            type_flaws(ty, scan),
+            flaws(alloc, text, scan, scope),
+        ),
+    }
+}
+
+/// What is wrong with a body that sees one more variable.
+#[cycle(flaws)]
+#[tactic(auto, using(crate::proofs::Scoping::scope_laws))]
+fn under<'s, 'a>(
+    alloc: Global,
+    body: &'a SExpr,
+    name: &'a SName,
+    scan: &Scan<'_, 'a>,
+    scope: &'s Scope<'s, 'a>,
+) -> Result<Flaws, Memory>
+    ensures { IfOk result (λ f. f ≡ flaws (known_of scan.now) (name.now.word ∷ names_in scope.now) (expr_of body.now)) }
+{
+    let inner = Scope::Inner(scope, name);
+    flaws(alloc, body, scan, &inner)
+}
+
+/// What is wrong with the body of a function with a name, which sees the function and its argument.
+#[cycle(flaws)]
+#[tactic(auto, using(crate::proofs::Scoping::scope_laws))]
+fn in_fun<'s, 'a>(
+    alloc: Global,
+    body: &'a SExpr,
+    name: &'a SName,
+    argument: &'a SName,
+    scan: &Scan<'_, 'a>,
+    scope: &'s Scope<'s, 'a>,
+) -> Result<Flaws, Memory>
+    ensures { IfOk result (λ f. f ≡ flaws (known_of scan.now) (argument.now.word ∷ name.now.word ∷ names_in scope.now)
+        (expr_of body.now)) }
+{
+    let outer = Scope::Inner(scope, name);
+    under(alloc, body, argument, scan, &outer)
+}
+
+/// What is wrong with the types of a function with a name, and with what sees it.
+fn with_types<'a>(
+    ty: &'a SType,
+    to: &'a SType,
+    scan: &Scan<'_, 'a>,
+    inner: Result<Flaws, Memory>,
+) -> Result<Flaws, Memory>
+    ensures { IfOk result (λ f. JoinsTyped (known_of scan.now) (type_of ty.now) (type_of to.now)
+        inner f) }
+{
+    let inner = inner?;
+    Ok(type_flaws(ty, scan).join(type_flaws(to, scan).join(inner)))
+}
+
+#[cycle(flaws)]
+fn all<'s, 'a>(
+    alloc: Global,
+    parts: &'a [SExpr],
+    scan: &Scan<'_, 'a>,
+    scope: &'s Scope<'s, 'a>,
+) -> Result<Flaws, Memory>
+    ensures { IfOk result (λ f. f ≡ flaws_of_all (known_of scan.now) (names_in scope.now)
+        (trees (map expr_of parts.now))) }
+{
+    let mut found = Flaws::none();
+    for tree in parts {
+        let here = flaws(alloc, tree, scan, scope)?;
+        found = found.join(here);
+    }
+    Ok(found)
+}
+
+#[cycle(flaws)]
+fn arms<'s, 'a>(
+    alloc: Global,
+    cases: &'a [SArm],
+    scan: &Scan<'_, 'a>,
+    scope: &'s Scope<'s, 'a>,
+) -> Result<Flaws, Memory>
+    ensures { IfOk result (λ f. f ≡ flaws_of_arms (known_of scan.now) (names_in scope.now)
+        (arm_trees (map arm_of cases.now))) }
+{
+    let mut found = Flaws::none();
+    for case in cases {
+        let here = arm(alloc, case, scan, scope)?;
+        found = found.join(here);
+    }
+    Ok(found)
+}
+
+/// What is wrong with an arm, whose body sees the pattern's variables.
+#[cycle(flaws)]
+#[tactic(auto, using(crate::proofs::Forms::arm_forms))]
+fn arm<'s, 'a>(
+    alloc: Global,
+    case: &'a SArm,
+    scan: &Scan<'_, 'a>,
+    scope: &'s Scope<'s, 'a>,
+) -> Result<Flaws, Memory>
+    ensures { IfOk result (λ f. f ≡ arm_flaws (known_of scan.now) (names_in scope.now) (arm_of case.now)) }
+{
+    let names = variables(alloc, &case.pat)?;
+    let pattern = pattern(alloc, &case.pat, names.as_slice(), scan)?;
+    let inner = Scope::Arm(&*scope, names.as_slice());
+    let body = flaws(alloc, &case.body, scan, &inner)?;
+    Ok(pattern.join(body))
+}
+
+/// What is wrong with a pattern that has these variables.
+fn pattern<'a>(
+    alloc: Global,
+    tree: &'a SPat,
+    names: &[Named],
+    scan: &Scan<'_, 'a>,
+) -> Result<Flaws, Memory>
+    requires { map named names.now ≡ variables (pat_of tree.now) }
+    ensures { IfOk result (λ f. f ≡ flaws_joined (pat_flaws (known_of scan.now) (pat_of tree.now))
+        (repeats (repeated_name [] (variables (pat_of tree.now))))) }
+{
+    let again = repeated_name(alloc, names)?;
+    Ok(pat_flaws(tree, scan).join(Flaws::repeated(again)))
+}

@@ -1,0 +1,114 @@
+// Patterns.
+
+ghost use Rattle.std.specs.Prelude.{◌≡◌, ◌++◌, ◌∷◌, [], map, IfOk};
+ghost use Rattle.ac_syntax.specs.Trees.{pat_trees};
+ghost use Rattle.ac_syntax.specs.ReadTrees.{pat_of, name_of};
+ghost use Rattle.ac_scopes.specs.Written.{variables, variables_of_all};
+ghost use Rattle.ac_flaws.specs.inner.TypeFlaws.{pat_flaws, pats_flaws};
+ghost use Rattle.ac_flaws.specs.inner.Reads.{known_of, named};
+
+use crate::flaws::Flaws;
+use crate::known::Scan;
+use crate::named::Named;
+use crate::types::{WIDTH_LIMIT, type_flaws};
+use ac_syntax::{SName, SPat, SPatKind};
+use ac_types::Memory;
+use std::alloc::Global;
+
+/// What is wrong with a pattern, but for its repetitions.
+#[cycle(pat_flaws)]
+#[tactic(auto, using(crate::proofs::Forms::pat_forms))]
+pub fn pat_flaws<'a>(tree: &'a SPat, scan: &Scan<'_, 'a>) -> Flaws
+    ensures { result ≡ pat_flaws (known_of scan.now) (pat_of tree.now) }
+{
+    match &tree.kind {
+        SPatKind::Wild => Flaws::none(),
+        SPatKind::Var(_, ty) => type_flaws(ty, scan),
+        SPatKind::Int(_) => Flaws::none(),
+        SPatKind::Bool(_) => Flaws::none(),
+        SPatKind::Str(_) => Flaws::none(),
+        SPatKind::Unit => Flaws::none(),
+        SPatKind::Tuple(parts) => {
+            let width = Flaws::counted(WIDTH_LIMIT, parts.len());
+            width.join(pats_flaws(parts.as_slice(), scan))
+        }
+        SPatKind::Nil => Flaws::none(),
+        SPatKind::Cons(head, tail) => pat_flaws(head, scan).join(pat_flaws(tail, scan)),
+        SPatKind::Absent => Flaws::none(),
+        SPatKind::Present(item) => pat_flaws(item, scan),
+        SPatKind::Exn(_, None) => Flaws::none(),
+        SPatKind::Exn(_, Some(item)) => pat_flaws(item, scan),
+    }
+}
+
+#[cycle(pat_flaws)]
+fn pats_flaws<'a>(trees: &'a [SPat], scan: &Scan<'_, 'a>) -> Flaws
+    ensures { result ≡ pats_flaws (known_of scan.now) (pat_trees (map pat_of trees.now)) }
+{
+    let mut found = Flaws::none();
+    for tree in trees {
+        let here = pat_flaws(tree, scan);
+        found = found.join(here);
+    }
+    found
+}
+
+/// The variables of a pattern, from left to right.
+pub fn variables<'a>(alloc: Global, tree: &'a SPat) -> Result<Vec<Named<'a>>, Memory>
+    ensures { IfOk result (λ names. map named names.items ≡ variables (pat_of tree.now)) }
+{
+    add_variables(tree, Vec::new(alloc))
+}
+
+/// These names, and behind them the variables of a pattern.
+#[cycle(add_variables)]
+#[tactic(auto, using(crate::proofs::Forms::pat_forms))]
+fn add_variables<'a>(tree: &'a SPat, found: Vec<Named<'a>>) -> Result<Vec<Named<'a>>, Memory>
+    ensures { IfOk result (λ names.
+        map named names.items ≡ map named found.entry.items ++ variables (pat_of tree.now)) }
+{
+    match &tree.kind {
+        SPatKind::Wild => Ok(found),
+        SPatKind::Var(name, _) => with_name(found, name),
+        SPatKind::Int(_) => Ok(found),
+        SPatKind::Bool(_) => Ok(found),
+        SPatKind::Str(_) => Ok(found),
+        SPatKind::Unit => Ok(found),
+        SPatKind::Tuple(parts) => add_variables_of_all(parts.as_slice(), found),
+        SPatKind::Nil => Ok(found),
+        SPatKind::Cons(head, tail) => {
+            let found = add_variables(head, found)?;
+            add_variables(tail, found)
+        }
+        SPatKind::Absent => Ok(found),
+        SPatKind::Present(item) => add_variables(item, found),
+        SPatKind::Exn(_, None) => Ok(found),
+        SPatKind::Exn(_, Some(item)) => add_variables(item, found),
+    }
+}
+
+#[cycle(add_variables)]
+fn add_variables_of_all<'a>(
+    trees: &'a [SPat],
+    found: Vec<Named<'a>>,
+) -> Result<Vec<Named<'a>>, Memory>
+    ensures { IfOk result (λ names. map named names.items
+        ≡ map named found.entry.items ++ variables_of_all (pat_trees (map pat_of trees.now))) }
+{
+    let mut names = found;
+    for tree in trees {
+        let more = add_variables(tree, names)?;
+        names = more;
+    }
+    Ok(names)
+}
+
+/// These names, and behind them this one.
+pub fn with_name<'a>(found: Vec<Named<'a>>, name: &'a SName) -> Result<Vec<Named<'a>>, Memory>
+    ensures { IfOk result (λ names.
+        map named names.items ≡ map named found.entry.items ++ (name_of name.now ∷ [])) }
+{
+    let mut names = found;
+    names.push(Named::of(name))?;
+    Ok(names)
+}

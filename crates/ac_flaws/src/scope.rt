@@ -1,0 +1,59 @@
+// The variables in scope.
+
+ghost use Rattle.std.specs.Prelude.{◌≡◌, min, is_some, length};
+ghost use Rattle.std.specs.List.{list_any};
+ghost use Rattle.ac_types.specs.Types.{same_bytes};
+ghost use Rattle.ac_scopes.specs.Scopes.{binders_to};
+ghost use Rattle.ac_flaws.specs.declared.named.Named.{Named};
+ghost use Rattle.ac_flaws.specs.inner.Reads.{names_in};
+
+use crate::named::Named;
+use ac_syntax::SName;
+use ac_types::Word;
+
+/// The variables in scope, the newest first.
+#[derive(Clone, Copy)]
+pub enum Scope<'s, 'a> {
+    /// None.
+    Empty,
+    /// One more than those around.
+    Inner(&'s Scope<'s, 'a>, &'a SName),
+    /// Those of a pattern, from left to right, and those around.
+    Arm(&'s Scope<'s, 'a>, &'s [Named<'a>]),
+}
+
+/// Past this number no variable is counted.
+const MOST: usize = 65536;
+
+/// How many variables are in scope, at most 65,536.
+#[tactic(auto, using(crate::proofs::Scoping::scope_laws))]
+pub fn depth(scope: &Scope) -> usize
+    ensures { result ≡ min (length (names_in scope.now)) 65536 }
+{
+    match scope {
+        Scope::Empty => 0,
+        Scope::Inner(outer, _) => (depth(outer) + 1).min(MOST),
+        Scope::Arm(outer, names) => (depth(outer) + names.len()).min(MOST),
+    }
+}
+
+/// Whether a variable is in scope.
+#[tactic(auto, using(crate::proofs::Scoping::bound_laws))]
+pub fn is_bound(scope: &Scope, word: &Word) -> bool
+    ensures { result ≡ is_some (binders_to word.now (names_in scope.now)) }
+{
+    match scope {
+        Scope::Empty => false,
+        Scope::Inner(outer, name) => {
+            name.word.text().as_slice() == word.text().as_slice() || is_bound(outer, word)
+        }
+        Scope::Arm(outer, names) => is_among(names, word) || is_bound(outer, word),
+    }
+}
+
+/// Whether a name is among these.
+fn is_among(names: &[Named], word: &Word) -> bool
+    ensures { result ≡ list_any (λ (n : Named). same_bytes n.word.now word.now) names.now }
+{
+    names.iter().any(|name| name.word == word.text().as_slice())
+}
