@@ -1,0 +1,11 @@
+pub mod PartsSmall
+pub mod Texts
+pub mod PatternsExact
+pub mod TermsExact
+pub mod DefBounds
+pub mod PacketsExact
+pub mod Ontos
+pub mod Cycles
+pub mod Decoding
+pub mod Integers
+pub mod NoEntry

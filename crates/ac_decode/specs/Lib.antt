@@ -1,0 +1,4 @@
+pub mod ExactTerms
+pub mod ExactPackets
+pub mod inner
+pub mod Decoding

@@ -1,0 +1,161 @@
+// Definitions of packets.
+
+ghost use Rattle.std.specs.Prelude.{List, [], ◌∷◌, map, option_and_then, slice_get};
+ghost use Rattle.ac_terms.specs.Defs.{Def, AModule, AnImport};
+ghost use Rattle.ac_terms.specs.Read.{field_of, module_of_code, import_of_code, pdef_of};
+ghost use Rattle.ac_terms.specs.PacketReading.{ReadsPart, times};
+ghost use Rattle.ac_pieces.specs.Answers.{Answers};
+ghost use Rattle.ac_decode.specs.ExactPackets.{exact_field, exact_fields, exact_module, exact_import, def_table, exact_def, exact_defs};
+
+use crate::terms::term;
+use ac_bytes::Cursor;
+use ac_pieces::{
+    Fault, Types, all_typed, byte, constraint, joined, long_count, lower, resolves, sig, two,
+    upper, version,
+};
+use ac_terms::{Field, Import, Module, PDef};
+use ac_types::Many;
+use std::alloc::Global;
+
+/// How far terms and values nest at most.
+pub const DEEPEST: u32 = 500;
+
+// A field.
+#[tactic(auto, unfolding(crate::specs::ExactPackets::exact_field))]
+fn field<T: Types>(alloc: Global, cursor: &mut Cursor<'_>, types: &T) -> Result<Field, Fault>
+    ensures { Answers field_of result (exact_field (T.reads_type types.now) cursor.old.left)
+        cursor.new.left }
+{
+    let name = lower(alloc, cursor)?;
+    let head = joined(name, types.read_type(alloc, cursor, false))?;
+    let ((name, ty), term) = joined(head, term(alloc, cursor, types, false, DEEPEST))?;
+    Ok(Field { name, ty, term })
+}
+
+// So many of them.
+fn some_fields<T: Types>(
+    alloc: Global,
+    cursor: &mut Cursor<'_>,
+    types: &T,
+    count: u16,
+) -> Result<Many<Field>, Fault>
+    ensures { Answers (map field_of) result (times [] (λ x xs. x ∷ xs)
+        (exact_field (T.reads_type types.now)) count cursor.old.left) cursor.new.left }
+{
+    let mut items = Many::new(alloc);
+    for _ in 0..count {
+        let item = field(alloc, cursor, types)?;
+        items.push(item)?;
+    }
+    Ok(items)
+}
+
+// The fields of a module.
+#[tactic(auto, unfolding(crate::specs::ExactPackets::exact_fields))]
+fn fields<T: Types>(alloc: Global, cursor: &mut Cursor<'_>, types: &T) -> Result<Many<Field>, Fault>
+    ensures { Answers (map field_of) result
+        (exact_fields (T.reads_type types.now) cursor.old.left) cursor.new.left }
+{
+    let count = long_count(cursor, 0, 1024)?;
+    some_fields(alloc, cursor, types, count)
+}
+
+// A module behind its tag.
+#[tactic(auto, unfolding(crate::specs::ExactPackets::exact_module))]
+fn module<T: Types>(alloc: Global, cursor: &mut Cursor<'_>, types: &T) -> Result<Module, Fault>
+    ensures { Answers (λ m. AModule (module_of_code m)) result
+        (exact_module (T.reads_type types.now) cursor.old.left) cursor.new.left }
+{
+    let name = upper(alloc, cursor)?;
+    let head = joined(name, version(alloc, cursor))?;
+    let head = joined(head, sig(alloc, cursor, types))?;
+    let head = joined(head, all_typed(alloc, cursor, types, false))?;
+    let ((((name, version), sig), types), fields) = joined(head, fields(alloc, cursor, types))?;
+    Ok(Module {
+        name,
+        version,
+        sig,
+        types,
+        fields,
+    })
+}
+
+// An import behind its tag.
+#[tactic(auto, unfolding(crate::specs::ExactPackets::exact_import))]
+fn import<T: Types>(alloc: Global, cursor: &mut Cursor<'_>, types: &T) -> Result<Import, Fault>
+    ensures { Answers (λ i. AnImport (import_of_code i)) result
+        (exact_import (T.reads_type types.now) cursor.old.left) cursor.new.left }
+{
+    let name = upper(alloc, cursor)?;
+    let head = joined(name, sig(alloc, cursor, types))?;
+    let head = joined(head, constraint(alloc, cursor))?;
+    let head = joined(head, all_typed(alloc, cursor, types, false))?;
+    let ((((name, sig), constraint), like), by) = joined(head, resolves(alloc, cursor))?;
+    Ok(Import {
+        name,
+        sig,
+        constraint,
+        like,
+        by,
+    })
+}
+
+// A definition.
+fn def<T: Types>(alloc: Global, cursor: &mut Cursor<'_>, types: &T) -> Result<PDef, Fault>
+    ensures { Answers pdef_of result (exact_def (T.reads_type types.now) cursor.old.left)
+        cursor.new.left }
+{
+    let at = cursor.place();
+    let tag = byte(cursor)?;
+    def_behind(alloc, cursor, types, at, tag)
+}
+
+// The same behind its tag, which stands at that place.
+fn def_behind<T: Types>(
+    alloc: Global,
+    cursor: &mut Cursor<'_>,
+    types: &T,
+    at: usize,
+    tag: u8,
+) -> Result<PDef, Fault>
+    ensures { Answers pdef_of result (option_and_then (λ (g : ReadsPart Def). g cursor.old.left)
+        (slice_get (def_table (T.reads_type types.now)) tag)) cursor.new.left }
+{
+    match tag {
+        0x01 => Ok(PDef::Module(module(alloc, cursor, types)?)),
+        0x02 => Ok(PDef::Import(import(alloc, cursor, types)?)),
+        _ => Err(Fault::Misfit { at }),
+    }
+}
+
+// So many of them.
+fn some_defs<T: Types>(
+    alloc: Global,
+    cursor: &mut Cursor<'_>,
+    types: &T,
+    count: u16,
+) -> Result<Many<PDef>, Fault>
+    ensures { Answers (map pdef_of) result (times [] (λ x xs. x ∷ xs)
+        (exact_def (T.reads_type types.now)) count cursor.old.left) cursor.new.left }
+{
+    let mut items = Many::new(alloc);
+    for _ in 0..count {
+        let item = def(alloc, cursor, types)?;
+        items.push(item)?;
+    }
+    Ok(items)
+}
+
+/// The definitions of a packet.
+#[tactic(auto, unfolding(crate::specs::ExactPackets::exact_defs))]
+pub fn defs<T: Types>(
+    alloc: Global,
+    cursor: &mut Cursor<'_>,
+    types: &T,
+) -> Result<Many<PDef>, Fault>
+    ensures { Answers (map pdef_of) result (exact_defs (T.reads_type types.now) cursor.old.left)
+        cursor.new.left }
+{
+    let count = two(cursor)?;
+    some_defs(alloc, cursor, types, count)
+}

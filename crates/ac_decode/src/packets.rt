@@ -1,0 +1,115 @@
+// Packets.
+
+ghost use Rattle.std.specs.Prelude.{◌≡◌, ℕ, [], IfOk};
+ghost use Rattle.ac_terms.specs.Read.{packet_of};
+ghost use Rattle.ac_terms.specs.Bounds.{Spells};
+ghost use Rattle.ac_types.specs.Types.{Bytes};
+ghost use Rattle.ac_pieces.specs.ExactTypes.{exact_type};
+ghost use Rattle.ac_pieces.specs.Answers.{Answers};
+ghost use Rattle.ac_decode.specs.ExactPackets.{exact_mark, exact_first, exact_packet};
+ghost use Rattle.ac_decode.specs.Decoding.{OnFormat, all_of};
+
+use crate::defs::{DEEPEST, defs};
+use crate::terms::value;
+use ac_bytes::Cursor;
+use ac_pieces::{Fault, InFull, Types, byte, four, joined};
+use ac_terms::Packet;
+use ac_types::Memory;
+use std::alloc::Global;
+
+/// The most bytes of a packet.
+const LONGEST_PACKET: usize = 1_048_576;
+
+/// What a packet begins with: `ACUP` as a number.
+const MARK: u32 = 0x41435550;
+
+/// Why bytes are not read as a packet.
+#[derive(Clone, Copy, Debug, PartialEq, Eq)]
+pub enum DecodeFault {
+    /// The bytes spell no packet.
+    Format {
+        /// The first byte of the first piece that doesn't fit, or the end.
+        at: u32,
+    },
+    /// Memory ran out.
+    Memory,
+}
+
+// What a packet begins with.
+#[tactic(auto, unfolding(crate::specs::ExactPackets::exact_mark))]
+fn mark(cursor: &mut Cursor<'_>) -> Result<u32, Fault>
+    ensures { Answers (λ (n : ℕ). n) result (exact_mark cursor.old.left) cursor.new.left }
+{
+    let at = cursor.place();
+    let n = four(cursor)?;
+    if n != MARK {
+        return Err(Fault::Misfit { at });
+    }
+    Ok(n)
+}
+
+// The version behind it.
+#[tactic(auto, unfolding(crate::specs::ExactPackets::exact_first))]
+fn first(cursor: &mut Cursor<'_>) -> Result<u8, Fault>
+    ensures { Answers (λ (n : ℕ). n) result (exact_first cursor.old.left) cursor.new.left }
+{
+    let at = cursor.place();
+    let n = byte(cursor)?;
+    if n != 1 {
+        return Err(Fault::Misfit { at });
+    }
+    Ok(n)
+}
+
+// A packet.
+#[tactic(auto, unfolding(crate::specs::ExactPackets::exact_packet))]
+fn packet<T: Types>(alloc: Global, cursor: &mut Cursor<'_>, types: &T) -> Result<Packet, Fault>
+    ensures { Answers packet_of result (exact_packet (T.reads_type types.now) cursor.old.left)
+        cursor.new.left }
+{
+    let _mark = mark(cursor)?;
+    let _version = first(cursor)?;
+    let defs = defs(alloc, cursor, types)?;
+    let front = joined(defs, types.read_type(alloc, cursor, false))?;
+    let ((defs, ty), value) = joined(front, value(alloc, cursor, types, DEEPEST))?;
+    Ok(Packet { defs, ty, value })
+}
+
+// The packet, where nothing is left behind it.
+fn whole(alloc: Global, bytes: &[u8]) -> Result<Packet, Fault>
+    ensures { Answers packet_of result (all_of (exact_packet exact_type) bytes.now) [] }
+{
+    let mut cursor = Cursor::new(bytes);
+    let packet = packet(alloc, &mut cursor, &InFull)?;
+    if !cursor.at_end() {
+        let at = cursor.place();
+        drop(packet);
+        return Err(Fault::Misfit { at });
+    }
+    Ok(packet)
+}
+
+/// The packet that the bytes spell. `Format` exactly where they spell none.
+pub fn decode(alloc: Global, bytes: &[u8]) -> Result<Packet, DecodeFault>
+    ensures packet { IfOk result (λ p. Spells bytes.now (packet_of p)) }
+    ensures format { OnFormat result ((p : _) → Spells bytes.now p → ⊥) }
+{
+    if bytes.len() > LONGEST_PACKET {
+        return Err(DecodeFault::Format {
+            at: LONGEST_PACKET as u32,
+        });
+    }
+    match whole(alloc, bytes) {
+        Ok(packet) => Ok(packet),
+        Err(Fault::Misfit { at }) => Err(DecodeFault::Format { at: place(at) }),
+        Err(Fault::Short) => Err(DecodeFault::Format {
+            at: place(bytes.len()),
+        }),
+        Err(Fault::Memory) => Err(DecodeFault::Memory),
+    }
+}
+
+// A place in bytes, of which there are fewer than 2^32.
+fn place(at: usize) -> u32 {
+    u32::try_from(at).unwrap_or(u32::MAX)
+}

@@ -1,0 +1,9 @@
+pub mod Exact
+pub mod Tables
+pub mod Pieces
+pub mod TypesExact
+pub mod Taken
+pub mod Loops
+pub mod Tags
+pub mod Steps
+pub mod TypeCycle

@@ -1,0 +1,4 @@
+pub mod ExactReading
+pub mod ExactTypes
+pub mod Answers
+pub mod Follows

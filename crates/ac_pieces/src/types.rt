@@ -1,0 +1,225 @@
+// Types, and what reads them.
+
+ghost use Rattle.std.specs.Prelude.{Bool, List, map, option_and_then, slice_get};
+ghost use Rattle.ac_types.specs.Types.{Typ, TTuple, TList, TOpt, TFun, TAbs, TMine, no_types, typ, typs};
+ghost use Rattle.ac_types.specs.ReadTypes.{typ_of};
+ghost use Rattle.ac_terms.specs.PacketReading.{ReadsPart, one, two_parts_read, pair, times};
+ghost use Rattle.ac_pieces.specs.ExactReading.{exact_name, exact_lower};
+ghost use Rattle.ac_pieces.specs.ExactTypes.{exact_type_table, exact_type_of, exact_type};
+ghost use Rattle.ac_pieces.specs.Answers.{Answers, Leads, Makes};
+ghost use Rattle.ac_pieces.specs.Follows.{type_follows};
+
+use crate::fault::{Fault, joined};
+use crate::numbers::{byte, name, width};
+use crate::texts::lower;
+use ac_bytes::Cursor;
+use ac_types::{Box, Many, Ty, small};
+use std::alloc::Global;
+
+/// What reads types.
+pub trait Types {
+    /// How types are read; `true` where own abstract types may stand in one.
+    ghost reads_type: { Self → Bool → ReadsPart Typ };
+
+    /// A type.
+    fn read_type(&self, alloc: Global, cursor: &mut Cursor<'_>, own: bool) -> Result<Ty, Fault>
+        ensures { Answers typ_of result (reads_type self.now own cursor.old.left)
+            cursor.new.left };
+}
+
+/// Types that are spelled in full.
+#[derive(Clone, Copy)]
+pub struct InFull;
+
+impl Types for InFull {
+    ghost reads_type = { λ _ own. exact_type own };
+
+    fn read_type(&self, alloc: Global, cursor: &mut Cursor<'_>, own: bool) -> Result<Ty, Fault> {
+        small_type(alloc, cursor, own)
+    }
+}
+
+/// A type by its tag, and what stands behind it but for its inner types.
+#[derive(Drop)]
+pub enum TypeHead {
+    /// A type without inner ones.
+    Leaf(Ty),
+    /// A tuple of so many parts.
+    Tuple(u8),
+    /// A list.
+    List,
+    /// An option.
+    Opt,
+    /// A function.
+    Fun,
+}
+
+// An abstract type.
+#[tactic(auto, using(ac_canon::proofs::TypeForms::type_laws))]
+fn abstract_type(alloc: Global, cursor: &mut Cursor<'_>) -> Result<Ty, Fault>
+    ensures { Answers typ_of result (two_parts_read TAbs exact_name exact_lower cursor.old.left)
+        cursor.new.left }
+{
+    let name = name(cursor)?;
+    let word = lower(alloc, cursor)?;
+    Ok(Ty::Abs(name, word))
+}
+
+// An own abstract type.
+#[tactic(auto, using(ac_canon::proofs::TypeForms::type_laws))]
+fn own_type(alloc: Global, cursor: &mut Cursor<'_>) -> Result<Ty, Fault>
+    ensures { Answers typ_of result (one TMine exact_lower cursor.old.left) cursor.new.left }
+{
+    let word = lower(alloc, cursor)?;
+    Ok(Ty::Mine(word))
+}
+
+// The head of a type behind its tag, which stands at that place.
+#[tactic(auto, using(ac_canon::proofs::TypeForms::type_laws))]
+fn head(
+    alloc: Global,
+    cursor: &mut Cursor<'_>,
+    own: bool,
+    at: usize,
+    tag: u8,
+) -> Result<TypeHead, Fault>
+    ensures { (f : ReadsPart Typ) → Leads (λ h. type_follows f h cursor.new.left) result
+        (option_and_then (λ (g : ReadsPart Typ). g cursor.old.left)
+        (slice_get (exact_type_table own f) tag)) }
+{
+    match tag {
+        0x01 => Ok(TypeHead::Leaf(Ty::Int)),
+        0x02 => Ok(TypeHead::Leaf(Ty::Bool)),
+        0x03 => Ok(TypeHead::Leaf(Ty::Str)),
+        0x04 => Ok(TypeHead::Leaf(Ty::Unit)),
+        0x05 => Ok(TypeHead::Leaf(Ty::Exn)),
+        0x06 => Ok(TypeHead::Tuple(width(cursor)?)),
+        0x07 => Ok(TypeHead::List),
+        0x08 => Ok(TypeHead::Opt),
+        0x09 => Ok(TypeHead::Fun),
+        0x0A => Ok(TypeHead::Leaf(abstract_type(alloc, cursor)?)),
+        0x0B => {
+            if !own {
+                return Err(Fault::Misfit { at });
+            }
+            Ok(TypeHead::Leaf(own_type(alloc, cursor)?))
+        }
+        _ => Err(Fault::Misfit { at }),
+    }
+}
+
+// A tuple.
+#[tactic(auto, using(ac_canon::proofs::TypeForms::type_laws))]
+fn tuple(parts: Result<Many<Ty>, Fault>) -> Result<Ty, Fault>
+    ensures { Makes (λ (tys : List Ty). typs (map typ_of tys)) typ_of TTuple parts result }
+{
+    let parts = parts?;
+    Ok(Ty::Tuple(parts))
+}
+
+// A list.
+#[tactic(auto, using(ac_canon::proofs::TypeForms::type_laws))]
+fn list(item: Result<Box<Ty>, Fault>) -> Result<Ty, Fault>
+    ensures { Makes typ_of typ_of TList item result }
+{
+    let item = item?;
+    Ok(Ty::List(item))
+}
+
+// An option.
+#[tactic(auto, using(ac_canon::proofs::TypeForms::type_laws))]
+fn option(item: Result<Box<Ty>, Fault>) -> Result<Ty, Fault>
+    ensures { Makes typ_of typ_of TOpt item result }
+{
+    let item = item?;
+    Ok(Ty::Opt(item))
+}
+
+// A function.
+#[tactic(auto, using(ac_canon::proofs::TypeForms::type_laws))]
+fn function(both: Result<(Box<Ty>, Box<Ty>), Fault>) -> Result<Ty, Fault>
+    ensures { Makes {A = Typ × Typ} (λ p. (typ_of p.0, typ_of p.1)) typ_of (λ p. TFun p.0 p.1) both
+        result }
+{
+    let (from, to) = both?;
+    Ok(Ty::Fun(from, to))
+}
+
+// A type of at most that height.
+#[cycle(types)]
+fn type_of(alloc: Global, cursor: &mut Cursor<'_>, own: bool, depth: u32) -> Result<Ty, Fault>
+    ensures { Answers typ_of result (exact_type_of own depth cursor.old.left) cursor.new.left }
+{
+    let at = cursor.place();
+    if depth == 0 {
+        return Err(Fault::Misfit { at });
+    }
+    let inner = depth - 1;
+    let tag = byte(cursor)?;
+    let head = head(alloc, cursor, own, at, tag)?;
+    match head {
+        TypeHead::Leaf(ty) => Ok(ty),
+        TypeHead::Tuple(n) => tuple(all(alloc, cursor, own, n, inner)),
+        TypeHead::List => list(boxed(alloc, cursor, own, inner)),
+        TypeHead::Opt => option(boxed(alloc, cursor, own, inner)),
+        TypeHead::Fun => function(two_types(alloc, cursor, own, inner)),
+    }
+}
+
+// The same in a box.
+#[cycle(types)]
+fn boxed(alloc: Global, cursor: &mut Cursor<'_>, own: bool, depth: u32) -> Result<Box<Ty>, Fault>
+    ensures { Answers typ_of result (exact_type_of own depth cursor.old.left) cursor.new.left }
+{
+    let ty = type_of(alloc, cursor, own, depth)?;
+    Ok(Box::new(alloc, ty)?)
+}
+
+// Two types.
+#[cycle(types)]
+fn two_types(
+    alloc: Global,
+    cursor: &mut Cursor<'_>,
+    own: bool,
+    depth: u32,
+) -> Result<(Box<Ty>, Box<Ty>), Fault>
+    ensures { Answers (λ p. (typ_of p.0, typ_of p.1)) result
+        (pair (exact_type_of own depth) (exact_type_of own depth) cursor.old.left)
+        cursor.new.left }
+{
+    let from = boxed(alloc, cursor, own, depth)?;
+    joined(from, boxed(alloc, cursor, own, depth))
+}
+
+// So many types.
+#[cycle(types)]
+fn all(
+    alloc: Global,
+    cursor: &mut Cursor<'_>,
+    own: bool,
+    count: u8,
+    depth: u32,
+) -> Result<Many<Ty>, Fault>
+    ensures { Answers (λ (tys : List Ty). typs (map typ_of tys)) result
+        (times no_types typ (exact_type_of own depth) count cursor.old.left) cursor.new.left }
+{
+    let mut items = Many::new(alloc);
+    for _ in 0..count {
+        let item = type_of(alloc, cursor, own, depth)?;
+        items.push(item)?;
+    }
+    Ok(items)
+}
+
+// A small type.
+#[tactic(auto, unfolding(crate::specs::ExactTypes::exact_type))]
+fn small_type(alloc: Global, cursor: &mut Cursor<'_>, own: bool) -> Result<Ty, Fault>
+    ensures { Answers typ_of result (exact_type own cursor.old.left) cursor.new.left }
+{
+    let at = cursor.place();
+    let ty = type_of(alloc, cursor, own, 100)?;
+    if !small(&ty) {
+        return Err(Fault::Misfit { at });
+    }
+    Ok(ty)
+}

@@ -1,0 +1,193 @@
+// Versions, constraints and resolvespecs.
+
+ghost use Rattle.std.specs.Prelude.{ℕ, List, [], ◌∷◌, map, option_and_then, slice_get};
+ghost use Rattle.ac_types.specs.ReadTypes.{atom_of, range_of, constraint_of, resolve_of};
+ghost use Rattle.ac_terms.specs.PacketReading.{ReadsPart, times};
+ghost use Rattle.ac_pieces.specs.ExactReading.{atom_table, exact_atom, exact_version, range_table, exact_range, exact_ranges, constraint_table, exact_constraint, resolve_table, exact_resolve, exact_resolves};
+ghost use Rattle.ac_pieces.specs.Answers.{Answers};
+
+use crate::fault::Fault;
+use crate::numbers::{byte, count, four, name, truth};
+use crate::texts::text;
+use ac_bytes::Cursor;
+use ac_types::{Atom, Constraint, Many, Range, Resolve, Version};
+use std::alloc::Global;
+
+// A part of a version.
+fn atom(cursor: &mut Cursor<'_>) -> Result<Atom, Fault>
+    ensures { Answers atom_of result (exact_atom cursor.old.left) cursor.new.left }
+{
+    let at = cursor.place();
+    let tag = byte(cursor)?;
+    atom_behind(cursor, at, tag)
+}
+
+// The same behind its tag, which stands at that place.
+fn atom_behind(cursor: &mut Cursor<'_>, at: usize, tag: u8) -> Result<Atom, Fault>
+    ensures { Answers atom_of result (option_and_then (λ (g : ReadsPart _). g cursor.old.left)
+        (slice_get atom_table tag)) cursor.new.left }
+{
+    match tag {
+        0x01 => Ok(Atom::Number(four(cursor)?)),
+        0x02 => Ok(Atom::MyName),
+        _ => Err(Fault::Misfit { at }),
+    }
+}
+
+// So many parts of a version.
+fn atoms(alloc: Global, cursor: &mut Cursor<'_>, count: u8) -> Result<Many<Atom>, Fault>
+    ensures { Answers (map atom_of) result
+        (times [] (λ x xs. x ∷ xs) exact_atom count cursor.old.left) cursor.new.left }
+{
+    let mut items = Many::new(alloc);
+    for _ in 0..count {
+        let item = atom(cursor)?;
+        items.push(item)?;
+    }
+    Ok(items)
+}
+
+/// A version: 1 to 8 parts.
+#[tactic(auto, unfolding(crate::specs::ExactReading::exact_version))]
+pub fn version(alloc: Global, cursor: &mut Cursor<'_>) -> Result<Version, Fault>
+    ensures { Answers (λ v. map atom_of v.atoms) result (exact_version cursor.old.left)
+        cursor.new.left }
+{
+    let n = count(cursor, 1, 8)?;
+    let atoms = atoms(alloc, cursor, n)?;
+    Ok(Version { atoms })
+}
+
+// The numbers that a constraint allows at one place.
+fn range(cursor: &mut Cursor<'_>) -> Result<Range, Fault>
+    ensures { Answers range_of result (exact_range cursor.old.left) cursor.new.left }
+{
+    let at = cursor.place();
+    let tag = byte(cursor)?;
+    range_behind(cursor, at, tag)
+}
+
+// The same behind its tag, which stands at that place.
+fn range_behind(cursor: &mut Cursor<'_>, at: usize, tag: u8) -> Result<Range, Fault>
+    ensures { Answers range_of result (option_and_then (λ (g : ReadsPart _). g cursor.old.left)
+        (slice_get range_table tag)) cursor.new.left }
+{
+    match tag {
+        0x01 => Ok(Range::One(four(cursor)?)),
+        0x02 => {
+            let least = four(cursor)?;
+            let most = four(cursor)?;
+            Ok(Range::Between(least, most))
+        }
+        0x03 => Ok(Range::UpTo(four(cursor)?)),
+        0x04 => Ok(Range::From(four(cursor)?)),
+        _ => Err(Fault::Misfit { at }),
+    }
+}
+
+// So many of them.
+fn all_ranges(alloc: Global, cursor: &mut Cursor<'_>, count: u8) -> Result<Many<Range>, Fault>
+    ensures { Answers (map range_of) result
+        (times [] (λ x xs. x ∷ xs) exact_range count cursor.old.left) cursor.new.left }
+{
+    let mut items = Many::new(alloc);
+    for _ in 0..count {
+        let item = range(cursor)?;
+        items.push(item)?;
+    }
+    Ok(items)
+}
+
+// Ranges and whether there is a star: without ranges there is one.
+#[tactic(auto, unfolding(crate::specs::ExactReading::exact_ranges))]
+fn ranges(alloc: Global, cursor: &mut Cursor<'_>) -> Result<(Many<Range>, bool), Fault>
+    ensures { Answers (λ p. (map range_of p.0, p.1)) result (exact_ranges cursor.old.left)
+        cursor.new.left }
+{
+    let at = cursor.place();
+    let n = count(cursor, 0, 8)?;
+    let atoms = all_ranges(alloc, cursor, n)?;
+    let star = truth(cursor)?;
+    if !star && atoms.len() < 1 {
+        return Err(Fault::Misfit { at });
+    }
+    Ok((atoms, star))
+}
+
+/// A constraint.
+pub fn constraint(alloc: Global, cursor: &mut Cursor<'_>) -> Result<Constraint, Fault>
+    ensures { Answers constraint_of result (exact_constraint cursor.old.left) cursor.new.left }
+{
+    let at = cursor.place();
+    let tag = byte(cursor)?;
+    constraint_behind(alloc, cursor, at, tag)
+}
+
+// The same behind its tag, which stands at that place.
+fn constraint_behind(
+    alloc: Global,
+    cursor: &mut Cursor<'_>,
+    at: usize,
+    tag: u8,
+) -> Result<Constraint, Fault>
+    ensures { Answers constraint_of result (option_and_then (λ (g : ReadsPart _). g cursor.old.left)
+        (slice_get constraint_table tag)) cursor.new.left }
+{
+    match tag {
+        0x01 => {
+            let (atoms, star) = ranges(alloc, cursor)?;
+            Ok(Constraint::Ranges { atoms, star })
+        }
+        0x02 => Ok(Constraint::Exact(name(cursor)?)),
+        _ => Err(Fault::Misfit { at }),
+    }
+}
+
+// A place where an import looks for its module.
+fn resolve(alloc: Global, cursor: &mut Cursor<'_>) -> Result<Resolve, Fault>
+    ensures { Answers resolve_of result (exact_resolve cursor.old.left) cursor.new.left }
+{
+    let at = cursor.place();
+    let tag = byte(cursor)?;
+    resolve_behind(alloc, cursor, at, tag)
+}
+
+// The same behind its tag, which stands at that place.
+fn resolve_behind(
+    alloc: Global,
+    cursor: &mut Cursor<'_>,
+    at: usize,
+    tag: u8,
+) -> Result<Resolve, Fault>
+    ensures { Answers resolve_of result (option_and_then (λ (g : ReadsPart _). g cursor.old.left)
+        (slice_get resolve_table tag)) cursor.new.left }
+{
+    match tag {
+        0x01 => Ok(Resolve::StaticLink),
+        0x02 => Ok(Resolve::HereAlready),
+        0x03 => Ok(Resolve::Uri(text(alloc, cursor, 1024)?)),
+        _ => Err(Fault::Misfit { at }),
+    }
+}
+
+// So many of them.
+fn places(alloc: Global, cursor: &mut Cursor<'_>, count: u8) -> Result<Many<Resolve>, Fault>
+    ensures { Answers (map resolve_of) result
+        (times [] (λ x xs. x ∷ xs) exact_resolve count cursor.old.left) cursor.new.left }
+{
+    let mut items = Many::new(alloc);
+    for _ in 0..count {
+        let item = resolve(alloc, cursor)?;
+        items.push(item)?;
+    }
+    Ok(items)
+}
+
+/// A resolvespec: 1 to 16 places.
+#[tactic(auto, unfolding(crate::specs::ExactReading::exact_resolves))]
+pub fn resolves(alloc: Global, cursor: &mut Cursor<'_>) -> Result<Many<Resolve>, Fault>
+    ensures { Answers (map resolve_of) result (exact_resolves cursor.old.left) cursor.new.left }
+{
+    let n = count(cursor, 1, 16)?;
+    places(alloc, cursor, n)
+}
