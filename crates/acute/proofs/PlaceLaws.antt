@@ -155,7 +155,7 @@ gets_all None t o = refl
 gets_all (Some channel) t o = λ told. refl
 
 -- what is read, with all of the input
-pub read_all : (name : Bytes) (steps : ℕ) (from to : Option ChannelName) (o : Handed) (text : Bytes) → IsTextOf (o.files name) text → HasRead name steps from to o
+abbrev pub read_all : (name : Bytes) (steps : ℕ) (from to : Option ChannelName) (o : Handed) (text : Bytes) → IsTextOf (o.files name) text → HasRead name steps from to o
 read_all name steps from to o text is_text = record { text = text; is_text = is_text; input = input_of from o; is_input = gets_all from (is_told from to o) o }
 
 -- files that are as they were
@@ -185,14 +185,14 @@ made_or_not start old now name same (inl is) = inl (ap or_empty (is ∙ ap (λ (
 made_or_not start old now name same (inr is) = inr (ap or_empty is)
 
 at_most : (told : Bool) (start old now : FilesSeen) (name : Text) (p : Put) → (p ≡ put.Done → ⊥) → Since told start old → (IsTrue told → Created p (old.contents name) (now.contents name)) → IsTrue told → (or_empty (now.contents name) ≡ or_empty (start.contents name)) ⊎ (or_empty (now.contents name) ≡ [])
-at_most told start old now name put.Done no since m t = absurd (no refl)
-at_most told start old now name put.Failed no since m t = made_or_not start old now name (since.same t) (m t)
-at_most told start old now name put.Memory no since m t = made_or_not start old now name (since.same t) (m t)
+at_most told start old now name put.Done undone since m t = absurd (undone refl)
+at_most told start old now name put.Failed undone since m t = made_or_not start old now name (since.same t) (m t)
+at_most told start old now name put.Memory undone since m t = made_or_not start old now name (since.same t) (m t)
 
 pub made_at_most : (told : Bool) (start old now : FilesSeen) (input : Reading) (output errors : Writing) (to : Option ChannelName) (p : Put) → (p ≡ put.Done → ⊥) → Since told start old → Makes to told p old now → MadeAtMost to (what_is_handed told start now input output errors)
-made_at_most told start old now input output errors None p no since m = tt
-made_at_most told start old now input output errors (Some standard) p no since m = tt
-made_at_most told start old now input output errors (Some (file name)) p no since m = at_most told start old now name p no since m.0
+made_at_most told start old now input output errors None p undone since m = tt
+made_at_most told start old now input output errors (Some standard) p undone since m = tt
+made_at_most told start old now input output errors (Some (file name)) p undone since m = at_most told start old now name p undone since m.0
 
 failed≢done : put.Failed ≡ put.Done → ⊥
 failed≢done is = absurd cc

@@ -14,11 +14,11 @@ returns-in-Ok-clause-ends g c = λ start since is_text.
     c.run_program.ensures.ends start since c.args.text.now is_text
     (subst (λ (shelf : List ShelfText). Accepted c.args.text.now shelf (environment_of l.env) (expr_of l.main) (typ_of l.ty)) (no_texts c.empty.ensures) c.in-Ok.ensures.accepted)
 
-pub returns-in-Err-clause-ends : goal.returns-in-Err-clause-ends
-returns-in-Err-clause-ends g c = λ start since is_text.
+pub returns-clause-ends : goal.returns-clause-ends
+returns-clause-ends g c = λ start since is_text.
     let r = c.in-Err.refusal in
     let refused = subst (λ (shelf : List ShelfText). Says r.kind (IsRefused c.args.text.now shelf r.part r.kind)) (no_texts c.empty.ensures) c.in-Err.ensures.refused in
     end_refusal _ _ _ _ _ c.args.text.now is_text (record { same = refl }) (untouched_by _ _ _ _ _ _ _ since.same) r.kind (says r.kind program_alone refused) _ c.refuse.ensures
 
-pub returns-in-Err-clause-kept : goal.returns-in-Err-clause-kept
-returns-in-Err-clause-kept g c = λ told name h. refl
+pub returns-clause-kept : goal.returns-clause-kept
+returns-clause-kept g c = λ told name h. refl
