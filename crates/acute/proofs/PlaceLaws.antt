@@ -78,27 +78,30 @@ said_earlier errors x line status end le (said w) = said w
 said_earlier errors x line status end le (failed rose p) = failed (rose_earlier x errors.before errors.after le rose) p
 said_earlier errors x line status end le (no_memory p) = no_memory p
 
-pub said_behind : {Errors : Type 0} (told : Bool) (written : Errors → List ℕ) (faults : Errors → ℕ) (to : Option ChannelName) (o : Handed) (old mid new : Errors) (line : List ℕ) (status end : Status) → o.errors ≡ writing told written faults old new → ErrorsApart to old mid → faults old ≤ faults mid
-    → Said (writing told written faults mid new) line status end → Said (behind_run to o (written mid)) line status end
-said_behind {Errors} told written faults None o old mid new line status end is apart le s =
+abbrev errors_behind : Option ChannelName → Writing → List ℕ → Writing
+errors_behind to e mid = of_console to e (record e { old = mid })
+
+pub said_behind : {Errors : Type 0} (told : Bool) (written : Errors → List ℕ) (faults : Errors → ℕ) (to : Option ChannelName) (e : Writing) (old mid new : Errors) (line : List ℕ) (status end : Status) → e ≡ writing told written faults old new → ErrorsApart to old mid → faults old ≤ faults mid
+    → Said (writing told written faults mid new) line status end → Said (errors_behind to e (written mid)) line status end
+said_behind {Errors} told written faults None e old mid new line status end is apart le s =
     subst (λ (w : Writing). Said w line status end) (sym is) (subst (λ (m : Errors). Said (writing told written faults m new) line status end) apart s)
-said_behind {Errors} told written faults (Some standard) o old mid new line status end is apart le s =
+said_behind {Errors} told written faults (Some standard) e old mid new line status end is apart le s =
     subst (λ (w : Writing). Said (record w { old = written mid }) line status end) (sym is) (said_earlier (writing told written faults mid new) (faults old) line status end le s)
-said_behind {Errors} told written faults (Some (file name)) o old mid new line status end is apart le s =
+said_behind {Errors} told written faults (Some (file name)) e old mid new line status end is apart le s =
     subst (λ (w : Writing). Said w line status end) (sym is) (subst (λ (m : Errors). Said (writing told written faults m new) line status end) apart s)
 
-pub told_behind : {Errors : Type 0} (told : Bool) (written : Errors → List ℕ) (faults : Errors → ℕ) (to : Option ChannelName) (o : Handed) (old mid new : Errors) (line other : List ℕ) (status others end : Status) → o.errors ≡ writing told written faults old new → ErrorsApart to old mid → faults old ≤ faults mid
-    → Said (writing told written faults mid new) line status end ⊎ Said (writing told written faults mid new) other others end → Said (behind_run to o (written mid)) line status end ⊎ Said (behind_run to o (written mid)) other others end
-told_behind told written faults to o old mid new line other status others end is apart le (inl s) = inl (said_behind told written faults to o old mid new line status end is apart le s)
-told_behind told written faults to o old mid new line other status others end is apart le (inr s) = inr (said_behind told written faults to o old mid new other others end is apart le s)
+pub told_behind : {Errors : Type 0} (told : Bool) (written : Errors → List ℕ) (faults : Errors → ℕ) (to : Option ChannelName) (e : Writing) (old mid new : Errors) (line other : List ℕ) (status others end : Status) → e ≡ writing told written faults old new → ErrorsApart to old mid → faults old ≤ faults mid
+    → Said (writing told written faults mid new) line status end ⊎ Said (writing told written faults mid new) other others end → Said (errors_behind to e (written mid)) line status end ⊎ Said (errors_behind to e (written mid)) other others end
+told_behind told written faults to e old mid new line other status others end is apart le (inl s) = inl (said_behind told written faults to e old mid new line status end is apart le s)
+told_behind told written faults to e old mid new line other status others end is apart le (inr s) = inr (said_behind told written faults to e old mid new other others end is apart le s)
 
 -- no line behind a run
-pub still_behind : {Errors : Type 0} (told : Bool) (written : Errors → List ℕ) (faults : Errors → ℕ) (to : Option ChannelName) (o : Handed) (old mid : Errors) → o.errors ≡ writing told written faults old mid → ErrorsApart to old mid → Whole (behind_run to o (written mid)) []
-still_behind told written faults None o old mid is apart =
+pub still_behind : {Errors : Type 0} (told : Bool) (written : Errors → List ℕ) (faults : Errors → ℕ) (to : Option ChannelName) (e : Writing) (old mid : Errors) → e ≡ writing told written faults old mid → ErrorsApart to old mid → Whole (errors_behind to e (written mid)) []
+still_behind told written faults None e old mid is apart =
     subst (λ (w : Writing). Whole w []) (sym is) (λ t. ap written apart ∙ sym (append-nil (written old)))
-still_behind told written faults (Some standard) o old mid is apart =
+still_behind told written faults (Some standard) e old mid is apart =
     subst (λ (w : Writing). Whole (record w { old = written mid }) []) (sym is) (λ t. sym (append-nil (written mid)))
-still_behind told written faults (Some (file name)) o old mid is apart =
+still_behind told written faults (Some (file name)) e old mid is apart =
     subst (λ (w : Writing). Whole w []) (sym is) (λ t. ap written apart ∙ sym (append-nil (written old)))
 
 -- what a run leaves, from other streams in front of it that are the same where they are told

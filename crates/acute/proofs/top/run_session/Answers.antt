@@ -1,6 +1,6 @@
 use Rattle.std.proofs.Common.{◌≡◌, ◌∙◌, refl, sym, ap, inl, inr}
 use Rattle.ac_run.specs.Sessions.{Session}
-use Rattle.acute.proofs.PlaceLaws.{input_same, before_same, input_earlier, output_failed, said_behind, told_behind, still_behind}
+use Rattle.acute.proofs.PlaceLaws.{input_same, before_same, said_behind, told_behind, still_behind}
 use Rattle.acute.proofs.RunLaws.{finished_in, raised_in, spent_in, unread_in, failed_in, lost_in}
 use Rattle.acute.proofs.top.run_session.Goals as goal
 
@@ -70,7 +70,7 @@ returns-in-ReadFault-clause-ends g c = λ start p text is_text loaded is_loaded 
       old = _;
       old_is = λ told. before_same _ _ g.F.Files.told g.I.Source.told _ g.O.Sink.told start _ _ _ p told;
       ran = c.in-ReadFault.ensures.ends (ap (λ (s : Session). s.end) is);
-    }) (input_earlier _ _ _ _ _ p.reads (c.in-ReadFault.ensures.cause_read (ap (λ (s : Session). s.end) is) refl)) _ (said_behind g.E.Sink.told g.E.Sink.written g.E.Sink.faults _ _ _ _ _ _ _ _ refl c.in-ReadFault.ensures.apart c.in-ReadFault.ensures.later c.say.ensures.said)
+    }) _ p.reads (c.in-ReadFault.ensures.cause_read (ap (λ (s : Session). s.end) is) refl) _ (said_behind g.E.Sink.told g.E.Sink.written g.E.Sink.faults _ _ _ _ _ _ _ _ refl c.in-ReadFault.ensures.apart c.in-ReadFault.ensures.later c.say.ensures.said)
 
 pub returns-in-WriteFault-clause-ends : goal.returns-in-WriteFault-clause-ends
 returns-in-WriteFault-clause-ends g c = λ start p text is_text loaded is_loaded accepted is.
@@ -87,7 +87,7 @@ returns-in-WriteFault-clause-ends g c = λ start p text is_text loaded is_loaded
       old = _;
       old_is = λ told. before_same _ _ g.F.Files.told g.I.Source.told _ g.O.Sink.told start _ _ _ p told;
       ran = c.in-WriteFault.ensures.ends (ap (λ (s : Session). s.end) is);
-    }) (output_failed _ _ _ _ _ _ _ _ _ _ c.say-in-WriteFault.ensures.later p.writes (c.in-WriteFault.ensures.cause (ap (λ (s : Session). s.end) is) refl)) _ (said_behind g.E.Sink.told g.E.Sink.written g.E.Sink.faults _ _ _ _ _ _ _ _ refl c.in-WriteFault.ensures.apart c.in-WriteFault.ensures.later c.say-in-WriteFault.ensures.said)
+    }) _ _ c.say-in-WriteFault.ensures.later p.writes (c.in-WriteFault.ensures.cause (ap (λ (s : Session). s.end) is) refl) _ (said_behind g.E.Sink.told g.E.Sink.written g.E.Sink.faults _ _ _ _ _ _ _ _ refl c.in-WriteFault.ensures.apart c.in-WriteFault.ensures.later c.say-in-WriteFault.ensures.said)
 
 pub returns-in-Memory-clause-ends : goal.returns-in-Memory-clause-ends
 returns-in-Memory-clause-ends g c = λ start p text is_text loaded is_loaded accepted is.
