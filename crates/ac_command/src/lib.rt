@@ -17,10 +17,14 @@ fn run_command<'a>(alloc: Global) -> Result<clap::Command<'a>, Memory>
     ensures { IfOk result (λ c. ReadsForm run_form (app_of c)) }
 {
     let file = Arg::new(alloc, "FILE");
+    let input = Arg::new(alloc, "in").long("in");
+    let output = Arg::new(alloc, "out").long("out");
     let steps = Arg::new(alloc, "steps").long("steps");
     let command = clap::Command::new(alloc, "run")
         .disable_help_flag(true)
         .arg(file)?
+        .arg(input)?
+        .arg(output)?
         .arg(steps)?;
     Ok(command)
 }
@@ -33,7 +37,12 @@ fn read_run<'a>(alloc: Global, words: &'a [String]) -> Result<Option<Command<'a>
     let command = run_command(alloc)?;
     match matches_in(command, words)? {
         None => Ok(None),
-        Some(matches) => Ok(run_from(matches.get_str("FILE"), matches.get_str("steps"))),
+        Some(matches) => Ok(run_from(
+            matches.get_str("FILE"),
+            matches.get_str("steps"),
+            matches.get_str("in"),
+            matches.get_str("out"),
+        )),
     }
 }
 

@@ -1,7 +1,7 @@
 -- Command lines, and what they ask for.
 use Rattle.std.proofs.Common.{◌≡◌, refl, [], ◌∷◌, Some, None, codes, true, false}
 use Rattle.ac_words.specs.Form.{Form, given_of, look, named, plain, refused}
-use Rattle.ac_words.specs.Commands.{command_of, run}
+use Rattle.ac_words.specs.Commands.{command_of, file, run, standard}
 
 -- an option, with its value and without; a plain word; words that are refused
 look_option : look (codes "--steps=5") ≡ named (codes "steps") (Some (codes "5"))
@@ -20,11 +20,25 @@ look_end : look (codes "--") ≡ refused
 look_end = refl
 
 -- `run f` and `run --steps 5 f`
-default : command_of (codes "run" ∷ codes "f" ∷ []) ≡ Some (run (codes "f") 1000000)
+default : command_of (codes "run" ∷ codes "f" ∷ []) ≡ Some (run (codes "f") 1000000 None None)
 default = refl
 
-steps_first : command_of (codes "run" ∷ codes "--steps" ∷ codes "5" ∷ codes "f" ∷ []) ≡ Some (run (codes "f") 5)
+steps_first : command_of (codes "run" ∷ codes "--steps" ∷ codes "5" ∷ codes "f" ∷ []) ≡ Some (run (codes "f") 5 None None)
 steps_first = refl
+
+-- `run --in=a f --out -`, and both streams
+channels : command_of (codes "run" ∷ codes "--in=a" ∷ codes "f" ∷ codes "--out" ∷ codes "-" ∷ []) ≡ Some (run (codes "f") 1000000 (Some (file (codes "a"))) (Some standard))
+channels = refl
+
+streams : command_of (codes "run" ∷ codes "f" ∷ codes "--in" ∷ codes "-" ∷ codes "--out" ∷ codes "-" ∷ []) ≡ Some (run (codes "f") 1000000 (Some standard) (Some standard))
+streams = refl
+
+-- one file for both channels, and a channel without a name
+one_file : command_of (codes "run" ∷ codes "f" ∷ codes "--in=a" ∷ codes "--out=a" ∷ []) ≡ None
+one_file = refl
+
+no_name : command_of (codes "run" ∷ codes "f" ∷ codes "--in=" ∷ []) ≡ None
+no_name = refl
 
 -- no FILE, two of them, an option twice, and a value that is an option
 no_file : command_of (codes "run" ∷ []) ≡ None

@@ -1,24 +1,36 @@
 -- The commands, and the words that give them.
-use Rattle.std.specs.Prelude.{ℕ, true, List, [], ◌∷◌, length, codes, nat_le}
+use Rattle.std.specs.Prelude.{ℕ, Bool, true, false, List, [], ◌∷◌, length, codes, nat_le}
 use Rattle.std.specs.Prelude.{Option, Some, None, if◌then◌else◌, option_and_then, option_map}
 use Rattle.std.specs.Str.{bytes_eq}
 use Rattle.ac_words.specs.Form.{Form, Given, Text, given_of}
 use Rattle.ac_words.specs.WordValues.{first_in, is_file, number_in}
+use Rattle.ac_words.specs.declared.command.Channel.{Channel}
+use Rattle.ac_words.specs.declared.command.Channel.TheVariants as place
 use Rattle.ac_words.specs.declared.command.Command.{Command}
 use Rattle.ac_words.specs.declared.command.Command.TheVariants as command
 
--- what a command line asks for: to run the program of a file for at most so many steps
+-- a channel: standard input or standard output, or the file of a name
+pub data ChannelName : Type 0 where
+  standard : ChannelName
+  file : Text → ChannelName
+
+-- what a command line asks for: to run the program of a file for at most so many steps, with a channel to read from and one to write to, where there are such
 pub data Request : Type 0 where
-  run : Text → ℕ → Request
+  run : Text → ℕ → Option ChannelName → Option ChannelName → Request
+
+-- the channel that a command names
+abbrev pub channel_of : Channel → ChannelName
+channel_of place.Standard = standard
+channel_of (place.File name) = file name.now
 
 -- what a command asks for
 abbrev pub request_of : Command → Request
-request_of (command.Run r) = run r.file.now r.steps
+request_of (command.Run r) = run r.file.now r.steps (option_map channel_of r.input) (option_map channel_of r.output)
 
--- run FILE [--steps N]
+-- run FILE [--in CH] [--out CH] [--steps N]
 abbrev pub run_form : Form
 run_form = record {
-  options = (codes "steps", true) ∷ [];
+  options = (codes "in", true) ∷ (codes "out", true) ∷ (codes "steps", true) ∷ [];
   places = record { number = 1; name = codes "FILE"; most = None } ∷ [];
 }
 
@@ -27,14 +39,33 @@ abbrev pub steps_in : Option Text → Option ℕ
 steps_in None = Some 1000000
 steps_in (Some text) = if nat_le (length text) 10 then number_in 0 1000000000 text else None
 
--- a `run` by the texts of its FILE, which has to be given, and of its N
-abbrev pub run_by : Option Text → Option Text → Option Request
-run_by None steps = None
-run_by (Some file) steps = if is_file file then option_map (run file) (steps_in steps) else None
+-- CH: `-`, or the name of a file
+abbrev pub channel_named : Text → Option ChannelName
+channel_named text = if bytes_eq text (codes "-") then Some standard else if is_file text then Some (file text) else None
+
+-- where no CH is given, there is no channel
+abbrev pub channel_in : Option Text → Option (Option ChannelName)
+channel_in None = Some None
+channel_in (Some text) = option_map Some (channel_named text)
+
+-- both channels are one file
+abbrev pub are_one : Option ChannelName → Option ChannelName → Bool
+are_one (Some (file a)) (Some (file b)) = bytes_eq a b
+are_one _ _ = false
+
+-- a `run` whose channels aren't one file
+abbrev pub run_with : Text → Option ℕ → Option (Option ChannelName) → Option (Option ChannelName) → Option Request
+run_with name (Some steps) (Some from) (Some to) = if are_one from to then None else Some (run name steps from to)
+run_with name _ _ _ = None
+
+-- a `run` by the texts of its FILE, which has to be given, of its N and of its two CH
+abbrev pub run_by : Option Text → Option Text → Option Text → Option Text → Option Request
+run_by None steps from to = None
+run_by (Some name) steps from to = if is_file name then run_with name (steps_in steps) (channel_in from) (channel_in to) else None
 
 -- a `run` by what was given
 abbrev pub run_of : Given → Option Request
-run_of given = run_by (first_in (codes "FILE") given) (first_in (codes "steps") given)
+run_of given = run_by (first_in (codes "FILE") given) (first_in (codes "steps") given) (first_in (codes "in") given) (first_in (codes "out") given)
 
 -- the words after a command's name, read by the command's form and then by what was given
 abbrev pub words_of : Form → (Given → Option Request) → List Text → Option Request

@@ -1,6 +1,6 @@
 //! The commands, and the values of their words.
 ghost use Rattle.std.specs.Prelude.{◌≡◌, ◌==◌, option_map, slice_index};
-ghost use Rattle.ac_words.specs.Commands.{request_of, run_by, steps_in};
+ghost use Rattle.ac_words.specs.Commands.{are_one, channel_in, channel_named, channel_of, request_of, run_by, steps_in};
 ghost use Rattle.ac_words.specs.WordValues.{is_file, number_in};
 
 // The steps of a `run` that names none.
@@ -11,6 +11,15 @@ const MOST_STEPS: u64 = 1_000_000_000;
 
 const MOST_DIGITS: usize = 10;
 
+/// Where frames are read from, or written to.
+#[derive(Clone, Copy, Debug)]
+pub enum Channel<'a> {
+    /// Standard input, or standard output.
+    Standard,
+    /// The file of a name.
+    File(&'a str),
+}
+
 /// Loads a program and runs it.
 #[derive(Clone, Copy, Debug)]
 pub struct Run<'a> {
@@ -18,6 +27,10 @@ pub struct Run<'a> {
     pub file: &'a str,
     /// How many applications the run may make.
     pub steps: u64,
+    /// Where it receives from, if it has an input.
+    pub input: Option<Channel<'a>>,
+    /// Where it sends to, if it has a channel.
+    pub output: Option<Channel<'a>>,
 }
 
 /// What the words of a command line ask for.
@@ -78,15 +91,66 @@ pub fn is_file_name(text: &str) -> bool
     !text.is_empty() && text != "-"
 }
 
-/// A `run`, by the texts of its FILE and its N.
-pub fn run_from<'a>(file: Option<&'a str>, steps: Option<&str>) -> Option<Command<'a>>
+/// The channel that the text of a CH names, if it names one.
+pub fn channel_from<'a>(text: &'a str) -> Option<Channel<'a>>
+    ensures { option_map channel_of result ≡ channel_named text.entry.now }
+{
+    if text == "-" {
+        return Some(Channel::Standard);
+    }
+    if is_file_name(text) {
+        Some(Channel::File(text))
+    } else {
+        None
+    }
+}
+
+// The channel by the text of a CH, if one is given.
+fn channel_in<'a>(text: Option<&'a str>) -> Option<Option<Channel<'a>>>
+    ensures { option_map (option_map channel_of) result
+        ≡ channel_in (option_map (λ s. s.now) text.entry) }
+{
+    match text {
+        None => Some(None),
+        Some(text) => Some(Some(channel_from(text)?)),
+    }
+}
+
+// Whether both channels are one file.
+fn are_one(first: Option<Channel>, second: Option<Channel>) -> bool
+    ensures { result ≡ are_one (option_map channel_of first.entry) (option_map channel_of second.entry) }
+{
+    match (first, second) {
+        (Some(Channel::File(first)), Some(Channel::File(second))) => first == second,
+        _ => false,
+    }
+}
+
+/// A `run`, by the texts of its FILE, its N and its two CH.
+pub fn run_from<'a>(
+    file: Option<&'a str>,
+    steps: Option<&str>,
+    input: Option<&'a str>,
+    output: Option<&'a str>,
+) -> Option<Command<'a>>
     ensures { option_map request_of result
-        ≡ run_by (option_map (λ s. s.now) file.entry) (option_map (λ s. s.now) steps.entry) }
+        ≡ run_by (option_map (λ s. s.now) file.entry) (option_map (λ s. s.now) steps.entry)
+        (option_map (λ s. s.now) input.entry) (option_map (λ s. s.now) output.entry) }
 {
     let file = file?;
     if !is_file_name(file) {
         return None;
     }
     let steps = steps_of(steps)?;
-    Some(Command::Run(Run { file, steps }))
+    let input = channel_in(input)?;
+    let output = channel_in(output)?;
+    if are_one(input, output) {
+        return None;
+    }
+    Some(Command::Run(Run {
+        file,
+        steps,
+        input,
+        output,
+    }))
 }

@@ -6,7 +6,7 @@
 
 use ac_command::read_words;
 use ac_types::Memory;
-use ac_words::{Command, Run};
+use ac_words::{Channel, Command, Run};
 use std::alloc::Global;
 use std::io;
 
@@ -25,10 +25,30 @@ fn answer_to(alloc: Global, line: &str) -> Result<String, Memory> {
     let words = words_in(alloc, line)?;
     match read_words(alloc, words.as_slice())? {
         None => Ok(format!(in alloc; "refused")?),
-        Some(Command::Run(Run { file, steps })) => {
-            Ok(format!(in alloc; "run {file}, {steps} steps")?)
+        Some(Command::Run(Run {
+            file,
+            steps,
+            input,
+            output,
+        })) => {
+            let mut answer = format!(in alloc; "run {file}, {steps} steps")?;
+            add_channel(&mut answer, ", in ", input)?;
+            add_channel(&mut answer, ", out ", output)?;
+            Ok(answer)
         }
     }
+}
+
+// Adds what a channel is, if there is one.
+fn add_channel(answer: &mut String, word: &str, channel: Option<Channel>) -> Result<(), Memory> {
+    if let Some(channel) = channel {
+        answer.push_str(word)?;
+        match channel {
+            Channel::Standard => answer.push_str("stream")?,
+            Channel::File(name) => answer.push_str(name)?,
+        }
+    }
+    Ok(())
 }
 
 fn main(rt: HostRuntime) -> io::Result<()> {

@@ -1,15 +1,17 @@
 -- How the parts of a call come together to its end.
-use Rattle.std.proofs.Common.{◌≡◌, ◌⊎◌, inl, inr, List, [], ◌∷◌, Option, sym, ◌∙◌}
+use Rattle.std.proofs.Common.{◌≡◌, ◌⊎◌, inl, inr, ℕ, Bool, true, IsTrue, List, [], ◌∷◌, ◌++◌, Option, Some, None, is_some, refl, sym, ◌∙◌, ap}
 use Rattle.std.proofs.lemmas.List.{append-nil}
-use Rattle.std.specs.Prelude.{ℕ}
-use Rattle.ac_words.specs.Commands.{Request}
-use Rattle.ac_meaning.specs.Writes.{Console, written}
+use Rattle.ac_types.specs.Types.{Bytes}
+use Rattle.ac_outside.specs.Outside.{Rose}
+use Rattle.ac_words.specs.Commands.{ChannelName, Request, run}
+use Rattle.ac_meaning.specs.Writes.{Write}
+use Rattle.ac_run.specs.Sessions.{Streams, with_writes, StopsBehind}
 use Rattle.acute.specs.declared.status.Status.{Status}
-use Rattle.acute.specs.declared.status.TheConstants.Status.{READ_FAULT, OUT_OF_MEMORY}
-use Rattle.acute.specs.Streams.{Reading, Writing, Whole, memory_line, read_line}
-use Rattle.acute.specs.Meaning.{CommandAnswer, command_answer}
-use Rattle.acute.specs.Endings.{GivesStatus, ReadFailed, Ended, done, read_fault, no_memory_yet, no_memory_left, Said, SaidIfAny}
-use Rattle.acute.proofs.Writes.{all_of}
+use Rattle.acute.specs.declared.status.TheConstants.Status.{READ_FAULT, OUT_OF_MEMORY, WORDS_REFUSED}
+use Rattle.acute.specs.Streams.{Writing, Whole, memory_line, read_line, words_line}
+use Rattle.acute.specs.Handed.{Handed, is_told, before_run, after_run, behind_run, Untouched}
+use Rattle.acute.specs.Meaning.{CommandAnswer}
+use Rattle.acute.specs.Endings.{Ended, NoCommand, refused_words, no_memory_for_words, HasRead, GivesStatus, RunEnded, is_refused, has_run, unread_file, no_memory_yet, no_memory_left, Said, SaidIfAny}
 
 -- nothing was written
 pub record Still (s : Writing) : Type 0 where
@@ -19,27 +21,32 @@ pub still_whole : (s : Writing) → Still s → Whole s []
 still_whole s still told = still.same ∙ sym (append-nil s.old)
 
 -- a line that is there
-said_if_any : (errors : Writing) (line rest : List ℕ) (c : ℕ) (status end : Status) → line ≡ c ∷ rest → Said errors line status end → SaidIfAny errors line status end
+pub said_if_any : (errors : Writing) (line rest : List ℕ) (c : ℕ) (status end : Status) → line ≡ c ∷ rest → Said errors line status end → SaidIfAny errors line status end
 said_if_any errors [] rest c status end is s = absurd cc
 said_if_any errors (b ∷ line) rest c status end is s = s
 
-module _ (request : Option Request) (files : List ℕ → Reading) (output errors : Writing) where
-  -- what the words ask for, with its line
-  end_said : (a : CommandAnswer) → GivesStatus request files a → Whole output (written Console a.writes) → (c : ℕ) (rest : List ℕ) → a.line ≡ c ∷ rest → (end : Status) → Said errors a.line a.status end → Ended request files output errors end
-  end_said a g whole c rest is end s = done a g whole (said_if_any errors a.line rest c a.status end is s)
+pub words_refused : (o : Handed) → Still o.output → (end : Status) → Said o.errors words_line WORDS_REFUSED end → NoCommand o end
+words_refused o still end s = refused_words (still_whole o.output still) s
 
-  -- or the line of want of memory in its place
-  pub end_told : (a : CommandAnswer) → GivesStatus request files a → Whole output (written Console a.writes) → (c : ℕ) (rest : List ℕ) → a.line ≡ c ∷ rest → (end : Status) → Said errors a.line a.status end ⊎ Said errors memory_line OUT_OF_MEMORY end → Ended request files output errors end
-  end_told a g whole c rest is end (inl s) = end_said a g whole c rest is end s
-  end_told a g whole c rest is end (inr s) = no_memory_left a g (λ told. all_of output.old output.new (written Console a.writes) (whole told)) s
+-- want of memory while the words were read
+pub end_at_words : (request : Option Request) (o : Handed) → Still o.output → ((to : Option ChannelName) → Untouched to o) → (end : Status) → Said o.errors memory_line OUT_OF_MEMORY end → Ended request o end
+end_at_words None o still same end s = no_memory_for_words (still_whole o.output still) s
+end_at_words (Some (run name steps from to)) o still same end s = no_memory_yet (still_whole o.output still) (same to) s
 
-  -- with nothing on output
-  pub end_alone : (status : Status) (line : List ℕ) → GivesStatus request files (command_answer status [] line) → Still output → (c : ℕ) (rest : List ℕ) → line ≡ c ∷ rest → (end : Status) → Said errors line status end → Ended request files output errors end
-  end_alone status line g still c rest is end s = end_said (command_answer status [] line) g (still_whole output still) c rest is end s
+-- all that was to be written was, so some of it was and then none
+behind_all : (told : Bool) (writes : List Write) (old new : Streams) → (IsTrue told → new ≡ with_writes writes old) → StopsBehind told writes old new
+behind_all told writes old new h = record { before = writes; after = []; order = sym (append-nil writes); made = h }
 
-  pub end_read_fault : ReadFailed request files → Still output → (end : Status) → Said errors read_line READ_FAULT end → Ended request files output errors end
-  end_read_fault f still end s = read_fault f (still_whole output still) s
+module _ (name : Bytes) (steps : ℕ) (from to : Option ChannelName) (o : Handed) where
+  -- what the text means, with its line, or the line of want of memory in its place
+  pub end_told : (r : HasRead name steps from to o) (a : CommandAnswer) (mid : Bytes) → GivesStatus name steps from to o r a → a.runs ≡ true → (IsTrue (is_told from to o) → after_run to o mid ≡ with_writes a.writes (before_run to o)) → (c : ℕ) (rest : List ℕ) → a.line ≡ c ∷ rest
+      → (end : Status) → Said (behind_run to o mid) a.line a.status end ⊎ Said (behind_run to o mid) memory_line OUT_OF_MEMORY end → RunEnded name steps from to o end
+  end_told r a mid g runs whole c rest is end (inl s) = has_run r a mid g runs whole (said_if_any (behind_run to o mid) a.line rest c a.status end is s)
+  end_told r a mid g runs whole c rest is end (inr s) = no_memory_left r a mid g runs (inr (behind_all (is_told from to o) a.writes (before_run to o) (after_run to o mid) whole)) s
+
+  pub end_unread : Rose (o.files name).before (o.files name).after → Still o.output → Untouched to o → (end : Status) → Said o.errors read_line READ_FAULT end → RunEnded name steps from to o end
+  end_unread f still same end s = unread_file f (still_whole o.output still) same s
 
   -- want of memory before anything was written on output
-  pub end_early : Still output → (end : Status) → Said errors memory_line OUT_OF_MEMORY end → Ended request files output errors end
-  end_early still end s = no_memory_yet (still_whole output still) s
+  pub end_early : Still o.output → Untouched to o → (end : Status) → Said o.errors memory_line OUT_OF_MEMORY end → RunEnded name steps from to o end
+  end_early still same end s = no_memory_yet (still_whole o.output still) same s

@@ -1,32 +1,38 @@
 -- A refusal ends as its text means.
-use Rattle.std.proofs.Common.{ℕ, List, [], Option, ◌⊎◌, inl, inr, refl}
-use Rattle.ac_words.specs.Commands.{Request}
+use Rattle.std.proofs.Common.{◌≡◌, ℕ, List, [], Option, ◌⊎◌, inl, inr, is_some, false, refl}
+use Rattle.ac_types.specs.Types.{Bytes}
+use Rattle.ac_words.specs.Commands.{ChannelName}
 use Rattle.ac_rules.specs.Views.{Mode}
 use Rattle.ac_load.specs.Loading.{IsRefused, Says}
 use Rattle.ac_load.specs.declared.kind.Kind.{Kind}
 use Rattle.ac_load.specs.declared.kind.Kind.TheVariants.{TooLong, Lexical, TooDeep, Syntax, Unbuilt, Unbound, Repeated, TooMany, IllTyped, Memory}
 use Rattle.acute.specs.declared.status.Status.{Status}
 use Rattle.acute.specs.declared.status.TheConstants.Status.{REFUSED, OUT_OF_MEMORY}
-use Rattle.acute.specs.Streams.{Reading, Writing, memory_line}
+use Rattle.acute.specs.Streams.{IsTextOf, memory_line}
+use Rattle.acute.specs.Handed.{Handed, Untouched}
 use Rattle.acute.specs.Refusals.{kind_line, kind_status}
-use Rattle.acute.specs.Meaning.{CommandAnswer, Means, refused}
-use Rattle.acute.specs.Endings.{GivesStatus, Ended, Said}
-use Rattle.acute.proofs.EndingLaws.{Still, end_alone, end_early}
+use Rattle.acute.specs.Meaning.{refusal, Means, refused}
+use Rattle.acute.specs.Endings.{RunEnded, is_refused, Said}
+use Rattle.acute.proofs.PlaceLaws.{read_all}
+use Rattle.acute.proofs.EndingLaws.{Still, still_whole, end_early}
 
-module _ (request : Option Request) (files : List ℕ → Reading) (output errors : Writing) where
-  end_refused : (text : List ℕ) (steps : ℕ) (kind : Kind) → Says kind (IsRefused text [] 0 kind) → ((a : CommandAnswer) → ((mode : Mode) → Means mode text [] steps a) → GivesStatus request files a) → Still output → (end : Status) → Said errors (kind_line kind) (kind_status kind) end → Ended request files output errors end
-  end_refused text steps Memory h means still r s = end_early request files output errors still r s
-  end_refused text steps (TooLong len) h means still r s = end_alone request files output errors REFUSED _ (means _ (λ mode. refused _ h)) still _ _ refl r s
-  end_refused text steps (Lexical at) h means still r s = end_alone request files output errors REFUSED _ (means _ (λ mode. refused _ h)) still _ _ refl r s
-  end_refused text steps (TooDeep at) h means still r s = end_alone request files output errors REFUSED _ (means _ (λ mode. refused _ h)) still _ _ refl r s
-  end_refused text steps (Syntax at) h means still r s = end_alone request files output errors REFUSED _ (means _ (λ mode. refused _ h)) still _ _ refl r s
-  end_refused text steps (Unbuilt at) h means still r s = end_alone request files output errors REFUSED _ (means _ (λ mode. refused _ h)) still _ _ refl r s
-  end_refused text steps (Unbound at) h means still r s = end_alone request files output errors REFUSED _ (means _ (λ mode. refused _ h)) still _ _ refl r s
-  end_refused text steps (Repeated at) h means still r s = end_alone request files output errors REFUSED _ (means _ (λ mode. refused _ h)) still _ _ refl r s
-  end_refused text steps (TooMany count) h means still r s = end_alone request files output errors REFUSED _ (means _ (λ mode. refused _ h)) still _ _ refl r s
-  end_refused text steps (IllTyped def) h means still r s = end_alone request files output errors REFUSED _ (means _ (λ mode. refused _ h)) still _ _ refl r s
+module _ (name : Bytes) (steps : ℕ) (from to : Option ChannelName) (o : Handed) (text : Bytes) (is_text : IsTextOf (o.files name) text) (still : Still o.output) (same : Untouched to o) where
+  alone : (kind : Kind) → IsRefused text [] 0 kind → (end : Status) → Said o.errors (kind_line kind) REFUSED end → RunEnded name steps from to o end
+  alone kind h end s = is_refused (read_all name steps from to o text is_text) (refusal REFUSED (kind_line kind)) (λ mode. refused kind h) refl (still_whole o.output still) same s
+
+  end_refused : (kind : Kind) → Says kind (IsRefused text [] 0 kind) → (end : Status) → Said o.errors (kind_line kind) (kind_status kind) end → RunEnded name steps from to o end
+  end_refused Memory h end s = end_early name steps from to o still same end s
+  end_refused (TooLong len) h end s = alone (TooLong len) h end s
+  end_refused (Lexical at) h end s = alone (Lexical at) h end s
+  end_refused (TooDeep at) h end s = alone (TooDeep at) h end s
+  end_refused (Syntax at) h end s = alone (Syntax at) h end s
+  end_refused (Unbuilt at) h end s = alone (Unbuilt at) h end s
+  end_refused (Unbound at) h end s = alone (Unbound at) h end s
+  end_refused (Repeated at) h end s = alone (Repeated at) h end s
+  end_refused (TooMany count) h end s = alone (TooMany count) h end s
+  end_refused (IllTyped def) h end s = alone (IllTyped def) h end s
 
   -- or the line of want of memory stands in its place
-  pub end_refusal : (text : List ℕ) (steps : ℕ) (kind : Kind) → Says kind (IsRefused text [] 0 kind) → ((a : CommandAnswer) → ((mode : Mode) → Means mode text [] steps a) → GivesStatus request files a) → Still output → (end : Status) → Said errors (kind_line kind) (kind_status kind) end ⊎ Said errors memory_line OUT_OF_MEMORY end → Ended request files output errors end
-  end_refusal text steps kind h means still end (inl s) = end_refused text steps kind h means still end s
-  end_refusal text steps kind h means still end (inr s) = end_early request files output errors still end s
+  pub end_refusal : (kind : Kind) → Says kind (IsRefused text [] 0 kind) → (end : Status) → Said o.errors (kind_line kind) (kind_status kind) end ⊎ Said o.errors memory_line OUT_OF_MEMORY end → RunEnded name steps from to o end
+  end_refusal kind h end (inl s) = end_refused kind h end s
+  end_refusal kind h end (inr s) = end_early name steps from to o still same end s

@@ -1,7 +1,9 @@
+pub mod ChannelLaws
 pub mod EndingLaws
 pub mod KindLaws
 pub mod LineExamples
 pub mod Pieces
+pub mod PlaceLaws
 pub mod RunLaws
 pub mod TextLaws
-pub mod Writes
+pub mod WordLaws

@@ -3,7 +3,6 @@ use Rattle.std.proofs.Common.{◌≡◌, ◌≤◌, ℕ, List, [], ◌++◌, Opt
 use Rattle.std.proofs.lemmas.List.{append-nil, take_at, drop_at, take_all}
 use Rattle.ac_outside.specs.Outside.{Rose, ReadsFrom}
 use Rattle.ac_outside.specs.declared.traits.Got.TheVariants as got
-use Rattle.ac_words.specs.Commands.{Request, run}
 use Rattle.acute.specs.inner.Fronts.{Begins, IsFrontOf}
 
 pub begins_at_all : (file : Option (List ℕ)) (text : List ℕ) → text ≡ [] → Begins file text
@@ -38,7 +37,3 @@ rose_since first before now le rose = omega arith
 pub within_limit : (file : Option (List ℕ)) (text : List ℕ) → IsFrontOf file text → (bytes : List ℕ) × (file ≡ Some bytes) × (text ≡ take 1048577 bytes)
 within_limit None text f = absurd f
 within_limit (Some bytes) text f = (bytes, refl, f)
-
--- a request that runs this file is the one that names it
-pub same_file : (r : Request) (file name : List ℕ) (n steps : ℕ) → r ≡ run file n → Some r ≡ Some (run name steps) → file ≡ name
-same_file r file name n steps is e = cc

@@ -1,4 +1,6 @@
+pub mod Channels
 pub mod Endings
+pub mod Handed
 pub mod Lines
 pub mod Meaning
 pub mod Refusals

@@ -1,7 +1,10 @@
 //! The program `acute`: the top call over the real files and streams.
 #![tactic(auto)]
 
+#[cfg(test)]
+mod channel_tests;
 mod laws;
+mod no_files;
 mod reading;
 mod refusal;
 mod status;
@@ -11,7 +14,7 @@ mod top;
 mod uncaught;
 mod world;
 
-use ac_outside::{RealFiles, RealSink};
+use ac_outside::{RealFiles, RealSink, RealSource};
 use ac_types::Memory;
 use status::Status;
 use std::alloc::Global;
@@ -22,6 +25,7 @@ use top::acute;
 
 fn main(rt: HostRuntime) -> ExitCode {
     let alloc = rt.alloc();
+    let mut input = RealSource::new(rt.stdin());
     let mut output = RealSink::new(rt.stdout());
     let mut errors = RealSink::new(rt.stderr());
     let words = match words_of(alloc, &rt) {
@@ -29,7 +33,14 @@ fn main(rt: HostRuntime) -> ExitCode {
         Err(_) => return ExitCode::from(Status::OUT_OF_MEMORY.0),
     };
     let mut files = RealFiles::new(rt);
-    let Status(status) = acute(alloc, &words, &mut files, &mut output, &mut errors);
+    let Status(status) = acute(
+        alloc,
+        &words,
+        &mut files,
+        &mut input,
+        &mut output,
+        &mut errors,
+    );
     ExitCode::from(status)
 }
 

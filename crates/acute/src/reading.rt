@@ -27,6 +27,8 @@ pub fn read_text<F: Files>(alloc: Global, files: &mut F, name: &str) -> Result<T
     ensures same { IsTrue F.told → F.contents files.new ≡ F.contents files.old }
     ensures cause { IsErrOf result ReadFault.Failed →
         Rose (F.read_faults files.old name.now) (F.read_faults files.new name.now) }
+    ensures later { NeverFall (F.read_faults files.old) (F.read_faults files.new) }
+    ensures later_writes { NeverFall (F.write_faults files.old) (F.write_faults files.new) }
     ensures only { F.reads name.now files.old files.new }
 {
     let mut text = Text::new(alloc);

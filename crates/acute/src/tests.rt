@@ -1,7 +1,7 @@
 // The top call over files and streams in memory.
 use crate::status::Status;
 use crate::top::acute;
-use ac_outside::{MemoryFile, MemoryFiles, MemorySink};
+use ac_outside::{MemoryFile, MemoryFiles, MemorySink, MemorySource};
 use ac_types::{Many, Text};
 use std::alloc::Global;
 use std::test::Fail;
@@ -69,8 +69,16 @@ fn words_end(
     let mut files = files_with(alloc, text, faults.reads)?;
     let mut output = MemorySink::new(alloc, numbers(alloc, faults.output)?);
     let mut errors = MemorySink::new(alloc, numbers(alloc, faults.errors)?);
+    let mut input = MemorySource::new(Text::new(alloc), Many::new(alloc));
     let words = words_of(alloc, words)?;
-    let status = acute(alloc, &words, &mut files, &mut output, &mut errors);
+    let status = acute(
+        alloc,
+        &words,
+        &mut files,
+        &mut input,
+        &mut output,
+        &mut errors,
+    );
     Ok(
         status == Status(end.status)
             && output.bytes().as_slice() == end.output

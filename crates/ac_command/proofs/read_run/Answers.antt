@@ -8,9 +8,10 @@ use Rattle.ac_word_clap.proofs.Getters.{first_found, some_given}
 use Rattle.ac_command.proofs.read_run.Goals as goal
 
 -- the values that the getters answer are those that were given
-run_is : (given : Option Given) (g : Given) (file steps : Option Text) → given ≡ Some g → file ≡ first_in (codes "FILE") g
-    → steps ≡ first_in (codes "steps") g → run_by file steps ≡ option_and_then run_of given
-run_is given g file steps is file_is steps_is = rw (is, file_is, steps_is) refl
+run_is : (given : Option Given) (g : Given) (name steps from to : Option Text) → given ≡ Some g → name ≡ first_in (codes "FILE") g
+    → steps ≡ first_in (codes "steps") g → from ≡ first_in (codes "in") g → to ≡ first_in (codes "out") g
+    → run_by name steps from to ≡ option_and_then run_of given
+run_is given g name steps from to is name_is steps_is from_is to_is = rw (is, name_is, steps_is, from_is, to_is) refl
 
 pub returns-in-Some : goal.returns-in-Some
 returns-in-Some c =
@@ -19,6 +20,8 @@ returns-in-Some c =
     let read : Some (rows_in m) ≡ option_map (map row) (given_of run_form words) =
     ap (option_map rows_in) (sym c.in-Some.is) ∙ c.in_ok-matches_in.ensures run_form c.in_ok-command.ensures in
     let got = some_given (given_of run_form words) (rows_in m) read in
-    let file = c.get_str.ensures ∙ first_found m got.0 (codes "FILE") got.2 in
+    let name = c.get_str.ensures ∙ first_found m got.0 (codes "FILE") got.2 in
     let steps = c.get_str-in-Some.ensures ∙ first_found m got.0 (codes "steps") got.2 in
-    c.run_from.ensures ∙ run_is (given_of run_form words) got.0 _ _ got.1 file steps
+    let from = c.get_str-in-Some-2.ensures ∙ first_found m got.0 (codes "in") got.2 in
+    let to = c.get_str-in-Some-3.ensures ∙ first_found m got.0 (codes "out") got.2 in
+    c.run_from.ensures ∙ run_is (given_of run_form words) got.0 _ _ _ _ got.1 name steps from to

@@ -1,6 +1,8 @@
-use Rattle.std.proofs.Common.{refl}
+use Rattle.std.proofs.Common.{◌≡◌, ◌∙◌, refl, ap, Bool, Option, Some, None, is_some, option_map}
+use Rattle.ac_run.specs.Course.{begun}
+use Rattle.ac_words.specs.Commands.{channel_of}
 use Rattle.acute.proofs.EndingLaws.{end_early}
-use Rattle.acute.proofs.RunLaws.{is_fresh, has_run, has_finished, has_raised, has_spent, has_failed, has_lost}
+use Rattle.acute.proofs.PlaceLaws.{untouched_by}
 use Rattle.acute.proofs.top.run_program.Goals as goal
 
 pub new-requires-clause-typed : goal.new-requires-clause-typed
@@ -9,29 +11,14 @@ new-requires-clause-typed g c = c.requires.loaded.program
 pub new-requires-clause-bounds : goal.new-requires-clause-bounds
 new-requires-clause-bounds g c = c.requires.loaded.fits
 
-pub returns-in-Finished : goal.returns-in-Finished
-returns-in-Finished g c = λ text accepted request files means.
-    has_finished request files _ _ accepted c.requires.loaded.program means (has_run c.args.loaded c.args.steps c.in-Ok.session c.run_on.new.session _ _ c.requires.loaded.program c.in-Ok.ensures c.in-Finished.ensures.steps c.in-Finished.ensures.ends) (record { same = refl })
+same_some : {A B : Type 0} (f : A → B) (o : Option A) → is_some o ≡ is_some (option_map f o)
+same_some f None = refl
+same_some f (Some x) = refl
 
-pub returns-in-Uncaught : goal.returns-in-Uncaught
-returns-in-Uncaught g c = λ text accepted request files means.
-    has_raised request files _ _ accepted c.requires.loaded.program means c.in-Uncaught.exn (has_run c.args.loaded c.args.steps c.in-Ok.session c.run_on.new.session _ _ c.requires.loaded.program c.in-Ok.ensures c.in-Uncaught.ensures.steps c.in-Uncaught.ensures.ends) _ c.tell_uncaught.ensures
+pub returns-in-Ok-clause-ends : goal.returns-in-Ok-clause-ends
+returns-in-Ok-clause-ends g c = λ start since text is_text accepted.
+    c.make_and_run.ensures.ends start since text is_text c.args.loaded c.requires.loaded accepted
+    (c.in-Ok.ensures ∙ ap (λ (b : Bool). begun c.args.loaded c.args.run.steps b c.in-Ok.session.machine) (c.is_some.ensures ∙ same_some channel_of c.args.run.output))
 
-pub returns-in-Spent : goal.returns-in-Spent
-returns-in-Spent g c = λ text accepted request files means.
-    has_spent request files _ _ accepted c.requires.loaded.program means c.in-Spent.steps (has_run c.args.loaded c.args.steps c.in-Ok.session c.run_on.new.session _ _ c.requires.loaded.program c.in-Ok.ensures c.in-Spent.ensures.steps c.in-Spent.ensures.ends) _ c.tell_spent.ensures
-
-pub returns-in-ReadFault : goal.returns-in-ReadFault
-returns-in-ReadFault g c = λ text accepted request files means. absurd (c.in-ReadFault.ensures.reads (is_fresh c.args.loaded c.args.steps c.in-Ok.session c.in-Ok.ensures) refl)
-
-pub returns-in-WriteFault : goal.returns-in-WriteFault
-returns-in-WriteFault g c = λ text accepted request files means.
-    has_failed request files _ _ accepted c.requires.loaded.program means (has_run c.args.loaded c.args.steps c.in-Ok.session c.run_on.new.session _ _ c.requires.loaded.program c.in-Ok.ensures c.in-WriteFault.ensures.steps c.in-WriteFault.ensures.ends)
-    (c.in-WriteFault.ensures.cause (is_fresh c.args.loaded c.args.steps c.in-Ok.session c.in-Ok.ensures) refl) _ c.say-in-WriteFault.ensures
-
-pub returns-in-Ok : goal.returns-in-Ok
-returns-in-Ok g c = λ text accepted request files means.
-    has_lost request files _ _ accepted c.requires.loaded.program means (has_run c.args.loaded c.args.steps c.in-Ok.session c.run_on.new.session _ _ c.requires.loaded.program c.in-Ok.ensures c.in-Memory.ensures.steps c.in-Memory.ensures.ends) _ c.no_memory.ensures
-
-pub returns : goal.returns
-returns g c = λ text accepted request files means. end_early request files _ _ (record { same = refl }) _ c.no_memory-in-Err.ensures
+pub returns-in-Err-clause-ends : goal.returns-in-Err-clause-ends
+returns-in-Err-clause-ends g c = λ start since text is_text accepted. end_early _ _ _ _ _ (record { same = refl }) (untouched_by _ _ _ _ _ _ _ since.same) _ c.no_memory.ensures

@@ -1,0 +1,43 @@
+-- The channels of a run, among standard streams and files.
+use Rattle.std.specs.Prelude.{◌≡◌, ℕ, ◌&&◌, Bool, true, IsTrue, List, [], Option, Some, None, drop}
+use Rattle.ac_outside.specs.Outside.{Contents, or_empty}
+use Rattle.ac_words.specs.Form.{Text}
+use Rattle.ac_words.specs.Commands.{ChannelName, standard, file}
+
+-- what belongs to a channel: this where there is none, this of the standard stream, or this of the file of its name
+abbrev pub of_channel : {A : Type 0} → Option ChannelName → A → A → (Text → A) → A
+of_channel None none stream files = none
+of_channel (Some standard) none stream files = stream
+of_channel (Some (file name)) none stream files = files name
+
+-- what belongs to the console, which is output, but errors where output is the channel
+abbrev pub of_console : {A : Type 0} → Option ChannelName → A → A → A
+of_console None output errors = output
+of_console (Some standard) output errors = errors
+of_console (Some (file name)) output errors = output
+
+-- whether all is told of what a run reads from and writes to: files, the stream of its input, its console, and the stream of its channel
+abbrev pub tells : Option ChannelName → Option ChannelName → Bool → Bool → Bool → Bool → Bool
+tells from to files input console stream =
+    of_channel from true input (λ name. files) && (console && of_channel to true stream (λ name. files))
+
+-- the bytes that a run has left to read, where it has come to this place in its file
+abbrev pub left_in : Option ChannelName → Contents → List ℕ → ℕ → List ℕ
+left_in from files input place = of_channel from [] input (λ name. drop place (or_empty (files name)))
+
+-- the bytes that it has sent
+abbrev pub sent_in : Option ChannelName → Contents → List ℕ → List ℕ
+sent_in to files stream = of_channel to [] stream (λ name. or_empty (files name))
+
+-- a run gets this input: nothing where it has no channel to read from, and else what that has, where all is told
+abbrev pub GetsInput : Option ChannelName → Bool → List ℕ → List ℕ → Type 0
+GetsInput None told left input = input ≡ []
+GetsInput (Some channel) told left input = IsTrue told → left ≡ input
+
+-- a channel is no file
+abbrev pub NoFile : Option ChannelName → Type 0
+NoFile channel = (name : Text) → channel ≡ Some (file name) → ⊥
+
+-- each file but that of the channel has the bytes that it had
+abbrev pub KeptBut : Option ChannelName → Contents → Contents → Type 0
+KeptBut to old new = (name : Text) → (to ≡ Some (file name) → ⊥) → new name ≡ old name
