@@ -59,7 +59,7 @@ fn words_of(alloc: Global, line: &str) -> Result<Vec<String>, Fail> {
 
 // What the words of a line leave, where the file `a` has a text, `b` and standard input these bytes,
 // and `c` an old byte.
-fn left(
+fn left_behind(
     alloc: Global,
     line: &str,
     text: &[u8],
@@ -139,7 +139,7 @@ fn channels_are_read_and_written(rt: HostRuntime) -> Result<(), Fail> {
         ("run a --out c --in c", send, b"", 7, b"", b"acute: words refused\n", old),
     ];
     for (line, text, bytes, status, output, errors, file) in rows {
-        let left = left(alloc, line, text, bytes, NONE)?;
+        let left = left_behind(alloc, line, text, bytes, NONE)?;
         assert!(rt; is_left(&left, status, output, errors, file));
     }
     Ok(())
@@ -166,7 +166,7 @@ fn each_read_may_fail(rt: HostRuntime) -> Result<(), Fail> {
             input: &fail,
             ..NONE
         };
-        let left = left(alloc, "run a --in - --out c", TEN, FRAMES, faults)?;
+        let left = left_behind(alloc, "run a --in - --out c", TEN, FRAMES, faults)?;
         assert!(rt; is_front(&left, 5, b"acute: read fault\n"));
     }
     Ok(())
@@ -183,20 +183,20 @@ fn each_write_may_fail(rt: HostRuntime) -> Result<(), Fail> {
             output: &prints,
             ..NONE
         };
-        let printed = left(alloc, "run a --in b --out c", TEN, FRAMES, faults)?;
+        let printed = left_behind(alloc, "run a --in b --out c", TEN, FRAMES, faults)?;
         assert!(rt; is_front(&printed, 6, line));
         let faults = Faults {
             writes: &sends,
             ..NONE
         };
-        let sent = left(alloc, "run a --in b --out c", TEN, FRAMES, faults)?;
+        let sent = left_behind(alloc, "run a --in b --out c", TEN, FRAMES, faults)?;
         assert!(rt; is_front(&sent, 6, line));
     }
     let faults = Faults {
         writes: &[0],
         ..NONE
     };
-    let unmade = left(alloc, "run a --out c", b"IO.print_int 1", b"", faults)?;
+    let unmade = left_behind(alloc, "run a --out c", b"IO.print_int 1", b"", faults)?;
     assert!(rt; is_left(&unmade, 6, b"", line, b"old"));
     Ok(())
 }
