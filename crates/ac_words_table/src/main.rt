@@ -25,12 +25,16 @@ fn answer_to(alloc: Global, line: &str) -> Result<String, Memory> {
     let words = words_in(alloc, line)?;
     match read_words(alloc, words.as_slice())? {
         None => Ok(format!(in alloc; "refused")?),
-        Some(Command::Run(Run {
-            file,
-            steps,
-            input,
-            output,
-        })) => {
+        Some(
+            Command::Run(
+                Run {
+                    file,
+                    steps,
+                    input,
+                    output,
+                },
+            ),
+        ) => {
             let mut answer = format!(in alloc; "run {file}, {steps} steps")?;
             add_channel(&mut answer, ", in ", input)?;
             add_channel(&mut answer, ", out ", output)?;

@@ -9,10 +9,12 @@ use std::alloc::Global;
 use std::test::Fail;
 
 // Ten frames of a byte each.
-const FRAMES: &[u8] = b"\0\0\0\x01a\0\0\0\x01b\0\0\0\x01c\0\0\0\x01d\0\0\0\x01e\0\0\0\x01f\0\0\0\x01g\0\0\0\x01h\0\0\0\x01i\0\0\0\x01j";
+const FRAMES: &[u8] =
+    b"\0\0\0\x01a\0\0\0\x01b\0\0\0\x01c\0\0\0\x01d\0\0\0\x01e\0\0\0\x01f\0\0\0\x01g\0\0\0\x01h\0\0\0\x01i\0\0\0\x01j";
 
 // It receives ten strings, and sends and prints each.
-const TEN: &[u8] = b"let rec pass (n : int) : unit = if n = 0 then () else (let s : string = IO.receive () in IO.send s; IO.print_string s; pass (n - 1)) in pass 10";
+const TEN: &[u8] =
+    b"let rec pass (n : int) : unit = if n = 0 then () else (let s : string = IO.receive () in IO.send s; IO.print_string s; pass (n - 1)) in pass 10";
 
 const PRINTS_ONE: &[u8] = b"IO.print_string (IO.receive ())";
 
@@ -121,7 +123,15 @@ fn channels_are_read_and_written(rt: HostRuntime) -> Result<(), Fail> {
     let short = b"\x00\x00\x00\x02A".as_slice();
     let one = b"\x00\x00\x00\x01A".as_slice();
     let send = b"IO.send \"A\"".as_slice();
-    type Row<'a> = (&'a str, &'a [u8], &'a [u8], u8, &'a [u8], &'a [u8], &'a [u8]);
+    type Row<'a> = (
+        &'a str,
+        &'a [u8],
+        &'a [u8],
+        u8,
+        &'a [u8],
+        &'a [u8],
+        &'a [u8],
+    );
     let rows: [Row; 14] = [
         ("run a --in - --out c", TEN, FRAMES, 0, letters, b"", FRAMES),
         ("run a --in b --out c", TEN, FRAMES, 0, letters, b"", FRAMES),
@@ -136,7 +146,15 @@ fn channels_are_read_and_written(rt: HostRuntime) -> Result<(), Fail> {
         ("run a --out c", send, b"", 0, b"", b"", one),
         ("run a --out c", b"1", b"", 0, b"", b"", b""),
         ("run a --out c", b"", b"", 1, b"", refused, old),
-        ("run a --out c --in c", send, b"", 7, b"", b"acute: words refused\n", old),
+        (
+            "run a --out c --in c",
+            send,
+            b"",
+            7,
+            b"",
+            b"acute: words refused\n",
+            old,
+        ),
     ];
     for (line, text, bytes, status, output, errors, file) in rows {
         let left = left_behind(alloc, line, text, bytes, NONE)?;

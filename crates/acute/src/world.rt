@@ -19,27 +19,41 @@ use std::marker::{Brand, PhantomData};
 trait Fixed {
     // The names of the references.
     ghost files: { ℕ };
+
     ghost input: { ℕ };
+
     ghost console: { ℕ };
+
     ghost stream: { ℕ };
     // The channels.
     ghost from: { Option ChannelName };
+
     ghost to: { Option ChannelName };
     // What the files had, and how often a write had failed.
     ghost contents: { Contents };
+
     ghost console_faults: { ℕ };
+
     ghost channel_faults: { ℕ };
 }
 
 impl Fixed for Brand {
     ghost files = { 0 };
+
     ghost input = { 0 };
+
     ghost console = { 0 };
+
     ghost stream = { 0 };
+
     ghost from = { None };
+
     ghost to = { None };
+
     ghost contents = { λ _. None };
+
     ghost console_faults = { 0 };
+
     ghost channel_faults = { 0 };
 }
 
@@ -104,8 +118,11 @@ impl<F: Files, I: Source, C: Sink, S: Sink, K: Fixed> Source for Joined<'_, F, I
 
     ghost passes_none = { λ _. (λ _. (refl, refl), omega arith) };
 
-    ghost passes_on = { λ _ _ _ h k. (λ t. ((k.0 t).0 ∙ (h.0 t).0, (k.0 t).1 ∙ (h.0 t).1), omega
-        (arith, h.1, k.1)) };
+    ghost passes_on = { λ _ _ _ h k. (
+      λ t. ((k.0 t).0 ∙ (h.0 t).0, (k.0 t).1 ∙ (h.0 t).1),
+      omega
+          (arith, h.1, k.1),
+    ) };
 }
 
 impl<F: Files, I: Source, C: Sink, S: Sink, K: Fixed> World for Joined<'_, F, I, C, S, K> {
@@ -172,7 +189,16 @@ pub fn run_among<F: Files, I: Source, O: Sink, E: Sink>(
     if is_file(from) || is_file(to) {
         run_between(alloc, session, from, to, files, input, output, errors)
     } else {
-        run_between(alloc, session, from, to, &mut NoFiles, input, output, errors)
+        run_between(
+            alloc,
+            session,
+            from,
+            to,
+            &mut NoFiles,
+            input,
+            output,
+            errors,
+        )
     }
 }
 
@@ -221,10 +247,26 @@ fn run_between<F: Files, I: Source, O: Sink, E: Sink>(
     match to {
         None => run_on(session, from, None, files, input, output, &mut none),
         Some(Channel::Standard) => {
-            run_on(session, from, Some(Channel::Standard), files, input, errors, output)
+            run_on(
+                session,
+                from,
+                Some(Channel::Standard),
+                files,
+                input,
+                errors,
+                output,
+            )
         }
         Some(Channel::File(name)) => {
-            run_on(session, from, Some(Channel::File(name)), files, input, output, &mut none)
+            run_on(
+                session,
+                from,
+                Some(Channel::File(name)),
+                files,
+                input,
+                output,
+                &mut none,
+            )
         }
     }
 }

@@ -19,9 +19,10 @@ reads = record {
   built = refl;
   named = refl;
   simple = refl;
-  options =
-      (record { at = refl; apart = (refl, tt) },
-      (record { at = refl; apart = (refl, tt) }, (record { at = refl; apart = (refl, tt) }, tt)));
+  options = (
+    record { at = refl; apart = (refl, tt) },
+    (record { at = refl; apart = (refl, tt) }, (record { at = refl; apart = (refl, tt) }, tt)),
+  );
   places = (record { at = refl; next = refl; most = (refl, tt) }, tt);
 }
 
