@@ -1,0 +1,177 @@
+// Types with names: abbreviations, and the specs of signatures.
+
+ghost use Rattle.std.specs.Prelude.{◌≡◌, ◌++◌, [], map, IfOk};
+ghost use Rattle.ac_types.specs.ReadTypes.{typ_of, typed_of, sig_type_of, sig_of};
+ghost use Rattle.ac_syntax.specs.ReadTrees.{name_of, type_of, abbrev_of, abbrevs_of, spec_of, sig_tree_of};
+ghost use Rattle.ac_syntax.specs.Trees.{AbstractSpec, ManifestSpec, ValSpec};
+ghost use Rattle.ac_scopes.specs.Scopes.{each_in};
+ghost use Rattle.ac_scopes.specs.Written.{type_in};
+ghost use Rattle.ac_scopes.specs.Definitions.{after_abbrev, after_spec, abbrev_type, spec_type, spec_value, signature_in};
+ghost use Rattle.ac_outer.specs.Fronts.{front_of, outer_of};
+
+use ac_outer::{Front, Outer, Scope, ty};
+use ac_syntax::{SAbbrev, SName, SSig, SSpec, SType};
+use ac_types::{Many, Memory, Sig, SigType, Ty, TyField};
+use std::alloc::Global;
+
+/// A type where no variables are in scope.
+pub fn outer_ty(alloc: Global, tree: &SType, outer: &Outer) -> Result<Ty, Memory>
+    ensures { IfOk result (λ t. typ_of t ≡ type_in (outer_of outer.now) (type_of tree.now)) }
+{
+    let scope = Scope::new(outer);
+    ty(alloc, tree, &scope)
+}
+
+/// The types of some abbreviations, and the scope behind them.
+#[derive(Drop)]
+pub struct Abbrevs<'a> {
+    /// The scope.
+    pub outer: Outer<'a>,
+    /// The types.
+    pub types: Many<TyField>,
+}
+
+impl<'a> Abbrevs<'a> {
+    /// None yet.
+    pub fn new(alloc: Global, front: &'a Front) -> Abbrevs<'a>
+        ensures outer { outer_of result.outer ≡ front_of front.now }
+        ensures fields { (outer_of result.outer).fields ≡ [] }
+        ensures types { result.types ≡ [] }
+    {
+        Abbrevs {
+            outer: front.outer(alloc),
+            types: Many::new(alloc),
+        }
+    }
+
+    /// With one more.
+    pub fn with(self, alloc: Global, a: &SAbbrev) -> Result<Abbrevs<'a>, Memory>
+        ensures outer { IfOk result (λ r. outer_of r.outer ≡
+            after_abbrev (outer_of self.entry.outer) (abbrev_of a.now)) }
+        ensures types { IfOk result (λ r. map typed_of r.types ≡
+            map typed_of self.entry.types ++ abbrev_type (outer_of self.entry.outer) (abbrev_of a.now)) }
+    {
+        let Abbrevs { outer, types } = self;
+        let mut types = types;
+        let ty = outer_ty(alloc, &a.ty, &outer)?;
+        let name = a.name.word.copy(alloc)?;
+        types.push(TyField {
+            name,
+            ty: ty.copy(alloc)?,
+        })?;
+        let outer = outer.with_type(alloc, &a.name, ty)?;
+        Ok(Abbrevs { outer, types })
+    }
+}
+
+/// The types of a likespec.
+pub fn like(alloc: Global, front: &Front, abbrevs: &[SAbbrev]) -> Result<Many<TyField>, Memory>
+    ensures { IfOk result (λ types. map typed_of types ≡
+        each_in after_abbrev abbrev_type (front_of front.now) (abbrevs_of abbrevs.now)) }
+{
+    let mut found = Abbrevs::new(alloc, front);
+    for a in abbrevs {
+        let more = found.with(alloc, a)?;
+        found = more;
+    }
+    let Abbrevs { outer, types } = found;
+    drop(outer);
+    Ok(types)
+}
+
+/// The first specs of a signature, and the scope behind them.
+#[derive(Drop)]
+struct Specs<'a> {
+    outer: Outer<'a>,
+    types: Many<SigType>,
+    vals: Many<TyField>,
+}
+
+impl<'a> Specs<'a> {
+    /// With one more.
+    fn with(self, alloc: Global, spec: &SSpec) -> Result<Specs<'a>, Memory>
+        ensures outer { IfOk result (λ r. outer_of r.outer ≡
+            after_spec (outer_of self.entry.outer) (spec_of spec.now)) }
+        ensures types { IfOk result (λ r. map sig_type_of r.types ≡
+            map sig_type_of self.entry.types ++ spec_type (outer_of self.entry.outer) (spec_of spec.now)) }
+        ensures vals { IfOk result (λ r. map typed_of r.vals ≡
+            map typed_of self.entry.vals ++ spec_value (outer_of self.entry.outer) (spec_of spec.now)) }
+    {
+        match spec {
+            SSpec::Abstract(name) => self.with_abstract(alloc, name),
+            SSpec::Manifest(a) => self.with_manifest(alloc, a),
+            SSpec::Val(name, tree) => self.with_val(alloc, name, tree),
+        }
+    }
+
+    #[tactic(auto, using(ac_types::proofs::SizeLaws::type_laws))]
+    fn with_abstract(self, alloc: Global, name: &SName) -> Result<Specs<'a>, Memory>
+        ensures outer { IfOk result (λ r. outer_of r.outer ≡
+            after_spec (outer_of self.entry.outer) (AbstractSpec (name_of name.now))) }
+        ensures types { IfOk result (λ r. map sig_type_of r.types ≡ map sig_type_of self.entry.types
+            ++ spec_type (outer_of self.entry.outer) (AbstractSpec (name_of name.now))) }
+        ensures vals { IfOk result (λ r. r.vals ≡ self.entry.vals) }
+    {
+        let Specs { outer, types, vals } = self;
+        let mut types = types;
+        let word = name.word.copy(alloc)?;
+        types.push(SigType {
+            name: word,
+            manifest: None,
+        })?;
+        let own = Ty::Mine(name.word.copy(alloc)?);
+        let outer = outer.with_type(alloc, name, own)?;
+        Ok(Specs { outer, types, vals })
+    }
+
+    fn with_manifest(self, alloc: Global, a: &SAbbrev) -> Result<Specs<'a>, Memory>
+        ensures outer { IfOk result (λ r. outer_of r.outer ≡
+            after_spec (outer_of self.entry.outer) (ManifestSpec (abbrev_of a.now))) }
+        ensures types { IfOk result (λ r. map sig_type_of r.types ≡ map sig_type_of self.entry.types
+            ++ spec_type (outer_of self.entry.outer) (ManifestSpec (abbrev_of a.now))) }
+        ensures vals { IfOk result (λ r. r.vals ≡ self.entry.vals) }
+    {
+        let Specs { outer, types, vals } = self;
+        let mut types = types;
+        let ty = outer_ty(alloc, &a.ty, &outer)?;
+        let name = a.name.word.copy(alloc)?;
+        let manifest = Some(ty.copy(alloc)?);
+        types.push(SigType { name, manifest })?;
+        let outer = outer.with_type(alloc, &a.name, ty)?;
+        Ok(Specs { outer, types, vals })
+    }
+
+    fn with_val(self, alloc: Global, name: &SName, tree: &SType) -> Result<Specs<'a>, Memory>
+        ensures outer { IfOk result (λ r. outer_of r.outer ≡ outer_of self.entry.outer) }
+        ensures types { IfOk result (λ r. r.types ≡ self.entry.types) }
+        ensures vals { IfOk result (λ r. map typed_of r.vals ≡ map typed_of self.entry.vals
+            ++ spec_value (outer_of self.entry.outer) (ValSpec (name_of name.now) (type_of tree.now))) }
+    {
+        let Specs { outer, types, vals } = self;
+        let mut vals = vals;
+        let ty = outer_ty(alloc, tree, &outer)?;
+        let name = name.word.copy(alloc)?;
+        vals.push(TyField { name, ty })?;
+        Ok(Specs { outer, types, vals })
+    }
+}
+
+/// The signature that a tree writes.
+pub fn signature(alloc: Global, front: &Front, tree: &SSig) -> Result<Sig, Memory>
+    ensures { IfOk result (λ s. sig_of s ≡ signature_in (front_of front.now) (sig_tree_of
+        tree.now)) }
+{
+    let specs = tree.specs.as_slice();
+    let mut found = Specs {
+        outer: front.outer(alloc),
+        types: Many::new(alloc),
+        vals: Many::new(alloc),
+    };
+    for spec in specs {
+        let more = found.with(alloc, spec)?;
+        found = more;
+    }
+    let Specs { outer, types, vals } = found;
+    drop(outer);
+    Ok(Sig { types, vals })
+}
