@@ -7,7 +7,7 @@ ghost use Rattle.ac_terms.specs.Spelling.{byte, two_written, four_written, eight
 use ac_bytes::Out;
 use ac_types::{Memory, Text, Word};
 
-// A count in one byte.
+/// A count in one byte.
 pub fn put_count_u8(out: &mut Out, n: usize) -> Result<(), Memory>
     ensures { OnOk result (out.new ≡ out.old ++ byte n) }
 {
@@ -17,7 +17,7 @@ pub fn put_count_u8(out: &mut Out, n: usize) -> Result<(), Memory>
     out.put_u8(n)
 }
 
-// A count in two bytes.
+/// A count in two bytes.
 pub fn put_count_u16(out: &mut Out, n: usize) -> Result<(), Memory>
     ensures { OnOk result (out.new ≡ out.old ++ two_written n) }
 {
@@ -27,7 +27,7 @@ pub fn put_count_u16(out: &mut Out, n: usize) -> Result<(), Memory>
     out.put_u16(n)
 }
 
-// A count in four bytes.
+/// A count in four bytes.
 pub fn put_count_u32(out: &mut Out, n: usize) -> Result<(), Memory>
     ensures { OnOk result (out.new ≡ out.old ++ four_written n) }
 {
@@ -37,14 +37,14 @@ pub fn put_count_u32(out: &mut Out, n: usize) -> Result<(), Memory>
     out.put_u32(n)
 }
 
-// 1 for true, 0 for false.
+/// 1 for true, 0 for false.
 pub fn put_truth(out: &mut Out, b: bool) -> Result<(), Memory>
     ensures { OnOk result (out.new ≡ out.old ++ truth b) }
 {
     out.put_u8(if b { 1 } else { 0 })
 }
 
-// An identifier: its length in one byte, and its bytes.
+/// An identifier: its length in one byte, and its bytes.
 pub fn put_word(out: &mut Out, w: &Word) -> Result<(), Memory>
     ensures { OnOk result (out.new ≡ out.old ++ word w.now) }
 {
@@ -53,7 +53,7 @@ pub fn put_word(out: &mut Out, w: &Word) -> Result<(), Memory>
     out.put_bytes(bytes)
 }
 
-// A string: its length in four bytes, and its bytes.
+/// A string: its length in four bytes, and its bytes.
 pub fn put_str(out: &mut Out, text: &Text) -> Result<(), Memory>
     ensures { OnOk result (out.new ≡ out.old ++ str text.now.0) }
 {
@@ -62,7 +62,7 @@ pub fn put_str(out: &mut Out, text: &Text) -> Result<(), Memory>
     out.put_bytes(bytes)
 }
 
-// An int behind its tag.
+/// An int behind its tag.
 pub fn put_int(out: &mut Out, tag: u8, n: i64) -> Result<(), Memory>
     ensures { OnOk result (out.new ≡ out.old ++ tag ∷ eight_written n) }
 {
@@ -70,7 +70,7 @@ pub fn put_int(out: &mut Out, tag: u8, n: i64) -> Result<(), Memory>
     out.put_i64(n)
 }
 
-// A bool behind its tag.
+/// A bool behind its tag.
 pub fn put_bool(out: &mut Out, tag: u8, b: bool) -> Result<(), Memory>
     ensures { OnOk result (out.new ≡ out.old ++ tag ∷ truth b) }
 {
@@ -78,7 +78,7 @@ pub fn put_bool(out: &mut Out, tag: u8, b: bool) -> Result<(), Memory>
     put_truth(out, b)
 }
 
-// A string behind its tag.
+/// A string behind its tag.
 pub fn put_string(out: &mut Out, tag: u8, text: &Text) -> Result<(), Memory>
     ensures { OnOk result (out.new ≡ out.old ++ tag ∷ str text.now.0) }
 {
@@ -86,7 +86,7 @@ pub fn put_string(out: &mut Out, tag: u8, text: &Text) -> Result<(), Memory>
     put_str(out, text)
 }
 
-// A byte behind its tag.
+/// A byte behind its tag.
 pub fn put_byte(out: &mut Out, tag: u8, n: u8) -> Result<(), Memory>
     ensures { OnOk result (out.new ≡ out.old ++ tag ∷ n ∷ []) }
 {
@@ -94,7 +94,7 @@ pub fn put_byte(out: &mut Out, tag: u8, n: u8) -> Result<(), Memory>
     out.put_u8(n)
 }
 
-// A number of two bytes behind its tag.
+/// A number of two bytes behind its tag.
 pub fn put_number(out: &mut Out, tag: u8, n: u16) -> Result<(), Memory>
     ensures { OnOk result (out.new ≡ out.old ++ tag ∷ two_written n) }
 {

@@ -11,7 +11,7 @@ use ac_bytes::Out;
 use ac_terms::Pat;
 use ac_types::Memory;
 
-// Puts a pattern.
+/// Puts a pattern.
 #[cycle(pat)]
 #[tactic(auto, using(crate::proofs::PatternForms::pattern_laws))]
 pub fn put_pattern<S: Spelling>(out: &mut Out, spelling: &S, pat: &Pat) -> Result<(), Memory>

@@ -24,7 +24,7 @@ fn put_atom(out: &mut Out, atom: Atom) -> Result<(), Memory>
     }
 }
 
-// Puts how many parts a version has, and each.
+/// Puts how many parts a version has, and each.
 #[tactic(auto, using(crate::proofs::Lists::lists))]
 pub fn put_version(out: &mut Out, atoms: &[Atom]) -> Result<(), Memory>
     ensures { OnOk result (out.new ≡ out.old ++ listed byte atom_bytes (map atom_of atoms.now)) }
@@ -75,7 +75,7 @@ fn put_ranges(out: &mut Out, ranges: &[Range]) -> Result<(), Memory>
     Ok(())
 }
 
-// Puts a constraint.
+/// Puts a constraint.
 #[tactic(auto, using(crate::proofs::Lists::lists))]
 pub fn put_constraint(out: &mut Out, constraint: &Constraint) -> Result<(), Memory>
     ensures { OnOk result (out.new ≡ out.old ++ constraint_bytes (constraint_of constraint.now)) }
@@ -145,7 +145,7 @@ fn put_typed_name<S: Spelling>(out: &mut Out, spelling: &S, x: &TyField) -> Resu
     spelling.put_type(out, &x.ty)
 }
 
-// Puts how many names with types there are, and each.
+/// Puts how many names with types there are, and each.
 #[tactic(auto, using(crate::proofs::Lists::lists))]
 pub fn put_typed_names<S: Spelling>(
     out: &mut Out,
@@ -162,7 +162,7 @@ pub fn put_typed_names<S: Spelling>(
     Ok(())
 }
 
-// Puts a signature.
+/// Puts a signature.
 #[tactic(auto, using(crate::proofs::Lists::lists))]
 pub fn put_sig<S: Spelling>(out: &mut Out, spelling: &S, sig: &Sig) -> Result<(), Memory>
     ensures { OnOk result (out.new ≡ out.old ++

@@ -20,7 +20,7 @@ pub fn type_bytes(alloc: Global, t: &Ty) -> Result<Text, Memory>
     Ok(out.into_text())
 }
 
-// Puts a type in full.
+/// Puts a type in full.
 #[cycle(ty)]
 #[tactic(auto, using(crate::proofs::TypeForms::type_laws))]
 pub fn put_type(out: &mut Out, ty: &Ty) -> Result<(), Memory>

@@ -9,7 +9,7 @@ use ac_bytes::Out;
 use ac_terms::{Exn, Home};
 use ac_types::Memory;
 
-// Puts where a function is at home, behind the tag of functions.
+/// Puts where a function is at home, behind the tag of functions.
 pub fn put_home(out: &mut Out, home: Home) -> Result<(), Memory>
     ensures { OnOk result (out.new ≡ out.old ++ 0x0A ∷ home_bytes (home_of home)) }
 {
@@ -22,7 +22,7 @@ pub fn put_home(out: &mut Out, home: Home) -> Result<(), Memory>
     }
 }
 
-// Puts an exception.
+/// Puts an exception.
 pub fn put_exn(out: &mut Out, exn: &Exn) -> Result<(), Memory>
     ensures { OnOk result (out.new ≡ out.old ++ 0x05 ∷ exn_bytes exn.now.number
         (option_map bytes_of exn.now.text)) }

@@ -32,6 +32,7 @@ pub struct Pile {
 }
 
 impl Pile {
+    /// An empty pile.
     pub fn new(alloc: Global) -> Pile {
         Pile {
             alloc,
@@ -56,37 +57,45 @@ impl Pile {
         }
     }
 
+    /// The top number, in one byte.
     pub fn small(&mut self) -> Option<u8> {
         u8::try_from(self.numbers.pop()?).ok()
     }
 
+    /// The top number, in two bytes.
     pub fn short(&mut self) -> Option<u16> {
         u16::try_from(self.numbers.pop()?).ok()
     }
 
+    /// The top number, in four bytes.
     pub fn long(&mut self) -> Option<u32> {
         u32::try_from(self.numbers.pop()?).ok()
     }
 
+    /// Whether the top number is 1.
     pub fn truth(&mut self) -> Option<bool> {
         Some(self.numbers.pop()? == 1)
     }
 
+    /// The top type, in a box.
     pub fn boxed_type(&mut self) -> Option<Box<Ty>> {
         let ty = self.types.pop()?;
         Box::new(self.alloc, ty).ok()
     }
 
+    /// The top pattern, in a box.
     pub fn boxed_pat(&mut self) -> Option<Box<Pat>> {
         let pat = self.pats.pop()?;
         Box::new(self.alloc, pat).ok()
     }
 
+    /// The top term, in a box.
     pub fn boxed_term(&mut self) -> Option<Box<Term>> {
         let term = self.terms.pop()?;
         Box::new(self.alloc, term).ok()
     }
 
+    /// The top value, in a box.
     pub fn boxed_value(&mut self) -> Option<Box<PVal>> {
         let value = self.values.pop()?;
         Box::new(self.alloc, value).ok()

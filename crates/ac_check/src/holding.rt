@@ -15,8 +15,8 @@ use ac_types::{Memory, Ty, both};
 use ac_views::{Base, head, is_base, list_item, option_item, tuple_parts};
 use std::alloc::Global;
 
-/// Whether each captured value of a term is of the type beside it.
 // Each part is looked at (`&`): an `&&` would be one more branch of the proof.
+/// Whether each captured value of a term is of the type beside it.
 #[cycle(hold)]
 #[tactic(auto, using(ac_typing::proofs::TermLaws::typing_laws))]
 pub fn captured_hold<'a>(alloc: Global, t: &'a Term, env: &'a Env) -> Result<bool, Memory>

@@ -190,7 +190,7 @@ fn several(cursor: &mut Cursor<'_>) -> Result<u32, Fault>
     Ok(n)
 }
 
-// The head of a pattern behind its tag, which stands at that place.
+/// The head of a pattern behind its tag, which stands at that place.
 #[tactic(auto, using(ac_canon::proofs::PatternForms::pattern_forms))]
 pub fn pattern_head<T: Types>(
     alloc: Global,

@@ -7,7 +7,7 @@ ghost use Rattle.ac_make.specs.Programs.{module_name, got_of_made, head_line, ma
 use ac_types::{Memory, Text};
 use std::alloc::{AllocError, Global};
 
-// The first line of module `i`.
+/// The first line of module `i`.
 pub fn put_head(alloc: Global, text: &mut Text, i: u64) -> Result<(), Memory>
     ensures { OnOk result (text.new.0 ≡ text.old.0 ++ head_line i) }
 {
@@ -18,7 +18,7 @@ pub fn put_head(alloc: Global, text: &mut Text, i: u64) -> Result<(), Memory>
     text.extend(b" =\n")
 }
 
-// The line of a module's `make`, for which this number was drawn.
+/// The line of a module's `make`, for which this number was drawn.
 pub fn put_make(alloc: Global, text: &mut Text, first: u64) -> Result<(), Memory>
     ensures { OnOk result (text.new.0 ≡ text.old.0 ++ make_line first) }
 {
@@ -27,7 +27,7 @@ pub fn put_make(alloc: Global, text: &mut Text, first: u64) -> Result<(), Memory
     text.extend(b"\n")
 }
 
-// The line of the `get` of module `i`, for which this number was drawn.
+/// The line of the `get` of module `i`, for which this number was drawn.
 pub fn put_get(alloc: Global, text: &mut Text, i: u64, second: u64) -> Result<(), Memory>
     ensures { OnOk result (text.new.0 ≡ text.old.0 ++ get_line i second) }
 {
@@ -45,7 +45,7 @@ fn put_get_body(alloc: Global, text: &mut Text, i: u64, second: u64) -> Result<(
     put_got_of_made(alloc, text, second % i, b"x")
 }
 
-// The line that prints what module `i` gives for `i`.
+/// The line that prints what module `i` gives for `i`.
 pub fn put_print(alloc: Global, text: &mut Text, i: u64) -> Result<(), Memory>
     ensures { OnOk result (text.new.0 ≡ text.old.0 ++ print_line i) }
 {

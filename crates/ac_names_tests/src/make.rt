@@ -4,6 +4,7 @@ use ac_terms::{Def, Entry, Env, Field, Module, Seen, Term};
 use ac_types::{Atom, Many, Memory, Name, Sig, Text, Ty, TyField, Version, Word};
 use std::alloc::Global;
 
+/// The identifier of these bytes.
 pub fn word(alloc: Global, bytes: &[u8]) -> Result<Word, Memory> {
     match Word::new(Text::from_slice(alloc, bytes)?) {
         None => Err(Memory),

@@ -13,10 +13,12 @@ pub fn word(alloc: Global, bytes: &[u8]) -> Made<Word> {
     }
 }
 
+/// The item in a box.
 pub fn boxed<T: Drop>(alloc: Global, item: Made<T>) -> Made<Box<T>> {
     Box::new(alloc, item?)
 }
 
+/// A list of one item.
 pub fn one<T: Drop>(alloc: Global, item: Made<T>) -> Made<Many<T>> {
     let item = item?;
     let mut items = Many::new(alloc);
@@ -24,6 +26,7 @@ pub fn one<T: Drop>(alloc: Global, item: Made<T>) -> Made<Many<T>> {
     Ok(items)
 }
 
+/// A list of two items.
 pub fn two<T: Drop>(alloc: Global, first: Made<T>, second: Made<T>) -> Made<Many<T>> {
     let mut items = Many::new(alloc);
     let (first, second) = both(first, second)?;
