@@ -1,27 +1,13 @@
 //! The program `acute`: the top call over the real files and streams.
 #![tactic(auto)]
 
-#[cfg(test)]
-mod channel_tests;
-mod laws;
-mod no_files;
-mod reading;
-mod refusal;
-mod status;
-#[cfg(test)]
-mod tests;
-mod top;
-mod uncaught;
-mod world;
-
 use ac_outside::{RealFiles, RealSink, RealSource};
+use ac_top::{Status, acute};
 use ac_types::Memory;
-use status::Status;
 use std::alloc::Global;
 use std::env;
 use std::io::ErrorKind;
 use std::process::ExitCode;
-use top::acute;
 
 fn main(rt: HostRuntime) -> ExitCode {
     let alloc = rt.alloc();

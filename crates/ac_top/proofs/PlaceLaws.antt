@@ -1,0 +1,212 @@
+-- What a run's channels have in front of it and behind it, as the call's end says it.
+use Rattle.std.proofs.Common.{◌≡◌, ◌≤◌, ◌⊎◌, inl, inr, ℕ, Bool, true, false, IsTrue, List, [], Option, Some, None, refl, sym, ◌∙◌, ap, subst, arith}
+use Rattle.std.specs.Prelude.{◌&&◌}
+use Rattle.std.specs.Str.{bytes_eq}
+use Rattle.std.proofs.lemmas.List.{append-nil}
+use Rattle.std.proofs.lemmas.Slice.Eq.{bytes_eq-Decides}
+use mathlib.Core.Bool.{true≢false}
+use Rattle.ac_types.specs.Types.{Bytes}
+use Rattle.ac_outside.specs.Outside.{Contents, Rose, Created, or_empty}
+use Rattle.ac_outside.specs.declared.traits.Put.{Put}
+use Rattle.ac_outside.specs.declared.traits.Put.TheVariants as put
+use Rattle.ac_words.specs.Form.{Text}
+use Rattle.ac_words.specs.Commands.{ChannelName, standard, file, are_one}
+use Rattle.ac_meaning.specs.Writes.{Write}
+use Rattle.ac_run.specs.Sessions.{Session, Streams, streams, with_writes, Begun, StopsIn, StopsBehind, Leaves, AtReceive, RunsTo}
+use Rattle.ac_run.specs.declared.end.RunEnd.{RunEnd}
+use Rattle.ac_run.specs.declared.end.RunEnd.TheVariants as end
+use Rattle.ac_top.specs.declared.status.Status.{Status}
+use Rattle.ac_top.specs.Channels.{of_channel, of_console, tells, left_in, sent_in, GetsInput}
+use Rattle.ac_top.specs.Streams.{Reading, Writing, Whole, IsTextOf, writing}
+use Rattle.ac_top.specs.Handed.{FilesSeen, Handed, what_is_handed, is_told, input_of, behind_run, Untouched, MadeAtMost, MakingFailed}
+use Rattle.ac_top.specs.Endings.{HasRead, Said, said, failed, no_memory}
+use Rattle.ac_top.specs.inner.Runs.{ErrorsApart, Since, Prepared, Makes}
+use Rattle.ac_top.proofs.ChannelLaws.{third}
+
+first : (a b : Bool) → IsTrue (a && b) → IsTrue a
+first true b h = refl
+first false b h = absurd (true≢false (sym h))
+
+same_bytes : (a : Bytes) → bytes_eq a a ≡ true
+same_bytes a = (bytes_eq-Decides a a).1 refl
+
+-- the file that is read is not the one that is written
+other : (name : Text) (to : Option ChannelName) → are_one (Some (file name)) to ≡ false → to ≡ Some (file name) → ⊥
+other name to apart is =
+    let one : bytes_eq name name ≡ false = rw is at apart in
+    true≢false (sym (same_bytes name) ∙ one)
+
+-- the input is that of the call's beginning
+pub input_same : (from to : Option ChannelName) (f i c s : Bool) (start now : FilesSeen) (left : Bytes) → are_one from to ≡ false → Prepared f to start now → IsTrue (tells from to f i c s) → left_in from now.contents left 0 ≡ of_channel from [] left (λ name. or_empty (start.contents name))
+input_same None to f i c s start now left apart p told = refl
+input_same (Some standard) to f i c s start now left apart p told = refl
+input_same (Some (file name)) to f i c s start now left apart p told =
+    ap or_empty (p.kept (first f (c && of_channel to true s (λ n. f)) told) name (other name to apart))
+
+pub gets_moved : (from : Option ChannelName) (t : Bool) (left there input : Bytes) → (IsTrue t → left ≡ there) → GetsInput from t left input → GetsInput from t there input
+gets_moved None t left there input same h = h
+gets_moved (Some channel) t left there input same h = λ told. sym (same told) ∙ h told
+
+-- the channel has nothing in front of the run, where it is a file
+pub before_same : (from to : Option ChannelName) (f i c s : Bool) (start now : FilesSeen) (console stream : Bytes) → Prepared f to start now → IsTrue (tells from to f i c s) → streams console (sent_in to now.contents stream) ≡ streams console (of_channel to [] stream (λ name. []))
+before_same from None f i c s start now console stream p told = refl
+before_same from (Some standard) f i c s start now console stream p told = refl
+before_same from (Some (file name)) f i c s start now console stream p told =
+    ap (λ (b : Option Bytes). streams console (or_empty b)) (p.emptied (third (of_channel from true i (λ n. f)) c f told))
+
+-- counts from the call's beginning on
+pub rose_earlier : (a b c : ℕ) → a ≤ b → Rose b c → Rose a c
+rose_earlier a b c le rose = omega (arith, le, rose)
+
+pub input_earlier : (from : Option ChannelName) (x : ℕ) (f g : Text → ℕ) (n : ℕ) → ((name : Text) → f name ≤ g name) → Rose (of_channel from 0 x g) n → Rose (of_channel from 0 x f) n
+input_earlier None x f g n h rose = rose
+input_earlier (Some standard) x f g n h rose = rose
+input_earlier (Some (file name)) x f g n h rose = rose_earlier (f name) (g name) n (h name) rose
+
+pub console_later : (to : Option ChannelName) (a b c d e : ℕ) → d ≤ e → Rose (of_console to a b) (of_console to c d) → Rose (of_console to a b) (of_console to c e)
+console_later None a b c d e le rose = rose
+console_later (Some standard) a b c d e le rose = omega (arith, le, rose)
+console_later (Some (file name)) a b c d e le rose = rose
+
+pub output_failed : (to : Option ChannelName) (a b c d e x : ℕ) (f g : Text → ℕ) (n : ℕ) → d ≤ e → ((name : Text) → f name ≤ g name) → Rose (of_console to a b) (of_console to c d) ⊎ Rose (of_channel to 0 x g) n → Rose (of_console to a b) (of_console to c e) ⊎ Rose (of_channel to 0 x f) n
+output_failed to a b c d e x f g n le earlier (inl rose) = inl (console_later to a b c d e le rose)
+output_failed to a b c d e x f g n le earlier (inr rose) = inr (input_earlier to x f g n earlier rose)
+
+-- a line behind a run
+said_earlier : (errors : Writing) (x : ℕ) (line : List ℕ) (status end : Status) → x ≤ errors.before → Said errors line status end → Said (record errors { before = x }) line status end
+said_earlier errors x line status end le (said w) = said w
+said_earlier errors x line status end le (failed rose p) = failed (rose_earlier x errors.before errors.after le rose) p
+said_earlier errors x line status end le (no_memory p) = no_memory p
+
+abbrev errors_behind : Option ChannelName → Writing → List ℕ → Writing
+errors_behind to e mid = of_console to e (record e { old = mid })
+
+pub said_behind : {Errors : Type 0} (told : Bool) (written : Errors → List ℕ) (faults : Errors → ℕ) (to : Option ChannelName) (e : Writing) (old mid new : Errors) (line : List ℕ) (status end : Status) → e ≡ writing told written faults old new → ErrorsApart to old mid → faults old ≤ faults mid
+    → Said (writing told written faults mid new) line status end → Said (errors_behind to e (written mid)) line status end
+said_behind {Errors} told written faults None e old mid new line status end is apart le s =
+    subst (λ (w : Writing). Said w line status end) (sym is) (subst (λ (m : Errors). Said (writing told written faults m new) line status end) apart s)
+said_behind {Errors} told written faults (Some standard) e old mid new line status end is apart le s =
+    subst (λ (w : Writing). Said (record w { old = written mid }) line status end) (sym is) (said_earlier (writing told written faults mid new) (faults old) line status end le s)
+said_behind {Errors} told written faults (Some (file name)) e old mid new line status end is apart le s =
+    subst (λ (w : Writing). Said w line status end) (sym is) (subst (λ (m : Errors). Said (writing told written faults m new) line status end) apart s)
+
+pub told_behind : {Errors : Type 0} (told : Bool) (written : Errors → List ℕ) (faults : Errors → ℕ) (to : Option ChannelName) (e : Writing) (old mid new : Errors) (line other : List ℕ) (status others end : Status) → e ≡ writing told written faults old new → ErrorsApart to old mid → faults old ≤ faults mid
+    → Said (writing told written faults mid new) line status end ⊎ Said (writing told written faults mid new) other others end → Said (errors_behind to e (written mid)) line status end ⊎ Said (errors_behind to e (written mid)) other others end
+told_behind told written faults to e old mid new line other status others end is apart le (inl s) = inl (said_behind told written faults to e old mid new line status end is apart le s)
+told_behind told written faults to e old mid new line other status others end is apart le (inr s) = inr (said_behind told written faults to e old mid new other others end is apart le s)
+
+-- no line behind a run
+pub still_behind : {Errors : Type 0} (told : Bool) (written : Errors → List ℕ) (faults : Errors → ℕ) (to : Option ChannelName) (e : Writing) (old mid : Errors) → e ≡ writing told written faults old mid → ErrorsApart to old mid → Whole (errors_behind to e (written mid)) []
+still_behind told written faults None e old mid is apart =
+    subst (λ (w : Writing). Whole w []) (sym is) (λ t. ap written apart ∙ sym (append-nil (written old)))
+still_behind told written faults (Some standard) e old mid is apart =
+    subst (λ (w : Writing). Whole (record w { old = written mid }) []) (sym is) (λ t. sym (append-nil (written mid)))
+still_behind told written faults (Some (file name)) e old mid is apart =
+    subst (λ (w : Writing). Whole w []) (sym is) (λ t. ap written apart ∙ sym (append-nil (written old)))
+
+-- what a run leaves, from other streams in front of it that are the same where they are told
+module _ (told : Bool) (old there new : Streams) (same : IsTrue told → old ≡ there) where
+  in_moved : (all : List Write) → StopsIn told all old new → StopsIn told all there new
+  in_moved all s = record {
+    before = s.before;
+    write = s.write;
+    after = s.after;
+    order = s.order;
+    begun = λ t. subst (λ (o : Streams). Begun s.write (with_writes s.before o) new) (same t) (s.begun t);
+  }
+
+  behind_moved : (all : List Write) → StopsBehind told all old new → StopsBehind told all there new
+  behind_moved all s = record {
+    before = s.before;
+    after = s.after;
+    order = s.order;
+    made = λ t. s.made t ∙ ap (with_writes s.before) (same t);
+  }
+
+  whole_moved : (all : List Write) → (IsTrue told → new ≡ with_writes all old) → IsTrue told → new ≡ with_writes all there
+  whole_moved all h t = h t ∙ ap (with_writes all) (same t)
+
+  pub leaves_moved : (r : RunEnd) (all : List Write) → Leaves r told all old new → Leaves r told all there new
+  leaves_moved end.Finished all h = whole_moved all h
+  leaves_moved (end.Uncaught e) all h = whole_moved all h
+  leaves_moved (end.Spent steps) all h = whole_moved all h
+  leaves_moved end.ReadFault all h = behind_moved all h
+  leaves_moved end.WriteFault all h = in_moved all h
+  leaves_moved end.Memory all (inl h) = inl (in_moved all h)
+  leaves_moved end.Memory all (inr h) = inr (behind_moved all h)
+
+  pub runs_moved : (s t : Session) (input : Bytes) (r : RunEnd) → RunsTo told s t input r old new → RunsTo told s t input r there new
+  runs_moved s t input r h = record {
+    ends = λ mode o e. ((h.ends mode o e).0, leaves_moved r _ (h.ends mode o e).1);
+    receives = λ is.
+        let a = h.receives is in
+        record {
+          code = a.code;
+          core = a.core;
+          world = a.world;
+          comes = a.comes;
+          able = a.able;
+          stands = a.stands;
+          defines = a.defines;
+          made = λ t'. a.made t' ∙ ap (with_writes a.world.writes) (same t');
+        };
+  }
+
+-- all that a channel has may be the input
+pub gets_all : (from : Option ChannelName) (t : Bool) (o : Handed) → GetsInput from t (input_of from o) (input_of from o)
+gets_all None t o = refl
+gets_all (Some channel) t o = λ told. refl
+
+-- what is read, with all of the input
+abbrev pub read_all : (name : Bytes) (steps : ℕ) (from to : Option ChannelName) (o : Handed) (text : Bytes) → IsTextOf (o.files name) text → HasRead name steps from to o
+read_all name steps from to o text is_text = record { text = text; is_text = is_text; input = input_of from o; is_input = gets_all from (is_told from to o) o }
+
+-- files that are as they were
+pub untouched_by : (told : Bool) (start now : FilesSeen) (input : Reading) (output errors : Writing) (to : Option ChannelName) → (IsTrue told → now.contents ≡ start.contents) → Untouched to (what_is_handed told start now input output errors)
+untouched_by told start now input output errors None same = tt
+untouched_by told start now input output errors (Some standard) same = tt
+untouched_by told start now input output errors (Some (file name)) same = λ t. ap (λ (k : Contents). or_empty (k name)) (same t)
+
+-- files in front of a run
+pub prepared : (told : Bool) (start old now : FilesSeen) (to : Option ChannelName) → Since told start old → Makes to told put.Done old now → Prepared told to start now
+prepared told start old now None since m =
+    subst (λ (f : FilesSeen). Prepared told None start f) (sym m.1)
+    (record { kept = λ t name h. ap (λ (k : Contents). k name) (since.same t); emptied = λ t. tt; reads = since.reads; writes = since.writes })
+prepared told start old now (Some standard) since m =
+    subst (λ (f : FilesSeen). Prepared told (Some standard) start f) (sym m.1)
+    (record { kept = λ t name h. ap (λ (k : Contents). k name) (since.same t); emptied = λ t. tt; reads = since.reads; writes = since.writes })
+prepared told start old now (Some (file n)) since m = record {
+  kept = λ t name h. m.1.0 t name (λ is. h (ap (λ (x : Text). Some (file x)) (sym is))) ∙ ap (λ (k : Contents). k name) (since.same t);
+  emptied = λ t. m.0 t;
+  reads = λ name. omega (arith, since.reads name, m.1.1.1.0 name);
+  writes = λ name. omega (arith, since.writes name, m.1.1.1.1 name);
+}
+
+-- where a file isn't made
+made_or_not : (start old now : FilesSeen) (name : Text) → old.contents ≡ start.contents → (now.contents name ≡ old.contents name) ⊎ (now.contents name ≡ Some []) → (or_empty (now.contents name) ≡ or_empty (start.contents name)) ⊎ (or_empty (now.contents name) ≡ [])
+made_or_not start old now name same (inl is) = inl (ap or_empty (is ∙ ap (λ (k : Contents). k name) same))
+made_or_not start old now name same (inr is) = inr (ap or_empty is)
+
+at_most : (told : Bool) (start old now : FilesSeen) (name : Text) (p : Put) → (p ≡ put.Done → ⊥) → Since told start old → (IsTrue told → Created p (old.contents name) (now.contents name)) → IsTrue told → (or_empty (now.contents name) ≡ or_empty (start.contents name)) ⊎ (or_empty (now.contents name) ≡ [])
+at_most told start old now name put.Done undone since m t = absurd (undone refl)
+at_most told start old now name put.Failed undone since m t = made_or_not start old now name (since.same t) (m t)
+at_most told start old now name put.Memory undone since m t = made_or_not start old now name (since.same t) (m t)
+
+pub made_at_most : (told : Bool) (start old now : FilesSeen) (input : Reading) (output errors : Writing) (to : Option ChannelName) (p : Put) → (p ≡ put.Done → ⊥) → Since told start old → Makes to told p old now → MadeAtMost to (what_is_handed told start now input output errors)
+made_at_most told start old now input output errors None p undone since m = tt
+made_at_most told start old now input output errors (Some standard) p undone since m = tt
+made_at_most told start old now input output errors (Some (file name)) p undone since m = at_most told start old now name p undone since m.0
+
+failed≢done : put.Failed ≡ put.Done → ⊥
+failed≢done is = absurd cc
+
+pub making_failed : (told : Bool) (start old now : FilesSeen) (input : Reading) (output errors : Writing) (to : Option ChannelName) → Since told start old → Makes to told put.Failed old now → MakingFailed to (what_is_handed told start now input output errors)
+making_failed told start old now input output errors None since m = absurd (failed≢done m.0)
+making_failed told start old now input output errors (Some standard) since m = absurd (failed≢done m.0)
+making_failed told start old now input output errors (Some (file name)) since m = rose_earlier (start.write_faults name) (old.write_faults name) (now.write_faults name) (since.writes name) (m.1.1.0 refl)
+
+-- the other files have what they had before the file of the channel was made
+pub making_keeps : (to : Option ChannelName) (told : Bool) (p : Put) (old now : FilesSeen) → Makes to told p old now → IsTrue told → (name : Text) → (to ≡ Some (file name) → ⊥) → {last : Option Bytes} → last ≡ now.contents name → last ≡ old.contents name
+making_keeps None told p old now m t name h is = is ∙ ap (λ (f : FilesSeen). f.contents name) m.1
+making_keeps (Some standard) told p old now m t name h is = is ∙ ap (λ (f : FilesSeen). f.contents name) m.1
+making_keeps (Some (file n)) told p old now m t name h is = is ∙ m.1.0 t name (λ e. h (ap (λ (x : Text). Some (file x)) (sym e)))

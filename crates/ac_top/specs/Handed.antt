@@ -1,0 +1,84 @@
+-- What a call is handed, before it and after it, and what a run's channels have of that.
+use Rattle.std.specs.Prelude.{◌≡◌, ◌⊎◌, ℕ, Bool, true, IsTrue, List, [], ◌&&◌, Option, Some, None}
+use Rattle.ac_outside.specs.Outside.{Contents, Rose, or_empty}
+use Rattle.ac_words.specs.Commands.{ChannelName, standard, file}
+use Rattle.ac_run.specs.Sessions.{Streams, streams}
+use Rattle.ac_top.specs.Channels.{of_channel, of_console}
+use Rattle.ac_top.specs.Streams.{Reading, Writing}
+
+-- what files have and count
+pub record FilesSeen : Type 0 where
+  pub contents : Contents
+  pub read_faults : List ℕ → ℕ
+  pub write_faults : List ℕ → ℕ
+
+abbrev pub files_seen : {Files : Type 0} → (Files → Contents) → (Files → List ℕ → ℕ) → (Files → List ℕ → ℕ) → Files → FilesSeen
+files_seen contents reads writes files = record { contents = contents files; read_faults = reads files; write_faults = writes files }
+
+-- the files as they are read and as they are written, and the streams
+pub record Handed : Type 0 where
+  pub files : List ℕ → Reading
+  pub made : List ℕ → Writing
+  pub input : Reading
+  pub output : Writing
+  pub errors : Writing
+
+-- files whose contents are told or not, before a call and after it, and the streams
+abbrev pub what_is_handed : Bool → FilesSeen → FilesSeen → Reading → Writing → Writing → Handed
+what_is_handed told old new input output errors = record {
+  files = λ name. record { told = told; bytes = old.contents name; before = old.read_faults name; after = new.read_faults name };
+  made = λ name. record { told = told; old = or_empty (old.contents name); new = or_empty (new.contents name); before = old.write_faults name; after = new.write_faults name };
+  input = input;
+  output = output;
+  errors = errors;
+}
+
+-- whether all is told of what a run with these channels reads from and writes to
+abbrev pub is_told : Option ChannelName → Option ChannelName → Handed → Bool
+is_told from to o =
+    of_channel from true o.input.told (λ name. (o.files name).told)
+    && (of_console to o.output.told o.errors.told && of_channel to true o.output.told (λ name. (o.made name).told))
+
+-- the bytes of the channel that a run reads from
+abbrev pub input_of : Option ChannelName → Handed → List ℕ
+input_of from o = of_channel from [] (or_empty o.input.bytes) (λ name. or_empty (o.files name).bytes)
+
+-- the count of failed reads of that channel rose
+abbrev pub InputFailed : Option ChannelName → Handed → Type 0
+InputFailed from o = Rose (of_channel from 0 o.input.before (λ name. (o.files name).before)) (of_channel from 0 o.input.after (λ name. (o.files name).after))
+
+-- console and channel in front of a run, whose file has been made empty
+abbrev pub before_run : Option ChannelName → Handed → Streams
+before_run to o = streams (of_console to o.output.old o.errors.old) (of_channel to [] o.output.old (λ name. []))
+
+-- and behind it, where errors had these bytes in front of the line
+abbrev pub after_run : Option ChannelName → Handed → List ℕ → Streams
+after_run to o mid = streams (of_console to o.output.new mid) (of_channel to [] o.output.new (λ name. (o.made name).new))
+
+-- errors in front of the line, behind what they had by then where they are the console
+abbrev pub behind_run : Option ChannelName → Handed → List ℕ → Writing
+behind_run to o mid = of_console to o.errors (record o.errors { old = mid })
+
+-- the count of failed writes of the console or of the channel rose
+abbrev pub OutputFailed : Option ChannelName → Handed → Type 0
+OutputFailed to o =
+    Rose (of_console to o.output.before o.errors.before) (of_console to o.output.after o.errors.after)
+    ⊎ Rose (of_channel to 0 o.output.before (λ name. (o.made name).before)) (of_channel to 0 o.output.after (λ name. (o.made name).after))
+
+-- the file of the channel is as it was
+abbrev pub Untouched : Option ChannelName → Handed → Type 0
+Untouched None o = Unit {0}
+Untouched (Some standard) o = Unit {0}
+Untouched (Some (file name)) o = IsTrue (o.made name).told → (o.made name).new ≡ (o.made name).old
+
+-- it is as it was, or empty
+abbrev pub MadeAtMost : Option ChannelName → Handed → Type 0
+MadeAtMost None o = Unit {0}
+MadeAtMost (Some standard) o = Unit {0}
+MadeAtMost (Some (file name)) o = IsTrue (o.made name).told → ((o.made name).new ≡ (o.made name).old) ⊎ ((o.made name).new ≡ [])
+
+-- the count of failed writes of that file rose
+abbrev pub MakingFailed : Option ChannelName → Handed → Type 0
+MakingFailed None o = ⊥
+MakingFailed (Some standard) o = ⊥
+MakingFailed (Some (file name)) o = Rose (o.made name).before (o.made name).after

@@ -1,0 +1,53 @@
+-- A run in its world, and the files in front of it.
+use Rattle.std.specs.Prelude.{◌≡◌, ◌⊎◌, ℕ, Bool, IsTrue, List, [], Option, Some, None}
+use Rattle.ac_types.specs.Types.{Bytes}
+use Rattle.ac_outside.specs.Outside.{Contents, NeverFall, Created, OthersSame, Rose}
+use Rattle.ac_outside.specs.declared.traits.Put.{Put}
+use Rattle.ac_outside.specs.declared.traits.Put.TheVariants as put
+use Rattle.ac_words.specs.Commands.{ChannelName, standard, file}
+use Rattle.ac_run.specs.Sessions.{Session, Streams, RunsTo}
+use Rattle.ac_run.specs.declared.end.RunEnd.{RunEnd}
+use Rattle.ac_top.specs.Channels.{GetsInput, KeptBut}
+use Rattle.ac_top.specs.Handed.{FilesSeen}
+
+-- a session has run with some input that a channel may give
+pub record RanIn (from : Option ChannelName) (told : Bool) (left : Bytes) (old new : Streams) (s t : Session) (r : RunEnd) : Type 0 where
+  pub input : Bytes
+  pub gets : GetsInput from told left input
+  pub runs : RunsTo told s t input r old new
+  pub budget : t.steps ≡ s.steps
+
+-- errors are as they were, unless they are the console
+abbrev pub ErrorsApart : {Errors : Type 0} → Option ChannelName → Errors → Errors → Type 0
+ErrorsApart None old new = new ≡ old
+ErrorsApart (Some standard) old new = Unit {0}
+ErrorsApart (Some (file name)) old new = new ≡ old
+
+-- the channel's file is empty
+abbrev pub Emptied : Option ChannelName → Contents → Type 0
+Emptied None now = Unit {0}
+Emptied (Some standard) now = Unit {0}
+Emptied (Some (file name)) now = now name ≡ Some []
+
+-- files since a call began: they have what they had, and no count has fallen
+pub record Since (told : Bool) (start now : FilesSeen) : Type 0 where
+  pub same : IsTrue told → now.contents ≡ start.contents
+  pub reads : NeverFall start.read_faults now.read_faults
+  pub writes : NeverFall start.write_faults now.write_faults
+
+-- files in front of a run: the channel's has been made empty, and the others have what they had
+pub record Prepared (told : Bool) (to : Option ChannelName) (start now : FilesSeen) : Type 0 where
+  pub kept : IsTrue told → KeptBut to start.contents now.contents
+  pub emptied : IsTrue told → Emptied to now.contents
+  pub reads : NeverFall start.read_faults now.read_faults
+  pub writes : NeverFall start.write_faults now.write_faults
+
+-- what the making of the channel's file answers and leaves
+abbrev pub Makes : Option ChannelName → Bool → Put → FilesSeen → FilesSeen → Type 0
+Makes None told p old new = (p ≡ put.Done) × (new ≡ old)
+Makes (Some standard) told p old new = (p ≡ put.Done) × (new ≡ old)
+Makes (Some (file name)) told p old new =
+    (IsTrue told → Created p (old.contents name) (new.contents name))
+    × ((IsTrue told → OthersSame name old.contents new.contents)
+    × ((p ≡ put.Failed → Rose (old.write_faults name) (new.write_faults name))
+    × (NeverFall old.read_faults new.read_faults × NeverFall old.write_faults new.write_faults)))

@@ -1,5 +1,0 @@
-use Rattle.acute.proofs.TextLaws.{one}
-use Rattle.acute.proofs.laws.one_meaning.Goals as goal
-
-pub returns : goal.returns
-returns c = λ m n text shelf steps input sends a b x y. one m n x y
