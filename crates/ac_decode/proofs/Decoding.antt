@@ -9,24 +9,24 @@ use Rattle.ac_terms.specs.Spelling.{packet_bytes}
 use Rattle.ac_terms.specs.Bounds.{Spells}
 use Rattle.ac_pieces.specs.ExactTypes.{exact_type}
 use Rattle.ac_decode.specs.ExactPackets.{exact_packet}
-use Rattle.ac_decode.specs.Decoding.{at_end, all_of}
+use Rattle.ac_decode.specs.Decoding.{then_end, to_the_end}
 use Rattle.ac_decode.proofs.PacketsExact.{packet_sound, packet_back}
 
-ended : {A : Type 0} (o : Option (A × Bytes)) (a : A) (rest : Bytes) → option_and_then at_end o ≡ Some (a, rest) → (o ≡ Some (a, [])) × (rest ≡ [])
+ended : {A : Type 0} (o : Option (A × Bytes)) (a : A) (rest : Bytes) → option_and_then then_end o ≡ Some (a, rest) → (o ≡ Some (a, [])) × (rest ≡ [])
 ended None a rest e = absurd (none≢some e)
 ended (Some (x, [])) a rest e = let q = some_eq e in (ap (λ (z : _ × Bytes). Some (z.0, [])) q, sym (ap (λ (z : _ × Bytes). z.1) q))
 ended (Some (x, (b ∷ bs))) a rest e = absurd (none≢some e)
 
-pub spelled : (bs : Bytes) (p : Packet) (rest : Bytes) → all_of (exact_packet exact_type) bs ≡ Some (p, rest) → length bs ≤ longest_packet → Spells bs p
+pub spelled : (bs : Bytes) (p : Packet) (rest : Bytes) → to_the_end (exact_packet exact_type) bs ≡ Some (p, rest) → length bs ≤ longest_packet → Spells bs p
 spelled bs p rest e short =
     let q = ended (exact_packet exact_type bs) p rest e in
     let t = packet_sound bs p [] q.0 in
     record { fits = t.fits; spelled = t.parts ∙ append-nil (packet_bytes p); short = short }
 
-pub unspelled : (bs : Bytes) → all_of (exact_packet exact_type) bs ≡ None → (p : Packet) → Spells bs p → ⊥
+pub unspelled : (bs : Bytes) → to_the_end (exact_packet exact_type) bs ≡ None → (p : Packet) → Spells bs p → ⊥
 unspelled bs e p s =
     let whole : exact_packet exact_type bs ≡ Some (p, []) = ap (exact_packet exact_type) (s.spelled ∙ sym (append-nil (packet_bytes p))) ∙ (packet_back p s.fits).reads [] in
-    none≢some (sym e ∙ ap (option_and_then at_end) whole)
+    none≢some (sym e ∙ ap (option_and_then then_end) whole)
 
 -- the bytes of a packet that some bytes spell
 pub spells_same : (text bs : Bytes) (p : Packet) → Spells bs p → text ≡ packet_bytes p → Spells text p

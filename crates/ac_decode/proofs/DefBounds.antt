@@ -13,7 +13,7 @@ use Rattle.ac_terms.specs.Parts.{Portion, OfType, term_parts, sig_types}
 use Rattle.ac_terms.specs.Bounds.{is_lower, fits_type, fits_term, fits_typed, fits_sig, has_small_types}
 use Rattle.ac_terms.proofs.AllLaws.{all_left, all_right, all_append}
 use Rattle.ac_terms.proofs.TestLaws.{le_true, le_is}
-use Rattle.ac_pieces.specs.ExactReading.{within}
+use Rattle.ac_pieces.specs.ExactReading.{in_limits}
 use Rattle.ac_pieces.proofs.Exact.{AllOf}
 use Rattle.ac_pieces.proofs.TypesExact.{SmallType, SmallManifest, SmallSigType, SmallTyped, SmallAll, SmallSig}
 use Rattle.ac_decode.proofs.PartsSmall.{small_join, small_left, small_right, types_as_parts}
@@ -74,10 +74,10 @@ all_from own (x ∷ xs) e s =
     ((q.0, record { fits = q.1; small = r.0 }), all_from own xs p.1 r.1)
 
 -- a count that has no least
-pub few : (n : ℕ) → within 0 1024 n ≡ true → nat_le n 1024 ≡ true
+pub few : (n : ℕ) → in_limits 0 1024 n ≡ true → nat_le n 1024 ≡ true
 few n e = (both_true _ _ e).1
 
-pub few_from : (n : ℕ) → nat_le n 1024 ≡ true → within 0 1024 n ≡ true
+pub few_from : (n : ℕ) → nat_le n 1024 ≡ true → in_limits 0 1024 n ≡ true
 few_from n e = and_true (le_is 0 n (omega arith)) e
 
 -- signatures

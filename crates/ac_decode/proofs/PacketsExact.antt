@@ -18,9 +18,9 @@ use Rattle.ac_terms.specs.PacketReading.{ReadsPart, one, pair, nothing, a_module
 use Rattle.ac_terms.proofs.Back.{Back, back_one, back_after}
 use Rattle.ac_terms.proofs.BoundsLaws.{module_bounds, import_bounds, packet_bounds}
 use Rattle.ac_terms.proofs.TestLaws.{le_true, le_is, eq_true}
-use Rattle.ac_pieces.specs.ExactReading.{within, exact_upper, exact_version, exact_constraint, exact_resolves}
+use Rattle.ac_pieces.specs.ExactReading.{in_limits, exact_upper, exact_version, exact_constraint, exact_resolves}
 use Rattle.ac_pieces.specs.ExactTypes.{exact_type, exact_all_typed, exact_sig}
-use Rattle.ac_pieces.proofs.Exact.{Took, IsExact, Once, once, twice, exact_passing, exact_list, exact_two_parts, AllOf, all_of, of_all, all_to}
+use Rattle.ac_pieces.proofs.Exact.{Took, IsExact, Once, once, twice, exact_passing, exact_list, exact_two_parts, AllOf, each_passes, of_all, all_to}
 use Rattle.ac_pieces.proofs.Tables.{table_sound, sound_nothing, sound_one}
 use Rattle.ac_pieces.proofs.Pieces.{Is, byte_is_exact, four_is_exact, two_is_exact, lower_is_exact, upper_is_exact, long_count_is_exact, version_is_exact, constraint_is_exact, resolves_is_exact}
 use Rattle.ac_pieces.proofs.TypesExact.{SmallType, SmallAll, SmallSig, type_is_exact, all_typed_is_exact, sig_is_exact}
@@ -58,13 +58,13 @@ pub record ProperDef (d : Def) : Type 0 where
   pub small : has_small_types (def_parts d) ≡ true
 
 abbrev AtomsFit : List Atom → Type 0
-AtomsFit xs = (within 1 8 (length xs) ≡ true) × AllOf (Is fits_atom) xs
+AtomsFit xs = (in_limits 1 8 (length xs) ≡ true) × AllOf (Is fits_atom) xs
 
 abbrev PlacesFit : List Resolve → Type 0
-PlacesFit xs = (within 1 16 (length xs) ≡ true) × AllOf (Is fits_resolve) xs
+PlacesFit xs = (in_limits 1 16 (length xs) ≡ true) × AllOf (Is fits_resolve) xs
 
 abbrev FieldsFit : List Field → Type 0
-FieldsFit fs = (within 0 1024 (length fs) ≡ true) × AllOf ProperField fs
+FieldsFit fs = (in_limits 0 1024 (length fs) ≡ true) × AllOf ProperField fs
 
 module_proper : (p : (((Bytes × List Atom) × Signature) × List Typed_name) × List Field) →
     ((((is_upper p.0.0.0.0 ≡ true) × AtomsFit p.0.0.0.1) × SmallSig p.0.0.1) × SmallAll false p.0.1) × FieldsFit p.1 → ProperDef (a_module p)
@@ -101,7 +101,7 @@ proper_module m a =
     let s = small_left (map OfType (sig_types m.sig) ++ typed_parts m.types) (field_parts m.fields) a.small in (
       (
         (
-          (b.upper, (and_true v.0 v.1, all_of fits_atom m.version b.atoms)),
+          (b.upper, (and_true v.0 v.1, each_passes fits_atom m.version b.atoms)),
           sig_from m.sig b.sig (small_left (map OfType (sig_types m.sig)) (typed_parts m.types) s),
         ),
         typed_from m.types b.few_types b.types (small_right (map OfType (sig_types m.sig)) (typed_parts m.types) s),
@@ -128,7 +128,7 @@ proper_import m a =
         ((b.upper, sig_from m.sig b.sig (small_left (map OfType (sig_types m.sig)) (typed_parts m.like) a.small)), b.constraint),
         typed_from m.like b.few_likes b.likes (small_right (map OfType (sig_types m.sig)) (typed_parts m.like) a.small),
       ),
-      (and_true n.0 n.1, all_of fits_resolve m.by b.resolves),
+      (and_true n.0 n.1, each_passes fits_resolve m.by b.resolves),
     )
 
 abbrev read_type : Bool → ReadsPart Typ

@@ -17,7 +17,7 @@ use Rattle.ac_terms.specs.Bounds.{is_width, is_four, takes, is_lambda, fits_term
 use Rattle.ac_terms.specs.PacketReading.{ReadsPart, one, then_read, pair, times, argument_count}
 use Rattle.ac_terms.proofs.Back.{Back, back_give, back_one, back_two, back_three, back_counted, back_after}
 use Rattle.ac_terms.proofs.TestLaws.{not_true, eq_true}
-use Rattle.ac_pieces.specs.ExactReading.{within, passing, exact_width, exact_four, exact_text}
+use Rattle.ac_pieces.specs.ExactReading.{in_limits, passing, exact_width, exact_four, exact_text}
 use Rattle.ac_pieces.proofs.Exact.{Took, IsExact, once, twice, times_sound, exact_passing, exact_two_parts}
 use Rattle.ac_pieces.proofs.Tables.{SoundAt, SoundFrom, table_sound, sound_nothing, sound_give, sound_one, sound_two, sound_three}
 use Rattle.ac_pieces.proofs.Pieces.{two_is_exact, four_is_exact, eight_is_exact, truth_is_exact, lower_is_exact, text_is_exact, width_is_exact, long_count_is_exact}
@@ -161,7 +161,7 @@ module _ (type_bytes : Typ → Bytes) (read_type : Bool → ReadsPart Typ) (x : 
         ))
         (back_one (an_arm (p, e)) (arms_back rest (record { fits = b.2; low = let l = a.low in omega arith; small = small_right (map OfType (pattern_types p) ++ term_parts e) (arm_parts rest) a.small })))
 
-    cases_are_exact : IsExact (exact_cases (exact_pattern read_type k) f) (λ cases. (within 1 1024 (arm_count cases) ≡ true) × ProperArms i k cases) (λ cases. two_written (arm_count cases) ++ arms_spelled cases)
+    cases_are_exact : IsExact (exact_cases (exact_pattern read_type k) f) (λ cases. (in_limits 1 1024 (arm_count cases) ≡ true) × ProperArms i k cases) (λ cases. two_written (arm_count cases) ++ arms_spelled cases)
     cases_are_exact =
         exact_counted no_arms an_arm arm_is_exact arms_spelled arm_count (ProperArms i k) refl (λ a rest. refl) refl (λ a rest. refl)
         (record { fits = refl; low = omega arith; small = refl })

@@ -13,15 +13,15 @@ use Rattle.ac_pieces.specs.ExactReading.{exact_two}
 use Rattle.ac_pieces.proofs.Exact.{Took, IsExact, once, twice, exact_passing, exact_as}
 use Rattle.ac_pieces.proofs.Tables.{SoundAt}
 use Rattle.ac_pieces.proofs.Pieces.{Is, byte_is_exact, two_is_exact}
-use Rattle.ac_decode.specs.ExactTerms.{is_exn, exact_exn, is_primitive, exact_primitive, exact_home, exact_with_text}
+use Rattle.ac_decode.specs.ExactTerms.{is_exn, exact_exn, names_primitive, exact_primitive, exact_home, exact_with_text}
 
 pub exn_is_exact : IsExact exact_exn (Is is_exn) byte
 unfolding exact_exn
 exn_is_exact = exact_as (Is is_exn) (λ n p. p.1) (λ n e. (tt, e)) (exact_passing is_exn byte_is_exact)
 
-pub primitive_is_exact : IsExact exact_primitive (Is is_primitive) byte
+pub primitive_is_exact : IsExact exact_primitive (Is names_primitive) byte
 unfolding exact_primitive
-primitive_is_exact = exact_as (Is is_primitive) (λ n p. p.1) (λ n e. (tt, e)) (exact_passing is_primitive byte_is_exact)
+primitive_is_exact = exact_as (Is names_primitive) (λ n p. p.1) (λ n e. (tt, e)) (exact_passing names_primitive byte_is_exact)
 
 home_read : (k : ℕ) → is_two k ≡ true → fits_home (home_number k) ≡ true
 home_read zero e = refl

@@ -12,9 +12,9 @@ OnFormat (Err (fault.Format at)) P = P
 OnFormat (Err fault.Memory) P = Unit {0}
 
 -- what is read of all bytes
-abbrev pub at_end : {A : Type 0} → A × Bytes → Option (A × Bytes)
-at_end (a, []) = Some (a, [])
-at_end (a, (b ∷ bs)) = None
+abbrev pub then_end : {A : Type 0} → A × Bytes → Option (A × Bytes)
+then_end (a, []) = Some (a, [])
+then_end (a, (b ∷ bs)) = None
 
-abbrev pub all_of : {A : Type 0} → ReadsPart A → ReadsPart A
-all_of f bs = option_and_then at_end (f bs)
+abbrev pub to_the_end : {A : Type 0} → ReadsPart A → ReadsPart A
+to_the_end f bs = option_and_then then_end (f bs)

@@ -16,11 +16,11 @@ is_exn k = nat_le k resolve_failure
 unfoldable pub exact_exn : ReadsPart ℕ
 exact_exn = passing is_exn read_byte
 
-abbrev pub is_primitive : ℕ → Bool
-is_primitive k = takes primitives k (argument_count primitives k)
+abbrev pub names_primitive : ℕ → Bool
+names_primitive k = takes primitives k (argument_count primitives k)
 
 unfoldable pub exact_primitive : ReadsPart ℕ
-exact_primitive = passing is_primitive read_byte
+exact_primitive = passing names_primitive read_byte
 
 unfoldable pub exact_home : ReadsPart Home
 exact_home = one home_number exact_two

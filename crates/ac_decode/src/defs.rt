@@ -4,7 +4,7 @@ ghost use Rattle.std.specs.Prelude.{List, [], ◌∷◌, map, option_and_then, s
 ghost use Rattle.ac_terms.specs.Defs.{Def, AModule, AnImport};
 ghost use Rattle.ac_terms.specs.Read.{field_of, module_of_code, import_of_code, pdef_of};
 ghost use Rattle.ac_terms.specs.PacketReading.{ReadsPart, times};
-ghost use Rattle.ac_pieces.specs.Answers.{Answers};
+ghost use Rattle.ac_pieces.specs.Readers.{HasRead};
 ghost use Rattle.ac_decode.specs.ExactPackets.{exact_field, exact_fields, exact_module, exact_import, def_table, exact_def, exact_defs};
 
 use crate::terms::term;
@@ -23,7 +23,7 @@ pub const DEEPEST: u32 = 500;
 // A field.
 #[tactic(auto, unfolding(crate::specs::ExactPackets::exact_field))]
 fn field<T: Types>(alloc: Global, cursor: &mut Cursor<'_>, types: &T) -> Result<Field, Fault>
-    ensures { Answers field_of result (exact_field (T.reads_type types.now) cursor.old.left)
+    ensures { HasRead field_of result (exact_field (T.reads_type types.now) cursor.old.left)
         cursor.new.left }
 {
     let name = lower(alloc, cursor)?;
@@ -39,7 +39,7 @@ fn some_fields<T: Types>(
     types: &T,
     count: u16,
 ) -> Result<Many<Field>, Fault>
-    ensures { Answers (map field_of) result (times [] (λ x xs. x ∷ xs)
+    ensures { HasRead (map field_of) result (times [] (λ x xs. x ∷ xs)
         (exact_field (T.reads_type types.now)) count cursor.old.left) cursor.new.left }
 {
     let mut items = Many::new(alloc);
@@ -53,7 +53,7 @@ fn some_fields<T: Types>(
 // The fields of a module.
 #[tactic(auto, unfolding(crate::specs::ExactPackets::exact_fields))]
 fn fields<T: Types>(alloc: Global, cursor: &mut Cursor<'_>, types: &T) -> Result<Many<Field>, Fault>
-    ensures { Answers (map field_of) result
+    ensures { HasRead (map field_of) result
         (exact_fields (T.reads_type types.now) cursor.old.left) cursor.new.left }
 {
     let count = long_count(cursor, 0, 1024)?;
@@ -63,7 +63,7 @@ fn fields<T: Types>(alloc: Global, cursor: &mut Cursor<'_>, types: &T) -> Result
 // A module behind its tag.
 #[tactic(auto, unfolding(crate::specs::ExactPackets::exact_module))]
 fn module<T: Types>(alloc: Global, cursor: &mut Cursor<'_>, types: &T) -> Result<Module, Fault>
-    ensures { Answers (λ m. AModule (module_of_code m)) result
+    ensures { HasRead (λ m. AModule (module_of_code m)) result
         (exact_module (T.reads_type types.now) cursor.old.left) cursor.new.left }
 {
     let name = upper(alloc, cursor)?;
@@ -83,7 +83,7 @@ fn module<T: Types>(alloc: Global, cursor: &mut Cursor<'_>, types: &T) -> Result
 // An import behind its tag.
 #[tactic(auto, unfolding(crate::specs::ExactPackets::exact_import))]
 fn import<T: Types>(alloc: Global, cursor: &mut Cursor<'_>, types: &T) -> Result<Import, Fault>
-    ensures { Answers (λ i. AnImport (import_of_code i)) result
+    ensures { HasRead (λ i. AnImport (import_of_code i)) result
         (exact_import (T.reads_type types.now) cursor.old.left) cursor.new.left }
 {
     let name = upper(alloc, cursor)?;
@@ -102,7 +102,7 @@ fn import<T: Types>(alloc: Global, cursor: &mut Cursor<'_>, types: &T) -> Result
 
 // A definition.
 fn def<T: Types>(alloc: Global, cursor: &mut Cursor<'_>, types: &T) -> Result<PDef, Fault>
-    ensures { Answers pdef_of result (exact_def (T.reads_type types.now) cursor.old.left)
+    ensures { HasRead pdef_of result (exact_def (T.reads_type types.now) cursor.old.left)
         cursor.new.left }
 {
     let at = cursor.place();
@@ -118,7 +118,7 @@ fn def_behind<T: Types>(
     at: usize,
     tag: u8,
 ) -> Result<PDef, Fault>
-    ensures { Answers pdef_of result (option_and_then (λ (g : ReadsPart Def). g cursor.old.left)
+    ensures { HasRead pdef_of result (option_and_then (λ (g : ReadsPart Def). g cursor.old.left)
         (slice_get (def_table (T.reads_type types.now)) tag)) cursor.new.left }
 {
     match tag {
@@ -135,7 +135,7 @@ fn some_defs<T: Types>(
     types: &T,
     count: u16,
 ) -> Result<Many<PDef>, Fault>
-    ensures { Answers (map pdef_of) result (times [] (λ x xs. x ∷ xs)
+    ensures { HasRead (map pdef_of) result (times [] (λ x xs. x ∷ xs)
         (exact_def (T.reads_type types.now)) count cursor.old.left) cursor.new.left }
 {
     let mut items = Many::new(alloc);
@@ -153,7 +153,7 @@ pub fn defs<T: Types>(
     cursor: &mut Cursor<'_>,
     types: &T,
 ) -> Result<Many<PDef>, Fault>
-    ensures { Answers (map pdef_of) result (exact_defs (T.reads_type types.now) cursor.old.left)
+    ensures { HasRead (map pdef_of) result (exact_defs (T.reads_type types.now) cursor.old.left)
         cursor.new.left }
 {
     let count = two(cursor)?;

@@ -7,8 +7,8 @@ ghost use Rattle.ac_terms.specs.PrimitiveTypes.{has_text, primitives};
 ghost use Rattle.ac_terms.specs.Read.{pattern_of, expr_of, home_of, value_of};
 ghost use Rattle.ac_terms.specs.PacketReading.{ReadsPart, one, two_parts_read, three, argument_count};
 ghost use Rattle.ac_pieces.specs.ExactReading.{exact_two, exact_eight, exact_lower, exact_text};
-ghost use Rattle.ac_pieces.specs.Answers.{Answers, Leads};
-ghost use Rattle.ac_decode.specs.ExactTerms.{is_primitive, exact_exn, exact_primitive, exact_home, exact_several, exact_with_text, exact_pattern_table, exact_term_table, exact_value_table};
+ghost use Rattle.ac_pieces.specs.Readers.{HasRead, ReadsOn};
+ghost use Rattle.ac_decode.specs.ExactTerms.{names_primitive, exact_exn, exact_primitive, exact_home, exact_several, exact_with_text, exact_pattern_table, exact_term_table, exact_value_table};
 ghost use Rattle.ac_decode.specs.inner.Follows.{pattern_follows, term_follows, value_follows};
 
 use ac_bytes::Cursor;
@@ -129,7 +129,7 @@ fn has_text(number: u8) -> bool
 // The number of an exception.
 #[tactic(auto, unfolding(crate::specs::ExactTerms::exact_exn))]
 fn exn(cursor: &mut Cursor<'_>) -> Result<u8, Fault>
-    ensures { Answers (λ (n : ℕ). n) result (exact_exn cursor.old.left) cursor.new.left }
+    ensures { HasRead (λ (n : ℕ). n) result (exact_exn cursor.old.left) cursor.new.left }
 {
     let at = cursor.place();
     let number = byte(cursor)?;
@@ -141,8 +141,8 @@ fn exn(cursor: &mut Cursor<'_>) -> Result<u8, Fault>
 
 // How many arguments the primitive of that number takes, `None` where there is none.
 fn arity(number: u8) -> Option<u8>
-    ensures { MatchOption result (is_primitive number ≡ false)
-        (λ n. (is_primitive number ≡ true) × (n ≡ argument_count primitives number)) }
+    ensures { MatchOption result (names_primitive number ≡ false)
+        (λ n. (names_primitive number ≡ true) × (n ≡ argument_count primitives number)) }
 {
     match number {
         0 | 1 | 2 | 3 | 4 | 6 | 7 | 8 => Some(2),
@@ -154,7 +154,7 @@ fn arity(number: u8) -> Option<u8>
 // The number of a primitive.
 #[tactic(auto, unfolding(crate::specs::ExactTerms::exact_primitive))]
 fn primitive(cursor: &mut Cursor<'_>) -> Result<(u8, u8), Fault>
-    ensures number { Answers (λ (p : ℕ × ℕ). p.0) result (exact_primitive cursor.old.left)
+    ensures number { HasRead (λ (p : ℕ × ℕ). p.0) result (exact_primitive cursor.old.left)
         cursor.new.left }
     ensures arguments { IfOk result (λ p. p.1 ≡ argument_count primitives p.0) }
 {
@@ -169,7 +169,7 @@ fn primitive(cursor: &mut Cursor<'_>) -> Result<(u8, u8), Fault>
 // A function's home.
 #[tactic(auto, unfolding(crate::specs::ExactTerms::exact_home))]
 fn home(cursor: &mut Cursor<'_>) -> Result<Home, Fault>
-    ensures { Answers home_of result (exact_home cursor.old.left) cursor.new.left }
+    ensures { HasRead home_of result (exact_home cursor.old.left) cursor.new.left }
 {
     match two(cursor)? {
         0 => Ok(Home::Main),
@@ -180,7 +180,7 @@ fn home(cursor: &mut Cursor<'_>) -> Result<Home, Fault>
 // How many parts a sequence has.
 #[tactic(auto, unfolding(crate::specs::ExactTerms::exact_several))]
 fn several(cursor: &mut Cursor<'_>) -> Result<u32, Fault>
-    ensures { Answers (λ (n : ℕ). n) result (exact_several cursor.old.left) cursor.new.left }
+    ensures { HasRead (λ (n : ℕ). n) result (exact_several cursor.old.left) cursor.new.left }
 {
     let at = cursor.place();
     let n = four(cursor)?;
@@ -199,7 +199,7 @@ pub fn pattern_head<T: Types>(
     at: usize,
     tag: u8,
 ) -> Result<PatHead, Fault>
-    ensures { (f : ReadsPart Pattern) → Leads (λ h. pattern_follows f h cursor.new.left) result
+    ensures { (f : ReadsPart Pattern) → ReadsOn (λ h. pattern_follows f h cursor.new.left) result
         (option_and_then (λ (g : ReadsPart Pattern). g cursor.old.left)
         (slice_get (exact_pattern_table (T.reads_type types.now) f) tag)) }
 {
@@ -223,7 +223,7 @@ pub fn pattern_head<T: Types>(
 // That of an exception.
 #[tactic(auto, using(ac_canon::proofs::PatternForms::pattern_forms))]
 fn pattern_exn(cursor: &mut Cursor<'_>) -> Result<PatHead, Fault>
-    ensures { (f : ReadsPart Pattern) → Leads (λ h. pattern_follows f h cursor.new.left) result
+    ensures { (f : ReadsPart Pattern) → ReadsOn (λ h. pattern_follows f h cursor.new.left) result
         (exact_with_text PExn PExnOf f cursor.old.left) }
 {
     let number = exn(cursor)?;
@@ -245,7 +245,7 @@ pub fn term_head<T: Types>(
     tag: u8,
 ) -> Result<Head, Fault>
     ensures { (p : ReadsPart Pattern) (f : ReadsPart Expr) (g : ReadsPart PValue) →
-        Leads (λ h. term_follows p f g h cursor.new.left) result
+        ReadsOn (λ h. term_follows p f g h cursor.new.left) result
         (option_and_then (λ (r : ReadsPart Expr). r cursor.old.left)
         (slice_get (exact_term_table (T.reads_type types.now) within p f g) tag)) }
 {
@@ -292,7 +292,7 @@ pub fn term_head<T: Types>(
 #[tactic(auto, using(ac_canon::proofs::TermForms::term_forms))]
 fn term_exn(cursor: &mut Cursor<'_>) -> Result<Head, Fault>
     ensures { (p : ReadsPart Pattern) (f : ReadsPart Expr) (g : ReadsPart PValue) →
-        Leads (λ h. term_follows p f g h cursor.new.left) result
+        ReadsOn (λ h. term_follows p f g h cursor.new.left) result
         (exact_with_text ExnAlone ExnOf f cursor.old.left) }
 {
     let number = exn(cursor)?;
@@ -307,7 +307,7 @@ fn term_exn(cursor: &mut Cursor<'_>) -> Result<Head, Fault>
 #[tactic(auto, using(ac_canon::proofs::TermForms::term_forms))]
 fn field_of(alloc: Global, cursor: &mut Cursor<'_>) -> Result<Head, Fault>
     ensures { (p : ReadsPart Pattern) (f : ReadsPart Expr) (g : ReadsPart PValue) →
-        Leads (λ h. term_follows p f g h cursor.new.left) result
+        ReadsOn (λ h. term_follows p f g h cursor.new.left) result
         (two_parts_read Ref exact_two exact_lower cursor.old.left) }
 {
     let entry = two(cursor)?;
@@ -318,7 +318,7 @@ fn field_of(alloc: Global, cursor: &mut Cursor<'_>) -> Result<Head, Fault>
 // That of a recursive function.
 fn recursive<T: Types>(alloc: Global, cursor: &mut Cursor<'_>, types: &T) -> Result<Head, Fault>
     ensures { (p : ReadsPart Pattern) (f : ReadsPart Expr) (g : ReadsPart PValue) →
-        Leads (λ h. term_follows p f g h cursor.new.left) result
+        ReadsOn (λ h. term_follows p f g h cursor.new.left) result
         (three Rec (T.reads_type types.now false) (T.reads_type types.now false) f
         cursor.old.left) }
 {
@@ -336,7 +336,7 @@ pub fn value_head(
     tag: u8,
 ) -> Result<ValueHead, Fault>
     ensures { (f : ReadsPart Expr) (g : ReadsPart PValue) →
-        Leads (λ h. value_follows f g h cursor.new.left) result
+        ReadsOn (λ h. value_follows f g h cursor.new.left) result
         (option_and_then (λ (r : ReadsPart PValue). r cursor.old.left)
         (slice_get (exact_value_table f g) tag)) }
 {
@@ -359,7 +359,7 @@ pub fn value_head(
 #[tactic(auto, using(ac_canon::proofs::ValueForms::value_forms))]
 fn value_exn(alloc: Global, cursor: &mut Cursor<'_>) -> Result<ValueHead, Fault>
     ensures { (f : ReadsPart Expr) (g : ReadsPart PValue) →
-        Leads (λ h. value_follows f g h cursor.new.left) result
+        ReadsOn (λ h. value_follows f g h cursor.new.left) result
         (exact_with_text (λ k. KExn k None) (λ k s. KExn k (Some s)) (exact_text 1048576)
         cursor.old.left) }
 {
@@ -373,7 +373,7 @@ fn value_exn(alloc: Global, cursor: &mut Cursor<'_>) -> Result<ValueHead, Fault>
 
 // The head of a pattern that is an int.
 fn pattern_int(cursor: &mut Cursor<'_>) -> Result<PatHead, Fault>
-    ensures { (f : ReadsPart Pattern) → Leads (λ h. pattern_follows f h cursor.new.left) result
+    ensures { (f : ReadsPart Pattern) → ReadsOn (λ h. pattern_follows f h cursor.new.left) result
         (one PInt exact_eight cursor.old.left) }
 {
     let z = eight(cursor)?;
@@ -383,7 +383,7 @@ fn pattern_int(cursor: &mut Cursor<'_>) -> Result<PatHead, Fault>
 // That of a term.
 fn term_int(cursor: &mut Cursor<'_>) -> Result<Head, Fault>
     ensures { (p : ReadsPart Pattern) (f : ReadsPart Expr) (g : ReadsPart PValue) →
-        Leads (λ h. term_follows p f g h cursor.new.left) result
+        ReadsOn (λ h. term_follows p f g h cursor.new.left) result
         (one Int exact_eight cursor.old.left) }
 {
     let z = eight(cursor)?;
@@ -393,7 +393,7 @@ fn term_int(cursor: &mut Cursor<'_>) -> Result<Head, Fault>
 // That of a packed value.
 fn value_int(cursor: &mut Cursor<'_>) -> Result<ValueHead, Fault>
     ensures { (f : ReadsPart Expr) (g : ReadsPart PValue) →
-        Leads (λ h. value_follows f g h cursor.new.left) result
+        ReadsOn (λ h. value_follows f g h cursor.new.left) result
         (one KInt exact_eight cursor.old.left) }
 {
     let z = eight(cursor)?;

@@ -4,7 +4,7 @@ ghost use Rattle.std.specs.Prelude.{◌≡◌, List, map};
 ghost use Rattle.ac_types.specs.ReadTypes.{typ_of};
 ghost use Rattle.ac_terms.specs.Terms.{Pattern, Expr, Arms, patterns, PTuple, PCons, PPresent, PExnOf, exprs, arms, If, Val, pvalues, KTuple, KList, KPresent, KFun};
 ghost use Rattle.ac_terms.specs.Read.{pattern_of, expr_of, value_of, home_of};
-ghost use Rattle.ac_pieces.specs.Answers.{Makes};
+ghost use Rattle.ac_pieces.specs.Readers.{MadeOfRead};
 ghost use Rattle.ac_canon.specs.inner.Arms.{arm_of};
 ghost use Rattle.ac_decode.specs.inner.Follows.{put_around, put_joint, put_row, put_cases};
 
@@ -16,7 +16,7 @@ use ac_types::{Box, Many, Ty};
 /// A tuple.
 #[tactic(auto, using(ac_canon::proofs::PatternForms::pattern_laws))]
 pub fn pat_tuple(parts: Result<Many<Pat>, Fault>) -> Result<Pat, Fault>
-    ensures { Makes (λ (ps : List Pat). patterns (map pattern_of ps)) pattern_of PTuple parts result }
+    ensures { MadeOfRead (λ (ps : List Pat). patterns (map pattern_of ps)) pattern_of PTuple parts result }
 {
     let parts = parts?;
     Ok(Pat::Tuple(parts))
@@ -25,7 +25,7 @@ pub fn pat_tuple(parts: Result<Many<Pat>, Fault>) -> Result<Pat, Fault>
 /// A list's first element and the rest.
 #[tactic(auto, using(ac_canon::proofs::PatternForms::pattern_laws))]
 pub fn pat_cons(both: Result<(Box<Pat>, Box<Pat>), Fault>) -> Result<Pat, Fault>
-    ensures { Makes {A = Pattern × Pattern} (λ p. (pattern_of p.0, pattern_of p.1)) pattern_of (λ p. PCons p.0 p.1) both
+    ensures { MadeOfRead {A = Pattern × Pattern} (λ p. (pattern_of p.0, pattern_of p.1)) pattern_of (λ p. PCons p.0 p.1) both
         result }
 {
     let (head, tail) = both?;
@@ -35,7 +35,7 @@ pub fn pat_cons(both: Result<(Box<Pat>, Box<Pat>), Fault>) -> Result<Pat, Fault>
 /// `Some`.
 #[tactic(auto, using(ac_canon::proofs::PatternForms::pattern_laws))]
 pub fn pat_present(inner: Result<Box<Pat>, Fault>) -> Result<Pat, Fault>
-    ensures { Makes pattern_of pattern_of PPresent inner result }
+    ensures { MadeOfRead pattern_of pattern_of PPresent inner result }
 {
     let inner = inner?;
     Ok(Pat::Present(inner))
@@ -44,7 +44,7 @@ pub fn pat_present(inner: Result<Box<Pat>, Fault>) -> Result<Pat, Fault>
 /// An exception with its text.
 #[tactic(auto, using(ac_canon::proofs::PatternForms::pattern_laws))]
 pub fn pat_exn(number: u8, inner: Result<Box<Pat>, Fault>) -> Result<Pat, Fault>
-    ensures { Makes pattern_of pattern_of (PExnOf number) inner result }
+    ensures { MadeOfRead pattern_of pattern_of (PExnOf number) inner result }
 {
     let inner = inner?;
     Ok(Pat::Exn(number, Some(inner)))
@@ -53,7 +53,7 @@ pub fn pat_exn(number: u8, inner: Result<Box<Pat>, Fault>) -> Result<Pat, Fault>
 /// A term around one.
 #[tactic(auto, using(ac_canon::proofs::ValueForms::term_laws))]
 pub fn around(kind: Around, inner: Result<Box<Term>, Fault>) -> Result<Term, Fault>
-    ensures { Makes expr_of expr_of (put_around kind) inner result }
+    ensures { MadeOfRead expr_of expr_of (put_around kind) inner result }
 {
     match inner {
         Err(fault) => {
@@ -81,7 +81,7 @@ fn put_around(kind: Around, inner: Box<Term>) -> Term
 /// A term of two.
 #[tactic(auto, using(ac_canon::proofs::ValueForms::term_laws))]
 pub fn joint(kind: Joint, both: Result<(Box<Term>, Box<Term>), Fault>) -> Result<Term, Fault>
-    ensures { Makes {A = Expr × Expr} (λ p. (expr_of p.0, expr_of p.1)) expr_of (λ p. put_joint kind p.0 p.1) both
+    ensures { MadeOfRead {A = Expr × Expr} (λ p. (expr_of p.0, expr_of p.1)) expr_of (λ p. put_joint kind p.0 p.1) both
         result }
 {
     match both {
@@ -108,7 +108,7 @@ fn put_joint(kind: Joint, a: Box<Term>, b: Box<Term>) -> Term
 /// A choice.
 #[tactic(auto, using(ac_canon::proofs::ValueForms::term_laws))]
 pub fn choice(all: Result<(Box<Term>, (Box<Term>, Box<Term>)), Fault>) -> Result<Term, Fault>
-    ensures { Makes {A = Expr × (Expr × Expr)} (λ p. (expr_of p.0, (expr_of p.1.0, expr_of p.1.1))) expr_of
+    ensures { MadeOfRead {A = Expr × (Expr × Expr)} (λ p. (expr_of p.0, (expr_of p.1.0, expr_of p.1.1))) expr_of
         (λ p. If p.0 p.1.0 p.1.1) all result }
 {
     let (test, (so, otherwise)) = all?;
@@ -118,7 +118,7 @@ pub fn choice(all: Result<(Box<Term>, (Box<Term>, Box<Term>)), Fault>) -> Result
 /// A term of several.
 #[tactic(auto, using(ac_canon::proofs::ValueForms::term_laws))]
 pub fn row(kind: Row, parts: Result<Many<Term>, Fault>) -> Result<Term, Fault>
-    ensures { Makes (λ (ts : List Term). exprs (map expr_of ts)) expr_of (put_row kind) parts
+    ensures { MadeOfRead (λ (ts : List Term). exprs (map expr_of ts)) expr_of (put_row kind) parts
         result }
 {
     let parts = parts?;
@@ -132,7 +132,7 @@ pub fn row(kind: Row, parts: Result<Many<Term>, Fault>) -> Result<Term, Fault>
 /// A match or a try.
 #[tactic(auto, using(ac_canon::proofs::ValueForms::term_laws))]
 pub fn cases(kind: Cases, parts: Result<(Box<Term>, Many<Arm>), Fault>) -> Result<Term, Fault>
-    ensures { Makes {A = Expr × Arms} (λ p. (expr_of p.0, arms (map arm_of p.1))) expr_of
+    ensures { MadeOfRead {A = Expr × Arms} (λ p. (expr_of p.0, arms (map arm_of p.1))) expr_of
         (λ p. put_cases kind p.0 p.1) parts result }
 {
     let (of, all) = parts?;
@@ -145,7 +145,7 @@ pub fn cases(kind: Cases, parts: Result<(Box<Term>, Many<Arm>), Fault>) -> Resul
 /// A captured value.
 #[tactic(auto, using(ac_canon::proofs::ValueForms::term_laws))]
 pub fn captured(ty: Ty, value: Result<PVal, Fault>) -> Result<Term, Fault>
-    ensures { Makes value_of expr_of (Val (typ_of ty)) value result }
+    ensures { MadeOfRead value_of expr_of (Val (typ_of ty)) value result }
 {
     match value {
         Err(fault) => {
@@ -159,7 +159,7 @@ pub fn captured(ty: Ty, value: Result<PVal, Fault>) -> Result<Term, Fault>
 /// A tuple of packed values.
 #[tactic(auto, using(ac_canon::proofs::ValueForms::value_laws))]
 pub fn value_tuple(parts: Result<Many<PVal>, Fault>) -> Result<PVal, Fault>
-    ensures { Makes (λ (vs : List PVal). pvalues (map value_of vs)) value_of KTuple parts result }
+    ensures { MadeOfRead (λ (vs : List PVal). pvalues (map value_of vs)) value_of KTuple parts result }
 {
     let parts = parts?;
     Ok(PVal::Tuple(parts))
@@ -168,7 +168,7 @@ pub fn value_tuple(parts: Result<Many<PVal>, Fault>) -> Result<PVal, Fault>
 /// A list of packed values.
 #[tactic(auto, using(ac_canon::proofs::ValueForms::value_laws))]
 pub fn value_list(parts: Result<Many<PVal>, Fault>) -> Result<PVal, Fault>
-    ensures { Makes (λ (vs : List PVal). pvalues (map value_of vs)) value_of KList parts result }
+    ensures { MadeOfRead (λ (vs : List PVal). pvalues (map value_of vs)) value_of KList parts result }
 {
     let parts = parts?;
     Ok(PVal::List(parts))
@@ -177,7 +177,7 @@ pub fn value_list(parts: Result<Many<PVal>, Fault>) -> Result<PVal, Fault>
 /// `Some`.
 #[tactic(auto, using(ac_canon::proofs::ValueForms::value_laws))]
 pub fn value_present(inner: Result<Box<PVal>, Fault>) -> Result<PVal, Fault>
-    ensures { Makes value_of value_of KPresent inner result }
+    ensures { MadeOfRead value_of value_of KPresent inner result }
 {
     let inner = inner?;
     Ok(PVal::Present(inner))
@@ -186,7 +186,7 @@ pub fn value_present(inner: Result<Box<PVal>, Fault>) -> Result<PVal, Fault>
 /// A function.
 #[tactic(auto, using(ac_canon::proofs::ValueForms::value_laws))]
 pub fn value_function(home: Home, term: Result<Box<Term>, Fault>) -> Result<PVal, Fault>
-    ensures { Makes expr_of value_of (KFun (home_of home)) term result }
+    ensures { MadeOfRead expr_of value_of (KFun (home_of home)) term result }
 {
     let term = term?;
     Ok(PVal::Fun(home, term))

@@ -5,9 +5,9 @@ ghost use Rattle.ac_terms.specs.Read.{packet_of};
 ghost use Rattle.ac_terms.specs.Bounds.{Spells};
 ghost use Rattle.ac_types.specs.Types.{Bytes};
 ghost use Rattle.ac_pieces.specs.ExactTypes.{exact_type};
-ghost use Rattle.ac_pieces.specs.Answers.{Answers};
+ghost use Rattle.ac_pieces.specs.Readers.{HasRead};
 ghost use Rattle.ac_decode.specs.ExactPackets.{exact_mark, exact_first, exact_packet};
-ghost use Rattle.ac_decode.specs.Decoding.{OnFormat, all_of};
+ghost use Rattle.ac_decode.specs.Decoding.{OnFormat, to_the_end};
 
 use crate::defs::{DEEPEST, defs};
 use crate::terms::value;
@@ -38,7 +38,7 @@ pub enum DecodeFault {
 // What a packet begins with.
 #[tactic(auto, unfolding(crate::specs::ExactPackets::exact_mark))]
 fn mark(cursor: &mut Cursor<'_>) -> Result<u32, Fault>
-    ensures { Answers (λ (n : ℕ). n) result (exact_mark cursor.old.left) cursor.new.left }
+    ensures { HasRead (λ (n : ℕ). n) result (exact_mark cursor.old.left) cursor.new.left }
 {
     let at = cursor.place();
     let n = four(cursor)?;
@@ -51,7 +51,7 @@ fn mark(cursor: &mut Cursor<'_>) -> Result<u32, Fault>
 // The version behind it.
 #[tactic(auto, unfolding(crate::specs::ExactPackets::exact_first))]
 fn first(cursor: &mut Cursor<'_>) -> Result<u8, Fault>
-    ensures { Answers (λ (n : ℕ). n) result (exact_first cursor.old.left) cursor.new.left }
+    ensures { HasRead (λ (n : ℕ). n) result (exact_first cursor.old.left) cursor.new.left }
 {
     let at = cursor.place();
     let n = byte(cursor)?;
@@ -64,7 +64,7 @@ fn first(cursor: &mut Cursor<'_>) -> Result<u8, Fault>
 // A packet.
 #[tactic(auto, unfolding(crate::specs::ExactPackets::exact_packet))]
 fn packet<T: Types>(alloc: Global, cursor: &mut Cursor<'_>, types: &T) -> Result<Packet, Fault>
-    ensures { Answers packet_of result (exact_packet (T.reads_type types.now) cursor.old.left)
+    ensures { HasRead packet_of result (exact_packet (T.reads_type types.now) cursor.old.left)
         cursor.new.left }
 {
     let _mark = mark(cursor)?;
@@ -77,7 +77,7 @@ fn packet<T: Types>(alloc: Global, cursor: &mut Cursor<'_>, types: &T) -> Result
 
 // The packet, where nothing is left behind it.
 fn whole(alloc: Global, bytes: &[u8]) -> Result<Packet, Fault>
-    ensures { Answers packet_of result (all_of (exact_packet exact_type) bytes.now) [] }
+    ensures { HasRead packet_of result (to_the_end (exact_packet exact_type) bytes.now) [] }
 {
     let mut cursor = Cursor::new(bytes);
     let packet = packet(alloc, &mut cursor, &InFull)?;

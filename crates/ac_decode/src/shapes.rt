@@ -5,7 +5,7 @@ ghost use Rattle.ac_types.specs.Types.{Bytes};
 ghost use Rattle.ac_types.specs.First.{given};
 ghost use Rattle.ac_terms.specs.Read.{expr_of};
 ghost use Rattle.ac_terms.specs.Bounds.{is_lambda};
-ghost use Rattle.ac_pieces.specs.Answers.{Answers};
+ghost use Rattle.ac_pieces.specs.Readers.{HasRead};
 
 use ac_pieces::Fault;
 use ac_terms::Term;
@@ -50,7 +50,7 @@ pub fn is_lambda(term: &Term) -> bool
 
 /// The term in a box, where it is a lambda; it stands at that place.
 pub fn lambda(alloc: Global, at: usize, term: Term) -> Result<Box<Term>, Fault>
-    ensures { (left : Bytes) → Answers expr_of result
+    ensures { (left : Bytes) → HasRead expr_of result
         (given (is_lambda (expr_of term)) (Some (expr_of term, left))) left }
 {
     if !is_lambda(&term) {

@@ -148,9 +148,9 @@ abbrev pub AllOf : {A : Type 0} → (A → Type 0) → List A → Type 0
 AllOf P [] = Unit {0}
 AllOf P (x ∷ xs) = P x × AllOf P xs
 
-pub all_of : {A : Type 0} (test : A → Bool) (xs : List A) → list_all test xs ≡ true → AllOf (λ x. test x ≡ true) xs
-all_of test [] e = tt
-all_of test (x ∷ xs) e = let p = both_true (test x) (list_all test xs) e in (p.0, all_of test xs p.1)
+pub each_passes : {A : Type 0} (test : A → Bool) (xs : List A) → list_all test xs ≡ true → AllOf (λ x. test x ≡ true) xs
+each_passes test [] e = tt
+each_passes test (x ∷ xs) e = let p = both_true (test x) (list_all test xs) e in (p.0, each_passes test xs p.1)
 
 pub of_all : {A : Type 0} (test : A → Bool) (xs : List A) → AllOf (λ x. test x ≡ true) xs → list_all test xs ≡ true
 of_all test [] a = refl

@@ -7,7 +7,7 @@ use Rattle.ac_types.specs.Types.{Bytes, Typ, typs, typ, no_types}
 use Rattle.ac_terms.specs.PacketReading.{ReadsPart, one, times}
 use Rattle.ac_pieces.specs.declared.fault.Fault.{Fault}
 use Rattle.ac_pieces.specs.declared.fault.Fault.TheVariants as fault
-use Rattle.ac_pieces.specs.Answers.{Refuses}
+use Rattle.ac_pieces.specs.Readers.{NoneRead}
 
 -- items in front of a list of their own kind
 abbrev pub onto : {A L : Type 0} → (A → L → L) → List A → L → L
@@ -64,7 +64,7 @@ module _ {A L : Type 0} (nil : L) (cons : A → L → L) (f : ReadsPart A) where
       let k : count - i ≡ suc (count - (i + 1)) = omega arith in
       sym so_far ∙ ap (λ n. with_front cons front (times nil cons f n bs)) k ∙ ap (with_front cons front) (none_next (count - (i + 1)) bs e)
 
-  pub ends : (e : Fault) (front : List A) (count i : ℕ) (bs : Bytes) (total : Option (L × Bytes)) → i < count → Refuses e (f bs) → with_front cons front (times nil cons f (count - i) bs) ≡ total → Refuses e total
+  pub ends : (e : Fault) (front : List A) (count i : ℕ) (bs : Bytes) (total : Option (L × Bytes)) → i < count → NoneRead e (f bs) → with_front cons front (times nil cons f (count - i) bs) ≡ total → NoneRead e total
   ends (fault.Misfit at) front count i bs total low e so_far = ends_none front count i bs total low e so_far
   ends fault.Short front count i bs total low e so_far = ends_none front count i bs total low e so_far
   ends fault.Memory front count i bs total low e so_far = tt

@@ -14,8 +14,8 @@ use Rattle.ac_terms.specs.Bounds.{is_lower, is_upper, is_name, is_two, is_four, 
 use Rattle.ac_terms.specs.PacketReading.{give, one, two_parts_read, nothing, read_byte, read_two, read_four, read_eight, read_truth, read_word, read_str, read_name, bytes_read}
 use Rattle.ac_terms.proofs.Back.{Back, back_one, back_two, back_byte, back_two_bytes, back_four_bytes, back_eight_bytes, back_truth, back_word, back_name, back_after, back_cut}
 use Rattle.ac_terms.proofs.TestLaws.{le_is}
-use Rattle.ac_pieces.specs.ExactReading.{within, begins_low, begins_high, has_ranges, a_ranges, exact_two, exact_four, exact_eight, exact_truth, exact_name, exact_word, exact_lower, exact_upper, exact_text, exact_width, exact_count, exact_long_count, exact_atom, exact_version, exact_range, exact_ranges, exact_constraint, exact_resolve, exact_resolves}
-use Rattle.ac_pieces.proofs.Exact.{Took, IsExact, exact_exactly, exact_passing, exact_as, AllOf, all_of, of_all, exact_list, exact_two_parts}
+use Rattle.ac_pieces.specs.ExactReading.{in_limits, begins_low, begins_high, has_ranges, a_ranges, exact_two, exact_four, exact_eight, exact_truth, exact_name, exact_word, exact_lower, exact_upper, exact_text, exact_width, exact_count, exact_long_count, exact_atom, exact_version, exact_range, exact_ranges, exact_constraint, exact_resolve, exact_resolves}
+use Rattle.ac_pieces.proofs.Exact.{Took, IsExact, exact_exactly, exact_passing, exact_as, AllOf, each_passes, of_all, exact_list, exact_two_parts}
 use Rattle.ac_pieces.proofs.Tables.{table_sound, sound_nothing, sound_give, sound_one, sound_two}
 
 abbrev pub Is : {A : Type 0} → (A → Bool) → A → Type 0
@@ -76,17 +76,17 @@ pub width_is_exact : IsExact exact_width (Is is_width) byte
 unfolding exact_width
 width_is_exact = exact_as (Is is_width) (λ n p. p.1) (λ n e. (tt, e)) (exact_passing is_width byte_is_exact)
 
-pub count_is_exact : (least most : ℕ) → IsExact (exact_count least most) (Is (within least most)) byte
+pub count_is_exact : (least most : ℕ) → IsExact (exact_count least most) (Is (in_limits least most)) byte
 unfolding exact_count
-count_is_exact least most = exact_as (Is (within least most)) (λ n p. p.1) (λ n e. (tt, e)) (exact_passing (within least most) byte_is_exact)
+count_is_exact least most = exact_as (Is (in_limits least most)) (λ n p. p.1) (λ n e. (tt, e)) (exact_passing (in_limits least most) byte_is_exact)
 
-pub count_two : (least most n : ℕ) → most ≤ 65535 → within least most n ≡ true → is_two n ≡ true
+pub count_two : (least most n : ℕ) → most ≤ 65535 → in_limits least most n ≡ true → is_two n ≡ true
 count_two least most n low e = grind (arith, nat_tests)
 
-pub long_count_is_exact : (least most : ℕ) → most ≤ 65535 → IsExact (exact_long_count least most) (Is (within least most)) two_written
+pub long_count_is_exact : (least most : ℕ) → most ≤ 65535 → IsExact (exact_long_count least most) (Is (in_limits least most)) two_written
 unfolding exact_long_count
 long_count_is_exact least most low =
-    exact_as (Is (within least most)) (λ n p. p.1) (λ n e. (count_two least most n low e, e)) (exact_passing (within least most) two_is_exact)
+    exact_as (Is (in_limits least most)) (λ n p. p.1) (λ n e. (count_two least most n low e, e)) (exact_passing (in_limits least most) two_is_exact)
 
 -- versions, constraints and resolvespecs
 pub atom_is_exact : IsExact exact_atom (Is fits_atom) atom_bytes
@@ -101,7 +101,7 @@ atom_is_exact = record {
     again (Number n) w = record { reads = (back_one Number (four_is_exact.back n w)).reads }
     again MyName w = record { reads = λ r. refl }
 
-pub version_is_exact : IsExact exact_version (λ xs. (within 1 8 (length xs) ≡ true) × AllOf (Is fits_atom) xs) (listed byte atom_bytes)
+pub version_is_exact : IsExact exact_version (λ xs. (in_limits 1 8 (length xs) ≡ true) × AllOf (Is fits_atom) xs) (listed byte atom_bytes)
 unfolding exact_version
 version_is_exact = exact_list atom_is_exact (count_is_exact 1 8)
 
@@ -127,20 +127,20 @@ range_is_exact = record {
     again (UpTo n) w = record { reads = (back_one UpTo (four_is_exact.back n w)).reads }
     again (From n) w = record { reads = (back_one From (four_is_exact.back n w)).reads }
 
-ranges_is_exact : IsExact exact_ranges (λ p. (((within 0 8 (length p.0) ≡ true) × AllOf (Is fits_range) p.0) × Unit {0}) × (has_ranges p ≡ true)) (λ p. listed byte range_bytes p.0 ++ truth p.1)
+ranges_is_exact : IsExact exact_ranges (λ p. (((in_limits 0 8 (length p.0) ≡ true) × AllOf (Is fits_range) p.0) × Unit {0}) × (has_ranges p ≡ true)) (λ p. listed byte range_bytes p.0 ++ truth p.1)
 unfolding exact_ranges
 ranges_is_exact =
     exact_passing has_ranges
     (exact_two_parts (λ (rs : List Range) (star : Bool). (rs, star)) (λ p. p.0) (λ p. p.1) (λ p. refl) (λ rs star. refl) (λ rs star. refl) (exact_list range_is_exact (count_is_exact 0 8)) truth_is_exact)
 
-constraint_fits : (p : List Range × Bool) → (((within 0 8 (length p.0) ≡ true) × AllOf (Is fits_range) p.0) × Unit {0}) × (has_ranges p ≡ true) → fits_constraint (Ranges p.0 p.1) ≡ true
+constraint_fits : (p : List Range × Bool) → (((in_limits 0 8 (length p.0) ≡ true) × AllOf (Is fits_range) p.0) × Unit {0}) × (has_ranges p ≡ true) → fits_constraint (Ranges p.0 p.1) ≡ true
 constraint_fits p a = and_true (and_true (of_all fits_range p.0 a.0.0.1) (both_true _ _ a.0.0.0).1) a.1
 
-constraint_parts : (rs : List Range) (star : Bool) → fits_constraint (Ranges rs star) ≡ true → (((within 0 8 (length rs) ≡ true) × AllOf (Is fits_range) rs) × Unit {0}) × (has_ranges (rs, star) ≡ true)
+constraint_parts : (rs : List Range) (star : Bool) → fits_constraint (Ranges rs star) ≡ true → (((in_limits 0 8 (length rs) ≡ true) × AllOf (Is fits_range) rs) × Unit {0}) × (has_ranges (rs, star) ≡ true)
 constraint_parts rs star w =
     let a = both_true _ _ w in
     let b = both_true _ _ a.0 in
-    (((and_true {a = nat_le 0 (length rs)} (le_is 0 (length rs) (omega arith)) b.1, all_of fits_range rs b.0), tt), a.1)
+    (((and_true {a = nat_le 0 (length rs)} (le_is 0 (length rs) (omega arith)) b.1, each_passes fits_range rs b.0), tt), a.1)
 
 pub constraint_is_exact : IsExact exact_constraint (Is fits_constraint) constraint_bytes
 unfolding exact_constraint
@@ -167,6 +167,6 @@ resolve_is_exact = record {
     again HereAlready w = record { reads = λ r. refl }
     again (Uri u) w = record { reads = (back_one Uri ((text_is_exact 1024 (omega arith)).back u w)).reads }
 
-pub resolves_is_exact : IsExact exact_resolves (λ xs. (within 1 16 (length xs) ≡ true) × AllOf (Is fits_resolve) xs) (listed byte resolve_bytes)
+pub resolves_is_exact : IsExact exact_resolves (λ xs. (in_limits 1 16 (length xs) ≡ true) × AllOf (Is fits_resolve) xs) (listed byte resolve_bytes)
 unfolding exact_resolves
 resolves_is_exact = exact_list resolve_is_exact (count_is_exact 1 16)

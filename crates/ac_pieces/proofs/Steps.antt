@@ -5,33 +5,33 @@ use Rattle.ac_types.specs.Types.{Bytes}
 use Rattle.ac_terms.specs.PacketReading.{ReadsPart, one, two_parts_read, three, pair}
 use Rattle.ac_pieces.specs.declared.fault.Fault.{Fault}
 use Rattle.ac_pieces.specs.declared.fault.Fault.TheVariants as fault
-use Rattle.ac_pieces.specs.Answers.{Refuses, Answers, Makes}
+use Rattle.ac_pieces.specs.Readers.{NoneRead, HasRead, MadeOfRead}
 
 abbrev with_made : {A B : Type 0} → (A → B) → A × Bytes → B × Bytes
 with_made c p = (c p.0, p.1)
 
 -- what reads the same is refused alike, and answers alike
-pub refused_by : {A : Type 0} {a b : Option A} (e : Fault) → a ≡ b → Refuses e b → Refuses e a
-refused_by e is r = subst (Refuses e) (sym is) r
+pub refused_by : {A : Type 0} {a b : Option A} (e : Fault) → a ≡ b → NoneRead e b → NoneRead e a
+refused_by e is r = subst (NoneRead e) (sym is) r
 
-pub answered_by : {X A : Type 0} (view : X → A) (r : Result X Fault) (left : Bytes) {a b : Option (A × Bytes)} → a ≡ b → Answers view r b left → Answers view r a left
-answered_by view r left is p = subst (λ o. Answers view r o left) (sym is) p
+pub answered_by : {X A : Type 0} (view : X → A) (r : Result X Fault) (left : Bytes) {a b : Option (A × Bytes)} → a ≡ b → HasRead view r b left → HasRead view r a left
+answered_by view r left is p = subst (λ o. HasRead view r o left) (sym is) p
 
-none_refused : {A : Type 0} {o : Option A} (e : Fault) → o ≡ None → Refuses e o
+none_refused : {A : Type 0} {o : Option A} (e : Fault) → o ≡ None → NoneRead e o
 none_refused (fault.Misfit at) is = is
 none_refused fault.Short is = is
 none_refused fault.Memory is = tt
 
 -- where nothing is read, nothing is made of it
-pub refused_one : {A B : Type 0} (c : A → B) (o : Option (A × Bytes)) (e : Fault) → Refuses e o → Refuses e (option_map (with_made c) o)
+pub refused_one : {A B : Type 0} (c : A → B) (o : Option (A × Bytes)) (e : Fault) → NoneRead e o → NoneRead e (option_map (with_made c) o)
 refused_one c o (fault.Misfit at) r = ap (option_map (with_made c)) r
 refused_one c o fault.Short r = ap (option_map (with_made c)) r
 refused_one c o fault.Memory r = tt
 
 pub made : {X Y A B : Type 0} (view : X → A) (seen : Y → B) (c : A → B) (r : Result X Fault) (r' : Result Y Fault) (o : Option (A × Bytes)) (left : Bytes) →
-    Answers view r o left → Makes view seen c r r' → Answers seen r' (option_map (with_made c) o) left
+    HasRead view r o left → MadeOfRead view seen c r r' → HasRead seen r' (option_map (with_made c) o) left
 made view seen c (Ok x) (Ok y) o left a m = ap (option_map (with_made c)) a ∙ ap (λ z. Some (z, left)) (sym m)
-made view seen c (Err e) (Err f) o left a m = subst (λ d. Refuses d (option_map (with_made c) o)) (sym m) (refused_one c o e a)
+made view seen c (Err e) (Err f) o left a m = subst (λ d. NoneRead d (option_map (with_made c) o)) (sym m) (refused_one c o e a)
 made view seen c (Ok x) (Err f) o left a m = absurd m
 made view seen c (Err e) (Ok y) o left a m = absurd m
 
@@ -61,7 +61,7 @@ module _ {A B C D : Type 0} (c : A → B → C → D) (f : ReadsPart A) (g : Rea
   tripled bs = first_tripled (f bs)
 
 -- one thing, and another behind it
-pub refused_first : {A B : Type 0} (f : ReadsPart A) (g : ReadsPart B) (bs : Bytes) (e : Fault) → Refuses e (f bs) → Refuses e (pair f g bs)
+pub refused_first : {A B : Type 0} (f : ReadsPart A) (g : ReadsPart B) (bs : Bytes) (e : Fault) → NoneRead e (f bs) → NoneRead e (pair f g bs)
 refused_first f g bs (fault.Misfit at) r = ap (option_and_then (λ p. one (λ b. (p.0, b)) g p.1)) r
 refused_first f g bs fault.Short r = ap (option_and_then (λ p. one (λ b. (p.0, b)) g p.1)) r
 refused_first f g bs fault.Memory r = tt
@@ -73,11 +73,11 @@ second_read f g bs a mid e = ap (option_and_then (λ p. one (λ b. (p.0, b)) g p
 abbrev pub Joined : {X Y : Type 0} → X → Result Y Fault → Result (X × Y) Fault → Type 0
 Joined x r s = MatchResult s (λ p. (r ≡ Ok p.1) × (p.0 ≡ x)) (λ e. r ≡ Err e)
 
-joined_makes : {X Y A B : Type 0} (view : X → A) (seen : Y → B) (x : X) (r : Result Y Fault) (s : Result (X × Y) Fault) → Joined x r s → Makes {B = A × B} seen (λ (p : X × Y). (view p.0, seen p.1)) (λ b. (view x, b)) r s
-joined_makes {X} {Y} {A} {B} view seen x r (Ok p) j = subst (λ q. Makes {B = A × B} seen (λ (z : X × Y). (view z.0, seen z.1)) (λ b. (view x, b)) q (Ok p)) (sym j.0) (ap (λ z. (view z, seen p.1)) j.1)
-joined_makes {X} {Y} {A} {B} view seen x r (Err e) j = subst (λ q. Makes {B = A × B} seen (λ (z : X × Y). (view z.0, seen z.1)) (λ b. (view x, b)) q (Err e)) (sym j) refl
+joined_makes : {X Y A B : Type 0} (view : X → A) (seen : Y → B) (x : X) (r : Result Y Fault) (s : Result (X × Y) Fault) → Joined x r s → MadeOfRead {B = A × B} seen (λ (p : X × Y). (view p.0, seen p.1)) (λ b. (view x, b)) r s
+joined_makes {X} {Y} {A} {B} view seen x r (Ok p) j = subst (λ q. MadeOfRead {B = A × B} seen (λ (z : X × Y). (view z.0, seen z.1)) (λ b. (view x, b)) q (Ok p)) (sym j.0) (ap (λ z. (view z, seen p.1)) j.1)
+joined_makes {X} {Y} {A} {B} view seen x r (Err e) j = subst (λ q. MadeOfRead {B = A × B} seen (λ (z : X × Y). (view z.0, seen z.1)) (λ b. (view x, b)) q (Err e)) (sym j) refl
 
 pub joined_read : {X Y A B : Type 0} (view : X → A) (seen : Y → B) (f : ReadsPart A) (g : ReadsPart B) (bs mid left : Bytes) (x : X) (r : Result Y Fault) (s : Result (X × Y) Fault) →
-    f bs ≡ Some (view x, mid) → Answers seen r (g mid) left → Joined x r s → Answers (λ (p : X × Y). (view p.0, seen p.1)) s (pair f g bs) left
+    f bs ≡ Some (view x, mid) → HasRead seen r (g mid) left → Joined x r s → HasRead (λ (p : X × Y). (view p.0, seen p.1)) s (pair f g bs) left
 joined_read {X} {Y} view seen f g bs mid left x r s e a j =
     answered_by (λ (p : X × Y). (view p.0, seen p.1)) s left (second_read f g bs (view x) mid e) (made seen (λ (p : X × Y). (view p.0, seen p.1)) (λ b. (view x, b)) r s (g mid) left a (joined_makes view seen x r s j))

@@ -16,7 +16,7 @@ use Rattle.ac_terms.proofs.TestLaws.{lt_is, le_is, le_true}
 use Rattle.ac_pieces.specs.ExactReading.{exactly, exact_two, exact_four, exact_eight, exact_truth, exact_name, exact_word, exact_text}
 use Rattle.ac_pieces.specs.declared.fault.Fault.{Fault}
 use Rattle.ac_pieces.specs.declared.fault.Fault.TheVariants as fault
-use Rattle.ac_pieces.specs.Answers.{Refuses}
+use Rattle.ac_pieces.specs.Readers.{NoneRead}
 use Rattle.ac_pieces.proofs.Exact.{exactly_some, exactly_none}
 use Rattle.ac_pieces.proofs.Pieces.{back_text_of}
 
@@ -101,7 +101,7 @@ pub no_truth : (bs : Bytes) → read_byte bs ≡ None → exact_truth bs ≡ Non
 unfolding exact_truth
 no_truth bs e = ap (exactly (λ x. true) truth read_truth) (no_byte bs e)
 
-pub truth_refused : (bs : Bytes) (e : Fault) → Refuses e (read_byte bs) → Refuses e (exact_truth bs)
+pub truth_refused : (bs : Bytes) (e : Fault) → NoneRead e (read_byte bs) → NoneRead e (exact_truth bs)
 truth_refused bs (fault.Misfit at) r = no_truth bs r
 truth_refused bs fault.Short r = no_truth bs r
 truth_refused bs fault.Memory r = tt

@@ -5,7 +5,7 @@ use Rattle.ac_types.specs.Types.{Bytes, Typ}
 use Rattle.ac_terms.specs.PacketReading.{ReadsPart, read_byte}
 use Rattle.ac_pieces.specs.ExactTypes.{exact_type_table, exact_type_of}
 use Rattle.ac_pieces.specs.declared.fault.Fault.{Fault}
-use Rattle.ac_pieces.specs.Answers.{Refuses}
+use Rattle.ac_pieces.specs.Readers.{NoneRead}
 use Rattle.ac_pieces.proofs.Tags.{no_tag, tag_read}
 use Rattle.ac_pieces.proofs.Steps.{refused_by}
 
@@ -18,6 +18,6 @@ pub type_led : (own : Bool) (n k : ℕ) (bs : Bytes) (tag : ℕ) (mid : Bytes) �
 unfolding exact_type_of
 type_led own n k bs tag mid e r = ap (λ j. exact_type_of own j bs) e ∙ tag_read (exact_type_table own (exact_type_of own k)) bs tag mid r
 
-pub no_type_tag : (own : Bool) (n k : ℕ) (bs : Bytes) (e : Fault) → n ≡ suc k → Refuses e (read_byte bs) → Refuses e (exact_type_of own n bs)
+pub no_type_tag : (own : Bool) (n k : ℕ) (bs : Bytes) (e : Fault) → n ≡ suc k → NoneRead e (read_byte bs) → NoneRead e (exact_type_of own n bs)
 unfolding exact_type_of
 no_type_tag own n k bs e is r = refused_by e (ap (λ j. exact_type_of own j bs) is) (no_tag (exact_type_table own (exact_type_of own k)) bs e r)

@@ -13,7 +13,7 @@ use Rattle.ac_terms.specs.Bounds.{is_lower, is_width, fits_type, fit_types}
 use Rattle.ac_terms.specs.PacketReading.{ReadsPart, give, one, then_read, times, a_sig_type, a_typed, a_signature}
 use Rattle.ac_terms.proofs.Back.{Back, back_give, back_one, back_two, back_after}
 use Rattle.ac_terms.proofs.TestLaws.{le_true}
-use Rattle.ac_pieces.specs.ExactReading.{within, exact_width}
+use Rattle.ac_pieces.specs.ExactReading.{in_limits, exact_width}
 use Rattle.ac_pieces.specs.ExactTypes.{exact_mine, exact_type_table, exact_type_of, exact_type, exact_manifest, exact_sig_type, exact_typed, exact_all_typed, exact_sig_types, exact_sig}
 use Rattle.ac_pieces.proofs.Exact.{Took, IsExact, Twice, twice, times_sound, exact_passing, exact_as, AllOf, exact_list, exact_two_parts}
 use Rattle.ac_pieces.proofs.Tables.{SoundAt, SoundFrom, table_sound, sound_nothing, sound_give, sound_one, sound_two}
@@ -170,10 +170,10 @@ abbrev pub SmallTyped : Bool → Typed_name → Type 0
 SmallTyped own t = (is_lower t.name ≡ true) × SmallType own t.ty
 
 abbrev pub SmallAll : Bool → List Typed_name → Type 0
-SmallAll own ts = (within 0 1024 (length ts) ≡ true) × AllOf (SmallTyped own) ts
+SmallAll own ts = (in_limits 0 1024 (length ts) ≡ true) × AllOf (SmallTyped own) ts
 
 abbrev pub SmallSigTypes : List Sig_type → Type 0
-SmallSigTypes ts = (within 0 1024 (length ts) ≡ true) × AllOf SmallSigType ts
+SmallSigTypes ts = (in_limits 0 1024 (length ts) ≡ true) × AllOf SmallSigType ts
 
 abbrev pub SmallSig : Signature → Type 0
 SmallSig s = SmallSigTypes s.types × SmallAll true s.vals

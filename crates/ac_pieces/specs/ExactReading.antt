@@ -55,14 +55,14 @@ exact_text most = exactly (λ s. nat_le (length s) most) str read_str
 unfoldable pub exact_width : ReadsPart ℕ
 exact_width = passing is_width read_byte
 
-abbrev pub within : ℕ → ℕ → ℕ → Bool
-within least most n = nat_le least n && nat_le n most
+abbrev pub in_limits : ℕ → ℕ → ℕ → Bool
+in_limits least most n = nat_le least n && nat_le n most
 
 unfoldable pub exact_count : ℕ → ℕ → ReadsPart ℕ
-exact_count least most = passing (within least most) read_byte
+exact_count least most = passing (in_limits least most) read_byte
 
 unfoldable pub exact_long_count : ℕ → ℕ → ReadsPart ℕ
-exact_long_count least most = passing (within least most) exact_two
+exact_long_count least most = passing (in_limits least most) exact_two
 
 -- versions, constraints and resolvespecs
 abbrev pub atom_table : List (ReadsPart Atom)

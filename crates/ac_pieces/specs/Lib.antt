@@ -1,4 +1,4 @@
 pub mod ExactReading
 pub mod ExactTypes
-pub mod Answers
+pub mod Readers
 pub mod Follows

@@ -6,7 +6,7 @@ ghost use Rattle.ac_types.specs.ReadTypes.{typ_of};
 ghost use Rattle.ac_terms.specs.PacketReading.{ReadsPart, one, two_parts_read, pair, times};
 ghost use Rattle.ac_pieces.specs.ExactReading.{exact_name, exact_lower};
 ghost use Rattle.ac_pieces.specs.ExactTypes.{exact_type_table, exact_type_of, exact_type};
-ghost use Rattle.ac_pieces.specs.Answers.{Answers, Leads, Makes};
+ghost use Rattle.ac_pieces.specs.Readers.{HasRead, ReadsOn, MadeOfRead};
 ghost use Rattle.ac_pieces.specs.Follows.{type_follows};
 
 use crate::fault::{Fault, joined};
@@ -23,7 +23,7 @@ pub trait Types {
 
     /// A type.
     fn read_type(&self, alloc: Global, cursor: &mut Cursor<'_>, own: bool) -> Result<Ty, Fault>
-        ensures { Answers typ_of result (reads_type self.now own cursor.old.left)
+        ensures { HasRead typ_of result (reads_type self.now own cursor.old.left)
             cursor.new.left };
 }
 
@@ -57,7 +57,7 @@ pub enum TypeHead {
 // An abstract type.
 #[tactic(auto, using(ac_canon::proofs::TypeForms::type_laws))]
 fn abstract_type(alloc: Global, cursor: &mut Cursor<'_>) -> Result<Ty, Fault>
-    ensures { Answers typ_of result (two_parts_read TAbs exact_name exact_lower cursor.old.left)
+    ensures { HasRead typ_of result (two_parts_read TAbs exact_name exact_lower cursor.old.left)
         cursor.new.left }
 {
     let name = name(cursor)?;
@@ -68,7 +68,7 @@ fn abstract_type(alloc: Global, cursor: &mut Cursor<'_>) -> Result<Ty, Fault>
 // An own abstract type.
 #[tactic(auto, using(ac_canon::proofs::TypeForms::type_laws))]
 fn own_type(alloc: Global, cursor: &mut Cursor<'_>) -> Result<Ty, Fault>
-    ensures { Answers typ_of result (one TMine exact_lower cursor.old.left) cursor.new.left }
+    ensures { HasRead typ_of result (one TMine exact_lower cursor.old.left) cursor.new.left }
 {
     let word = lower(alloc, cursor)?;
     Ok(Ty::Mine(word))
@@ -83,7 +83,7 @@ fn head(
     at: usize,
     tag: u8,
 ) -> Result<TypeHead, Fault>
-    ensures { (f : ReadsPart Typ) → Leads (λ h. type_follows f h cursor.new.left) result
+    ensures { (f : ReadsPart Typ) → ReadsOn (λ h. type_follows f h cursor.new.left) result
         (option_and_then (λ (g : ReadsPart Typ). g cursor.old.left)
         (slice_get (exact_type_table own f) tag)) }
 {
@@ -111,7 +111,7 @@ fn head(
 // A tuple.
 #[tactic(auto, using(ac_canon::proofs::TypeForms::type_laws))]
 fn tuple(parts: Result<Many<Ty>, Fault>) -> Result<Ty, Fault>
-    ensures { Makes (λ (tys : List Ty). typs (map typ_of tys)) typ_of TTuple parts result }
+    ensures { MadeOfRead (λ (tys : List Ty). typs (map typ_of tys)) typ_of TTuple parts result }
 {
     let parts = parts?;
     Ok(Ty::Tuple(parts))
@@ -120,7 +120,7 @@ fn tuple(parts: Result<Many<Ty>, Fault>) -> Result<Ty, Fault>
 // A list.
 #[tactic(auto, using(ac_canon::proofs::TypeForms::type_laws))]
 fn list(item: Result<Box<Ty>, Fault>) -> Result<Ty, Fault>
-    ensures { Makes typ_of typ_of TList item result }
+    ensures { MadeOfRead typ_of typ_of TList item result }
 {
     let item = item?;
     Ok(Ty::List(item))
@@ -129,7 +129,7 @@ fn list(item: Result<Box<Ty>, Fault>) -> Result<Ty, Fault>
 // An option.
 #[tactic(auto, using(ac_canon::proofs::TypeForms::type_laws))]
 fn option(item: Result<Box<Ty>, Fault>) -> Result<Ty, Fault>
-    ensures { Makes typ_of typ_of TOpt item result }
+    ensures { MadeOfRead typ_of typ_of TOpt item result }
 {
     let item = item?;
     Ok(Ty::Opt(item))
@@ -138,7 +138,7 @@ fn option(item: Result<Box<Ty>, Fault>) -> Result<Ty, Fault>
 // A function.
 #[tactic(auto, using(ac_canon::proofs::TypeForms::type_laws))]
 fn function(both: Result<(Box<Ty>, Box<Ty>), Fault>) -> Result<Ty, Fault>
-    ensures { Makes {A = Typ × Typ} (λ p. (typ_of p.0, typ_of p.1)) typ_of (λ p. TFun p.0 p.1) both
+    ensures { MadeOfRead {A = Typ × Typ} (λ p. (typ_of p.0, typ_of p.1)) typ_of (λ p. TFun p.0 p.1) both
         result }
 {
     let (from, to) = both?;
@@ -148,7 +148,7 @@ fn function(both: Result<(Box<Ty>, Box<Ty>), Fault>) -> Result<Ty, Fault>
 // A type of at most that height.
 #[cycle(types)]
 fn type_of(alloc: Global, cursor: &mut Cursor<'_>, own: bool, depth: u32) -> Result<Ty, Fault>
-    ensures { Answers typ_of result (exact_type_of own depth cursor.old.left) cursor.new.left }
+    ensures { HasRead typ_of result (exact_type_of own depth cursor.old.left) cursor.new.left }
 {
     let at = cursor.place();
     if depth == 0 {
@@ -169,7 +169,7 @@ fn type_of(alloc: Global, cursor: &mut Cursor<'_>, own: bool, depth: u32) -> Res
 // The same in a box.
 #[cycle(types)]
 fn boxed(alloc: Global, cursor: &mut Cursor<'_>, own: bool, depth: u32) -> Result<Box<Ty>, Fault>
-    ensures { Answers typ_of result (exact_type_of own depth cursor.old.left) cursor.new.left }
+    ensures { HasRead typ_of result (exact_type_of own depth cursor.old.left) cursor.new.left }
 {
     let ty = type_of(alloc, cursor, own, depth)?;
     Ok(Box::new(alloc, ty)?)
@@ -183,7 +183,7 @@ fn two_types(
     own: bool,
     depth: u32,
 ) -> Result<(Box<Ty>, Box<Ty>), Fault>
-    ensures { Answers (λ p. (typ_of p.0, typ_of p.1)) result
+    ensures { HasRead (λ p. (typ_of p.0, typ_of p.1)) result
         (pair (exact_type_of own depth) (exact_type_of own depth) cursor.old.left)
         cursor.new.left }
 {
@@ -200,7 +200,7 @@ fn all(
     count: u8,
     depth: u32,
 ) -> Result<Many<Ty>, Fault>
-    ensures { Answers (λ (tys : List Ty). typs (map typ_of tys)) result
+    ensures { HasRead (λ (tys : List Ty). typs (map typ_of tys)) result
         (times no_types typ (exact_type_of own depth) count cursor.old.left) cursor.new.left }
 {
     let mut items = Many::new(alloc);
@@ -214,7 +214,7 @@ fn all(
 // A small type.
 #[tactic(auto, unfolding(crate::specs::ExactTypes::exact_type))]
 fn small_type(alloc: Global, cursor: &mut Cursor<'_>, own: bool) -> Result<Ty, Fault>
-    ensures { Answers typ_of result (exact_type own cursor.old.left) cursor.new.left }
+    ensures { HasRead typ_of result (exact_type own cursor.old.left) cursor.new.left }
 {
     let at = cursor.place();
     let ty = type_of(alloc, cursor, own, 100)?;
