@@ -1,2 +1,4 @@
+pub mod Causes
+pub mod Counted
 pub mod Entries
 pub mod inner

@@ -6,8 +6,8 @@ ghost use Rattle.ac_types.specs.First.{first_failing};
 ghost use Rattle.ac_types.specs.ReadTypes.{constraint_of};
 ghost use Rattle.ac_terms.specs.Read.{entry_of, field_of};
 ghost use Rattle.ac_rules.specs.Links.{is_exact};
-ghost use Rattle.ac_acceptance.specs.Causes.{first_at, uncovering, not_valuable, unlike, unlinked};
-ghost use Rattle.ac_acceptance.specs.Counted.{has_counted};
+ghost use Rattle.ac_causes.specs.Causes.{first_at, uncovering, not_valuable, unlike, unlinked};
+ghost use Rattle.ac_causes.specs.Counted.{has_counted};
 ghost use Rattle.ac_causes.specs.Entries.{Finds};
 ghost use Rattle.ac_causes.specs.inner.Asked.{asked, has_value};
 

@@ -1,24 +1,28 @@
 // From the texts of a program and of a shelf to the program's entries and its term.
 
 ghost use Rattle.std.specs.Prelude.{◌≡◌, ◌≤◌, [], length, IfOk, IfErr};
+ghost use Rattle.ac_types.specs.Types.{Typ};
 ghost use Rattle.ac_types.specs.ReadTypes.{typ_of};
-ghost use Rattle.ac_terms.specs.Read.{environment_of, expr_of};
+ghost use Rattle.ac_terms.specs.Terms.{Expr};
+ghost use Rattle.ac_terms.specs.Read.{environment_of, expr_of, bytes_of};
 ghost use Rattle.ac_terms.specs.Defs.{Own', Shelf as Shelf'};
 ghost use Rattle.ac_rules.specs.Coherent.{IsCoherent};
 ghost use Rattle.ac_meaning.specs.Loads.{IsLoaded};
 ghost use Rattle.ac_syntax.specs.Programs.{IsProgram, IsModule};
+ghost use Rattle.ac_syntax.specs.ReadTrees.{surface_of};
 ghost use Rattle.ac_acceptance.specs.Accepting.{IsShelf};
 ghost use Rattle.ac_load.specs.Kinds.{Says};
 ghost use Rattle.ac_load.specs.Loading.{shelved, shelf_of, Loads, RejectsPart, Rejects};
-ghost use Rattle.ac_load.specs.inner.Parts.{IsTaken};
+ghost use Rattle.ac_load.specs.inner.Parts.{IsTaken, IsTreeRefused, IsModuleTaken, IsProgramTaken};
 
 use crate::kind::{Kind, Refusal};
 use crate::part::part;
 use crate::shelf::{Shelf, ShelfEntry};
 use ac_parser::{parse_module, parse_program};
 use ac_rules::Loaded;
+use ac_syntax::Surface;
 use ac_terms::{Env, Seen};
-use ac_types::Many;
+use ac_types::{Many, Text};
 use std::alloc::Global;
 
 /// The program of a text beside a shelf of at most 256 texts, each under a URI of its own of 1 to
@@ -55,29 +59,54 @@ pub fn load(alloc: Global, program: &[u8], shelf: &Shelf) -> Result<Loaded, Refu
 fn module_behind(alloc: Global, env: Env, entry: &ShelfEntry) -> Result<Env, Kind>
     requires few { length env.entries ≤ 256 }
     requires coherent { IsCoherent (environment_of env) }
-    ensures module { IfOk result (λ e. IsModuleTaken (environment_of env) (shelved entry.now)
+    ensures taken { IfOk result (λ e. IsModuleTaken (environment_of env) (shelved entry.now)
         (environment_of e)) }
     ensures refused { IfErr result (λ kind. Says kind (RejectsPart IsModule (environment_of env)
         (Shelf' (shelved entry.now).uri) (shelved entry.now).text kind)) }
 {
     let surface = parse_module(alloc, entry.text.as_slice())?;
-    let seen = Seen::Shelf(entry.uri.copy(alloc)?);
-    let Loaded { env, main, ty } = part(alloc, env, &surface, &seen)?;
-    drop(main);
-    drop(ty);
-    Ok(env)
+    let found = entries_behind(alloc, env, &surface, &entry.uri);
+    drop(surface);
+    found
+}
+
+// The entries with those of a tree of the shelf behind them.
+fn entries_behind(alloc: Global, env: Env, surface: &Surface, uri: &Text) -> Result<Env, Kind>
+    requires few { length env.entries ≤ 256 }
+    requires coherent { IsCoherent (environment_of env) }
+    ensures taken { IfOk result (λ e. (f : Expr) × (T : Typ) × IsTaken (environment_of env)
+        (Shelf' (bytes_of uri.now)) (surface_of surface.now) (environment_of e) f T) }
+    ensures refused { IfErr result (λ kind. Says kind (IsTreeRefused (environment_of env)
+        (Shelf' (bytes_of uri.now)) (surface_of surface.now) kind)) }
+{
+    let seen = Seen::Shelf(uri.copy(alloc)?);
+    match part(alloc, env, surface, &seen) {
+        Ok(Loaded { env, main, ty }) => {
+            drop(main);
+            drop(ty);
+            drop(seen);
+            Ok(env)
+        }
+        Err(kind) => {
+            drop(seen);
+            Err(kind)
+        }
+    }
 }
 
 // The program of a text behind these entries.
 fn program_behind(alloc: Global, env: Env, text: &[u8]) -> Result<Loaded, Kind>
     requires few { length env.entries ≤ 256 }
     requires coherent { IsCoherent (environment_of env) }
-    ensures program { IfOk result (λ l. IsProgramTaken (environment_of env) text.now
+    ensures taken { IfOk result (λ l. IsProgramTaken (environment_of env) text.now
         (environment_of l.env) (expr_of l.main) (typ_of l.ty)) }
     ensures refused { IfErr result (λ kind. Says kind (RejectsPart IsProgram (environment_of env)
         Own' text.now kind)) }
 {
     let surface = parse_program(alloc, text)?;
     let seen = Seen::Own;
-    part(alloc, env, &surface, &seen)
+    let found = part(alloc, env, &surface, &seen);
+    drop(seen);
+    drop(surface);
+    found
 }
