@@ -1,0 +1,4 @@
+mod Firsts
+mod ClashLaws
+mod Numbers
+mod Turning

@@ -7,9 +7,9 @@ mod clashes;
 mod fault;
 mod links;
 mod names;
-//mod part;
-//mod typed;
+mod part;
+mod typed;
 
 pub use fault::PartFault;
 pub use links::linked;
-//pub use part::part_type;
+pub use part::part_type;

@@ -1,6 +1,6 @@
 // Entries of a part, linked.
 
-ghost use Rattle.std.specs.Prelude.{◌≡◌, ◌++◌, ◌<◌, ◌≤◌, ◌^◌, length, map, take, drop, IfOk, IsTrue};
+ghost use Rattle.std.specs.Prelude.{◌≡◌, ◌++◌, ◌+◌, ◌<◌, ◌≤◌, ◌^◌, length, map, take, drop, IfOk, IsTrue};
 ghost use Rattle.std.specs.List.{list_all};
 ghost use Rattle.ac_terms.specs.Read.{environment_of, entry_of, seen_of, def_of_code};
 ghost use Rattle.ac_causes.specs.Causes.{link_of, linked_entry, linked_behind};
@@ -38,7 +38,7 @@ pub fn linked(alloc: Global, env: Env, front: usize, seen: &Seen) -> Result<Env,
 // Entries with those of a part, the first of which stands last, behind them and linked.
 fn put_back(alloc: Global, env: Env, part: Vec<Entry>, seen: &Seen) -> Result<Env, Memory>
     requires few { length env.entries + length part.items < 2 ^ 32 }
-    requires counted { IsTrue (list_all has_counted (map entry_of part.items)) }
+    requires counted { IsTrue (list_all has_counted (map entry_of (turned part.items))) }
     ensures { IfOk result (λ e. environment_of e ≡ environment_of env ++
         linked_behind (seen_of seen.now) (environment_of env) (map entry_of (turned part.items))) }
 {
