@@ -9,7 +9,7 @@ use Rattle.ac_types.proofs.FirstLaws.{none≢some, some_eq, given_some}
 use Rattle.ac_types.proofs.Same.{both_true, bytes_eq, bytes_refl}
 use Rattle.ac_terms.specs.Defs.{Environment, name_at, names}
 use Rattle.ac_terms.specs.Names.{text_of_entry}
-use Rattle.ac_causes.specs.Causes.{Cause, Clash, first_below, differ, clashes, clash_of, first_clash}
+use Rattle.ac_acceptance.specs.Causes.{Cause, Clash, first_below, differ, clashes, clash_of, first_clash}
 use Rattle.ac_causes.specs.inner.Named.{told_name, first_told, put_number}
 use Rattle.ac_causes.proofs.Firsts.{Least, below_all, below_none, below_some, below_is}
 

@@ -1,13 +1,17 @@
 -- The first of entries, and the first number, at which something is found.
-use Rattle.std.proofs.Common.{◌≡◌, ◌∙◌, ◌⊎◌, inl, inr, ◌<◌, ◌+◌, refl, sym, ap, subst, ℕ, zero, suc, Bool, true, List, [], ◌∷◌, length, drop, map, get_or, Option, Some, None, arith, drop-cons, add-one}
+use Rattle.std.proofs.Common.{◌≡◌, ◌∙◌, ◌⊎◌, inl, inr, ◌<◌, ◌+◌, ◌-◌, refl, sym, ap, subst, ℕ, zero, suc, Bool, true, List, [], ◌∷◌, length, take, drop, map, get_or, Option, Some, None, arith, drop-cons, add-one}
 use Rattle.std.specs.List.{list_all}
-use Rattle.std.proofs.Math.Seq.{drop-length}
+use Rattle.std.proofs.Math.Seq.{drop-length, take-length}
+use Rattle.std.proofs.lemmas.List.{length-drop, take-append-drop, drop-map}
 use Rattle.std.proofs.lemmas.Bool.{cases_order}
 use Rattle.ac_types.specs.First.{or_else}
 use Rattle.ac_types.proofs.FirstLaws.{none≢some, some_eq}
 use Rattle.ac_types.proofs.Same.{both_true}
 use Rattle.ac_terms.specs.Defs.{Entry}
-use Rattle.ac_causes.specs.Causes.{first_at, first_below}
+use Rattle.ac_terms.specs.declared.def.Entry as code
+use Rattle.ac_terms.specs.Read.{entry_of}
+use Rattle.ac_terms.proofs.AllLaws.{all_right}
+use Rattle.ac_acceptance.specs.Causes.{first_at, first_below}
 
 -- the next of what is left, and what is left at the end
 pub left_next : {A : Type 0} (i : ℕ) (xs : List A) (x : A) → i < length xs → x ≡ get_or xs i x → drop i xs ≡ x ∷ drop (i + 1) xs
@@ -21,6 +25,19 @@ pub all_at : {X A : Type 0} (read : X → A) (p : A → Bool) (xs : List X) (i :
 all_at read p [] i x h lt is = absurd (omega (arith, lt))
 all_at {X} read p (y ∷ xs) zero x h lt is = subst (λ (z : X). p (read z) ≡ true) (sym is) (both_true (p (read y)) _ h).0
 all_at read p (y ∷ xs) (suc i) x h lt is = all_at read p xs i x (both_true (p (read y)) _ h).1 (omega (arith, lt)) is
+
+-- the rest of a slice
+whole_rest : {A : Type 0} (xs : List A) (n : ℕ) → take (length xs - n) (drop n xs) ≡ drop n xs
+whole_rest xs n = ap (λ (k : ℕ). take k (drop n xs)) (sym (length-drop n xs)) ∙ take-length (drop n xs)
+
+pub rest_read : (all xs : List code.Entry) (n : ℕ) → xs ≡ all → map entry_of (take (length xs - n) (drop n xs)) ≡ drop n (map entry_of all)
+rest_read all xs n e = ap (map entry_of) (whole_rest xs n) ∙ sym (drop-map entry_of n xs) ∙ ap (λ (l : List code.Entry). drop n (map entry_of l)) e
+
+drop_all : (p : Entry → Bool) (xs : List Entry) (n : ℕ) → list_all p xs ≡ true → list_all p (drop n xs) ≡ true
+drop_all p xs n h = all_right p (take n xs) (drop n xs) (ap (list_all p) (take-append-drop n xs) ∙ h)
+
+pub rest_counted : (p : Entry → Bool) (all xs : List code.Entry) (n : ℕ) → xs ≡ all → list_all p (map entry_of all) ≡ true → list_all p (map entry_of (take (length xs - n) (drop n xs))) ≡ true
+rest_counted p all xs n e h = ap (list_all p) (rest_read all xs n e) ∙ drop_all p (map entry_of all) n h
 
 else_none : {A : Type 0} (a b : Option A) → a ≡ None → or_else a b ≡ b
 else_none {A} a b h = ap (λ (o : Option A). or_else o b) h

@@ -2,3 +2,5 @@ mod Firsts
 mod ClashLaws
 mod Numbers
 mod Turning
+mod TypedLaws
+mod Orders

@@ -8,8 +8,8 @@ use Rattle.ac_terms.specs.Defs.{Environment, Entry, Seen}
 use Rattle.ac_terms.specs.declared.def.Entry as code
 use Rattle.ac_terms.specs.Read.{entry_of}
 use Rattle.ac_terms.proofs.AllLaws.{all_right}
-use Rattle.ac_causes.specs.Causes.{linked_entry, linked_behind}
-use Rattle.ac_causes.specs.Counted.{has_counted}
+use Rattle.ac_acceptance.specs.Causes.{linked_entry, linked_behind}
+use Rattle.ac_acceptance.specs.Counted.{has_counted}
 use Rattle.ac_causes.specs.inner.Turned.{turned}
 
 pub turned_last : {A : Type 0} (xs : List A) (x : A) → turned (xs ++ x ∷ []) ≡ x ∷ turned xs

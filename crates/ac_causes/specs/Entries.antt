@@ -6,7 +6,7 @@ use Rattle.ac_terms.specs.Terms.{Main, Expr}
 use Rattle.ac_terms.specs.Defs.{Environment}
 use Rattle.ac_rules.specs.Views.{Coloured}
 use Rattle.ac_rules.specs.Typing.{all_of, type_of}
-use Rattle.ac_causes.specs.Causes.{Cause, IllTyped, Uncovered, NotValuable, LikeMissing, Unresolved, Clash, first_at, ill_typed, uncovering, not_valuable, unlike, unlinked, first_clash}
+use Rattle.ac_acceptance.specs.Causes.{Cause, IllTyped, Uncovered, NotValuable, LikeMissing, Unresolved, Clash, first_at, ill_typed, uncovering, not_valuable, unlike, unlinked, first_clash}
 use Rattle.ac_causes.specs.declared.fault.PartFault.{PartFault}
 use Rattle.ac_causes.specs.declared.fault.PartFault.TheVariants as fault
 

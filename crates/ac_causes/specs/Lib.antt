@@ -1,4 +1,2 @@
-pub mod Causes
-pub mod Counted
 pub mod Entries
 pub mod inner

@@ -1,19 +1,19 @@
 // What is asked of each entry by itself.
 
-ghost use Rattle.std.specs.Prelude.{◌≡◌, ◌<◌, ◌^◌, IsTrue, length, map};
+ghost use Rattle.std.specs.Prelude.{◌≡◌, ◌<◌, ◌≤◌, ◌^◌, IsTrue, length, map, drop};
 ghost use Rattle.std.specs.List.{list_all};
 ghost use Rattle.ac_types.specs.First.{first_failing};
 ghost use Rattle.ac_types.specs.ReadTypes.{constraint_of};
-ghost use Rattle.ac_terms.specs.Read.{entry_of, field_of};
+ghost use Rattle.ac_terms.specs.Read.{environment_of, entry_of, field_of};
 ghost use Rattle.ac_rules.specs.Links.{is_exact};
-ghost use Rattle.ac_causes.specs.Causes.{first_at, uncovering, not_valuable, unlike, unlinked};
-ghost use Rattle.ac_causes.specs.Counted.{has_counted};
+ghost use Rattle.ac_acceptance.specs.Causes.{first_at, uncovering, not_valuable, unlike, unlinked};
+ghost use Rattle.ac_acceptance.specs.Counted.{has_counted};
 ghost use Rattle.ac_causes.specs.Entries.{Finds};
 ghost use Rattle.ac_causes.specs.inner.Asked.{asked, has_value};
 
 use crate::fault::PartFault;
 use ac_modules::{covers, like_missing, valuable};
-use ac_terms::{Def, Entry, Field};
+use ac_terms::{Def, Entry, Env, Field};
 use ac_types::Constraint;
 
 /// A question to an entry.
@@ -29,8 +29,18 @@ pub enum Question {
     Links,
 }
 
-/// Where a question first fails; entries are counted from 0.
-pub fn first_asked(question: Question, entries: &[Entry]) -> Option<PartFault>
+/// Where a question first fails behind the first `front` entries, counted from there.
+pub fn asked_behind(question: Question, env: &Env, front: usize) -> Option<PartFault>
+    requires few { length env.now.entries < 2 ^ 32 }
+    requires counted { IsTrue (list_all has_counted (environment_of env.now)) }
+    requires within { front ≤ length env.now.entries }
+    ensures { Finds result (first_at 0 (asked question) (drop front (environment_of env.now))) }
+{
+    first_asked(question, &env.entries.as_slice()[front..])
+}
+
+// Where a question first fails; entries are counted from 0.
+fn first_asked(question: Question, entries: &[Entry]) -> Option<PartFault>
     requires few { length entries.now < 2 ^ 32 }
     requires counted { IsTrue (list_all has_counted (map entry_of entries.now)) }
     ensures { Finds result (first_at 0 (asked question) (map entry_of entries.now)) }

@@ -3,8 +3,8 @@
 ghost use Rattle.std.specs.Prelude.{◌≡◌, ◌++◌, ◌+◌, ◌<◌, ◌≤◌, ◌^◌, length, map, take, drop, IfOk, IsTrue};
 ghost use Rattle.std.specs.List.{list_all};
 ghost use Rattle.ac_terms.specs.Read.{environment_of, entry_of, seen_of, def_of_code};
-ghost use Rattle.ac_causes.specs.Causes.{link_of, linked_entry, linked_behind};
-ghost use Rattle.ac_causes.specs.Counted.{has_counted, is_counted};
+ghost use Rattle.ac_acceptance.specs.Causes.{link_of, linked_entry, linked_behind};
+ghost use Rattle.ac_acceptance.specs.Counted.{has_counted, is_counted};
 ghost use Rattle.ac_causes.specs.inner.Turned.{turned};
 
 use ac_link::{When, resolve};

@@ -5,10 +5,10 @@ ghost use Rattle.std.specs.List.{list_all};
 ghost use Rattle.ac_types.specs.First.{first_some};
 ghost use Rattle.ac_types.specs.ReadTypes.{typ_of};
 ghost use Rattle.ac_terms.specs.Read.{environment_of, expr_of};
-ghost use Rattle.ac_causes.specs.Counted.{has_counted};
+ghost use Rattle.ac_acceptance.specs.Counted.{has_counted};
 ghost use Rattle.ac_causes.specs.Entries.{term_type, causes_behind, part_cause, Tells};
 
-use crate::asked::{Question, first_asked};
+use crate::asked::{Question, asked_behind};
 use crate::clashes::first_clash;
 use crate::fault::PartFault;
 use crate::typed::{first_ill_typed, term_type};
@@ -59,17 +59,16 @@ fn check_behind(alloc: Global, env: &Env, front: usize) -> Result<(), PartFault>
     ensures refused { IfErr result (λ f. Tells f (first_some
         (causes_behind (environment_of env.now) front))) }
 {
-    let entries = &env.entries.as_slice()[front..];
-    if let Some(fault) = first_asked(Question::Covers, entries) {
+    if let Some(fault) = asked_behind(Question::Covers, env, front) {
         return Err(fault);
     }
-    if let Some(fault) = first_asked(Question::Valuable, entries) {
+    if let Some(fault) = asked_behind(Question::Valuable, env, front) {
         return Err(fault);
     }
-    if let Some(fault) = first_asked(Question::Likes, entries) {
+    if let Some(fault) = asked_behind(Question::Likes, env, front) {
         return Err(fault);
     }
-    if let Some(fault) = first_asked(Question::Links, entries) {
+    if let Some(fault) = asked_behind(Question::Links, env, front) {
         return Err(fault);
     }
     match first_clash(alloc, env)? {

@@ -5,8 +5,8 @@ ghost use Rattle.std.specs.List.{list_all};
 ghost use Rattle.ac_terms.specs.Read.{environment_of, expr_of, field_of, def_of_code};
 ghost use Rattle.ac_rules.specs.Modules.{is_typed, are_typed};
 ghost use Rattle.ac_check.specs.Checking.{Answers};
-ghost use Rattle.ac_causes.specs.Causes.{IllTyped, first_at, ill_typed};
-ghost use Rattle.ac_causes.specs.Counted.{has_counted, is_counted};
+ghost use Rattle.ac_acceptance.specs.Causes.{IllTyped, first_at, ill_typed};
+ghost use Rattle.ac_acceptance.specs.Counted.{has_counted, is_counted};
 ghost use Rattle.ac_causes.specs.Entries.{term_type};
 ghost use Rattle.ac_causes.specs.inner.Asked.{is_typed_def};
 

@@ -2,7 +2,7 @@
 use Rattle.std.specs.Prelude.{ℕ, Bool, true, Option, Some, None}
 use Rattle.ac_terms.specs.Defs.{Environment, Field, Def, AModule, AnImport, AMark, Entry}
 use Rattle.ac_rules.specs.Modules.{is_valuable, are_typed}
-use Rattle.ac_causes.specs.Causes.{Cause, uncovering, not_valuable, unlike, unlinked}
+use Rattle.ac_acceptance.specs.Causes.{Cause, uncovering, not_valuable, unlike, unlinked}
 use Rattle.ac_causes.specs.declared.asked.Question.{Question}
 use Rattle.ac_causes.specs.declared.asked.Question.TheVariants as ask
 

@@ -8,7 +8,7 @@ use Rattle.ac_types.specs.First.{given}
 use Rattle.ac_types.specs.Types.{Bytes, same_bytes}
 use Rattle.ac_terms.specs.Defs.{Environment, name_at, names}
 use Rattle.ac_terms.specs.Names.{text_of_entry}
-use Rattle.ac_causes.specs.Causes.{Cause, Clash, first_below}
+use Rattle.ac_acceptance.specs.Causes.{Cause, Clash, first_below}
 
 -- the name of an entry that has a text
 abbrev pub told_name : Environment → ℕ → Option Bytes

@@ -1,6 +1,6 @@
 use Rattle.std.proofs.Common.{◌≡◌, arith, ◌<◌, length}
 use Rattle.ac_terms.specs.Read.{entry_of}
-use Rattle.ac_causes.specs.Counted.{has_counted}
+use Rattle.ac_acceptance.specs.Counted.{has_counted}
 use Rattle.ac_causes.proofs.Firsts.{all_at}
 use Rattle.ac_causes.proofs.asked.first_asked.Goals as goal
 

@@ -1,6 +1,6 @@
 use Rattle.std.proofs.Common.{◌≡◌, map, drop}
 use Rattle.ac_terms.specs.Read.{entry_of}
-use Rattle.ac_causes.specs.Causes.{first_at}
+use Rattle.ac_acceptance.specs.Causes.{first_at}
 use Rattle.ac_causes.specs.inner.Asked.{asked}
 use Rattle.ac_causes.proofs.asked.first_asked.Given as goal
 

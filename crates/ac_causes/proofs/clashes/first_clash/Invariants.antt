@@ -1,7 +1,7 @@
 use Rattle.std.proofs.Common.{◌≡◌, ◌<◌, ℕ, None}
 use Rattle.ac_types.specs.Types.{Bytes}
 use Rattle.ac_terms.specs.Read.{environment_of}
-use Rattle.ac_causes.specs.Causes.{clash_of}
+use Rattle.ac_acceptance.specs.Causes.{clash_of}
 use Rattle.ac_causes.specs.inner.Named.{number_under, first_told}
 use Rattle.ac_causes.proofs.clashes.first_clash.Given as goal
 

@@ -1,8 +1,8 @@
 use Rattle.std.proofs.Common.{◌≡◌, ◌++◌, ◌+◌, ◌<◌, ◌^◌, length, map, true}
 use Rattle.std.specs.List.{list_all}
 use Rattle.ac_terms.specs.Read.{environment_of, entry_of, seen_of}
-use Rattle.ac_causes.specs.Causes.{linked_behind}
-use Rattle.ac_causes.specs.Counted.{has_counted}
+use Rattle.ac_acceptance.specs.Causes.{linked_behind}
+use Rattle.ac_acceptance.specs.Counted.{has_counted}
 use Rattle.ac_causes.specs.inner.Turned.{turned}
 use Rattle.ac_causes.proofs.links.put_back.Given as goal
 
