@@ -2,6 +2,7 @@
 
 ghost use Rattle.std.specs.Prelude.{◌≡◌, []};
 ghost use Rattle.ac_acceptance.specs.Accepting.{IsShelf};
+ghost use Rattle.ac_load.specs.Loading.{shelf_of};
 
 use ac_types::{Many, Text};
 use std::alloc::Global;
