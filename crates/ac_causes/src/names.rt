@@ -21,11 +21,7 @@ pub fn number_under<'a>(numbers: &Numbers<'a>, name: &'a Name) -> Option<u32>
 }
 
 /// Puts a number under a name, in the place of the one that had it.
-pub fn put_number<'a>(
-    numbers: &mut Numbers<'a>,
-    name: &'a Name,
-    number: u32,
-) -> Result<(), Memory>
+pub fn put_number<'a>(numbers: &mut Numbers<'a>, name: &'a Name, number: u32) -> Result<(), Memory>
     ensures { OnOk result (number_under numbers.new
         ≡ put_number name.now.0 number (number_under numbers.old)) }
 {

@@ -1,5 +1,5 @@
 -- Texts behind the entries in front of them, one after another.
-use Rattle.std.proofs.Common.{◌≡◌, ◌∙◌, ◌≤◌, ◌<◌, ◌+◌, refl, sym, ap, subst, ℕ, suc, List, [], ◌∷◌, ◌++◌, length, take, drop, map, get_or, Some, None, arith, length-append, append-nil, append_assoc}
+use Rattle.std.proofs.Common.{◌≡◌, ◌∙◌, ◌≤◌, ◌<◌, ◌+◌, refl, sym, ap, subst, ℕ, suc, true, List, [], ◌∷◌, ◌++◌, length, take, drop, map, get_or, Some, None, arith, length-append, append-nil, append_assoc}
 use Rattle.std.proofs.Math.Seq.{take-length}
 use Rattle.std.proofs.lemmas.List.{take-append-drop, take_more, take-map, length-take-le, map-append, length-map}
 use Rattle.sha2.specs.Sha256.{sha256}
@@ -16,6 +16,11 @@ use Rattle.ac_parser.specs.Texts.{HasTree, Refused, IsTextFault}
 use Rattle.ac_parser.proofs.TextLaws.{one_program_text, one_module_text, tree_and_refusal}
 use Rattle.ac_acceptance.specs.Causes.{Cause, NoTree, loaded}
 use Rattle.ac_acceptance.specs.Accepting.{Shelved, IsShelf, Gives, nothing, a_module, no_tree, with_tree}
+use Rattle.std.specs.List.{list_all}
+use Rattle.ac_outer.specs.Entries.{keeps_name}
+use Rattle.ac_elaborate.proofs.Kept.{all_named}
+use Rattle.ac_acceptance.specs.Counted.{has_counted}
+use Rattle.ac_acceptance.proofs.Counted.{coherent_counted}
 use Rattle.ac_acceptance.proofs.Coherence.{front_coherent}
 use Rattle.ac_load.specs.Built.{first_unbuilt}
 use Rattle.ac_load.specs.Kinds.{parse_kind, kind_of, Says}
@@ -106,10 +111,21 @@ pub record Before (shelf : List Shelved) (n : ℕ) (E : Environment) : Type 0 wh
 pub at_first : (shelf : List Shelved) → Before shelf 0 []
 at_first shelf = record { gives = nothing; built = tt }
 
-pub coherent_before : (shelf : List Shelved) (n : ℕ) (E : Environment) → IsShelf shelf → length shelf ≤ 256 → Before shelf n E → IsCoherent E × (length E ≤ 256)
+coherent_before : (shelf : List Shelved) (n : ℕ) (E : Environment) → IsShelf shelf → length shelf ≤ 256 → Before shelf n E → IsCoherent E × (length E ≤ 256)
 coherent_before shelf n E good few b =
     let all = take-append-drop n shelf in
     front_coherent (take n shelf) (drop n shelf) (subst IsShelf (sym all) good) (subst (λ (l : List Shelved). length l ≤ 256) (sym all) few) b.gives
+
+-- what the entries of a front are asked for
+pub record IsSound (E : Environment) : Type 0 where
+  pub names : list_all keeps_name E ≡ true
+  pub counted : list_all has_counted E ≡ true
+  pub few : length E ≤ 256
+
+pub sound_before : (shelf : List Shelved) (n : ℕ) (E : Environment) → IsShelf shelf → length shelf ≤ 256 → Before shelf n E → IsSound E
+sound_before shelf n E good few b =
+    let c = coherent_before shelf n E good few b in
+    record { names = all_named E c.0.named; counted = coherent_counted E c.0; few = c.1 }
 
 -- along the texts of a shelf of the code
 module _ (xs : List ShelfEntry) (i : ℕ) (x : ShelfEntry) (within : i < length xs) (is : x ≡ get_or xs i x) where

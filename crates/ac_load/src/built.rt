@@ -115,7 +115,10 @@ fn in_def(def: &SDef) -> Option<u32>
             like: _,
             by: _,
         } => None,
-        SDefKind::Mark { text_at: _, text: _ } => None,
+        SDefKind::Mark {
+            text_at: _,
+            text: _,
+        } => None,
     }
 }
 

@@ -1,12 +1,14 @@
 // From the texts of a program and of a shelf to the program's entries and its term.
 
-ghost use Rattle.std.specs.Prelude.{◌≡◌, ◌≤◌, [], length, IfOk, IfErr};
+ghost use Rattle.std.specs.Prelude.{◌≤◌, length, IfOk, IfErr, IsTrue};
+ghost use Rattle.std.specs.List.{list_all};
 ghost use Rattle.ac_types.specs.Types.{Typ};
 ghost use Rattle.ac_types.specs.ReadTypes.{typ_of};
 ghost use Rattle.ac_terms.specs.Terms.{Expr};
 ghost use Rattle.ac_terms.specs.Read.{environment_of, expr_of, bytes_of};
 ghost use Rattle.ac_terms.specs.Defs.{Own', Shelf as Shelf'};
-ghost use Rattle.ac_rules.specs.Coherent.{IsCoherent};
+ghost use Rattle.ac_outer.specs.Entries.{keeps_name};
+ghost use Rattle.ac_acceptance.specs.Counted.{has_counted};
 ghost use Rattle.ac_meaning.specs.Loads.{IsLoaded};
 ghost use Rattle.ac_syntax.specs.Programs.{IsProgram, IsModule};
 ghost use Rattle.ac_syntax.specs.ReadTrees.{surface_of};
@@ -58,7 +60,8 @@ pub fn load(alloc: Global, program: &[u8], shelf: &Shelf) -> Result<Loaded, Refu
 // The entries with the module of a text of the shelf behind them.
 fn module_behind(alloc: Global, env: Env, entry: &ShelfEntry) -> Result<Env, Kind>
     requires few { length env.entries ≤ 256 }
-    requires coherent { IsCoherent (environment_of env) }
+    requires names { IsTrue (list_all keeps_name (environment_of env)) }
+    requires counted { IsTrue (list_all has_counted (environment_of env)) }
     ensures taken { IfOk result (λ e. IsModuleTaken (environment_of env) (shelved entry.now)
         (environment_of e)) }
     ensures refused { IfErr result (λ kind. Says kind (RejectsPart IsModule (environment_of env)
@@ -73,7 +76,8 @@ fn module_behind(alloc: Global, env: Env, entry: &ShelfEntry) -> Result<Env, Kin
 // The entries with those of a tree of the shelf behind them.
 fn entries_behind(alloc: Global, env: Env, surface: &Surface, uri: &Text) -> Result<Env, Kind>
     requires few { length env.entries ≤ 256 }
-    requires coherent { IsCoherent (environment_of env) }
+    requires names { IsTrue (list_all keeps_name (environment_of env)) }
+    requires counted { IsTrue (list_all has_counted (environment_of env)) }
     ensures taken { IfOk result (λ e. (f : Expr) × (T : Typ) × IsTaken (environment_of env)
         (Shelf' (bytes_of uri.now)) (surface_of surface.now) (environment_of e) f T) }
     ensures refused { IfErr result (λ kind. Says kind (IsTreeRefused (environment_of env)
@@ -97,7 +101,8 @@ fn entries_behind(alloc: Global, env: Env, surface: &Surface, uri: &Text) -> Res
 // The program of a text behind these entries.
 fn program_behind(alloc: Global, env: Env, text: &[u8]) -> Result<Loaded, Kind>
     requires few { length env.entries ≤ 256 }
-    requires coherent { IsCoherent (environment_of env) }
+    requires names { IsTrue (list_all keeps_name (environment_of env)) }
+    requires counted { IsTrue (list_all has_counted (environment_of env)) }
     ensures taken { IfOk result (λ l. IsProgramTaken (environment_of env) text.now
         (environment_of l.env) (expr_of l.main) (typ_of l.ty)) }
     ensures refused { IfErr result (λ kind. Says kind (RejectsPart IsProgram (environment_of env)

@@ -1,9 +1,11 @@
 // What one tree adds to the entries in front of it.
 
-ghost use Rattle.std.specs.Prelude.{◌≤◌, length, IfOk, IfErr};
+ghost use Rattle.std.specs.Prelude.{◌≤◌, length, IfOk, IfErr, IsTrue};
+ghost use Rattle.std.specs.List.{list_all};
 ghost use Rattle.ac_types.specs.ReadTypes.{typ_of};
 ghost use Rattle.ac_terms.specs.Read.{environment_of, seen_of, expr_of};
-ghost use Rattle.ac_rules.specs.Coherent.{IsCoherent};
+ghost use Rattle.ac_outer.specs.Entries.{keeps_name};
+ghost use Rattle.ac_acceptance.specs.Counted.{has_counted};
 ghost use Rattle.ac_syntax.specs.ReadTrees.{surface_of};
 ghost use Rattle.ac_load.specs.Kinds.{Says};
 ghost use Rattle.ac_load.specs.inner.Parts.{IsTaken, IsTreeRefused};
@@ -21,7 +23,8 @@ use std::alloc::Global;
 /// cause why it has none.
 pub fn part(alloc: Global, env: Env, surface: &Surface, seen: &Seen) -> Result<Loaded, Kind>
     requires few { length env.entries ≤ 256 }
-    requires coherent { IsCoherent (environment_of env) }
+    requires names { IsTrue (list_all keeps_name (environment_of env)) }
+    requires counted { IsTrue (list_all has_counted (environment_of env)) }
     ensures taken { IfOk result (λ l. IsTaken (environment_of env) (seen_of seen.now)
         (surface_of surface.now) (environment_of l.env) (expr_of l.main) (typ_of l.ty)) }
     ensures refused { IfErr result (λ kind. Says kind (IsTreeRefused (environment_of env)

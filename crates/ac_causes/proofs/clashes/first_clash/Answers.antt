@@ -33,27 +33,28 @@ loop-second-preserved c =
     let i = c.loop-second.second in
     let before = c.loop-second.invariant in
     elim c.match-told_name.branch [
-      in-Some+in-None+in_ok-put_number-in-None w ↦
-        let n = w.in-Some.name.now.0 in
-        let none = sym (w.in-None.ensures ∙ before.firsts n) in
-        record {
-          apart = apart_next E i (i + 1) refl before.apart (clash_new E i n (sym w.in-Some.ensures) none);
-          firsts =
-              λ m. ap (λ x. number_under x m) w.firsts-is ∙ ap (λ g. g m) w.in_ok-put_number-in-None.ensures
-              ∙ ap (λ (o : Option ℕ). if same_bytes n m then Some i else o) (before.firsts m) ∙ sym (told_put E i (i + 1) n m refl (sym w.in-Some.ensures) none);
-        }
-    | in-Some+in-Some-number_under+in_ok-differ-in-Some-number_under+else-branch w ↦
-        let n = w.in-Some.name.now.0 in
-        let f = w.in-Some-number_under.first in
-        let first = sym (w.in-Some-number_under.ensures ∙ before.firsts n) in
-        record {
-          apart = apart_next E i (i + 1) refl before.apart (clash_same E i f n (sym w.in-Some.ensures) first (sym w.in_ok-differ-in-Some-number_under.ensures ∙ w.if-branch.false) before.apart);
-          firsts = λ m. ap (λ x. number_under x m) w.firsts-is ∙ before.firsts m ∙ sym (told_kept E i (i + 1) f n m refl (sym w.in-Some.ensures) first);
-        }
-    | in_default w ↦ record {
+      | in-Some+in-None+in_ok-put_number-in-None w ↦
+          let n = w.in-Some.name.now.0 in
+          let none = sym (w.in-None.ensures ∙ before.firsts n) in
+          record {
+            apart = apart_next E i (i + 1) refl before.apart (clash_new E i n (sym w.in-Some.ensures) none);
+            firsts =
+                λ m. ap (λ x. number_under x m) w.firsts-is ∙ ap (λ g. g m) w.in_ok-put_number-in-None.ensures
+                ∙ ap (λ (o : Option ℕ). if same_bytes n m then Some i else o) (before.firsts m) ∙ sym (told_put E i (i + 1) n m refl (sym w.in-Some.ensures) none);
+          }
+      | in-Some+in-Some-number_under+in_ok-differ-in-Some-number_under+else-branch w ↦
+          let n = w.in-Some.name.now.0 in
+          let f = w.in-Some-number_under.first in
+          let first = sym (w.in-Some-number_under.ensures ∙ before.firsts n) in
+          record {
+            apart = apart_next E i (i + 1) refl before.apart (clash_same E i f n (sym w.in-Some.ensures) first (sym w.in_ok-differ-in-Some-number_under.ensures ∙ w.if-branch.false) before.apart);
+            firsts = λ m. ap (λ x. number_under x m) w.firsts-is ∙ before.firsts m ∙ sym (told_kept E i (i + 1) f n m refl (sym w.in-Some.ensures) first);
+          }
+      | in_default w ↦ record {
         apart = apart_next E i (i + 1) refl before.apart (clash_untold E i (sym w.in_default.ensures));
         firsts = λ m. ap (λ x. number_under x m) w.firsts-is ∙ before.firsts m ∙ sym (told_skipped E i (i + 1) m refl (sym w.in_default.ensures));
-      } ]
+      }
+    ]
 
 pub returns : goal.returns
 returns c =
