@@ -50,24 +50,11 @@ pub fn write_refusal(listing: &mut Page, kind: Kind) {
         Kind::Lexical { at } => write_refused(listing, b"lexical", u64::from(at)),
         Kind::TooDeep { at } => write_refused(listing, b"too_deep", u64::from(at)),
         Kind::Syntax { at } => write_refused(listing, b"syntax", u64::from(at)),
+        Kind::Unbuilt { at } => write_refused(listing, b"unbuilt", u64::from(at)),
         Kind::Unbound { at } => write_refused(listing, b"unbound", u64::from(at)),
         Kind::Repeated { at } => write_refused(listing, b"repeated", u64::from(at)),
         Kind::TooMany { count } => write_refused(listing, b"too_many", u64::from(count)),
         Kind::IllTyped { def } => write_refused(listing, b"type", u64::from(def)),
-        Kind::Signature { def, spec: _ } => write_refused(listing, b"signature", u64::from(def)),
-        Kind::NotValuable { def, field: _ } => write_refused(
-            listing,
-            b"not_valuable",
-            u64::from(def),
-        ),
-        Kind::LikeMissing { def, spec: _ } => write_refused(
-            listing,
-            b"like_missing",
-            u64::from(def),
-        ),
-        Kind::Unresolved { def } => write_refused(listing, b"unresolved", u64::from(def)),
-        Kind::Clash { first: _, second } => write_refused(listing, b"clash", u64::from(second)),
-        Kind::Unbuilt { at } => write_refused(listing, b"unbuilt", u64::from(at)),
         Kind::Memory => listing.put(b"out of memory, status 4\n"),
     }
 }

@@ -20,16 +20,11 @@ fn told(kind: Kind) -> (&'static [u8], u64) {
         Kind::Lexical { at } => (b"lexical", u64::from(at)),
         Kind::TooDeep { at } => (b"too_deep", u64::from(at)),
         Kind::Syntax { at } => (b"syntax", u64::from(at)),
+        Kind::Unbuilt { at } => (b"unbuilt", u64::from(at)),
         Kind::Unbound { at } => (b"unbound", u64::from(at)),
         Kind::Repeated { at } => (b"repeated", u64::from(at)),
         Kind::TooMany { count } => (b"too_many", u64::from(count)),
         Kind::IllTyped { def } => (b"type", u64::from(def)),
-        Kind::Signature { def, .. } => (b"signature", u64::from(def)),
-        Kind::NotValuable { def, .. } => (b"not_valuable", u64::from(def)),
-        Kind::LikeMissing { def, .. } => (b"like_missing", u64::from(def)),
-        Kind::Unresolved { def } => (b"unresolved", u64::from(def)),
-        Kind::Clash { second, .. } => (b"clash", u64::from(second)),
-        Kind::Unbuilt { at } => (b"unbuilt", u64::from(at)),
         Kind::Memory => (b"memory", 0),
     }
 }
@@ -40,18 +35,10 @@ fn place_of(kind: Kind) -> Option<u32> {
         Kind::Lexical { at }
         | Kind::TooDeep { at }
         | Kind::Syntax { at }
+        | Kind::Unbuilt { at }
         | Kind::Unbound { at }
-        | Kind::Repeated { at }
-        | Kind::Unbuilt { at } => Some(at),
-        Kind::TooLong { .. }
-        | Kind::TooMany { .. }
-        | Kind::IllTyped { .. }
-        | Kind::Signature { .. }
-        | Kind::NotValuable { .. }
-        | Kind::LikeMissing { .. }
-        | Kind::Unresolved { .. }
-        | Kind::Clash { .. }
-        | Kind::Memory => None,
+        | Kind::Repeated { at } => Some(at),
+        Kind::TooLong { .. } | Kind::TooMany { .. } | Kind::IllTyped { .. } | Kind::Memory => None,
     }
 }
 
@@ -90,21 +77,12 @@ fn write_reason(page: &mut Page, text: &[u8], kind: Kind) {
             page.put(b"here the text ends, and the program doesn't\n");
         }
         Kind::Syntax { .. } => page.put(b"here no program goes on\n"),
+        Kind::Unbuilt { .. } => page.put(b"this form doesn't run yet\n"),
         Kind::Unbound { at } => write_name(page, text, at, b" isn't in scope\n"),
-        Kind::Repeated { at } => write_name(page, text, at, b" is repeated\n"),
+        Kind::Repeated { at } => write_name(page, text, at, b" is bound twice in one pattern\n"),
         Kind::TooMany { .. } => page.put(
             b"a count passes its limit, which is one less than this number\n",
         ),
-        Kind::Signature { .. } => page.put(
-            b"the struct of this definition doesn't cover its signature\n",
-        ),
-        Kind::NotValuable { .. } => page.put(b"a field of this definition computes something\n"),
-        Kind::LikeMissing { .. } => page.put(
-            b"an abstract type of this import stands in no likespec\n",
-        ),
-        Kind::Unresolved { .. } => page.put(b"this import links to nothing\n"),
-        Kind::Clash { .. } => page.put(b"this entry has the name of another, and another text\n"),
-        Kind::Unbuilt { .. } => page.put(b"this form doesn't run yet\n"),
         Kind::IllTyped { .. } | Kind::Memory => {}
     }
 }

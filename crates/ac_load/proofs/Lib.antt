@@ -1,3 +1,8 @@
-mod TreeLaws
-mod ShelfLaws
-pub mod Loaded
+pub mod LoadLaws
+pub mod Mentions
+pub mod NoDefinitions
+pub mod SourceTerms
+pub mod SignBounds
+pub mod TermBounds
+pub mod TextLaws
+pub mod TreeBounds
