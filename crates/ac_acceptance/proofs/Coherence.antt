@@ -1,5 +1,6 @@
 -- What is accepted beside a shelf is ready to run: its entries are coherent, and its term is typed, within bounds, and speaks of known types.
 use Rattle.std.proofs.Common.{◌≡◌, ◌∙◌, ◌≤◌, ◌+◌, refl, sym, ap, ap₂, subst, ℕ, suc, Bool, true, false, List, [], ◌∷◌, ◌++◌, map, length, drop, Option, Some, None, arith, append_assoc, append-nil, length-append}
+use Rattle.std.proofs.lemmas.List.{map-append}
 use Rattle.std.specs.Prelude.{nat_le, ◌&&◌, filter_map, flat_map, slice_get, IsTrue}
 use Rattle.std.specs.List.{list_all}
 use Rattle.std.proofs.Math.Seq.{drop-append_seam}
@@ -11,7 +12,7 @@ use Rattle.ac_types.specs.Sigs.{Atom}
 use Rattle.ac_terms.specs.Terms.{Main, Expr}
 use Rattle.ac_terms.specs.Defs.{Environment, Entry, Seen, Own', Shelf, Arrived, name_at}
 use Rattle.ac_terms.specs.Names.{text_of_entry}
-use Rattle.ac_terms.proofs.AllLaws.{all_append}
+use Rattle.ac_terms.proofs.AllLaws.{all_left, all_append}
 use Rattle.ac_terms.specs.Parts.{term_parts, part_mentions}
 use Rattle.ac_rules.specs.Views.{is_known}
 use Rattle.ac_rules.specs.Typing.{all_of}
@@ -253,6 +254,17 @@ module _ (E : Environment) (uris : List Bytes) (front : IsFrontOf E uris) (few :
 program_more : (E : Environment) (uris : List Bytes) → IsFrontOf E uris → length uris ≤ 256 → are_distinct uris ≡ true → {ts : List Sign} {p : ProgramTree} → IsProgram ts p → ProgramHas p
     → cause sha256 E Own' p ≡ None → (T : Typ) → main_type sha256 E Own' p ≡ Some T → IsReady (loaded sha256 E Own' p) (surface_main sha256 E p) T
 program_more E uris front few distinct (program {ds = ds} {e = e} parsed) has accepted T typed = program_ready E uris front few distinct ds e has accepted T typed
+
+-- the entries of the first texts of a shelf
+pub front_coherent : (before rest : List Shelved) {E : Environment} → IsShelf (before ++ rest) → length (before ++ rest) ≤ 256 → Gives sha256 [] before E → IsCoherent E × (length E ≤ 256)
+front_coherent before rest good few gives =
+    let empty : IsOfShelf [] [] = record { are = refl; no_marks = refl; first = refl; counted = refl } in
+    let distinct : are_distinct (uris_of before ++ uris_of rest) ≡ true = ap are_distinct (sym (map-append (λ (s : Shelved). s.uri) before rest)) ∙ good.distinct in
+    let k = length-append before rest in
+    let n = uris_counted before in
+    let front = shelf_front gives empty-IsCoherent [] empty (distinct_front (uris_of before) (uris_of rest) distinct) (all_left (λ (s : Shelved). is_uri s.uri) before rest good.uris) (omega (arith, few, k)) in
+    let c = front.of_shelf.counted in
+    (front.coherent, omega (arith, few, k, n, c))
 
 -- so what is accepted beside a shelf is ready
 pub accepted_ready : (text : Bytes) (shelf : List Shelved) (F : Environment) (e : Expr) (T : Typ) → IsShelf shelf → length shelf ≤ 256 → Accepted sha256 text shelf F e T → IsReady F e T

@@ -1,4 +1,4 @@
-mod OneAnswer
+pub mod OneAnswer
 mod PartLaws
 mod Sooner
 mod Standing
@@ -15,6 +15,7 @@ mod SmallTerms
 mod SmallDefs
 mod Grown
 pub mod Coherence
+pub mod Counted
 mod LoadSamples
 mod LoadExamples
 mod DigestExample

@@ -1,3 +1,4 @@
 pub mod Causes
 pub mod Accepting
 pub mod Ready
+pub mod Counted

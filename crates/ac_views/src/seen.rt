@@ -72,6 +72,16 @@ fn are_viewed_as<'a>(written: &'a [Ty], tys: &'a [Ty], site: &'a Site<'a>) -> bo
     true
 }
 
+/// Whether a type is this one, which is written, as the site's home sees it.
+#[tactic(auto, using(crate::proofs::Equalities::same_either_way))]
+pub fn is_view_of<'a>(ty: &'a Ty, written: &'a Ty, site: &'a Site<'a>) -> bool
+    requires { length site.now.env.now.entries < 2 ^ 32 }
+    ensures { result ≡ same (typ_of ty.now) (view Coloured (entries_of site.now)
+        (home_of site.now.home) (typ_of written.now)) }
+{
+    is_viewed_as(written, ty, site)
+}
+
 /// Whether a type that is written is this one for the site's home, and its names are known.
 pub fn is_seen_as<'a>(written: &'a Ty, ty: &'a Ty, site: &'a Site<'a>) -> bool
     requires { length site.now.env.now.entries < 2 ^ 32 }

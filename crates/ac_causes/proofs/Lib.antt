@@ -1,0 +1,6 @@
+mod Firsts
+mod ClashLaws
+mod Numbers
+mod Turning
+mod TypedLaws
+mod Orders

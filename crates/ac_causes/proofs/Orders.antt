@@ -1,0 +1,82 @@
+-- The causes of a part, one behind another.
+use Rattle.std.proofs.Common.{◌≡◌, ◌∙◌, refl, sym, ap, subst, ℕ, List, length, drop, Option, Some, None}
+use Rattle.std.specs.Prelude.{is_none}
+use Rattle.ac_types.specs.First.{given, or_else, first_some}
+use Rattle.ac_types.specs.Types.{Typ}
+use Rattle.ac_terms.specs.Terms.{Expr}
+use Rattle.ac_terms.specs.Defs.{Environment}
+use Rattle.ac_acceptance.specs.Causes.{Cause, IllTyped, first_at, ill_typed, uncovering, not_valuable, unlike, unlinked, first_clash}
+use Rattle.ac_causes.specs.Entries.{term_type, causes_behind, part_cause, Tells}
+use Rattle.ac_causes.specs.declared.fault.PartFault.{PartFault}
+use Rattle.ac_causes.specs.declared.fault.PartFault.TheVariants as fault
+
+-- a fault tells of the first of two causes, or of the second where the first isn't there
+pub tells_first : (f : PartFault) (o rest : Option Cause) → Tells f o → Tells f (or_else o rest)
+tells_first (fault.IllTyped def) o rest h = ap (λ q. or_else q rest) h
+tells_first (fault.Signature def spec) o rest h = ap (λ q. or_else q rest) h
+tells_first (fault.NotValuable def field) o rest h = ap (λ q. or_else q rest) h
+tells_first (fault.LikeMissing def spec) o rest h = ap (λ q. or_else q rest) h
+tells_first (fault.Unresolved def) o rest h = ap (λ q. or_else q rest) h
+tells_first (fault.Clash first second) o rest h = ap (λ q. or_else q rest) h
+tells_first fault.Memory o rest h = tt
+
+pub rest_is : (o rest : Option Cause) → o ≡ None → or_else o rest ≡ rest
+rest_is o rest h = ap (λ q. or_else q rest) h
+
+pub tells_rest : (f : PartFault) (o rest : Option Cause) → o ≡ None → Tells f rest → Tells f (or_else o rest)
+tells_rest f o rest h t = subst (Tells f) (sym (rest_is o rest h)) t
+
+-- the causes behind the types, one after another
+module _ (E : Environment) (n : ℕ) where
+  abbrev covers : Option Cause
+  covers = first_at 0 uncovering (drop n E)
+
+  abbrev values : Option Cause
+  values = first_at 0 not_valuable (drop n E)
+
+  abbrev likes : Option Cause
+  likes = first_at 0 unlike (drop n E)
+
+  abbrev links : Option Cause
+  links = first_at 0 unlinked (drop n E)
+
+  abbrev clash : Option Cause
+  clash = or_else (first_clash E) None
+
+  abbrev all_behind : Option Cause
+  all_behind = or_else covers (or_else values (or_else likes (or_else links clash)))
+
+  pub second_told : (f : PartFault) → covers ≡ None → Tells f values → Tells f all_behind
+  second_told f a h = tells_rest f covers _ a (tells_first f values _ h)
+
+  pub third_told : (f : PartFault) → covers ≡ None → values ≡ None → Tells f likes → Tells f all_behind
+  third_told f a b h = tells_rest f covers _ a (tells_rest f values _ b (tells_first f likes _ h))
+
+  pub fourth_told : (f : PartFault) → covers ≡ None → values ≡ None → likes ≡ None → Tells f links → Tells f all_behind
+  fourth_told f a b c h = tells_rest f covers _ a (tells_rest f values _ b (tells_rest f likes _ c (tells_first f links _ h)))
+
+  pub last_is : (o : Option Cause) → covers ≡ None → values ≡ None → likes ≡ None → links ≡ None → o ≡ first_clash E → all_behind ≡ or_else o None
+  last_is o a b c d h = rest_is covers _ a ∙ rest_is values _ b ∙ rest_is likes _ c ∙ rest_is links _ d ∙ ap (λ q. or_else q None) (sym h)
+
+module _ (E : Environment) (n : ℕ) (e : Expr) where
+  abbrev typed_first : Option Cause
+  typed_first = first_at 0 (ill_typed E n) (drop n E)
+
+  abbrev behind : Option Cause
+  behind = first_some (causes_behind E n)
+
+  abbrev of_term : Option Typ → Option Cause
+  of_term o = given (is_none o) (Some (IllTyped (length (drop n E))))
+
+  pub field_told : (def : ℕ) → Some (IllTyped def) ≡ typed_first → part_cause E n e ≡ Some (IllTyped def)
+  field_told def h = ap (λ o. or_else o (or_else (of_term (term_type E e)) behind)) (sym h)
+
+  pub term_told : (def : ℕ) → None ≡ typed_first → term_type E e ≡ None → def ≡ length (drop n E) → part_cause E n e ≡ Some (IllTyped def)
+  term_told def h t is =
+      ap (λ o. or_else o (or_else (of_term (term_type E e)) behind)) (sym h) ∙ ap (λ o. or_else (of_term o) behind) t ∙ ap (λ k. Some (IllTyped k)) (sym is)
+
+  pub behind_types : (T : Typ) → None ≡ typed_first → term_type E e ≡ Some T → part_cause E n e ≡ behind
+  behind_types T h t = ap (λ o. or_else o (or_else (of_term (term_type E e)) behind)) (sym h) ∙ ap (λ o. or_else (of_term o) behind) t
+
+  pub behind_told : (T : Typ) (f : PartFault) → None ≡ typed_first → term_type E e ≡ Some T → Tells f behind → Tells f (part_cause E n e)
+  behind_told T f h t d = subst (Tells f) (sym (behind_types T h t)) d
