@@ -1,0 +1,5 @@
+pub mod BackLaws
+pub mod BoundLaws
+pub mod FormedLaws
+pub mod NameLaws
+pub mod TypeLaws

@@ -1,0 +1,49 @@
+// Whether the types of patterns' variables pass a test.
+
+ghost use Rattle.std.specs.Prelude.{◌≡◌, map};
+ghost use Rattle.std.specs.List.{list_all};
+ghost use Rattle.ac_types.specs.Types.{Typ};
+ghost use Rattle.ac_terms.specs.Terms.{patterns};
+ghost use Rattle.ac_terms.specs.Parts.{OfType, pattern_types, all_pattern_types};
+ghost use Rattle.ac_terms.specs.Read.{pattern_of};
+
+use crate::test::Test;
+use ac_terms::Pat;
+
+/// Whether the type of each variable of a pattern passes.
+// Each part is looked at (`&`): an `&&` would be one more branch of the proof.
+#[cycle(pat)]
+#[tactic(auto, using(crate::proofs::WalkLaws::pattern_laws))]
+pub fn pattern_passes<T: Test>(pat: &Pat, test: &T) -> bool
+    ensures { result ≡ list_all (λ (U : Typ). T.passes test.now (OfType U)) (pattern_types (pattern_of pat.now)) }
+{
+    match pat {
+        Pat::Var(ty) => test.passes_type(ty),
+        Pat::Tuple(parts) => patterns_pass(parts.as_slice(), test),
+        Pat::Cons(head, tail) => pattern_passes(head, test) & pattern_passes(tail, test),
+        Pat::Present(inner) => pattern_passes(inner, test),
+        Pat::Exn(_, Some(inner)) => pattern_passes(inner, test),
+        Pat::Exn(_, None) => true,
+        Pat::Wild => true,
+        Pat::Int(_) => true,
+        Pat::Bool(_) => true,
+        Pat::Str(_) => true,
+        Pat::Unit => true,
+        Pat::Nil => true,
+        Pat::Absent => true,
+    }
+}
+
+#[cycle(pat)]
+#[tactic(auto, using(crate::proofs::WalkLaws::pattern_laws))]
+fn patterns_pass<T: Test>(pats: &[Pat], test: &T) -> bool
+    ensures { result ≡ list_all (λ (U : Typ). T.passes test.now (OfType U))
+        (all_pattern_types (patterns (map pattern_of pats.now))) }
+{
+    for pat in pats {
+        if !pattern_passes(pat, test) {
+            return false;
+        }
+    }
+    true
+}
