@@ -1,13 +1,13 @@
 -- What is written of some parts, and their first fault, which is the same whatever numbers are written.
-use Rattle.std.proofs.Common.{◌≡◌, refl, sym, ap, ap₂, ◌∙◌, ℕ, zero, suc, ◌+◌, Bool, List, [], ◌∷◌, ◌++◌, length, length-append, append_assoc, append-nil, Option, Some, None}
+use Rattle.std.proofs.Common.{◌≡◌, refl, sym, ap, ap₂, ◌∙◌, ℕ, suc, ◌+◌, Bool, List, [], ◌∷◌, ◌++◌, length, length-append, append_assoc, append-nil, Option, Some, None}
 use native.Mathlib.Omega.{arith}
 use Rattle.ac_types.specs.First.{or_else}
 use Rattle.ac_types.specs.Limits.{longest_packet}
 use Rattle.ac_types.specs.Types.{Bytes, Typ}
-use Rattle.ac_terms.specs.Terms.{Home, Main, In, Expr, Int, Boolean, Str, Unit', Exn, ExnOf, Tuple, Nil, Empty, Present, Cons, Var, Own, Ref, Lam, Rec, App, Let, If, Seq, Match, Try, Raise, Prim, Marshal, Unmarshal, Val, Evaluated, Bracket, Exprs, no_exprs, expr, Arms, no_arms, arm, PValue, KInt, KBool, KStr, KUnit, KExn, KTuple, KList, KAbsent, KPresent, KFun, PValues, no_pvalues, pvalue}
+use Rattle.ac_terms.specs.Terms.{Main, In, Expr, Int, Boolean, Str, Unit', Exn, ExnOf, Tuple, Nil, Empty, Present, Cons, Var, Own, Ref, Lam, Rec, App, Let, If, Seq, Match, Try, Raise, Prim, Marshal, Unmarshal, Val, Evaluated, Bracket, Exprs, no_exprs, expr, Arms, no_arms, arm, PValue, KInt, KBool, KStr, KUnit, KExn, KTuple, KList, KAbsent, KPresent, KFun, PValues, no_pvalues, pvalue}
 use Rattle.ac_terms.specs.Bounds.{is_lambda}
 use Rattle.ac_terms.specs.Spelling.{two_written, type_bytes, value_bytes, arm_count}
-use Rattle.ac_terms.specs.Heads.{Head, next_head, before, type_heads, pattern_heads, term_heads, all_term_heads, arm_heads, value_heads, all_value_heads, packed_heads}
+use Rattle.ac_terms.specs.Heads.{Head, before, pattern_heads, term_heads, all_term_heads, arm_heads, value_heads, all_value_heads, packed_heads}
 use Rattle.ac_terms.specs.Renumbered.{renumbered, all_renumbered, arms_renumbered, value_renumbered, values_renumbered}
 use Rattle.ac_terms.proofs.HeadLaws.{spelling, packed_spelled}
 use Rattle.ac_rules.specs.Faults.{Fault, part_fault, first_fault}

@@ -1,16 +1,14 @@
 -- What comes of heads, one by one.
-use Rattle.std.proofs.Common.{◌≡◌, refl, sym, ap, ap₂, ◌∙◌, ℕ, suc, ◌+◌, ◌<◌, ◌≤◌, Bool, true, false, List, [], ◌∷◌, ◌++◌, length, length-append, append_assoc, append-nil, Some, None, Option, Result, Err, Ok}
-use Rattle.std.specs.Prelude.{nat_lt, not}
+use Rattle.std.proofs.Common.{◌≡◌, refl, sym, ap, ap₂, ◌∙◌, ℕ, ◌+◌, ◌<◌, ◌≤◌, true, false, List, [], ◌∷◌, ◌++◌, length, length-append, append_assoc, Result, Err, Ok}
+use Rattle.std.specs.Prelude.{nat_lt}
 use Rattle.std.proofs.lemmas.Bool.Decides.{nat_tests}
 use native.Mathlib.Omega.{arith}
-use Rattle.ac_types.specs.First.{given, or_else, first_some}
 use Rattle.ac_types.specs.Limits.{longest_packet}
 use Rattle.ac_types.specs.Types.{Bytes}
 use Rattle.ac_terms.specs.Heads.{Head, next_head, before}
-use Rattle.ac_rules.specs.Faults.{Fault, Depth, Function, Size, part_fault}
-use Rattle.ac_heads.specs.Outcomes.{Outcome, On, Stopped, unless, after, fault_in, Stops, Puts}
+use Rattle.ac_rules.specs.Faults.{Depth, Function, Size, part_fault}
+use Rattle.ac_heads.specs.Outcomes.{Outcome, On, Stopped, unless, after, Puts}
 use Rattle.ac_heads.specs.declared.stop.Stop.{Stop}
-use Rattle.ac_heads.specs.declared.stop.Stop.TheVariants as stop
 
 lt_is : (n m : ℕ) → n < m → nat_lt n m ≡ true
 lt_is n m h = grind (arith, nat_tests)
