@@ -1,0 +1,46 @@
+// Heads that don't travel.
+
+ghost use Rattle.std.specs.Prelude.{◌≡◌, ◌∷◌, [], suc, false, IfOk};
+ghost use Rattle.ac_types.specs.Types.{Bytes};
+ghost use Rattle.ac_terms.specs.Spelling.{four_written};
+ghost use Rattle.ac_terms.specs.Heads.{next_head};
+ghost use Rattle.ac_heads.specs.Outcomes.{Stops};
+
+use crate::heads::{DEEPEST, count};
+use crate::stop::Stop;
+use ac_types::{Memory, Text};
+
+/// Why a walk stops at what can't travel.
+#[tactic(auto, using(crate::proofs::HeadLaws::head_laws))]
+pub fn stays(nesting: u32) -> Stop
+    ensures { (text bytes : Bytes) → Stops result text
+        (record { nesting = nesting; travels = false; bytes = bytes } ∷ []) }
+{
+    if nesting > DEEPEST {
+        Stop::Depth
+    } else {
+        Stop::Function
+    }
+}
+
+/// Why it stops at a list of so many items, the first of which can't travel.
+pub fn lost(text: &mut Text, nesting: u32, items: usize) -> Stop
+    ensures { (bytes : Bytes) → Stops result text.old.0
+        (next_head nesting (0x07 ∷ four_written items) ∷
+        record { nesting = suc nesting; travels = false; bytes = bytes } ∷ []) }
+{
+    let Ok(under) = deeper(nesting) else {
+        return Stop::Memory;
+    };
+    match count(text, nesting, 0x07, items) {
+        Ok(()) => stays(under),
+        Err(stop) => stop,
+    }
+}
+
+/// One deeper.
+pub fn deeper(nesting: u32) -> Result<u32, Memory>
+    ensures { IfOk result (λ n. n ≡ suc nesting) }
+{
+    nesting.checked_add(1).ok_or(Memory)
+}

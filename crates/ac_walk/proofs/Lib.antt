@@ -1,0 +1,4 @@
+pub mod WalkLaws
+pub mod FormLaws
+pub mod SlotLaws
+pub mod TypeLaws

@@ -1,0 +1,4 @@
+pub mod Spoken
+pub mod Items
+pub mod Pieces
+pub mod inner

@@ -1,0 +1,64 @@
+// Patterns.
+
+ghost use Rattle.std.specs.Prelude.{suc, map};
+ghost use Rattle.ac_terms.specs.Terms.{patterns};
+ghost use Rattle.ac_terms.specs.Read.{pattern_of};
+ghost use Rattle.ac_terms.specs.Heads.{pattern_heads, all_pattern_heads};
+ghost use Rattle.ac_terms.specs.Parts.{OfType, pattern_types, all_pattern_types};
+ghost use Rattle.ac_walk.specs.Pieces.{spoken_at};
+ghost use Rattle.ac_walk.specs.inner.Goes.{Visits};
+
+use crate::piece::Piece;
+use crate::walk::Walk;
+use ac_heads::{Stop, deeper};
+use ac_terms::Pat;
+
+impl<'a> Walk<'a> {
+    /// Visits a pattern inside a part that nests so deep.
+    #[tactic(auto, using(crate::proofs::FormLaws::pattern_laws))]
+    pub fn pattern(&mut self, pat: &'a Pat, outer: u32) -> Result<(), Stop>
+        ensures { Visits result (pattern_heads (suc outer) (pattern_of pat.now))
+            (spoken_at self.old.site (map OfType (pattern_types (pattern_of pat.now)))) self.old
+            self.new }
+    {
+        let d = deeper(outer)?;
+        match pat {
+            Pat::Wild => self.head(d, &[0x01]),
+            Pat::Var(ty) => self.one(d, &[0x02], Piece::Type(ty)),
+            Pat::Int(n) => self.int(d, 0x03, *n),
+            Pat::Bool(b) => self.truth(d, 0x04, *b),
+            Pat::Str(text) => self.string(d, &[0x05], text.as_slice()),
+            Pat::Unit => self.head(d, &[0x06]),
+            Pat::Tuple(parts) => {
+                self.few(d, 0x07, parts.len(), Piece::Patterns(parts.as_slice(), d))
+            }
+            Pat::Nil => self.head(d, &[0x08]),
+            Pat::Cons(head, tail) => {
+                self.two(d, &[0x09], Piece::Pattern(head, d), Piece::Pattern(tail, d))
+            }
+            Pat::Absent => self.head(d, &[0x0A]),
+            Pat::Present(inner) => self.one(d, &[0x0B], Piece::Pattern(inner, d)),
+            Pat::Exn(number, inner) => match inner {
+                None => self.head(d, &[0x0C, *number]),
+                Some(inner) => self.one(d, &[0x0C, *number], Piece::Pattern(inner, d)),
+            },
+        }
+    }
+
+    /// Visits patterns side by side.
+    #[tactic(auto, using(crate::proofs::FormLaws::pattern_laws))]
+    pub fn patterns(&mut self, pats: &'a [Pat], outer: u32) -> Result<(), Stop>
+        ensures { Visits result
+            (all_pattern_heads (suc outer) (patterns (map pattern_of pats.now)))
+            (spoken_at self.old.site (map OfType
+            (all_pattern_types (patterns (map pattern_of pats.now))))) self.old self.new }
+    {
+        match pats.split_first() {
+            None => self.nothing(),
+            Some((first, rest)) => {
+                let first = Piece::Pattern(first, outer);
+                self.both(first, Piece::Patterns(rest, outer))
+            }
+        }
+    }
+}
