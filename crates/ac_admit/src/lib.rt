@@ -1,0 +1,6 @@
+//! Packets admitted to an environment.
+#![tactic(auto)]
+
+mod admission;
+
+pub use admission::{AdmitFault, Admitted, admit};
