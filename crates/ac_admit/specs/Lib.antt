@@ -1,1 +1,1 @@
-pub mod Admits
+pub mod Refusing

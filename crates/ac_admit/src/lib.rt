@@ -1,6 +1,8 @@
-//! Packets admitted to an environment.
+//! Packets accepted into an environment, or the first cause of refusal.
 #![tactic(auto)]
 
-mod admission;
+mod admitting;
+mod fault;
 
-pub use admission::{AdmitFault, Admitted, admit};
+pub use admitting::{Admitted, admit};
+pub use fault::AdmitFault;
