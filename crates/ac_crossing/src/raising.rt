@@ -4,8 +4,7 @@ ghost use Rattle.std.specs.Prelude.{◌≡◌, [], Some, MatchOption, codes, opt
 ghost use Rattle.ac_terms.specs.Read.{packet_of};
 ghost use Rattle.ac_meaning.specs.Worlds.{exception};
 ghost use Rattle.ac_meaning.specs.Packing.{of_fault, of_cause, import_name, unmarshal_failure_exn};
-ghost use Rattle.ac_admit.specs.Admits.{cause_told};
-ghost use Rattle.ac_crossing.specs.inner.Landed.{IsRaised, fault_told};
+ghost use Rattle.ac_crossing.specs.inner.Landed.{IsRaised, fault_told, cause_told};
 
 use crate::fault::CrossFault;
 use ac_admit::AdmitFault;

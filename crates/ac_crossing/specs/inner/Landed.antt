@@ -6,11 +6,14 @@ use Rattle.ac_terms.specs.Read.{value_of, packet_of}
 use Rattle.ac_terms.specs.declared.def.Packet as code_packet
 use Rattle.ac_terms.specs.declared.term.PVal.{PVal}
 use Rattle.ac_rules.specs.Faults.{Fault, NoMark, Depth, Function, Size}
+use Rattle.ac_rules.specs.Packets.{Cause, Definition, Clash, Full, Unresolved, WrongType, NoValue}
 use Rattle.ac_meaning.specs.Worlds.{Exception}
 use Rattle.ac_meaning.specs.Packing.{Landing, Sinks, Lands, unmarshal_failure_exn}
 use Rattle.ac_meaning.specs.ReadExn.{exn_of}
 use Rattle.ac_pack.specs.declared.packing.PackFault.{PackFault}
 use Rattle.ac_pack.specs.declared.packing.PackFault.TheVariants as pack_fault
+use Rattle.ac_admit.specs.declared.fault.AdmitFault.{AdmitFault}
+use Rattle.ac_admit.specs.declared.fault.AdmitFault.TheVariants as admit_fault
 use Rattle.ac_crossing.specs.declared.fault.CrossFault.{CrossFault}
 use Rattle.ac_crossing.specs.declared.fault.CrossFault.TheVariants as fault
 
@@ -26,6 +29,16 @@ fault_told pack_fault.Function = Some Function
 fault_told pack_fault.Depth = Some Depth
 fault_told pack_fault.Size = Some Size
 fault_told pack_fault.Memory = None
+
+-- why a packet is refused; want of memory is no reason
+abbrev pub cause_told : AdmitFault → Option Cause
+cause_told (admit_fault.Definition i) = Some (Definition i)
+cause_told (admit_fault.Clash i j) = Some (Clash i j)
+cause_told (admit_fault.Full count) = Some (Full count)
+cause_told (admit_fault.Unresolved i) = Some (Unresolved i)
+cause_told admit_fault.WrongType = Some WrongType
+cause_told admit_fault.Value = Some NoValue
+cause_told admit_fault.Memory = None
 
 -- the packet that there is, or the exception of why there is none
 abbrev pub HasRead : Option Packet → Result code_packet.Packet CrossFault → Type 0
