@@ -30,17 +30,6 @@ next_entry env i K K' all lt is rest =
     let e : suc i ≡ i + 1 = omega arith in
     subst (λ j. entries_generated (environment_of env) j (drop j (environment_of env)) K' ≡ all) e (entry_next (environment_of env) i K K' all (omega (arith, lt, same)) is rest)
 
-drop_all : {A : Type 0} (xs : List A) → drop (length xs) xs ≡ []
-drop_all [] = refl
-drop_all (x ∷ xs) = drop_all xs
-
--- behind the last there are none
-pub no_more : (env : Env) (i : ℕ) (K all : Code) → i ≡ length env.entries → entries_generated (environment_of env) i (drop i (environment_of env)) K ≡ all → K ≡ all
-no_more env i K all e rest =
-    let n : i ≡ length (environment_of env) = e ∙ sym (entries_length env.entries) in
-    let none : drop i (environment_of env) ≡ [] = ap (λ i. drop i (environment_of env)) n ∙ drop_all (environment_of env) in
-    sym (ap (λ es. entries_generated (environment_of env) i es K) none) ∙ rest
-
 -- coherent definitions are few
 pub few_entries : (env : Env) → IsCoherent (environment_of env) → length env.entries < 2 ^ 32
 few_entries env i = let same = entries_length env.entries in let few = i.few in omega (arith, same, few)

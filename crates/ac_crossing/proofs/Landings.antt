@@ -1,6 +1,6 @@
--- From what is packed, read and admitted to the strings and the values that cross.
-use Rattle.std.proofs.Common.{◌≡◌, ℕ, refl, sym, ap, ap₂, ◌∙◌, subst, Option, Some, None}
-use Rattle.std.specs.Prelude.{Ok, Err, MatchOption, codes}
+-- From a string that is read, or isn't, to what it brings.
+use Rattle.std.proofs.Common.{◌≡◌, ℕ, refl, sym, ap, ◌∙◌, subst, Option, Some, None}
+use Rattle.std.specs.Prelude.{Ok, Err, codes}
 use Rattle.std.specs.declared.result.Result.{Result}
 use Rattle.sha2.specs.Sha256.{sha256}
 use Rattle.ac_types.specs.Types.{Bytes, Typ}
@@ -12,33 +12,16 @@ use Rattle.ac_terms.specs.declared.def.Packet as code_packet
 use Rattle.ac_terms.specs.declared.term.PVal.{PVal}
 use Rattle.ac_terms.proofs.SpelledLaws.{read_is_spelled, spelled_is_read}
 use Rattle.ac_rules.specs.Coherent.{IsCoherent}
-use Rattle.ac_rules.specs.Faults.{Marshalled}
 use Rattle.ac_rules.specs.Growth.{Grows}
-use Rattle.ac_rules.specs.Packets.{cause, Accepts}
-use Rattle.ac_meaning.specs.Packing.{Refuses, Sinks, Lands, answer, of_fault, of_cause, unmarshal_failure_exn, admitted, received, landing}
+use Rattle.ac_rules.specs.Packets.{cause}
+use Rattle.ac_meaning.specs.Packing.{Sinks, unmarshal_failure_exn, admitted, received, landing}
 use Rattle.ac_meaning.proofs.Admitted.{grows}
 use Rattle.ac_decode.specs.Decoding.{OnFormat}
 use Rattle.ac_decode.specs.declared.packets.DecodeFault.{DecodeFault}
 use Rattle.ac_decode.specs.declared.packets.DecodeFault.TheVariants as decode_fault
-use Rattle.ac_pack.specs.Packs.{Packed}
-use Rattle.ac_pack.specs.declared.packing.PackFault.{PackFault}
-use Rattle.ac_pack.specs.declared.packing.PackFault.TheVariants as pack_fault
-use Rattle.ac_admit.specs.Refusing.{IsFor}
-use Rattle.ac_admit.specs.declared.fault.AdmitFault.{AdmitFault}
-use Rattle.ac_admit.specs.declared.fault.AdmitFault.TheVariants as admit_fault
-use Rattle.ac_crossing.specs.Crossing.{Departs}
-use Rattle.ac_crossing.specs.inner.Landed.{IsRaised, fault_told, cause_told, HasRead, Landed}
+use Rattle.ac_crossing.specs.inner.Landed.{IsRaised, HasRead, Landed}
 use Rattle.ac_crossing.specs.declared.fault.CrossFault.{CrossFault}
 use Rattle.ac_crossing.specs.declared.fault.CrossFault.TheVariants as fault
-
--- a value that is not packed leaves its exception
-pub not_packed : (m : Marshalled) (f : PackFault) (r : CrossFault) → Packed m (Err f) → MatchOption (fault_told f) (r ≡ fault.Memory) (λ x. IsRaised (of_fault x) r) → Departs (answer m) (Err r)
-not_packed m pack_fault.Mark (fault.Raise e) h k = ap answer h ∙ ap Refuses (sym k)
-not_packed m pack_fault.Function (fault.Raise e) h k = ap answer h ∙ ap Refuses (sym k)
-not_packed m pack_fault.Depth (fault.Raise e) h k = ap answer h ∙ ap Refuses (sym k)
-not_packed m pack_fault.Size (fault.Raise e) h k = ap answer h ∙ ap Refuses (sym k)
-not_packed m pack_fault.Memory (fault.Raise e) h k = absurd cc
-not_packed m f fault.Memory h k = tt
 
 -- what holds of a fault that is one of format
 pub of_format : (f : DecodeFault) (at : ℕ) (P : Type 0) → f ≡ decode_fault.Format at → OnFormat {X = code_packet.Packet} (Err f) P → P
@@ -60,20 +43,6 @@ pub packet_read : (bytes : Bytes) (p : code_packet.Packet) → Spells bytes (pac
 packet_read bytes p s = (spelled_is_read bytes (packet_of p) s, s.fits)
 
 module _ (E F : Environment) (T : Typ) where
-  -- a packet that is admitted lands, and one that is refused does not
-  pub lands_admitted : (p : Packet) (v : PVal) → Accepts E p T F (value_of v) → admitted E p (cause sha256 E p T) ≡ Lands F (value_of v)
-  lands_admitted p v h = ap (admitted E p) h.no_cause ∙ ap₂ Lands (sym h.entries) (sym h.value)
-
-  pub not_admitted : (p : Packet) (f : AdmitFault) (r : CrossFault) → IsFor f (cause sha256 E p T) → F ≡ E → MatchOption (cause_told f) (r ≡ fault.Memory) (λ c. IsRaised (of_cause p.defs c) r) → Landed (admitted E p (cause sha256 E p T)) E F (Err r)
-  not_admitted p (admit_fault.Definition i) (fault.Raise e) h same k = (ap (admitted E p) h ∙ ap Sinks (sym k), same)
-  not_admitted p (admit_fault.Clash i j) (fault.Raise e) h same k = (ap (admitted E p) h ∙ ap Sinks (sym k), same)
-  not_admitted p (admit_fault.Full n) (fault.Raise e) h same k = (ap (admitted E p) h ∙ ap Sinks (sym k), same)
-  not_admitted p (admit_fault.Unresolved i) (fault.Raise e) h same k = (ap (admitted E p) h ∙ ap Sinks (sym k), same)
-  not_admitted p admit_fault.WrongType (fault.Raise e) h same k = (ap (admitted E p) h ∙ ap Sinks (sym k), same)
-  not_admitted p admit_fault.Value (fault.Raise e) h same k = (ap (admitted E p) h ∙ ap Sinks (sym k), same)
-  not_admitted p admit_fault.Memory (fault.Raise e) h same k = absurd cc
-  not_admitted p f fault.Memory h same k = tt
-
   -- what a packet brings, its string brings
   pub string_lands : (s : Bytes) (p : Packet) (r : Result PVal CrossFault) → reading.packet_of s ≡ Some p → Landed (admitted E p (cause sha256 E p T)) E F r → Landed (landing E T s) E F r
   unfolding landing
