@@ -4,6 +4,7 @@ use Rattle.ac_types.specs.Types.{Bytes}
 use Rattle.ac_types.specs.Limits.{longest_frame}
 use Rattle.ac_terms.specs.Defs.{Environment}
 use Rattle.ac_code.specs.Code.{Code}
+use Rattle.ac_rules.specs.Coherent.{IsCoherent}
 use Rattle.ac_outside.specs.Frames.{Frame, Whole, Bad, AtEnd, next_frame}
 use Rattle.ac_values.specs.Values.{MValue}
 use Rattle.ac_machine.specs.States.{Core, MState}
@@ -71,9 +72,10 @@ abbrev pub point : Environment → Code → MachineSeen → Inbox → Bytes → 
 point E K m inbox left now = record { environment = E; code = K; machine = m; inbox = inbox; left = left; streams = now }
 
 module _ (sends told : Bool) where
-  -- a run that began there is on its way to this end, where it isn't stuck and all writes are short, and this is what comes; where that is told, the writes since the start were made
+  -- over coherent definitions a run that began there is on its way to this end, where it isn't stuck and all writes are short, and this is what comes; where that is told, the writes since the start were made
   pub record OnItsWay (p : Point) (rest : Bytes) (from : Running) (start : Streams) (o : Outcome (Code × MValue)) : Type 0 where
     pub able : p.machine.lost ≡ false
+    pub coherent : IsCoherent p.environment
     pub state : MState
     pub world : World
     pub defines : world.environment ≡ p.environment

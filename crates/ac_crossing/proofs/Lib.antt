@@ -1,0 +1,2 @@
+pub mod EntryCodes
+pub mod Landings

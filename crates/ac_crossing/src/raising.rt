@@ -1,0 +1,76 @@
+// The exceptions of faults.
+
+ghost use Rattle.std.specs.Prelude.{◌≡◌, [], Some, MatchOption, codes, option_map, unwrap_or, slice_get};
+ghost use Rattle.ac_terms.specs.Read.{packet_of};
+ghost use Rattle.ac_meaning.specs.Worlds.{exception};
+ghost use Rattle.ac_meaning.specs.Packing.{of_fault, of_cause, import_name, unmarshal_failure_exn};
+ghost use Rattle.ac_crossing.specs.inner.Landed.{IsRaised, fault_told, cause_told};
+
+use crate::fault::CrossFault;
+use ac_admit::AdmitFault;
+use ac_pack::PackFault;
+use ac_terms::{Exn, PDef, Packet};
+use ac_types::Text;
+use ac_types::exceptions::{MARSHAL_FAILURE, RESOLVE_FAILURE, UNMARSHAL_FAILURE};
+use std::alloc::Global;
+
+/// The exception of why a value is not packed.
+pub fn of_packing(alloc: Global, fault: PackFault) -> CrossFault
+    ensures { MatchOption (fault_told fault) (result ≡ CrossFault.Memory)
+        (λ f. IsRaised (of_fault f) result) }
+{
+    match fault {
+        PackFault::Mark => raise(alloc, MARSHAL_FAILURE, b"mark"),
+        PackFault::Function => raise(alloc, MARSHAL_FAILURE, b"function"),
+        PackFault::Depth => raise(alloc, MARSHAL_FAILURE, b"depth"),
+        PackFault::Size => raise(alloc, MARSHAL_FAILURE, b"size"),
+        PackFault::Memory => CrossFault::Memory,
+    }
+}
+
+/// The exception of a string that spells no packet.
+pub fn of_format(alloc: Global) -> CrossFault
+    ensures { IsRaised (unmarshal_failure_exn (codes "format")) result }
+{
+    raise(alloc, UNMARSHAL_FAILURE, b"format")
+}
+
+/// The exception of why a packet is refused.
+pub fn of_admission(alloc: Global, packet: &Packet, fault: AdmitFault) -> CrossFault
+    ensures { MatchOption (cause_told fault) (result ≡ CrossFault.Memory)
+        (λ c. IsRaised (of_cause (packet_of packet.now).defs c) result) }
+{
+    match fault {
+        AdmitFault::Definition { .. } => raise(alloc, UNMARSHAL_FAILURE, b"definition"),
+        AdmitFault::Clash { .. } => raise(alloc, UNMARSHAL_FAILURE, b"clash"),
+        AdmitFault::Full { .. } => raise(alloc, UNMARSHAL_FAILURE, b"full"),
+        AdmitFault::Unresolved { i } => raise(alloc, RESOLVE_FAILURE, imported(packet, i)),
+        AdmitFault::WrongType => raise(alloc, UNMARSHAL_FAILURE, b"type"),
+        AdmitFault::Value => raise(alloc, UNMARSHAL_FAILURE, b"value"),
+        AdmitFault::Memory => CrossFault::Memory,
+    }
+}
+
+// The external name of import `i` of a packet, or nothing.
+fn imported(packet: &Packet, i: u32) -> &[u8]
+    ensures { result.now ≡ unwrap_or
+        (option_map import_name (slice_get (packet_of packet.now).defs i)) [] }
+{
+    match packet.defs.get(i as usize) {
+        Some(PDef::Import(import)) => import.name.text().as_slice(),
+        _ => b"",
+    }
+}
+
+// An exception of that number with a text.
+fn raise(alloc: Global, number: u8, why: &[u8]) -> CrossFault
+    ensures { IsRaised (exception number (Some why.now)) result }
+{
+    match Text::from_slice(alloc, why) {
+        Ok(text) => CrossFault::Raise(Exn {
+            number,
+            text: Some(text),
+        }),
+        Err(_) => CrossFault::Memory,
+    }
+}
