@@ -14,13 +14,12 @@ ghost use Rattle.ac_meaning.specs.Packing.{admitted, landing};
 ghost use Rattle.ac_crossing.specs.Crossing.{Enters};
 ghost use Rattle.ac_crossing.specs.inner.Landed.{HasRead, Landed};
 
-use crate::entries::generate_entries;
 use crate::fault::CrossFault;
 use crate::raising::{of_admission, of_format};
 use ac_admit::admit;
 use ac_code::{CodeId, CodeTable};
 use ac_decode::{DecodeFault, decode};
-use ac_generate::generate_value;
+use ac_generate::{generate_entries, generate_value};
 use ac_terms::{Env, PVal, Packet};
 use ac_types::{Memory, Text, Ty};
 use std::alloc::Global;

@@ -2,12 +2,10 @@
 #![tactic(auto)]
 
 mod arrival;
-mod entries;
 mod fault;
 mod raising;
 mod strings;
 
 pub use arrival::unmarshal;
-pub use entries::generate_entries;
 pub use fault::CrossFault;
 pub use strings::marshal;

@@ -7,3 +7,4 @@ pub mod TableLaws
 pub mod TermLaws
 pub mod WriterLaws
 pub mod Written
+pub mod EntrySteps

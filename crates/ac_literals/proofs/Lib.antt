@@ -1,0 +1,2 @@
+mod LiteralExamples
+pub mod Steps

@@ -1,0 +1,2 @@
+pub mod ShelfLists
+pub mod inner

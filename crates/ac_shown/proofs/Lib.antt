@@ -1,0 +1,2 @@
+mod NamesExamples
+pub mod NamesSteps
