@@ -1,18 +1,17 @@
 -- What loads is ready to run, and nothing that loads is rejected.
-use Rattle.std.proofs.Common.{◌≡◌, ◌∙◌, ◌≤◌, refl, sym, ap, subst, ℕ, List, [], ◌∷◌, ◌++◌, length, Some, None}
+use Rattle.std.proofs.Common.{◌∙◌, ◌≤◌, sym, subst, ℕ, List, [], ◌∷◌, ◌++◌, length}
 use Rattle.sha2.specs.Sha256.{sha256}
 use Rattle.ac_types.specs.Types.{Bytes, Typ}
 use Rattle.ac_types.proofs.FirstLaws.{none≢some}
 use Rattle.ac_terms.specs.Terms.{Expr}
 use Rattle.ac_terms.specs.Defs.{Environment}
-use Rattle.ac_meaning.specs.Laws.{IsTypedProgram}
 use Rattle.ac_meaning.specs.Loads.{IsLoaded}
 use Rattle.ac_meaning.proofs.Sources.{fits_source}
-use Rattle.ac_acceptance.specs.Accepting.{Shelved, IsShelf, Accepted, Refuses, of_shelf, of_program}
+use Rattle.ac_acceptance.specs.Accepting.{Shelved, IsShelf, of_shelf, of_program}
 use Rattle.ac_acceptance.specs.Ready.{IsReady}
 use Rattle.ac_acceptance.proofs.OneAnswer.{not_both}
 use Rattle.ac_acceptance.proofs.Coherence.{accepted_ready}
-use Rattle.ac_load.specs.Loading.{AreBuilt, Loads, RejectsPart, unbuilt, refused, Rejects, of_shelf as in_shelf, of_program as in_program}
+use Rattle.ac_load.specs.Loading.{AreBuilt, Loads, unbuilt, refused, Rejects, of_shelf as in_shelf, of_program as in_program}
 use Rattle.ac_load.specs.declared.kind.Kind.{Kind}
 
 ready_loaded : (E : Environment) (e : Expr) (T : Typ) → IsReady E e T → IsLoaded E e T

@@ -1,5 +1,5 @@
 -- Texts behind the entries in front of them, one after another.
-use Rattle.std.proofs.Common.{◌≡◌, ◌∙◌, ◌≤◌, ◌<◌, ◌+◌, refl, sym, ap, subst, ℕ, suc, true, List, [], ◌∷◌, ◌++◌, length, take, drop, map, get_or, Some, None, arith, length-append, append-nil, append_assoc}
+use Rattle.std.proofs.Common.{◌≡◌, ◌∙◌, ◌≤◌, ◌<◌, ◌+◌, sym, ap, subst, ℕ, suc, true, List, [], ◌∷◌, ◌++◌, length, take, drop, map, get_or, None, arith, append_assoc}
 use Rattle.std.proofs.Math.Seq.{take-length}
 use Rattle.std.proofs.lemmas.List.{take-append-drop, take_more, take-map, length-take-le, map-append, length-map}
 use Rattle.sha2.specs.Sha256.{sha256}
@@ -14,7 +14,7 @@ use Rattle.ac_syntax.specs.declared.fault.ParseFault.{ParseFault}
 use Rattle.ac_syntax.specs.declared.fault.ParseFault.TheVariants as parse
 use Rattle.ac_parser.specs.Texts.{HasTree, Refused, IsTextFault}
 use Rattle.ac_parser.proofs.TextLaws.{one_program_text, one_module_text, tree_and_refusal}
-use Rattle.ac_acceptance.specs.Causes.{Cause, NoTree, loaded}
+use Rattle.ac_acceptance.specs.Causes.{NoTree, loaded}
 use Rattle.ac_acceptance.specs.Accepting.{Shelved, IsShelf, Gives, nothing, a_module, no_tree, with_tree}
 use Rattle.std.specs.List.{list_all}
 use Rattle.ac_outer.specs.Entries.{keeps_name}
@@ -122,9 +122,10 @@ pub record IsSound (E : Environment) : Type 0 where
   pub counted : list_all has_counted E ≡ true
   pub few : length E ≤ 256
 
-pub sound_before : (shelf : List Shelved) (n : ℕ) (E : Environment) → IsShelf shelf → length shelf ≤ 256 → Before shelf n E → IsSound E
-sound_before shelf n E good few b =
-    let c = coherent_before shelf n E good few b in
+pub sound_before : (xs : List ShelfEntry) (n : ℕ) (E : Environment) → IsShelf (map shelved xs) → length xs ≤ 256 → Before (map shelved xs) n E → IsSound E
+sound_before xs n E good few b =
+    let a = length-map xs shelved in
+    let c = coherent_before (map shelved xs) n E good (omega (arith, a, few)) b in
     record { names = all_named E c.0.named; counted = coherent_counted E c.0; few = c.1 }
 
 -- along the texts of a shelf of the code
@@ -159,9 +160,15 @@ module _ (xs : List ShelfEntry) (i : ℕ) (x : ShelfEntry) (within : i < length 
       says kind (λ q. subst (λ (k : ℕ). Rejects text texts k kind) same (of_shelf (take i texts) (drop (i + 1) texts) split b.gives b.built q)) r
 
 -- behind all of them
-module _ (shelf : List Shelved) (n : ℕ) (E : Environment) (text : Bytes) (past : n ≡ length shelf) (b : Before shelf n E) where
+pub all_seen : (ys xs : List ShelfEntry) (n : ℕ) → ys ≡ xs → n ≤ length ys → length ys ≤ n → n ≡ length xs
+all_seen ys xs n is a b = let e = ap length is in omega (arith, a, b, e)
+
+module _ (xs : List ShelfEntry) (n : ℕ) (E : Environment) (text : Bytes) (past : n ≡ length xs) (b : Before (map shelved xs) n E) where
+  abbrev shelf : List Shelved
+  shelf = map shelved xs
+
   whole : take n shelf ≡ shelf
-  whole = ap (λ (k : ℕ). take k shelf) past ∙ take-length shelf
+  whole = ap (λ (k : ℕ). take k shelf) (past ∙ sym (length-map xs shelved)) ∙ take-length shelf
 
   all_given : Gives sha256 [] shelf E
   all_given = subst (λ (l : List Shelved). Gives sha256 [] l E) whole b.gives

@@ -1,5 +1,4 @@
 -- The causes of refusal as the code tells them.
-use Rattle.std.specs.Prelude.{ℕ}
 use Rattle.ac_syntax.specs.declared.fault.ParseFault.{ParseFault}
 use Rattle.ac_syntax.specs.declared.fault.ParseFault.TheVariants as parse
 use Rattle.ac_scopes.specs.Surfaces.{SurfaceFault}

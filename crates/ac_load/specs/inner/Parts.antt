@@ -1,5 +1,5 @@
 -- What one part adds to the entries in front of it.
-use Rattle.std.specs.Prelude.{◌≡◌, ℕ, Some, None}
+use Rattle.std.specs.Prelude.{◌≡◌, ℕ, ◌++◌, take, drop, Some, None}
 use Rattle.sha2.specs.Sha256.{sha256}
 use Rattle.ac_types.specs.Types.{Bytes, Typ}
 use Rattle.ac_terms.specs.Terms.{Expr}
@@ -7,13 +7,17 @@ use Rattle.ac_terms.specs.Defs.{Environment, Seen, Own', Shelf}
 use Rattle.ac_syntax.specs.Trees.{ProgramTree}
 use Rattle.ac_syntax.specs.Programs.{IsProgram, IsModule}
 use Rattle.ac_scopes.specs.Surfaces.{surface_main}
-use Rattle.ac_acceptance.specs.Causes.{Cause, loaded, main_type, cause}
+use Rattle.ac_acceptance.specs.Causes.{Cause, linked_behind, loaded, main_type, cause}
 use Rattle.ac_acceptance.specs.Accepting.{Shelved, IsPart}
 use Rattle.ac_load.specs.Built.{first_unbuilt}
 use Rattle.ac_load.specs.Kinds.{kind_of}
 use Rattle.ac_load.specs.Loading.{IsBuilt}
 use Rattle.ac_load.specs.declared.kind.Kind.{Kind}
 use Rattle.ac_load.specs.declared.kind.Kind.TheVariants.{Unbuilt}
+
+-- the entries with those behind the first n from `seen` and linked
+abbrev pub linked_part : Seen → ℕ → Environment → Environment
+linked_part seen n E = take n E ++ linked_behind seen (take n E) (drop n E)
 
 -- a tree has these entries, with those in front, and this term, of this type; no cause refuses it, and its forms run
 pub record IsTaken (E : Environment) (seen : Seen) (p : ProgramTree) (F : Environment) (e : Expr) (T : Typ) : Type 0 where
