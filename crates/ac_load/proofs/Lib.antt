@@ -1,8 +1,3 @@
-pub mod LoadLaws
-pub mod Mentions
-pub mod NoDefinitions
-pub mod SourceTerms
-pub mod SignBounds
-pub mod TermBounds
-pub mod TextLaws
-pub mod TreeBounds
+mod TreeLaws
+mod ShelfLaws
+pub mod Loaded

@@ -1,7 +1,7 @@
--- What doesn't run yet: definitions and marshalling.
-use Rattle.std.specs.Prelude.{ℕ, [], ◌∷◌, Option, Some, None, option_and_then}
+-- What doesn't run yet: marshalling.
+use Rattle.std.specs.Prelude.{ℕ, List, [], ◌∷◌, Option, Some, None, option_and_then}
 use Rattle.std.specs.Option.{option_or}
-use Rattle.ac_syntax.specs.Trees.{Tree, ExInt, ExBool, ExStr, ExUnit, ExExn, ExExnOf, ExTuple, ExNil, ExAbsent, ExPresent, ExCons, ExVar, ExOf, ExFun, ExRec, ExApp, ExLet, ExLetRec, ExIf, ExSeq, ExMatch, ExTry, ExRaise, ExAnd, ExOr, ExOp, ExMarshal, ExUnmarshal, Trees, no_trees, tree, ArmTrees, no_arm_trees, arm_tree, DefTree, ModuleDef, ImportDef, MarkDef, ProgramTree}
+use Rattle.ac_syntax.specs.Trees.{Tree, ExInt, ExBool, ExStr, ExUnit, ExExn, ExExnOf, ExTuple, ExNil, ExAbsent, ExPresent, ExCons, ExVar, ExOf, ExFun, ExRec, ExApp, ExLet, ExLetRec, ExIf, ExSeq, ExMatch, ExTry, ExRaise, ExAnd, ExOr, ExOp, ExMarshal, ExUnmarshal, Trees, no_trees, tree, ArmTrees, no_arm_trees, arm_tree, FieldTree, AbbrevField, ValField, DefTree, ModuleDef, ImportDef, MarkDef, ProgramTree}
 
 -- the place of the first form in a tree that doesn't run yet, where a form comes before its parts
 abbrev mutual
@@ -43,11 +43,23 @@ abbrev mutual
   unbuilt_arms no_arm_trees = None
   unbuilt_arms (arm_tree pattern body arms) = option_or (unbuilt body) (unbuilt_arms arms)
 
-abbrev pub def_place : DefTree → ℕ
-def_place (ModuleDef at name sig version fields) = at
-def_place (ImportDef at name sig wants like by) = at
-def_place (MarkDef at text_at text) = at
+-- the same in the fields of a struct, in definitions, and in a program
+abbrev pub unbuilt_field : FieldTree → Option ℕ
+unbuilt_field (AbbrevField abbreviation) = None
+unbuilt_field (ValField name ty body) = unbuilt body
 
--- the same in a program: definitions don't run yet
+abbrev pub unbuilt_fields : List FieldTree → Option ℕ
+unbuilt_fields [] = None
+unbuilt_fields (f ∷ fs) = option_or (unbuilt_field f) (unbuilt_fields fs)
+
+abbrev pub unbuilt_def : DefTree → Option ℕ
+unbuilt_def (ModuleDef at name sig version fields) = unbuilt_fields fields
+unbuilt_def (ImportDef at name sig wants like by) = None
+unbuilt_def (MarkDef at text_at text) = None
+
+abbrev pub unbuilt_defs : List DefTree → Option ℕ
+unbuilt_defs [] = None
+unbuilt_defs (d ∷ ds) = option_or (unbuilt_def d) (unbuilt_defs ds)
+
 abbrev pub first_unbuilt : ProgramTree → Option ℕ
-first_unbuilt p = elim p.defs [ [] ↦ option_and_then unbuilt p.expr | d ∷ ds ↦ Some (def_place d) ]
+first_unbuilt p = option_or (unbuilt_defs p.defs) (option_and_then unbuilt p.expr)

@@ -1,2 +1,4 @@
 pub mod Built
+pub mod Kinds
 pub mod Loading
+pub mod inner

@@ -1,11 +1,11 @@
 // The first form of a program that doesn't run yet.
 
-ghost use Rattle.std.specs.Prelude.{◌≡◌, map};
+ghost use Rattle.std.specs.Prelude.{◌≡◌, map, option_map, option_and_then};
 ghost use Rattle.ac_syntax.specs.Trees.{trees, arm_trees};
-ghost use Rattle.ac_syntax.specs.ReadTrees.{surface_of, expr_of, arm_of};
-ghost use Rattle.ac_load.specs.Built.{unbuilt, unbuilt_all, unbuilt_arms, first_unbuilt};
+ghost use Rattle.ac_syntax.specs.ReadTrees.{surface_of, def_tree_of, field_tree_of, expr_of, arm_of};
+ghost use Rattle.ac_load.specs.Built.{unbuilt, unbuilt_all, unbuilt_arms, unbuilt_field, unbuilt_fields, unbuilt_def, unbuilt_defs, first_unbuilt};
 
-use ac_syntax::{SArm, SExpr, SExprKind, Surface};
+use ac_syntax::{SArm, SDef, SDefKind, SExpr, SExprKind, SField, Surface};
 
 #[cycle(forms)]
 #[tactic(auto, using(ac_syntax::proofs::ReadLaws::expr_laws))]
@@ -78,16 +78,74 @@ fn in_arms(arms: &[SArm]) -> Option<u32>
     None
 }
 
-/// The place of the first form that doesn't run yet, if there is one: a definition's, or an
-/// expression's.
-pub fn unbuilt(program: &Surface) -> Option<u32>
-    ensures { result ≡ first_unbuilt (surface_of program.now) }
+fn in_field(field: &SField) -> Option<u32>
+    ensures { result ≡ unbuilt_field (field_tree_of field.now) }
 {
-    if let Some(first) = program.defs.as_slice().first() {
-        return Some(first.at);
+    match field {
+        SField::Abbrev(_) => None,
+        SField::Val(_, _, body) => in_tree(body),
     }
-    match &program.expr {
+}
+
+fn in_fields(fields: &[SField]) -> Option<u32>
+    ensures { result ≡ unbuilt_fields (map field_tree_of fields.now) }
+{
+    for field in fields {
+        if let Some(at) = in_field(field) {
+            return Some(at);
+        }
+    }
+    None
+}
+
+fn in_def(def: &SDef) -> Option<u32>
+    ensures { result ≡ unbuilt_def (def_tree_of def.now) }
+{
+    match &def.kind {
+        SDefKind::Module {
+            name: _,
+            sig: _,
+            version: _,
+            fields,
+        } => in_fields(fields.as_slice()),
+        SDefKind::Import {
+            name: _,
+            sig: _,
+            wants: _,
+            like: _,
+            by: _,
+        } => None,
+        SDefKind::Mark {
+            text_at: _,
+            text: _,
+        } => None,
+    }
+}
+
+fn in_defs(defs: &[SDef]) -> Option<u32>
+    ensures { result ≡ unbuilt_defs (map def_tree_of defs.now) }
+{
+    for def in defs {
+        if let Some(at) = in_def(def) {
+            return Some(at);
+        }
+    }
+    None
+}
+
+fn in_expression(tree: &Option<SExpr>) -> Option<u32>
+    ensures { result ≡ option_and_then unbuilt (option_map expr_of tree.now) }
+{
+    match tree {
         Some(tree) => in_tree(tree),
         None => None,
     }
+}
+
+/// The place of the first form of expression that doesn't run yet, if there is one: `marshal` and
+/// `unmarshal`.
+pub fn unbuilt(program: &Surface) -> Option<u32>
+    ensures { result ≡ first_unbuilt (surface_of program.now) }
+{
+    in_defs(program.defs.as_slice()).or(in_expression(&program.expr))
 }

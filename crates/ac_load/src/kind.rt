@@ -1,10 +1,12 @@
 // Why a text is refused, and which.
 
-use ac_resolve::ScopeFault;
+use ac_causes::PartFault;
+use ac_elaborate::ScopeFault;
 use ac_syntax::ParseFault;
 use ac_types::Memory;
 
-/// Why a text is refused: the first cause that applies, in this order.
+/// Why a text is refused: the first cause that applies, in this order, but that `Unbuilt` comes
+/// in front of `Unbound`. Definitions are counted in the text, entries among all that are there.
 #[derive(Clone, Copy, Debug, PartialEq, Eq)]
 pub enum Kind {
     /// It has more than 1,048,576 bytes: its length.
@@ -15,17 +17,28 @@ pub enum Kind {
     TooDeep { at: u32 },
     /// Its tokens have no tree: the place of a token, or the text's length.
     Syntax { at: u32 },
-    /// The place of the first definition or form of expression that doesn't run yet.
-    Unbuilt { at: u32 },
     /// The place of the first name that isn't in scope.
     Unbound { at: u32 },
     /// The place of the first name that is repeated.
     Repeated { at: u32 },
     /// One more than the least limit that a count passes.
     TooMany { count: u32 },
-    /// The number of the first definition without a type; the program's expression counts as the
-    /// one after the last.
+    /// The first definition with an ill-typed field; the program's expression counts as the one
+    /// behind the last.
     IllTyped { def: u32 },
+    /// The first struct that doesn't cover its signature, and the first spec that it doesn't
+    /// cover, types first.
+    Signature { def: u32, spec: u32 },
+    /// The first field that isn't valuable.
+    NotValuable { def: u32, field: u32 },
+    /// The first abstract type, of an import by version, without a likespec.
+    LikeMissing { def: u32, spec: u32 },
+    /// The first import without a link.
+    Unresolved { def: u32 },
+    /// Two entries with one name and two texts: the least second, and for it the least first.
+    Clash { first: u32, second: u32 },
+    /// The place of the first form of expression that doesn't run yet.
+    Unbuilt { at: u32 },
     Memory,
 }
 
@@ -51,7 +64,7 @@ impl From<Memory> for Kind {
 
 impl From<ParseFault> for Kind {
     ghost use Rattle.std.specs.Prelude.{◌≡◌};
-    ghost use Rattle.ac_load.specs.Loading.{parse_kind};
+    ghost use Rattle.ac_load.specs.Kinds.{parse_kind};
 
     ghost from_gives = { λ fault e. e ≡ parse_kind fault };
 
@@ -68,9 +81,9 @@ impl From<ParseFault> for Kind {
 
 impl From<ScopeFault> for Kind {
     ghost use Rattle.std.specs.Prelude.{◌≡◌};
-    ghost use Rattle.ac_load.specs.Loading.{scope_kind};
+    ghost use Rattle.ac_load.specs.Kinds.{fault_kind};
 
-    ghost from_gives = { λ fault e. e ≡ scope_kind fault };
+    ghost from_gives = { λ fault e. e ≡ fault_kind fault };
 
     fn from(fault: ScopeFault) -> Kind {
         match fault {
@@ -78,6 +91,25 @@ impl From<ScopeFault> for Kind {
             ScopeFault::Repeated { at } => Kind::Repeated { at },
             ScopeFault::TooMany { count } => Kind::TooMany { count },
             ScopeFault::Memory => Kind::Memory,
+        }
+    }
+}
+
+impl From<PartFault> for Kind {
+    ghost use Rattle.std.specs.Prelude.{◌≡◌};
+    ghost use Rattle.ac_load.specs.Kinds.{part_kind};
+
+    ghost from_gives = { λ fault e. e ≡ part_kind fault };
+
+    fn from(fault: PartFault) -> Kind {
+        match fault {
+            PartFault::IllTyped { def } => Kind::IllTyped { def },
+            PartFault::Signature { def, spec } => Kind::Signature { def, spec },
+            PartFault::NotValuable { def, field } => Kind::NotValuable { def, field },
+            PartFault::LikeMissing { def, spec } => Kind::LikeMissing { def, spec },
+            PartFault::Unresolved { def } => Kind::Unresolved { def },
+            PartFault::Clash { first, second } => Kind::Clash { first, second },
+            PartFault::Memory => Kind::Memory,
         }
     }
 }

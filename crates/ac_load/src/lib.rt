@@ -1,10 +1,12 @@
-//! From the texts of a program and of a shelf to a term that is ready to run, or why there is none.
+//! From the texts of a program and of a shelf to entries and a term that are ready to run, or why
+//! there are none.
 #![tactic(auto)]
 
 mod built;
 mod kind;
 pub mod laws;
 mod loading;
+mod part;
 mod shelf;
 
 pub use built::unbuilt;

@@ -1,106 +1,117 @@
-// From the texts of a program and of a shelf to the program's term.
+// From the texts of a program and of a shelf to the program's entries and its term.
 
-ghost use Rattle.std.specs.Prelude.{◌≡◌, ◌≤◌, [], length, IfOk, IfErr, OnOk, option_map};
-ghost use Rattle.std.specs.Result.{result_err};
+ghost use Rattle.std.specs.Prelude.{◌≤◌, length, IfOk, IfErr, IsTrue};
+ghost use Rattle.std.specs.List.{list_all};
+ghost use Rattle.ac_types.specs.Types.{Typ};
 ghost use Rattle.ac_types.specs.ReadTypes.{typ_of};
-ghost use Rattle.ac_terms.specs.Read.{environment_of, expr_of};
+ghost use Rattle.ac_terms.specs.Terms.{Expr};
+ghost use Rattle.ac_terms.specs.Read.{environment_of, expr_of, bytes_of};
+ghost use Rattle.ac_terms.specs.Defs.{Own', Shelf as Shelf'};
+ghost use Rattle.ac_outer.specs.Entries.{keeps_name};
+ghost use Rattle.ac_acceptance.specs.Counted.{has_counted};
 ghost use Rattle.ac_meaning.specs.Loads.{IsLoaded};
+ghost use Rattle.ac_syntax.specs.Programs.{IsProgram, IsModule};
 ghost use Rattle.ac_syntax.specs.ReadTrees.{surface_of};
-ghost use Rattle.ac_load.specs.Built.{first_unbuilt};
-ghost use Rattle.ac_load.specs.declared.kind.Kind.TheVariants.{Unbuilt};
-ghost use Rattle.ac_load.specs.Loading.{shelf_of, IsShelved, HasTerm, Accepted, IsModuleRefused, IsProgramRefused, IsRefused, Says};
+ghost use Rattle.ac_acceptance.specs.Accepting.{IsShelf};
+ghost use Rattle.ac_load.specs.Kinds.{Says};
+ghost use Rattle.ac_load.specs.Loading.{shelved, shelf_of, Loads, RejectsPart, Rejects};
+ghost use Rattle.ac_load.specs.inner.Parts.{IsTaken, IsTreeRefused, IsModuleTaken, IsProgramTaken};
 
-use crate::built::unbuilt;
 use crate::kind::{Kind, Refusal};
-use crate::shelf::Shelf;
-use ac_check::{CheckFault, type_of};
+use crate::part::part;
+use crate::shelf::{Shelf, ShelfEntry};
 use ac_parser::{parse_module, parse_program};
-use ac_resolve::elaborate;
 use ac_rules::Loaded;
 use ac_syntax::Surface;
-use ac_terms::{Env, Home};
-use ac_types::Many;
+use ac_terms::{Env, Seen};
+use ac_types::{Many, Text};
 use std::alloc::Global;
 
-/// The program of a text beside a shelf of at most 256 texts, or the first part that is refused,
-/// and why.
+/// The program of a text beside a shelf of at most 256 texts, each under a URI of its own of 1 to
+/// 1,024 bytes; or the first part that is refused, and why.
 pub fn load(alloc: Global, program: &[u8], shelf: &Shelf) -> Result<Loaded, Refusal>
     requires few { length shelf.now.0 ≤ 256 }
+    requires shelved { IsShelf (shelf_of shelf.now) }
     ensures accepted { IfOk result (λ l.
-        Accepted program.now (shelf_of shelf.now) (environment_of l.env) (expr_of l.main)
+        Loads program.now (shelf_of shelf.now) (environment_of l.env) (expr_of l.main)
         (typ_of l.ty)) }
     ensures loaded { IfOk result (λ l.
         IsLoaded (environment_of l.env) (expr_of l.main) (typ_of l.ty)) }
-    ensures alone { IfOk result (λ l. environment_of l.env ≡ []) }
     ensures refused { IfErr result (λ r.
-        Says r.kind (IsRefused program.now (shelf_of shelf.now) r.part r.kind)) }
+        Says r.kind (Rejects program.now (shelf_of shelf.now) r.part r.kind)) }
 {
+    let mut env = Env {
+        entries: Many::new(alloc),
+    };
     let mut part = 0;
     for entry in shelf.0.as_slice() {
         part += 1;
-        if let Err(kind) = check_module(alloc, entry.text.as_slice()) {
-            return Err(Refusal { part, kind });
+        match module_behind(alloc, env, entry) {
+            Ok(more) => env = more,
+            Err(kind) => return Err(Refusal { part, kind }),
         }
     }
-    match program_of(alloc, program) {
+    match program_behind(alloc, env, program) {
         Ok(loaded) => Ok(loaded),
         Err(kind) => Err(Refusal { part: 0, kind }),
     }
 }
 
-// Whether a text of the shelf is a module whose forms all run, or the first cause why not.
-fn check_module(alloc: Global, text: &[u8]) -> Result<(), Kind>
-    ensures shelved { OnOk result (IsShelved text.now) }
-    ensures refused { IfErr result (λ kind. Says kind (IsModuleRefused text.now kind)) }
+// The entries with the module of a text of the shelf behind them.
+fn module_behind(alloc: Global, env: Env, entry: &ShelfEntry) -> Result<Env, Kind>
+    requires few { length env.entries ≤ 256 }
+    requires names { IsTrue (list_all keeps_name (environment_of env)) }
+    requires counted { IsTrue (list_all has_counted (environment_of env)) }
+    ensures taken { IfOk result (λ e. IsModuleTaken (environment_of env) (shelved entry.now)
+        (environment_of e)) }
+    ensures refused { IfErr result (λ kind. Says kind (RejectsPart IsModule (environment_of env)
+        (Shelf' (shelved entry.now).uri) (shelved entry.now).text kind)) }
 {
-    let surface = parse_module(alloc, text)?;
-    let found = check_built(&surface);
+    let surface = parse_module(alloc, entry.text.as_slice())?;
+    let found = entries_behind(alloc, env, &surface, &entry.uri);
     drop(surface);
     found
 }
 
-// Whether all forms of a text run, or the first that doesn't.
-fn check_built(surface: &Surface) -> Result<(), Kind>
-    ensures { result_err result ≡ option_map Unbuilt (first_unbuilt (surface_of surface.now)) }
+// The entries with those of a tree of the shelf behind them.
+fn entries_behind(alloc: Global, env: Env, surface: &Surface, uri: &Text) -> Result<Env, Kind>
+    requires few { length env.entries ≤ 256 }
+    requires names { IsTrue (list_all keeps_name (environment_of env)) }
+    requires counted { IsTrue (list_all has_counted (environment_of env)) }
+    ensures taken { IfOk result (λ e. (f : Expr) × (T : Typ) × IsTaken (environment_of env)
+        (Shelf' (bytes_of uri.now)) (surface_of surface.now) (environment_of e) f T) }
+    ensures refused { IfErr result (λ kind. Says kind (IsTreeRefused (environment_of env)
+        (Shelf' (bytes_of uri.now)) (surface_of surface.now) kind)) }
 {
-    match unbuilt(surface) {
-        None => Ok(()),
-        Some(at) => Err(Kind::Unbuilt { at }),
+    let seen = Seen::Shelf(uri.copy(alloc)?);
+    match part(alloc, env, surface, &seen) {
+        Ok(Loaded { env, main, ty }) => {
+            drop(main);
+            drop(ty);
+            drop(seen);
+            Ok(env)
+        }
+        Err(kind) => {
+            drop(seen);
+            Err(kind)
+        }
     }
 }
 
-// The program of a text, or the first cause why it is refused.
-fn program_of(alloc: Global, text: &[u8]) -> Result<Loaded, Kind>
-    ensures has_term { IfOk result (λ l.
-        HasTerm text.now (environment_of l.env) (expr_of l.main) (typ_of l.ty)) }
-    ensures loaded { IfOk result (λ l.
-        IsLoaded (environment_of l.env) (expr_of l.main) (typ_of l.ty)) }
-    ensures alone { IfOk result (λ l. environment_of l.env ≡ []) }
-    ensures refused { IfErr result (λ kind. Says kind (IsProgramRefused text.now kind)) }
+// The program of a text behind these entries.
+fn program_behind(alloc: Global, env: Env, text: &[u8]) -> Result<Loaded, Kind>
+    requires few { length env.entries ≤ 256 }
+    requires names { IsTrue (list_all keeps_name (environment_of env)) }
+    requires counted { IsTrue (list_all has_counted (environment_of env)) }
+    ensures taken { IfOk result (λ l. IsProgramTaken (environment_of env) text.now
+        (environment_of l.env) (expr_of l.main) (typ_of l.ty)) }
+    ensures refused { IfErr result (λ kind. Says kind (RejectsPart IsProgram (environment_of env)
+        Own' text.now kind)) }
 {
     let surface = parse_program(alloc, text)?;
-    if let Some(at) = unbuilt(&surface) {
-        return Err(Kind::Unbuilt { at });
-    }
-    let env = Env {
-        entries: Many::new(alloc),
-    };
-    let raw = elaborate(alloc, &surface, &env)?;
-    match type_of(
-        alloc,
-        &raw.env,
-        Home::Main,
-        0,
-        0,
-        &Many::new(alloc),
-        &raw.main,
-    ) {
-        Ok(ty) => Ok(Loaded {
-            env: raw.env,
-            main: raw.main,
-            ty,
-        }),
-        Err(CheckFault::IllTyped) => Err(Kind::IllTyped { def: 0 }),
-        Err(CheckFault::Memory) => Err(Kind::Memory),
-    }
+    let seen = Seen::Own;
+    let found = part(alloc, env, &surface, &seen);
+    drop(seen);
+    drop(surface);
+    found
 }

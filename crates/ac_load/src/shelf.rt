@@ -1,6 +1,8 @@
 // The texts of modules that stand beside a program.
 
 ghost use Rattle.std.specs.Prelude.{◌≡◌, []};
+ghost use Rattle.ac_acceptance.specs.Accepting.{IsShelf};
+ghost use Rattle.ac_load.specs.Loading.{shelf_of};
 
 use ac_types::{Many, Text};
 use std::alloc::Global;
@@ -21,7 +23,8 @@ pub struct Shelf(pub Many<ShelfEntry>);
 impl Shelf {
     /// A shelf without texts. It takes no memory.
     pub fn empty(alloc: Global) -> Shelf
-        ensures { result.0 ≡ [] }
+        ensures none { result.0 ≡ [] }
+        ensures shelved { IsShelf (shelf_of result) }
     {
         Shelf(Many::new(alloc))
     }

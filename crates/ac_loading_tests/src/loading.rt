@@ -16,6 +16,7 @@ fn shelved(alloc: Global, text: &[u8]) -> Result<ShelfEntry, Memory> {
 
 fn shelf_of(alloc: Global, text: &[u8]) -> Result<Shelf, Memory>
     ensures { IfOk result (λ shelf. length shelf.0 ≤ 256) }
+    ensures shelved { IfOk result (λ shelf. IsShelf (shelf_of shelf)) }
 {
     let entry = shelved(alloc, text)?;
     let mut entries = Many::new(alloc);
@@ -55,7 +56,10 @@ fn a_text_of_a_shelf_comes_first(rt: HostRuntime) -> Result<(), Fail> {
         (b"", Kind::Syntax { at: 0 }),
         (b"1", Kind::Syntax { at: 0 }),
         (b"$", Kind::Lexical { at: 0 }),
-        (b" module M : sig end = struct end", Kind::Unbuilt { at: 1 }),
+        (
+            b"module M : sig val x : int end = struct end",
+            Kind::Signature { def: 0, spec: 0 },
+        ),
         (
             b"module M : sig end = struct end 1",
             Kind::Syntax { at: 32 },

@@ -10,6 +10,12 @@ fn write_place(page: &mut Page, cause: &[u8], at: u32) {
     page.number(u64::from(at));
 }
 
+fn write_both(page: &mut Page, cause: &[u8], first: u32, second: u32) {
+    write_place(page, cause, first);
+    page.put(b" ");
+    page.number(u64::from(second));
+}
+
 fn write_kind(page: &mut Page, kind: Kind) {
     match kind {
         Kind::TooLong { len } => {
@@ -19,11 +25,16 @@ fn write_kind(page: &mut Page, kind: Kind) {
         Kind::Lexical { at } => write_place(page, b" lexical at ", at),
         Kind::TooDeep { at } => write_place(page, b" too_deep at ", at),
         Kind::Syntax { at } => write_place(page, b" syntax at ", at),
-        Kind::Unbuilt { at } => write_place(page, b" unbuilt at ", at),
         Kind::Unbound { at } => write_place(page, b" unbound at ", at),
         Kind::Repeated { at } => write_place(page, b" repeated at ", at),
         Kind::TooMany { count } => write_place(page, b" too_many ", count),
         Kind::IllTyped { def } => write_place(page, b" ill_typed ", def),
+        Kind::Signature { def, spec } => write_both(page, b" signature ", def, spec),
+        Kind::NotValuable { def, field } => write_both(page, b" not_valuable ", def, field),
+        Kind::LikeMissing { def, spec } => write_both(page, b" like_missing ", def, spec),
+        Kind::Unresolved { def } => write_place(page, b" unresolved ", def),
+        Kind::Clash { first, second } => write_both(page, b" clash ", first, second),
+        Kind::Unbuilt { at } => write_place(page, b" unbuilt at ", at),
         Kind::Memory => page.lose(),
     }
 }

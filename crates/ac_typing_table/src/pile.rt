@@ -52,34 +52,28 @@ impl Pile {
         self.terms.push(term).ok()
     }
 
-    /// The top number, in one byte.
     pub fn small(&mut self) -> Option<u8> {
         u8::try_from(self.numbers.pop()?).ok()
     }
 
-    /// The top number, in two bytes.
     pub fn short(&mut self) -> Option<u16> {
         u16::try_from(self.numbers.pop()?).ok()
     }
 
-    /// Whether the top number is 1.
     pub fn truth(&mut self) -> Option<bool> {
         Some(self.numbers.pop()? == 1)
     }
 
-    /// The top type, in a box.
     pub fn boxed_type(&mut self) -> Option<Box<Ty>> {
         let ty = self.types.pop()?;
         Box::new(self.alloc, ty).ok()
     }
 
-    /// The top pattern, in a box.
     pub fn boxed_pat(&mut self) -> Option<Box<Pat>> {
         let pat = self.pats.pop()?;
         Box::new(self.alloc, pat).ok()
     }
 
-    /// The top term, in a box.
     pub fn boxed_term(&mut self) -> Option<Box<Term>> {
         let term = self.terms.pop()?;
         Box::new(self.alloc, term).ok()
