@@ -1,14 +1,15 @@
 //! The command that the words of a command line give, read by clap.
 #![tactic(auto)]
 
-ghost use Rattle.std.specs.Prelude.{◌≡◌, IfOk, drop, map, option_map, string_bytes};
+ghost use Rattle.std.specs.Prelude.{◌≡◌, IfOk, drop, map, option_and_then, option_map, string_bytes};
 ghost use Rattle.clap.specs.Words.{app_of};
-ghost use Rattle.ac_words.specs.Commands.{command_of, request_of, run_form, run_of, words_of};
+ghost use Rattle.ac_words.specs.Form.{given_of};
+ghost use Rattle.ac_words.specs.Commands.{code_of, command_of, files_of, names_of, program_form, program_of, request_of, run_form, run_of, words_of};
 ghost use Rattle.ac_word_clap.specs.Rules.{ReadsForm};
 
 use ac_types::Memory;
 use ac_word_clap::matches_in;
-use ac_words::{Command, run_from};
+use ac_words::{Command, Program, program_from, run_from};
 use clap::Arg;
 use std::alloc::Global;
 
@@ -19,13 +20,28 @@ fn run_command<'a>(alloc: Global) -> Result<clap::Command<'a>, Memory>
     let file = Arg::new(alloc, "FILE");
     let input = Arg::new(alloc, "in").long("in");
     let output = Arg::new(alloc, "out").long("out");
+    let shelf = Arg::new(alloc, "shelf").long("shelf");
     let steps = Arg::new(alloc, "steps").long("steps");
     let command = clap::Command::new(alloc, "run")
         .disable_help_flag(true)
         .arg(file)?
         .arg(input)?
         .arg(output)?
+        .arg(shelf)?
         .arg(steps)?;
+    Ok(command)
+}
+
+// What clap is to know of a command of this name that takes a program alone.
+fn program_command<'a>(alloc: Global, name: &'a str) -> Result<clap::Command<'a>, Memory>
+    ensures { IfOk result (λ c. ReadsForm program_form (app_of c)) }
+{
+    let file = Arg::new(alloc, "FILE");
+    let shelf = Arg::new(alloc, "shelf").long("shelf");
+    let command = clap::Command::new(alloc, name)
+        .disable_help_flag(true)
+        .arg(file)?
+        .arg(shelf)?;
     Ok(command)
 }
 
@@ -38,11 +54,48 @@ fn read_run<'a>(alloc: Global, words: &'a [String]) -> Result<Option<Command<'a>
     match matches_in(command, words)? {
         None => Ok(None),
         Some(matches) => Ok(run_from(
-            matches.get_str("FILE"),
+            program_from(matches.get_str("FILE"), matches.get_str("shelf")),
             matches.get_str("steps"),
             matches.get_str("in"),
             matches.get_str("out"),
         )),
+    }
+}
+
+// The program that the words give after the first, which is the command's name, or none.
+fn read_program<'a>(
+    alloc: Global,
+    name: &'a str,
+    words: &'a [String],
+) -> Result<Option<Program<'a>>, Memory>
+    ensures { IfOk result (λ o. option_map files_of o ≡ option_and_then program_of
+        (given_of program_form (drop 1 (map string_bytes words.now)))) }
+{
+    let command = program_command(alloc, name)?;
+    match matches_in(command, words)? {
+        None => Ok(None),
+        Some(matches) => Ok(program_from(matches.get_str("FILE"), matches.get_str("shelf"))),
+    }
+}
+
+// The `names` that the words give, and the `code`.
+fn read_names<'a>(alloc: Global, words: &'a [String]) -> Result<Option<Command<'a>>, Memory>
+    ensures { IfOk result (λ o. option_map request_of o
+        ≡ words_of program_form names_of (drop 1 (map string_bytes words.now))) }
+{
+    match read_program(alloc, "names", words)? {
+        None => Ok(None),
+        Some(program) => Ok(Some(Command::Names(program))),
+    }
+}
+
+fn read_code<'a>(alloc: Global, words: &'a [String]) -> Result<Option<Command<'a>>, Memory>
+    ensures { IfOk result (λ o. option_map request_of o
+        ≡ words_of program_form code_of (drop 1 (map string_bytes words.now))) }
+{
+    match read_program(alloc, "code", words)? {
+        None => Ok(None),
+        Some(program) => Ok(Some(Command::Code(program))),
     }
 }
 
@@ -55,6 +108,8 @@ pub fn read_words<'a>(alloc: Global, words: &'a [String]) -> Result<Option<Comma
     };
     match name.as_str() {
         "run" => read_run(alloc, words),
+        "names" => read_names(alloc, words),
+        "code" => read_code(alloc, words),
         _ => Ok(None),
     }
 }

@@ -2,8 +2,11 @@ pub mod ChannelLaws
 pub mod EndingLaws
 pub mod KindLaws
 pub mod LineExamples
-pub mod Pieces
 pub mod PlaceLaws
 pub mod RunLaws
+pub mod LoadedLaws
 pub mod TextLaws
 pub mod WordLaws
+pub mod ShowLaws
+pub mod FileLaws
+pub mod SaidLaws

@@ -10,17 +10,20 @@ use Rattle.ac_outside.specs.Outside.{Contents, Rose, Created, or_empty}
 use Rattle.ac_outside.specs.declared.traits.Put.{Put}
 use Rattle.ac_outside.specs.declared.traits.Put.TheVariants as put
 use Rattle.ac_words.specs.Form.{Text}
-use Rattle.ac_words.specs.Commands.{ChannelName, standard, file, are_one}
+use Rattle.ac_words.specs.Commands.{ChannelName, ProgramFiles, standard, file, are_one}
 use Rattle.ac_meaning.specs.Writes.{Write}
 use Rattle.ac_run.specs.Sessions.{Session, Streams, streams, with_writes, Begun, StopsIn, StopsBehind, Leaves, AtReceive, RunsTo}
 use Rattle.ac_run.specs.declared.end.RunEnd.{RunEnd}
 use Rattle.ac_run.specs.declared.end.RunEnd.TheVariants as end
 use Rattle.ac_top.specs.declared.status.Status.{Status}
 use Rattle.ac_top.specs.Channels.{of_channel, of_console, tells, left_in, sent_in, GetsInput}
-use Rattle.ac_top.specs.Streams.{Reading, Writing, Whole, IsTextOf, writing}
-use Rattle.ac_top.specs.Handed.{FilesSeen, Handed, what_is_handed, is_told, input_of, behind_run, Untouched, MadeAtMost, MakingFailed}
+use Rattle.ac_acceptance.specs.Accepting.{Shelved}
+use Rattle.ac_files.specs.Files.{FilesSeen, Reading, IsTextOf, Since}
+use Rattle.ac_files.specs.ProgramTexts.{IsShelfBy}
+use Rattle.ac_top.specs.Streams.{Writing, Whole, writing}
+use Rattle.ac_top.specs.Handed.{Handed, what_is_handed, is_told, input_of, behind_run, Untouched, MadeAtMost, MakingFailed}
 use Rattle.ac_top.specs.Endings.{HasRead, Said, said, failed, no_memory}
-use Rattle.ac_top.specs.inner.Runs.{ErrorsApart, Since, Prepared, Makes}
+use Rattle.ac_top.specs.inner.Runs.{ErrorsApart, Prepared, Makes}
 use Rattle.ac_top.proofs.ChannelLaws.{third}
 
 first : (a b : Bool) → IsTrue (a && b) → IsTrue a
@@ -158,8 +161,8 @@ gets_all None t o = refl
 gets_all (Some channel) t o = λ told. refl
 
 -- what is read, with all of the input
-abbrev pub read_all : (name : Bytes) (steps : ℕ) (from to : Option ChannelName) (o : Handed) (text : Bytes) → IsTextOf (o.files name) text → HasRead name steps from to o
-read_all name steps from to o text is_text = record { text = text; is_text = is_text; input = input_of from o; is_input = gets_all from (is_told from to o) o }
+abbrev pub read_all : (prog : ProgramFiles) (steps : ℕ) (from to : Option ChannelName) (o : Handed) (shelf : List Shelved) → IsShelfBy o.files prog.shelf shelf → (text : Bytes) → IsTextOf (o.files prog.file) text → HasRead prog steps from to o
+read_all prog steps from to o shelf is_shelf text is_text = record { shelf = shelf; is_shelf = is_shelf; text = text; is_text = is_text; input = input_of from o; is_input = gets_all from (is_told from to o) o }
 
 -- files that are as they were
 pub untouched_by : (told : Bool) (start now : FilesSeen) (input : Reading) (output errors : Writing) (to : Option ChannelName) → (IsTrue told → now.contents ≡ start.contents) → Untouched to (what_is_handed told start now input output errors)

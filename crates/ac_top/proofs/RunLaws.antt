@@ -20,14 +20,17 @@ use Rattle.ac_run.specs.Sessions.{Session, Streams, with_writes, IsEnd, Leaves, 
 use Rattle.ac_run.specs.Course.{begun}
 use Rattle.ac_run.specs.declared.end.RunEnd.{RunEnd}
 use Rattle.ac_run.specs.declared.end.RunEnd.TheVariants as end
-use Rattle.ac_load.specs.Loading.{Accepted}
-use Rattle.ac_words.specs.Commands.{ChannelName}
+use Rattle.ac_acceptance.specs.Accepting.{Shelved}
+use Rattle.ac_load.specs.Loading.{Loads}
+use Rattle.ac_files.specs.Files.{IsTextOf}
+use Rattle.ac_files.specs.ProgramTexts.{IsShelfBy}
+use Rattle.ac_words.specs.Commands.{ChannelName, ProgramFiles}
 use Rattle.ac_top.specs.declared.status.Status.{Status}
 use Rattle.ac_top.specs.declared.status.TheConstants.Status.{FINISHED, UNCAUGHT, SPENT, OUT_OF_MEMORY, READ_FAULT, WRITE_FAULT}
 use Rattle.ac_words.specs.Form.{Text}
 use Rattle.ac_outside.specs.Outside.{Rose}
 use Rattle.ac_top.specs.Channels.{of_channel, of_console}
-use Rattle.ac_top.specs.Streams.{Whole, IsTextOf, read_line, write_line, memory_line}
+use Rattle.ac_top.specs.Streams.{Whole, read_line, write_line, memory_line}
 use Rattle.ac_top.specs.Handed.{Handed, is_told, input_of, InputFailed, OutputFailed, MakingFailed, MadeAtMost, before_run, after_run, behind_run}
 use Rattle.ac_top.specs.Lines.{uncaught_line, spent_line}
 use Rattle.ac_top.specs.Meaning.{CommandAnswer, run_answer, Means, finished, uncaught, spent}
@@ -37,8 +40,8 @@ use Rattle.ac_top.proofs.TextLaws.{given_by, one_answer}
 use Rattle.ac_top.proofs.PlaceLaws.{read_all, gets_moved, runs_moved, input_earlier, output_failed}
 use Rattle.ac_top.proofs.EndingLaws.{end_told}
 
-module _ (name : Bytes) (steps : ℕ) (from to : Option ChannelName) (o : Handed) (loaded : Loaded) (r : HasRead name steps from to o)
-    (accepted : Accepted r.text [] (environment_of loaded.env) (expr_of loaded.main) (typ_of loaded.ty))
+module _ (prog : ProgramFiles) (steps : ℕ) (from to : Option ChannelName) (o : Handed) (loaded : Loaded) (r : HasRead prog steps from to o)
+    (accepted : Loads r.text r.shelf (environment_of loaded.env) (expr_of loaded.main) (typ_of loaded.ty))
     (typed : IsTypedProgram (environment_of loaded.env) (expr_of loaded.main) (typ_of loaded.ty)) where
   -- a run with this input ends so
   abbrev pub EndsSo : Mode → Outcome Value → Type 0
@@ -48,21 +51,21 @@ module _ (name : Bytes) (steps : ℕ) (from to : Option ChannelName) (o : Handed
   some mode = some_end grow mode (environment_of loaded.env) (expr_of loaded.main) r.input (is_some to) steps typed.coherent
 
   -- each end means something
-  meant_in : (mode : Mode) (p : Outcome Value) → EndsSo mode p → Means mode r.text [] steps r.input (is_some to) (given_by steps p)
+  meant_in : (mode : Mode) (p : Outcome Value) → EndsSo mode p → Means mode r.text r.shelf steps r.input (is_some to) (given_by steps p)
   meant_in mode (Returned v z) h = finished (environment_of loaded.env) (expr_of loaded.main) (typ_of loaded.ty) v z accepted h
   meant_in mode (Raised x z) h = uncaught (environment_of loaded.env) (expr_of loaded.main) (typ_of loaded.ty) x z accepted h
   meant_in mode (Spent z) h = spent (environment_of loaded.env) (expr_of loaded.main) (typ_of loaded.ty) z accepted h
   meant_in mode Stuck h = absurd (never_stuck arrives (environment_of loaded.env) (expr_of loaded.main) (typ_of loaded.ty) typed mode r.input (is_some to) steps h)
 
   -- and the same in each mode
-  pub meant : GivesStatus name steps from to o r (given_by steps (some Coloured).0)
-  meant = λ mode. subst (λ (a : CommandAnswer). Means mode r.text [] steps r.input (is_some to) a) (one_answer mode Coloured steps r.input (is_some to) typed (some mode).1 (some Coloured).1) (meant_in mode (some mode).0 (some mode).1)
+  pub meant : GivesStatus prog steps from to o r (given_by steps (some Coloured).0)
+  meant = λ mode. subst (λ (a : CommandAnswer). Means mode r.text r.shelf steps r.input (is_some to) a) (one_answer mode Coloured steps r.input (is_some to) typed (some mode).1 (some Coloured).1) (meant_in mode (some mode).0 (some mode).1)
 
-  pub meant_by : (a : CommandAnswer) × (GivesStatus name steps from to o r a × (a.runs ≡ true))
+  pub meant_by : (a : CommandAnswer) × (GivesStatus prog steps from to o r a × (a.runs ≡ true))
   meant_by = (given_by steps (some Coloured).0, (meant, refl))
 
-module _ (name : Bytes) (steps : ℕ) (from to : Option ChannelName) (o : Handed) (loaded : Loaded) (machine : MachineSeen) (t : Session) (mid : Bytes) (r : HasRead name steps from to o)
-    (accepted : Accepted r.text [] (environment_of loaded.env) (expr_of loaded.main) (typ_of loaded.ty))
+module _ (prog : ProgramFiles) (steps : ℕ) (from to : Option ChannelName) (o : Handed) (loaded : Loaded) (machine : MachineSeen) (t : Session) (mid : Bytes) (r : HasRead prog steps from to o)
+    (accepted : Loads r.text r.shelf (environment_of loaded.env) (expr_of loaded.main) (typ_of loaded.ty))
     (typed : IsTypedProgram (environment_of loaded.env) (expr_of loaded.main) (typ_of loaded.ty)) where
   -- the session has run to this end
   abbrev pub Runs : RunEnd → Type 0
@@ -70,78 +73,80 @@ module _ (name : Bytes) (steps : ℕ) (from to : Option ChannelName) (o : Handed
 
   -- how the reduction ends, and what that means
   abbrev last : Outcome Value
-  last = (some name steps from to o loaded r accepted typed Coloured).0
+  last = (some prog steps from to o loaded r accepted typed Coloured).0
 
-  meaning : GivesStatus name steps from to o r (given_by steps last)
-  meaning = meant name steps from to o loaded r accepted typed
+  meaning : GivesStatus prog steps from to o r (given_by steps last)
+  meaning = meant prog steps from to o loaded r accepted typed
 
   -- as the reduction ends
   ended : (e : RunEnd) → Runs e → IsEnd e last t × Leaves e (is_told from to o) (writes_of last) (before_run to o) (after_run to o mid)
-  ended e runs = let h = some name steps from to o loaded r accepted typed Coloured in runs.ends Coloured h.0 h.1
+  ended e runs = let h = some prog steps from to o loaded r accepted typed Coloured in runs.ends Coloured h.0 h.1
 
-  finished_by : (p : Outcome Value) → GivesStatus name steps from to o r (given_by steps p) → IsEnd end.Finished p t → (IsTrue (is_told from to o) → after_run to o mid ≡ with_writes (writes_of p) (before_run to o)) → Whole (behind_run to o mid) [] → RunEnded name steps from to o FINISHED
+  finished_by : (p : Outcome Value) → GivesStatus prog steps from to o r (given_by steps p) → IsEnd end.Finished p t → (IsTrue (is_told from to o) → after_run to o mid ≡ with_writes (writes_of p) (before_run to o)) → Whole (behind_run to o mid) [] → RunEnded prog steps from to o FINISHED
   finished_by (Returned v z) g is all still = has_run r (run_answer FINISHED z.writes []) mid g refl all (refl, still)
   finished_by (Raised x z) g is all still = absurd is
   finished_by (Spent z) g is all still = absurd is
   finished_by Stuck g is all still = absurd is
 
-  uncaught_by : (exn : Exn) (p : Outcome Value) → GivesStatus name steps from to o r (given_by steps p) → IsEnd (end.Uncaught exn) p t → (IsTrue (is_told from to o) → after_run to o mid ≡ with_writes (writes_of p) (before_run to o))
-      → (status : Status) → Said (behind_run to o mid) (uncaught_line (exn_of exn)) UNCAUGHT status ⊎ Said (behind_run to o mid) memory_line OUT_OF_MEMORY status → RunEnded name steps from to o status
+  uncaught_by : (exn : Exn) (p : Outcome Value) → GivesStatus prog steps from to o r (given_by steps p) → IsEnd (end.Uncaught exn) p t → (IsTrue (is_told from to o) → after_run to o mid ≡ with_writes (writes_of p) (before_run to o))
+      → (status : Status) → Said (behind_run to o mid) (uncaught_line (exn_of exn)) UNCAUGHT status ⊎ Said (behind_run to o mid) memory_line OUT_OF_MEMORY status → RunEnded prog steps from to o status
   uncaught_by exn (Returned v z) g is all status s = absurd is
   uncaught_by exn (Raised x z) g is all status s =
-      end_told name steps from to o r (run_answer UNCAUGHT z.writes (uncaught_line x)) mid g refl all _ _ refl status
+      end_told prog steps from to o r (run_answer UNCAUGHT z.writes (uncaught_line x)) mid g refl all _ _ refl status
       (subst (λ (x : Exception). Said (behind_run to o mid) (uncaught_line x) UNCAUGHT status ⊎ Said (behind_run to o mid) memory_line OUT_OF_MEMORY status) is.0 s)
   uncaught_by exn (Spent z) g is all status s = absurd is
   uncaught_by exn Stuck g is all status s = absurd is
 
-  spent_by : (budget : ℕ) (p : Outcome Value) → t.steps ≡ steps → GivesStatus name steps from to o r (given_by steps p) → IsEnd (end.Spent budget) p t → (IsTrue (is_told from to o) → after_run to o mid ≡ with_writes (writes_of p) (before_run to o))
-      → (status : Status) → Said (behind_run to o mid) (spent_line budget) SPENT status ⊎ Said (behind_run to o mid) memory_line OUT_OF_MEMORY status → RunEnded name steps from to o status
+  spent_by : (budget : ℕ) (p : Outcome Value) → t.steps ≡ steps → GivesStatus prog steps from to o r (given_by steps p) → IsEnd (end.Spent budget) p t → (IsTrue (is_told from to o) → after_run to o mid ≡ with_writes (writes_of p) (before_run to o))
+      → (status : Status) → Said (behind_run to o mid) (spent_line budget) SPENT status ⊎ Said (behind_run to o mid) memory_line OUT_OF_MEMORY status → RunEnded prog steps from to o status
   spent_by budget (Returned v z) same g is all status s = absurd is
   spent_by budget (Raised x z) same g is all status s = absurd is
   spent_by budget (Spent z) same g is all status s =
-      end_told name steps from to o r (run_answer SPENT z.writes (spent_line steps)) mid g refl all _ _ refl status
+      end_told prog steps from to o r (run_answer SPENT z.writes (spent_line steps)) mid g refl all _ _ refl status
       (subst (λ (n : ℕ). Said (behind_run to o mid) (spent_line n) SPENT status ⊎ Said (behind_run to o mid) memory_line OUT_OF_MEMORY status) (is.0 ∙ same) s)
   spent_by budget Stuck same g is all status s = absurd is
 
-  pub has_finished : Runs end.Finished → Whole (behind_run to o mid) [] → RunEnded name steps from to o FINISHED
+  pub has_finished : Runs end.Finished → Whole (behind_run to o mid) [] → RunEnded prog steps from to o FINISHED
   has_finished runs still = let e = ended end.Finished runs in finished_by last meaning e.0 e.1 still
 
-  pub has_raised : (exn : Exn) → Runs (end.Uncaught exn) → (status : Status) → Said (behind_run to o mid) (uncaught_line (exn_of exn)) UNCAUGHT status ⊎ Said (behind_run to o mid) memory_line OUT_OF_MEMORY status → RunEnded name steps from to o status
+  pub has_raised : (exn : Exn) → Runs (end.Uncaught exn) → (status : Status) → Said (behind_run to o mid) (uncaught_line (exn_of exn)) UNCAUGHT status ⊎ Said (behind_run to o mid) memory_line OUT_OF_MEMORY status → RunEnded prog steps from to o status
   has_raised exn runs status s = let e = ended (end.Uncaught exn) runs in uncaught_by exn last meaning e.0 e.1 status s
 
-  pub has_spent : (budget : ℕ) → t.steps ≡ steps → Runs (end.Spent budget) → (status : Status) → Said (behind_run to o mid) (spent_line budget) SPENT status ⊎ Said (behind_run to o mid) memory_line OUT_OF_MEMORY status → RunEnded name steps from to o status
+  pub has_spent : (budget : ℕ) → t.steps ≡ steps → Runs (end.Spent budget) → (status : Status) → Said (behind_run to o mid) (spent_line budget) SPENT status ⊎ Said (behind_run to o mid) memory_line OUT_OF_MEMORY status → RunEnded prog steps from to o status
   has_spent budget same runs status s = let e = ended (end.Spent budget) runs in spent_by budget last same meaning e.0 e.1 status s
 
-  pub has_unread : Runs end.ReadFault → InputFailed from o → (status : Status) → Said (behind_run to o mid) read_line READ_FAULT status → RunEnded name steps from to o status
+  pub has_unread : Runs end.ReadFault → InputFailed from o → (status : Status) → Said (behind_run to o mid) read_line READ_FAULT status → RunEnded prog steps from to o status
   has_unread runs rose status s =
       unread_input r _ mid meaning refl rose (ended end.ReadFault runs).1
       (record { program = loaded; accepted = accepted; machine = machine; last = environment_of t.program.env; stopped = t.machine; stands = runs.receives refl }) s
 
-  pub has_failed : Runs end.WriteFault → OutputFailed to o → (status : Status) → Said (behind_run to o mid) write_line WRITE_FAULT status → RunEnded name steps from to o status
+  pub has_failed : Runs end.WriteFault → OutputFailed to o → (status : Status) → Said (behind_run to o mid) write_line WRITE_FAULT status → RunEnded prog steps from to o status
   has_failed runs rose status s = unwritten r _ mid meaning refl rose (ended end.WriteFault runs).1 s
 
-  pub has_lost : Runs end.Memory → (status : Status) → Said (behind_run to o mid) memory_line OUT_OF_MEMORY status → RunEnded name steps from to o status
+  pub has_lost : Runs end.Memory → (status : Status) → Said (behind_run to o mid) memory_line OUT_OF_MEMORY status → RunEnded prog steps from to o status
   has_lost runs status s = no_memory_left r _ mid meaning refl (ended end.Memory runs).1 s
 
 -- where the file of the channel isn't made
-module _ (name : Bytes) (steps : ℕ) (from to : Option ChannelName) (o : Handed) (text : Bytes) (is_text : IsTextOf (o.files name) text) (loaded : Loaded)
-    (accepted : Accepted text [] (environment_of loaded.env) (expr_of loaded.main) (typ_of loaded.ty))
+module _ (prog : ProgramFiles) (steps : ℕ) (from to : Option ChannelName) (o : Handed) (shelf : List Shelved) (is_shelf : IsShelfBy o.files prog.shelf shelf) (text : Bytes) (is_text : IsTextOf (o.files prog.file) text) (loaded : Loaded)
+    (accepted : Loads text shelf (environment_of loaded.env) (expr_of loaded.main) (typ_of loaded.ty))
     (typed : IsTypedProgram (environment_of loaded.env) (expr_of loaded.main) (typ_of loaded.ty)) where
-  meaning_all : (a : CommandAnswer) × (GivesStatus name steps from to o (read_all name steps from to o text is_text) a × (a.runs ≡ true))
-  meaning_all = meant_by name steps from to o loaded (read_all name steps from to o text is_text) accepted typed
+  meaning_all : (a : CommandAnswer) × (GivesStatus prog steps from to o (read_all prog steps from to o shelf is_shelf text is_text) a × (a.runs ≡ true))
+  meaning_all = meant_by prog steps from to o loaded (read_all prog steps from to o shelf is_shelf text is_text) accepted typed
 
-  pub unmade_in : MakingFailed to o → Whole o.output [] → MadeAtMost to o → (end : Status) → Said o.errors write_line WRITE_FAULT end → RunEnded name steps from to o end
-  unmade_in rose none most end s = unmade_file (read_all name steps from to o text is_text) meaning_all.0 meaning_all.1.0 meaning_all.1.1 rose none most s
+  pub unmade_in : MakingFailed to o → Whole o.output [] → MadeAtMost to o → (end : Status) → Said o.errors write_line WRITE_FAULT end → RunEnded prog steps from to o end
+  unmade_in rose none most end s = unmade_file (read_all prog steps from to o shelf is_shelf text is_text) meaning_all.0 meaning_all.1.0 meaning_all.1.1 rose none most s
 
-  pub lost_making : Whole o.output [] → MadeAtMost to o → (end : Status) → Said o.errors memory_line OUT_OF_MEMORY end → RunEnded name steps from to o end
-  lost_making none most end s = no_memory_making (read_all name steps from to o text is_text) meaning_all.0 meaning_all.1.0 meaning_all.1.1 none most s
+  pub lost_making : Whole o.output [] → MadeAtMost to o → (end : Status) → Said o.errors memory_line OUT_OF_MEMORY end → RunEnded prog steps from to o end
+  lost_making none most end s = no_memory_making (read_all prog steps from to o shelf is_shelf text is_text) meaning_all.0 meaning_all.1.0 meaning_all.1.1 none most s
 
 -- a session has run, from what was read and made in front of it
-pub record Setting (name : Bytes) (steps : ℕ) (from to : Option ChannelName) (o : Handed) (mid : Bytes) (s t : Session) (e : RunEnd) : Type 0 where
+pub record Setting (prog : ProgramFiles) (steps : ℕ) (from to : Option ChannelName) (o : Handed) (mid : Bytes) (s t : Session) (e : RunEnd) : Type 0 where
+  pub shelf : List Shelved
+  pub is_shelf : IsShelfBy o.files prog.shelf shelf
   pub text : Bytes
-  pub is_text : IsTextOf (o.files name) text
+  pub is_text : IsTextOf (o.files prog.file) text
   pub loaded : Loaded
-  pub accepted : Accepted text [] (environment_of loaded.env) (expr_of loaded.main) (typ_of loaded.ty)
+  pub accepted : Loads text shelf (environment_of loaded.env) (expr_of loaded.main) (typ_of loaded.ty)
   pub typed : IsTypedProgram (environment_of loaded.env) (expr_of loaded.main) (typ_of loaded.ty)
   pub machine : MachineSeen
   pub is : s ≡ begun loaded steps (is_some to) machine
@@ -151,36 +156,36 @@ pub record Setting (name : Bytes) (steps : ℕ) (from to : Option ChannelName) (
   pub old_is : IsTrue (is_told from to o) → old ≡ before_run to o
   pub ran : RanIn from (is_told from to o) left old (after_run to o mid) s t e
 
-module _ {name : Bytes} {steps : ℕ} {from to : Option ChannelName} {o : Handed} {mid : Bytes} {s t : Session} where
-  abbrev read_in : {e : RunEnd} → Setting name steps from to o mid s t e → HasRead name steps from to o
-  read_in x = record { text = x.text; is_text = x.is_text; input = x.ran.input; is_input = gets_moved from (is_told from to o) x.left (input_of from o) x.ran.input x.left_is x.ran.gets }
+module _ {prog : ProgramFiles} {steps : ℕ} {from to : Option ChannelName} {o : Handed} {mid : Bytes} {s t : Session} where
+  abbrev read_in : {e : RunEnd} → Setting prog steps from to o mid s t e → HasRead prog steps from to o
+  read_in x = record { shelf = x.shelf; is_shelf = x.is_shelf; text = x.text; is_text = x.is_text; input = x.ran.input; is_input = gets_moved from (is_told from to o) x.left (input_of from o) x.ran.input x.left_is x.ran.gets }
 
-  runs_in : {e : RunEnd} (x : Setting name steps from to o mid s t e) → RunsTo (is_told from to o) (begun x.loaded steps (is_some to) x.machine) t x.ran.input e (before_run to o) (after_run to o mid)
+  runs_in : {e : RunEnd} (x : Setting prog steps from to o mid s t e) → RunsTo (is_told from to o) (begun x.loaded steps (is_some to) x.machine) t x.ran.input e (before_run to o) (after_run to o mid)
   runs_in {e} x =
       subst (λ (y : Session). RunsTo (is_told from to o) y t x.ran.input e (before_run to o) (after_run to o mid)) x.is
       (runs_moved (is_told from to o) x.old (before_run to o) (after_run to o mid) x.old_is s t x.ran.input e x.ran.runs)
 
-  pub finished_in : Setting name steps from to o mid s t end.Finished → Whole (behind_run to o mid) [] → RunEnded name steps from to o FINISHED
-  finished_in x still = has_finished name steps from to o x.loaded x.machine t mid (read_in x) x.accepted x.typed (runs_in x) still
+  pub finished_in : Setting prog steps from to o mid s t end.Finished → Whole (behind_run to o mid) [] → RunEnded prog steps from to o FINISHED
+  finished_in x still = has_finished prog steps from to o x.loaded x.machine t mid (read_in x) x.accepted x.typed (runs_in x) still
 
-  pub raised_in : {exn : Exn} → Setting name steps from to o mid s t (end.Uncaught exn) → (status : Status) → Said (behind_run to o mid) (uncaught_line (exn_of exn)) UNCAUGHT status ⊎ Said (behind_run to o mid) memory_line OUT_OF_MEMORY status → RunEnded name steps from to o status
-  raised_in {exn} x status told = has_raised name steps from to o x.loaded x.machine t mid (read_in x) x.accepted x.typed exn (runs_in x) status told
+  pub raised_in : {exn : Exn} → Setting prog steps from to o mid s t (end.Uncaught exn) → (status : Status) → Said (behind_run to o mid) (uncaught_line (exn_of exn)) UNCAUGHT status ⊎ Said (behind_run to o mid) memory_line OUT_OF_MEMORY status → RunEnded prog steps from to o status
+  raised_in {exn} x status told = has_raised prog steps from to o x.loaded x.machine t mid (read_in x) x.accepted x.typed exn (runs_in x) status told
 
-  pub spent_in : {budget : ℕ} → Setting name steps from to o mid s t (end.Spent budget) → (status : Status) → Said (behind_run to o mid) (spent_line budget) SPENT status ⊎ Said (behind_run to o mid) memory_line OUT_OF_MEMORY status → RunEnded name steps from to o status
-  spent_in {budget} x status told = has_spent name steps from to o x.loaded x.machine t mid (read_in x) x.accepted x.typed budget (x.ran.budget ∙ ap (λ (y : Session). y.steps) x.is) (runs_in x) status told
+  pub spent_in : {budget : ℕ} → Setting prog steps from to o mid s t (end.Spent budget) → (status : Status) → Said (behind_run to o mid) (spent_line budget) SPENT status ⊎ Said (behind_run to o mid) memory_line OUT_OF_MEMORY status → RunEnded prog steps from to o status
+  spent_in {budget} x status told = has_spent prog steps from to o x.loaded x.machine t mid (read_in x) x.accepted x.typed budget (x.ran.budget ∙ ap (λ (y : Session). y.steps) x.is) (runs_in x) status told
 
-  pub unread_in : Setting name steps from to o mid s t end.ReadFault → (g : Text → ℕ) → ((file : Text) → (o.files file).before ≤ g file)
-      → Rose (of_channel from 0 o.input.before g) (of_channel from 0 o.input.after (λ file. (o.files file).after)) → (status : Status) → Said (behind_run to o mid) read_line READ_FAULT status → RunEnded name steps from to o status
+  pub unread_in : Setting prog steps from to o mid s t end.ReadFault → (g : Text → ℕ) → ((file : Text) → (o.files file).before ≤ g file)
+      → Rose (of_channel from 0 o.input.before g) (of_channel from 0 o.input.after (λ file. (o.files file).after)) → (status : Status) → Said (behind_run to o mid) read_line READ_FAULT status → RunEnded prog steps from to o status
   unread_in x g earlier rose status told =
-      has_unread name steps from to o x.loaded x.machine t mid (read_in x) x.accepted x.typed (runs_in x)
+      has_unread prog steps from to o x.loaded x.machine t mid (read_in x) x.accepted x.typed (runs_in x)
       (input_earlier from o.input.before (λ file. (o.files file).before) g (of_channel from 0 o.input.after (λ file. (o.files file).after)) earlier rose) status told
 
-  pub failed_in : Setting name steps from to o mid s t end.WriteFault → (d : ℕ) (g : Text → ℕ) → d ≤ o.errors.after → ((file : Text) → (o.made file).before ≤ g file)
+  pub failed_in : Setting prog steps from to o mid s t end.WriteFault → (d : ℕ) (g : Text → ℕ) → d ≤ o.errors.after → ((file : Text) → (o.made file).before ≤ g file)
       → Rose (of_console to o.output.before o.errors.before) (of_console to o.output.after d) ⊎ Rose (of_channel to 0 o.output.before g) (of_channel to 0 o.output.after (λ file. (o.made file).after))
-      → (status : Status) → Said (behind_run to o mid) write_line WRITE_FAULT status → RunEnded name steps from to o status
+      → (status : Status) → Said (behind_run to o mid) write_line WRITE_FAULT status → RunEnded prog steps from to o status
   failed_in x d g le earlier rose status told =
-      has_failed name steps from to o x.loaded x.machine t mid (read_in x) x.accepted x.typed (runs_in x)
+      has_failed prog steps from to o x.loaded x.machine t mid (read_in x) x.accepted x.typed (runs_in x)
       (output_failed to o.output.before o.errors.before o.output.after d o.errors.after o.output.before (λ file. (o.made file).before) g (of_channel to 0 o.output.after (λ file. (o.made file).after)) le earlier rose) status told
 
-  pub lost_in : Setting name steps from to o mid s t end.Memory → (status : Status) → Said (behind_run to o mid) memory_line OUT_OF_MEMORY status → RunEnded name steps from to o status
-  lost_in x status told = has_lost name steps from to o x.loaded x.machine t mid (read_in x) x.accepted x.typed (runs_in x) status told
+  pub lost_in : Setting prog steps from to o mid s t end.Memory → (status : Status) → Said (behind_run to o mid) memory_line OUT_OF_MEMORY status → RunEnded prog steps from to o status
+  lost_in x status told = has_lost prog steps from to o x.loaded x.machine t mid (read_in x) x.accepted x.typed (runs_in x) status told

@@ -9,12 +9,13 @@ use Rattle.ac_meaning.specs.Laws.{IsTypedProgram, bare_end, writes_of}
 use Rattle.ac_meaning.specs.Reduction.{Ends}
 use Rattle.ac_meaning.proofs.Admitted.{arrives}
 use Rattle.ac_meaning.proofs.BareEndings.{ends_alike, one_bare_end}
-use Rattle.ac_load.specs.Loading.{ShelfText, Accepted, IsRefused}
+use Rattle.ac_acceptance.specs.Accepting.{Shelved}
+use Rattle.ac_load.specs.Loading.{Loads, Rejects}
 use Rattle.ac_load.specs.declared.kind.Kind.{Kind}
-use Rattle.ac_load.proofs.TextLaws.{not_both, one_term, runs}
+use Rattle.ac_top.proofs.LoadedLaws.{not_rejected, one_program}
 use Rattle.ac_top.specs.declared.status.Status.{Status}
 use Rattle.ac_top.specs.declared.status.TheConstants.Status.{FINISHED, REFUSED, UNCAUGHT, SPENT}
-use Rattle.ac_top.specs.Refusals.{kind_line}
+use Rattle.ac_top.specs.Refusals.{refusal_line}
 use Rattle.ac_top.specs.Lines.{uncaught_line, spent_line}
 use Rattle.ac_top.specs.Meaning.{CommandAnswer, refusal, run_answer, Means, refused, finished, uncaught, spent}
 
@@ -48,23 +49,24 @@ one_answer m n steps input sends {E = E} {e = e} {T = T} {o = o} {p = p} typed e
     sym (given_bare steps o) ∙ ap (given_by steps) same ∙ given_bare steps p
 
 -- the text is refused
-record IsRefusal (text : List ℕ) (shelf : List ShelfText) (a : CommandAnswer) : Type 0 where
+record IsRefusal (text : List ℕ) (shelf : List Shelved) (a : CommandAnswer) : Type 0 where
+  part : ℕ
   kind : Kind
-  refused : IsRefused text shelf 0 kind
-  is : a ≡ refusal REFUSED (kind_line kind)
+  refused : Rejects text shelf part kind
+  is : a ≡ refusal REFUSED (refusal_line part kind)
 
 -- the text has a program, which ends so
-record IsRun (mode : Mode) (text : List ℕ) (shelf : List ShelfText) (steps : ℕ) (input : Bytes) (sends : Bool) (a : CommandAnswer) : Type 0 where
+record IsRun (mode : Mode) (text : List ℕ) (shelf : List Shelved) (steps : ℕ) (input : Bytes) (sends : Bool) (a : CommandAnswer) : Type 0 where
   env : Environment
   term : Expr
   type : Typ
   outcome : Outcome Value
-  accepted : Accepted text shelf env term type
+  accepted : Loads text shelf env term type
   ends : Ends mode env term input sends steps outcome
   is : a ≡ given_by steps outcome
 
-cases : {mode : Mode} {text : List ℕ} {shelf : List ShelfText} {steps : ℕ} {input : Bytes} {sends : Bool} {a : CommandAnswer} → Means mode text shelf steps input sends a → IsRefusal text shelf a ⊎ IsRun mode text shelf steps input sends a
-cases (refused k x) = inl (record { kind = k; refused = x; is = refl })
+cases : {mode : Mode} {text : List ℕ} {shelf : List Shelved} {steps : ℕ} {input : Bytes} {sends : Bool} {a : CommandAnswer} → Means mode text shelf steps input sends a → IsRefusal text shelf a ⊎ IsRun mode text shelf steps input sends a
+cases (refused n k x) = inl (record { part = n; kind = k; refused = x; is = refl })
 cases (finished E e T v z y h) = inr (record { env = E; term = e; type = T; outcome = Returned v z; accepted = y; ends = h; is = refl })
 cases (uncaught E e T x z y h) = inr (record { env = E; term = e; type = T; outcome = Raised x z; accepted = y; ends = h; is = refl })
 cases (spent E e T z y h) = inr (record { env = E; term = e; type = T; outcome = Spent z; accepted = y; ends = h; is = refl })
@@ -75,23 +77,23 @@ Alike a b = (a.status ≡ b.status) × (a.writes ≡ b.writes)
 same_answer : {a b : CommandAnswer} → a ≡ b → Alike a b
 same_answer is = (ap (λ (x : CommandAnswer). x.status) is, ap (λ (x : CommandAnswer). x.writes) is)
 
-refused_alike : {text : List ℕ} {shelf : List ShelfText} {a b : CommandAnswer} → IsRefusal text shelf a → IsRefusal text shelf b → Alike a b
+refused_alike : {text : List ℕ} {shelf : List Shelved} {a b : CommandAnswer} → IsRefusal text shelf a → IsRefusal text shelf b → Alike a b
 refused_alike r s =
     let left = same_answer r.is in
     let right = same_answer s.is in
     (left.0 ∙ sym right.0, left.1 ∙ sym right.1)
 
-run_alike : (m n : Mode) {text : List ℕ} {shelf : List ShelfText} {steps : ℕ} {input : Bytes} {sends : Bool} {a b : CommandAnswer} → IsRun m text shelf steps input sends a → IsRun n text shelf steps input sends b → Alike a b
+run_alike : (m n : Mode) {text : List ℕ} {shelf : List Shelved} {steps : ℕ} {input : Bytes} {sends : Bool} {a b : CommandAnswer} → IsRun m text shelf steps input sends a → IsRun n text shelf steps input sends b → Alike a b
 run_alike m n {steps = steps} {input = input} {sends = sends} r s =
-    let one = one_term r.accepted s.accepted in
+    let one = one_program r.accepted s.accepted in
     let moved = subst (λ (e : Expr). Ends m s.env e input sends steps r.outcome) one.1 (subst (λ (E : Environment). Ends m E r.term input sends steps r.outcome) one.0 r.ends) in
     same_answer (r.is ∙ one_answer m n steps input sends (runs s.accepted) moved s.ends ∙ sym s.is)
 
-alike : (m n : Mode) {text : List ℕ} {shelf : List ShelfText} {steps : ℕ} {input : Bytes} {sends : Bool} {a b : CommandAnswer} → IsRefusal text shelf a ⊎ IsRun m text shelf steps input sends a → IsRefusal text shelf b ⊎ IsRun n text shelf steps input sends b → Alike a b
+alike : (m n : Mode) {text : List ℕ} {shelf : List Shelved} {steps : ℕ} {input : Bytes} {sends : Bool} {a b : CommandAnswer} → IsRefusal text shelf a ⊎ IsRun m text shelf steps input sends a → IsRefusal text shelf b ⊎ IsRun n text shelf steps input sends b → Alike a b
 alike m n (inl r) (inl s) = refused_alike r s
-alike m n (inl r) (inr s) = absurd (not_both r.refused s.accepted)
-alike m n (inr r) (inl s) = absurd (not_both s.refused r.accepted)
+alike m n (inl r) (inr s) = absurd (not_rejected r.refused s.accepted)
+alike m n (inr r) (inl s) = absurd (not_rejected s.refused r.accepted)
 alike m n (inr r) (inr s) = run_alike m n r s
 
-pub one : (m n : Mode) {text : List ℕ} {shelf : List ShelfText} {steps : ℕ} {input : Bytes} {sends : Bool} {a b : CommandAnswer} → Means m text shelf steps input sends a → Means n text shelf steps input sends b → (a.status ≡ b.status) × (a.writes ≡ b.writes)
+pub one : (m n : Mode) {text : List ℕ} {shelf : List Shelved} {steps : ℕ} {input : Bytes} {sends : Bool} {a b : CommandAnswer} → Means m text shelf steps input sends a → Means n text shelf steps input sends b → (a.status ≡ b.status) × (a.writes ≡ b.writes)
 one m n a b = alike m n (cases a) (cases b)

@@ -1,19 +1,11 @@
 -- What a call is handed, before it and after it, and what a run's channels have of that.
 use Rattle.std.specs.Prelude.{◌≡◌, ◌⊎◌, ℕ, Bool, true, IsTrue, List, [], ◌&&◌, Option, Some, None}
-use Rattle.ac_outside.specs.Outside.{Contents, Rose, or_empty}
+use Rattle.ac_outside.specs.Outside.{Rose, or_empty}
 use Rattle.ac_words.specs.Commands.{ChannelName, standard, file}
 use Rattle.ac_run.specs.Sessions.{Streams, streams}
 use Rattle.ac_top.specs.Channels.{of_channel, of_console}
-use Rattle.ac_top.specs.Streams.{Reading, Writing}
-
--- what files have and count
-pub record FilesSeen : Type 0 where
-  pub contents : Contents
-  pub read_faults : List ℕ → ℕ
-  pub write_faults : List ℕ → ℕ
-
-abbrev pub files_seen : {Files : Type 0} → (Files → Contents) → (Files → List ℕ → ℕ) → (Files → List ℕ → ℕ) → Files → FilesSeen
-files_seen contents reads writes files = record { contents = contents files; read_faults = reads files; write_faults = writes files }
+use Rattle.ac_files.specs.Files.{FilesSeen, Reading, files_read}
+use Rattle.ac_top.specs.Streams.{Writing}
 
 -- the files as they are read and as they are written, and the streams
 pub record Handed : Type 0 where
@@ -26,7 +18,7 @@ pub record Handed : Type 0 where
 -- files whose contents are told or not, before a call and after it, and the streams
 abbrev pub what_is_handed : Bool → FilesSeen → FilesSeen → Reading → Writing → Writing → Handed
 what_is_handed told old new input output errors = record {
-  files = λ name. record { told = told; bytes = old.contents name; before = old.read_faults name; after = new.read_faults name };
+  files = files_read told old new;
   made = λ name. record { told = told; old = or_empty (old.contents name); new = or_empty (new.contents name); before = old.write_faults name; after = new.write_faults name };
   input = input;
   output = output;

@@ -4,5 +4,6 @@ pub mod Handed
 pub mod Lines
 pub mod Meaning
 pub mod Refusals
+pub mod Showing
 pub mod Streams
 pub mod inner

@@ -8,11 +8,12 @@ use Rattle.ac_meaning.specs.Writes.{Write}
 use Rattle.ac_meaning.specs.Worlds.{Exception, World}
 use Rattle.ac_meaning.specs.Acts.{Outcome, Returned, Raised, Spent}
 use Rattle.ac_meaning.specs.Reduction.{Ends}
-use Rattle.ac_load.specs.Loading.{ShelfText, Accepted, IsRefused}
+use Rattle.ac_acceptance.specs.Accepting.{Shelved}
+use Rattle.ac_load.specs.Loading.{Loads, Rejects}
 use Rattle.ac_load.specs.declared.kind.Kind.{Kind}
 use Rattle.ac_top.specs.declared.status.Status.{Status}
 use Rattle.ac_top.specs.declared.status.TheConstants.Status.{FINISHED, REFUSED, UNCAUGHT, SPENT}
-use Rattle.ac_top.specs.Refusals.{kind_line}
+use Rattle.ac_top.specs.Refusals.{refusal_line}
 use Rattle.ac_top.specs.Lines.{uncaught_line, spent_line}
 
 -- what a command gives where nothing fails: a status, whether a program runs, what it writes, and the line on errors
@@ -32,8 +33,8 @@ abbrev pub run_answer : Status → List Write → List ℕ → CommandAnswer
 run_answer status writes line = record { status = status; runs = true; writes = writes; line = line }
 
 -- a text beside a shelf is refused, or its program ends with a value, with an exception, or in front of an application too many
-pub data Means (mode : Mode) (text : Bytes) (shelf : List ShelfText) (steps : ℕ) (input : Bytes) (sends : Bool) : CommandAnswer → Type 0 where
-  refused : (kind : Kind) → IsRefused text shelf 0 kind → Means mode text shelf steps input sends (refusal REFUSED (kind_line kind))
-  finished : (E : Environment) (e : Expr) (T : Typ) (v : Value) (z : World) → Accepted text shelf E e T → Ends mode E e input sends steps (Returned v z) → Means mode text shelf steps input sends (run_answer FINISHED z.writes [])
-  uncaught : (E : Environment) (e : Expr) (T : Typ) (x : Exception) (z : World) → Accepted text shelf E e T → Ends mode E e input sends steps (Raised x z) → Means mode text shelf steps input sends (run_answer UNCAUGHT z.writes (uncaught_line x))
-  spent : (E : Environment) (e : Expr) (T : Typ) (z : World) → Accepted text shelf E e T → Ends mode E e input sends steps (Spent z) → Means mode text shelf steps input sends (run_answer SPENT z.writes (spent_line steps))
+pub data Means (mode : Mode) (text : Bytes) (shelf : List Shelved) (steps : ℕ) (input : Bytes) (sends : Bool) : CommandAnswer → Type 0 where
+  refused : (part : ℕ) (kind : Kind) → Rejects text shelf part kind → Means mode text shelf steps input sends (refusal REFUSED (refusal_line part kind))
+  finished : (E : Environment) (e : Expr) (T : Typ) (v : Value) (z : World) → Loads text shelf E e T → Ends mode E e input sends steps (Returned v z) → Means mode text shelf steps input sends (run_answer FINISHED z.writes [])
+  uncaught : (E : Environment) (e : Expr) (T : Typ) (x : Exception) (z : World) → Loads text shelf E e T → Ends mode E e input sends steps (Raised x z) → Means mode text shelf steps input sends (run_answer UNCAUGHT z.writes (uncaught_line x))
+  spent : (E : Environment) (e : Expr) (T : Typ) (z : World) → Loads text shelf E e T → Ends mode E e input sends steps (Spent z) → Means mode text shelf steps input sends (run_answer SPENT z.writes (spent_line steps))

@@ -1,27 +1,58 @@
 -- The line that says why a program is refused, and the status with it.
-use Rattle.std.specs.Prelude.{ℕ, List, [], ◌∷◌, ◌++◌, codes}
+use Rattle.std.specs.Prelude.{ℕ, ◌==◌, List, [], ◌∷◌, ◌++◌, codes, if◌then◌else◌}
 use Rattle.std.specs.Fmt.{decimal}
 use Rattle.ac_load.specs.declared.kind.Kind.{Kind}
-use Rattle.ac_load.specs.declared.kind.Kind.TheVariants.{TooLong, Lexical, TooDeep, Syntax, Unbuilt, Unbound, Repeated, TooMany, IllTyped, Memory}
+use Rattle.ac_load.specs.declared.kind.Kind.TheVariants.{TooLong, Lexical, TooDeep, Syntax, Unbuilt, Unbound, Repeated, TooMany, IllTyped, Signature, NotValuable, LikeMissing, Unresolved, Clash, Memory}
 use Rattle.ac_top.specs.declared.status.Status.{Status}
 use Rattle.ac_top.specs.declared.status.TheConstants.Status.{REFUSED, OUT_OF_MEMORY}
 use Rattle.ac_top.specs.Streams.{memory_line}
 
--- a word and a number
-abbrev pub refused_at : List ℕ → ℕ → List ℕ
-refused_at word n = codes "acute: refused: " ++ (word ++ (codes " at " ++ (decimal n ++ 10 ∷ [])))
+-- a kind's word
+abbrev pub kind_word : Kind → List ℕ
+kind_word (TooLong len) = codes "too_long"
+kind_word (Lexical at) = codes "lexical"
+kind_word (TooDeep at) = codes "too_deep"
+kind_word (Syntax at) = codes "syntax"
+kind_word (Unbuilt at) = codes "unbuilt"
+kind_word (Unbound at) = codes "unbound"
+kind_word (Repeated at) = codes "repeated"
+kind_word (TooMany count) = codes "too_many"
+kind_word (IllTyped def) = codes "type"
+kind_word (Signature def spec) = codes "signature"
+kind_word (NotValuable def field) = codes "not_valuable"
+kind_word (LikeMissing def spec) = codes "like_missing"
+kind_word (Unresolved def) = codes "unresolved"
+kind_word (Clash first second) = codes "clash"
+kind_word Memory = []
 
-abbrev pub kind_line : Kind → List ℕ
-kind_line (TooLong len) = refused_at (codes "too_long") len
-kind_line (Lexical at) = refused_at (codes "lexical") at
-kind_line (TooDeep at) = refused_at (codes "too_deep") at
-kind_line (Syntax at) = refused_at (codes "syntax") at
-kind_line (Unbuilt at) = refused_at (codes "unbuilt") at
-kind_line (Unbound at) = refused_at (codes "unbound") at
-kind_line (Repeated at) = refused_at (codes "repeated") at
-kind_line (TooMany count) = refused_at (codes "too_many") count
-kind_line (IllTyped def) = refused_at (codes "type") def
-kind_line Memory = memory_line
+-- and its number
+abbrev pub kind_number : Kind → ℕ
+kind_number (TooLong len) = len
+kind_number (Lexical at) = at
+kind_number (TooDeep at) = at
+kind_number (Syntax at) = at
+kind_number (Unbuilt at) = at
+kind_number (Unbound at) = at
+kind_number (Repeated at) = at
+kind_number (TooMany count) = count
+kind_number (IllTyped def) = def
+kind_number (Signature def spec) = def
+kind_number (NotValuable def field) = def
+kind_number (LikeMissing def spec) = def
+kind_number (Unresolved def) = def
+kind_number (Clash first second) = second
+kind_number Memory = 0
+
+-- part 0 is the program, and part k the kth text of the shelf
+abbrev pub part_shown : ℕ → List ℕ
+part_shown part = if part == 0 then [] else codes "shelf " ++ (decimal part ++ codes ": ")
+
+abbrev pub refused_at : ℕ → List ℕ → ℕ → List ℕ
+refused_at part word n = codes "acute: refused: " ++ (part_shown part ++ (word ++ (codes " at " ++ (decimal n ++ 10 ∷ []))))
+
+abbrev pub refusal_line : ℕ → Kind → List ℕ
+refusal_line part Memory = memory_line
+refusal_line part kind = refused_at part (kind_word kind) (kind_number kind)
 
 abbrev pub kind_status : Kind → Status
 kind_status Memory = OUT_OF_MEMORY

@@ -1,13 +1,8 @@
--- Files and streams before and after a call, and what a call wrote.
-use Rattle.std.specs.Prelude.{◌≡◌, ℕ, Bool, IsTrue, List, [], ◌∷◌, ◌++◌, take, codes, Option, Some}
+-- Streams before and after a call, and what a call wrote.
+use Rattle.std.specs.Prelude.{◌≡◌, ℕ, Bool, IsTrue, List, [], ◌∷◌, ◌++◌, codes, Some}
+use Rattle.std.specs.Fmt.{decimal}
 use Rattle.ac_outside.specs.Outside.{Extends}
-
--- a file, or a stream that is read: what it has before the call, where that is told, and its count of failed reads before and after the call
-pub record Reading : Type 0 where
-  pub told : Bool
-  pub bytes : Option (List ℕ)
-  pub before : ℕ
-  pub after : ℕ
+use Rattle.ac_files.specs.Files.{Reading}
 
 -- a stream or a file: what was written to it before and after the call, where that is told, and its count of failed writes
 pub record Writing : Type 0 where
@@ -26,10 +21,6 @@ feeding told left faults old new =
 abbrev pub writing : {Sink : Type 0} → Bool → (Sink → List ℕ) → (Sink → ℕ) → Sink → Sink → Writing
 writing told bytes faults old new =
     record { told = told; old = bytes old; new = bytes new; before = faults old; after = faults new }
-
--- the text is what is read of the file: all, or its first 1,048,577 bytes
-abbrev pub IsTextOf : Reading → List ℕ → Type 0
-IsTextOf file text = IsTrue file.told → (bytes : List ℕ) × (file.bytes ≡ Some bytes) × (text ≡ take 1048577 bytes)
 
 -- exactly this was written
 abbrev pub Whole : Writing → List ℕ → Type 0
@@ -50,3 +41,7 @@ write_line = codes "acute: write fault" ++ 10 ∷ []
 
 abbrev pub memory_line : List ℕ
 memory_line = codes "acute: out of memory" ++ 10 ∷ []
+
+-- the list of a shelf has a bad line of this number
+abbrev pub shelf_line : ℕ → List ℕ
+shelf_line n = codes "acute: shelf: line " ++ (decimal n ++ 10 ∷ [])

@@ -1,36 +1,63 @@
 // What follows from the contract of the top call.
-ghost use Rattle.std.specs.Prelude.{◌≡◌, ◌⊎◌, List, [], ℕ, Bool, Option, IsTrue, None, Some, is_some, take};
+ghost use Rattle.std.specs.Prelude.{◌≡◌, ◌⊎◌, List, ℕ, Bool, Option, IsTrue, None, Some, is_some};
 ghost use Rattle.ac_types.specs.Types.{Bytes};
 ghost use Rattle.ac_outside.specs.Outside.{Rose};
 ghost use Rattle.ac_rules.specs.Views.{Mode};
-ghost use Rattle.ac_words.specs.Commands.{ChannelName, run};
-ghost use Rattle.ac_load.specs.Loading.{ShelfText};
+ghost use Rattle.ac_words.specs.Commands.{ChannelName, ProgramFiles, Request, run};
+ghost use Rattle.ac_acceptance.specs.Accepting.{Shelved};
+ghost use Rattle.ac_files.specs.Files.{Reading, IsTextOf};
+ghost use Rattle.ac_files.specs.ProgramTexts.{IsShelfBy, HasBadLine, ReadsFail};
 ghost use Rattle.ac_top.specs.declared.status.Status.{Status};
-ghost use Rattle.ac_top.specs.declared.status.TheConstants.Status.{OUT_OF_MEMORY};
+ghost use Rattle.ac_top.specs.declared.status.TheConstants.Status.{OUT_OF_MEMORY, SHELF_REFUSED};
+ghost use Rattle.ac_top.specs.declared.show.Showing.{Showing};
+ghost use Rattle.ac_top.specs.Streams.{Writing, Whole};
 ghost use Rattle.ac_top.specs.Handed.{Handed, is_told, input_of, InputFailed, OutputFailed, MakingFailed};
 ghost use Rattle.ac_top.specs.Meaning.{CommandAnswer, Means};
-ghost use Rattle.ac_top.specs.Endings.{Ended};
+ghost use Rattle.ac_top.specs.Showing.{ShownAnswer, Shows};
+ghost use Rattle.ac_top.specs.Endings.{Ended, ShownEnded, files_asked};
 
 /// Within a budget, with an input, and with or without a channel to send to, a text has one meaning,
 /// which is the same in both modes: it is refused or not, and ends in one way, with the same writes.
 pub fn one_meaning()
-    ensures { (m n : Mode) (text : List ℕ) (shelf : List ShelfText) (steps : ℕ) (input : Bytes)
+    ensures { (m n : Mode) (text : List ℕ) (shelf : List Shelved) (steps : ℕ) (input : Bytes)
         (sends : Bool) (a b : CommandAnswer) →
         Means m text shelf steps input sends a → Means n text shelf steps input sends b →
         (a.status ≡ b.status) × (a.writes ≡ b.writes) }
 {}
 
-/// Where the file is told and no count rose, the status is that of the text's meaning, or that of
-/// want of memory. With an input all has to be told of what the run reads from and writes to.
+/// Where the files are told and no count rose, a run's status is that of the text's meaning beside
+/// its shelf, or that of want of memory. With an input all has to be told of what the run reads from
+/// and writes to.
 pub fn nothing_failed()
-    ensures { (name : Bytes) (steps : ℕ) (from to : Option ChannelName) (o : Handed)
-        (status : Status) →
-        Ended (Some (run name steps from to)) o status →
-        IsTrue (o.files name).told → (from ≡ None) ⊎ IsTrue (is_told from to o) →
-        (Rose (o.files name).before (o.files name).after → ⊥) → (InputFailed from o → ⊥) →
+    ensures { (p : ProgramFiles) (steps : ℕ) (from to : Option ChannelName) (o : Handed)
+        (status : Status) → Ended (Some (run p steps from to)) o status →
+        ((name : Bytes) → IsTrue (o.files name).told) →
+        (from ≡ None) ⊎ IsTrue (is_told from to o) →
+        (ReadsFail o.files p.file p.shelf → ⊥) → (InputFailed from o → ⊥) →
         (OutputFailed to o → ⊥) → (MakingFailed to o → ⊥) →
         (Rose o.errors.before o.errors.after → ⊥) → (status ≡ OUT_OF_MEMORY → ⊥) →
-        (bytes : List ℕ) → (o.files name).bytes ≡ Some bytes → (mode : Mode) (a : CommandAnswer) →
-        Means mode (take 1048577 bytes) [] steps (input_of from o) (is_some to) a →
-        status ≡ a.status }
+        (shelf : List Shelved) (text : Bytes) → IsShelfBy o.files p.shelf shelf →
+        IsTextOf (o.files p.file) text → (mode : Mode) (a : CommandAnswer) →
+        Means mode text shelf steps (input_of from o) (is_some to) a → status ≡ a.status }
+{}
+
+/// In the same way a command that shows something of a program ends with what its text gives, and
+/// has printed that.
+pub fn nothing_failed_showing()
+    ensures { (p : ProgramFiles) (files : Bytes → Reading) (output errors : Writing)
+        (what : Showing) (status : Status) → ShownEnded p files output errors what status →
+        ((name : Bytes) → IsTrue (files name).told) → (ReadsFail files p.file p.shelf → ⊥) →
+        (Rose output.before output.after → ⊥) → (Rose errors.before errors.after → ⊥) →
+        (status ≡ OUT_OF_MEMORY → ⊥) → (shelf : List Shelved) (text : Bytes) →
+        IsShelfBy files p.shelf shelf → IsTextOf (files p.file) text → (a : ShownAnswer) →
+        Shows what text shelf a → (status ≡ a.status) × Whole output a.printed }
+{}
+
+/// Where the list of a shelf has a bad line, each command ends so.
+pub fn bad_line_refused()
+    ensures { (r : Request) (o : Handed) (status : Status) → Ended (Some r) o status →
+        ((name : Bytes) → IsTrue (o.files name).told) →
+        (ReadsFail o.files (files_asked r).file (files_asked r).shelf → ⊥) →
+        (Rose o.errors.before o.errors.after → ⊥) → (status ≡ OUT_OF_MEMORY → ⊥) →
+        (n : ℕ) → HasBadLine o.files (files_asked r).shelf n → status ≡ SHELF_REFUSED }
 {}

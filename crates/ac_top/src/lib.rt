@@ -3,13 +3,14 @@
 
 mod laws;
 mod no_files;
-mod reading;
 mod refusal;
+mod saying;
+mod show;
 mod status;
 mod top;
 mod uncaught;
 mod world;
 
-pub use laws::{nothing_failed, one_meaning};
+pub use laws::{bad_line_refused, nothing_failed, nothing_failed_showing, one_meaning};
 pub use status::Status;
 pub use top::acute;

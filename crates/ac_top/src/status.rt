@@ -21,4 +21,6 @@ impl Status {
     pub const WRITE_FAULT: Status = Status(6);
     /// The words are refused.
     pub const WORDS_REFUSED: Status = Status(7);
+    /// The list of the shelf has a bad line.
+    pub const SHELF_REFUSED: Status = Status(10);
 }

@@ -210,3 +210,46 @@ fn words_are_read(rt: HostRuntime) -> Result<(), Fail> {
     }
     Ok(())
 }
+
+#[test]
+fn programs_are_shown(rt: HostRuntime) -> Result<(), Fail> {
+    let alloc = rt.alloc();
+    let sum = b"IO.print_int (3 + 4)".as_slice();
+    let listing = b"block 0 main\n0 PushInt 3\n1 PushInt 4\n2 Prim add\n3 Prim print_int\n4 Stop\n";
+    let no_file = b"lib:p\n".as_slice();
+    let bad = made(10, b"", b"acute: shelf: line 1\n");
+    let unread = made(5, b"", b"acute: read fault\n");
+    let failing = Faults {
+        output: &[0],
+        ..NONE
+    };
+    let rows: [(&[&str], &[u8], Faults, End); 8] = [
+        (&["code", "a"], sum, NONE, made(0, listing, b"")),
+        (&["names", "a"], sum, NONE, made(0, b"", b"")),
+        (
+            &["names", "a"],
+            b"",
+            NONE,
+            made(1, b"", b"acute: refused: syntax at 0\n"),
+        ),
+        (
+            &["code", "a"],
+            sum,
+            failing,
+            made(6, b"", b"acute: write fault\n"),
+        ),
+        (&["code", "a", "--shelf", "a"], no_file, NONE, bad),
+        (&["run", "--shelf=a", "a"], no_file, NONE, bad),
+        (
+            &["run", "a", "--shelf", "a"],
+            b"lib:p p.mod\n",
+            NONE,
+            unread,
+        ),
+        (&["names", "b"], sum, NONE, unread),
+    ];
+    for (words, text, faults, end) in rows {
+        assert!(rt; words_end(alloc, words, text, faults, end)?);
+    }
+    Ok(())
+}

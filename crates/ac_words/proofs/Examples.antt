@@ -1,7 +1,7 @@
 -- Command lines, and what they ask for.
 use Rattle.std.proofs.Common.{◌≡◌, refl, [], ◌∷◌, Some, None, codes, true, false}
-use Rattle.ac_words.specs.Form.{Form, given_of, look, named, plain, refused}
-use Rattle.ac_words.specs.Commands.{command_of, file, run, standard}
+use Rattle.ac_words.specs.Form.{Form, Text, given_of, look, named, plain, refused}
+use Rattle.ac_words.specs.Commands.{ProgramFiles, command_of, code, file, names, run, standard}
 
 -- an option, with its value and without; a plain word; words that are refused
 look_option : look (codes "--steps=5") ≡ named (codes "steps") (Some (codes "5"))
@@ -19,18 +19,22 @@ look_short = refl
 look_end : look (codes "--") ≡ refused
 look_end = refl
 
+-- a program without a shelf
+abbrev alone : Text → ProgramFiles
+alone name = record { file = name; shelf = None }
+
 -- `run f` and `run --steps 5 f`
-default : command_of (codes "run" ∷ codes "f" ∷ []) ≡ Some (run (codes "f") 1000000 None None)
+default : command_of (codes "run" ∷ codes "f" ∷ []) ≡ Some (run (alone (codes "f")) 1000000 None None)
 default = refl
 
-steps_first : command_of (codes "run" ∷ codes "--steps" ∷ codes "5" ∷ codes "f" ∷ []) ≡ Some (run (codes "f") 5 None None)
+steps_first : command_of (codes "run" ∷ codes "--steps" ∷ codes "5" ∷ codes "f" ∷ []) ≡ Some (run (alone (codes "f")) 5 None None)
 steps_first = refl
 
 -- `run --in=a f --out -`, and both streams
-channels : command_of (codes "run" ∷ codes "--in=a" ∷ codes "f" ∷ codes "--out" ∷ codes "-" ∷ []) ≡ Some (run (codes "f") 1000000 (Some (file (codes "a"))) (Some standard))
+channels : command_of (codes "run" ∷ codes "--in=a" ∷ codes "f" ∷ codes "--out" ∷ codes "-" ∷ []) ≡ Some (run (alone (codes "f")) 1000000 (Some (file (codes "a"))) (Some standard))
 channels = refl
 
-streams : command_of (codes "run" ∷ codes "f" ∷ codes "--in" ∷ codes "-" ∷ codes "--out" ∷ codes "-" ∷ []) ≡ Some (run (codes "f") 1000000 (Some standard) (Some standard))
+streams : command_of (codes "run" ∷ codes "f" ∷ codes "--in" ∷ codes "-" ∷ codes "--out" ∷ codes "-" ∷ []) ≡ Some (run (alone (codes "f")) 1000000 (Some standard) (Some standard))
 streams = refl
 
 -- one file for both channels, and a channel without a name
@@ -52,6 +56,26 @@ twice = refl
 
 no_value : command_of (codes "run" ∷ codes "f" ∷ codes "--steps" ∷ codes "--steps=1" ∷ []) ≡ None
 no_value = refl
+
+-- `run f --shelf s`, `names --shelf=s f` and `code f`
+with_shelf : command_of (codes "run" ∷ codes "f" ∷ codes "--shelf" ∷ codes "s" ∷ []) ≡ Some (run (record { file = codes "f"; shelf = Some (codes "s") }) 1000000 None None)
+with_shelf = refl
+
+names_with_shelf : command_of (codes "names" ∷ codes "--shelf=s" ∷ codes "f" ∷ []) ≡ Some (names (record { file = codes "f"; shelf = Some (codes "s") }))
+names_with_shelf = refl
+
+code_alone : command_of (codes "code" ∷ codes "f" ∷ []) ≡ Some (code (alone (codes "f")))
+code_alone = refl
+
+-- a shelf's FILE is neither empty nor `-`, and `names` has no steps
+shelf_hyphen : command_of (codes "names" ∷ codes "f" ∷ codes "--shelf" ∷ codes "-" ∷ []) ≡ None
+shelf_hyphen = refl
+
+shelf_empty : command_of (codes "code" ∷ codes "f" ∷ codes "--shelf=" ∷ []) ≡ None
+shelf_empty = refl
+
+names_steps : command_of (codes "names" ∷ codes "f" ∷ codes "--steps=1" ∷ []) ≡ None
+names_steps = refl
 
 -- a form with a flag, an option with a value, a place of one word, and a run of at most two words
 abbrev tried : Form

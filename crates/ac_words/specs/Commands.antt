@@ -6,6 +6,7 @@ use Rattle.ac_words.specs.Form.{Form, Given, Text, given_of}
 use Rattle.ac_words.specs.WordValues.{first_in, is_file, number_in}
 use Rattle.ac_words.specs.declared.command.Channel.{Channel}
 use Rattle.ac_words.specs.declared.command.Channel.TheVariants as place
+use Rattle.ac_words.specs.declared.command.Program.{Program}
 use Rattle.ac_words.specs.declared.command.Command.{Command}
 use Rattle.ac_words.specs.declared.command.Command.TheVariants as command
 
@@ -14,23 +15,43 @@ pub data ChannelName : Type 0 where
   standard : ChannelName
   file : Text → ChannelName
 
--- what a command line asks for: to run the program of a file for at most so many steps, with a channel to read from and one to write to, where there are such
+-- the file of a program, and the file of the list of its shelf, if it has one
+pub record ProgramFiles : Type 0 where
+  pub file : Text
+  pub shelf : Option Text
+
+-- what a command line asks for: to run a program for at most so many steps, with a channel to read from and one to write to, where there are such; to print the names of its definitions; or to print its code
 pub data Request : Type 0 where
-  run : Text → ℕ → Option ChannelName → Option ChannelName → Request
+  run : ProgramFiles → ℕ → Option ChannelName → Option ChannelName → Request
+  names : ProgramFiles → Request
+  code : ProgramFiles → Request
 
 -- the channel that a command names
 abbrev pub channel_of : Channel → ChannelName
 channel_of place.Standard = standard
 channel_of (place.File name) = file name.now
 
+-- the files that a command names
+abbrev pub files_of : Program → ProgramFiles
+files_of p = record { file = p.file.now; shelf = option_map (λ s. s.now) p.shelf }
+
 -- what a command asks for
 abbrev pub request_of : Command → Request
-request_of (command.Run r) = run r.file.now r.steps (option_map channel_of r.input) (option_map channel_of r.output)
+request_of (command.Run r) = run (files_of r.program) r.steps (option_map channel_of r.input) (option_map channel_of r.output)
+request_of (command.Names p) = names (files_of p)
+request_of (command.Code p) = code (files_of p)
 
--- run FILE [--in CH] [--out CH] [--steps N]
+-- run FILE [--in CH] [--out CH] [--shelf FILE] [--steps N]
 abbrev pub run_form : Form
 run_form = record {
-  options = (codes "in", true) ∷ (codes "out", true) ∷ (codes "steps", true) ∷ [];
+  options = (codes "in", true) ∷ (codes "out", true) ∷ (codes "shelf", true) ∷ (codes "steps", true) ∷ [];
+  places = record { number = 1; name = codes "FILE"; most = None } ∷ [];
+}
+
+-- names FILE [--shelf FILE], and the same of code
+abbrev pub program_form : Form
+program_form = record {
+  options = (codes "shelf", true) ∷ [];
   places = record { number = 1; name = codes "FILE"; most = None } ∷ [];
 }
 
@@ -53,19 +74,38 @@ abbrev pub are_one : Option ChannelName → Option ChannelName → Bool
 are_one (Some (file a)) (Some (file b)) = bytes_eq a b
 are_one _ _ = false
 
+-- where no list of a shelf is given, there is no shelf
+abbrev pub shelf_in : Option Text → Option (Option Text)
+shelf_in None = Some None
+shelf_in (Some text) = if is_file text then Some (Some text) else None
+
+-- the files of a program by the texts of its FILE, which has to be given, and of the FILE of its shelf
+abbrev pub program_by : Option Text → Option Text → Option ProgramFiles
+program_by None shelf = None
+program_by (Some name) shelf = if is_file name then option_map (λ s. record { file = name; shelf = s }) (shelf_in shelf) else None
+
 -- a `run` whose channels aren't one file
-abbrev pub run_with : Text → Option ℕ → Option (Option ChannelName) → Option (Option ChannelName) → Option Request
-run_with name (Some steps) (Some from) (Some to) = if are_one from to then None else Some (run name steps from to)
-run_with name _ _ _ = None
+abbrev pub run_with : Option ProgramFiles → Option ℕ → Option (Option ChannelName) → Option (Option ChannelName) → Option Request
+run_with (Some p) (Some steps) (Some from) (Some to) = if are_one from to then None else Some (run p steps from to)
+run_with p _ _ _ = None
 
--- a `run` by the texts of its FILE, which has to be given, of its N and of its two CH
-abbrev pub run_by : Option Text → Option Text → Option Text → Option Text → Option Request
-run_by None steps from to = None
-run_by (Some name) steps from to = if is_file name then run_with name (steps_in steps) (channel_in from) (channel_in to) else None
+-- a `run` by its program and the texts of its N and of its two CH
+abbrev pub run_by : Option ProgramFiles → Option Text → Option Text → Option Text → Option Request
+run_by p steps from to = run_with p (steps_in steps) (channel_in from) (channel_in to)
 
--- a `run` by what was given
+-- the program that was given
+abbrev pub program_of : Given → Option ProgramFiles
+program_of given = program_by (first_in (codes "FILE") given) (first_in (codes "shelf") given)
+
+-- a command by what was given
 abbrev pub run_of : Given → Option Request
-run_of given = run_by (first_in (codes "FILE") given) (first_in (codes "steps") given) (first_in (codes "in") given) (first_in (codes "out") given)
+run_of given = run_by (program_of given) (first_in (codes "steps") given) (first_in (codes "in") given) (first_in (codes "out") given)
+
+abbrev pub names_of : Given → Option Request
+names_of given = option_map names (program_of given)
+
+abbrev pub code_of : Given → Option Request
+code_of given = option_map code (program_of given)
 
 -- the words after a command's name, read by the command's form and then by what was given
 abbrev pub words_of : Form → (Given → Option Request) → List Text → Option Request
@@ -73,7 +113,11 @@ words_of form of words = option_and_then of (given_of form words)
 
 -- the first word is the command's name
 abbrev pub command_by : Text → List Text → Option Request
-command_by name rest = if bytes_eq name (codes "run") then words_of run_form run_of rest else None
+command_by name rest =
+    if bytes_eq name (codes "run") then words_of run_form run_of rest else
+    if bytes_eq name (codes "names") then words_of program_form names_of rest else
+    if bytes_eq name (codes "code") then words_of program_form code_of rest else
+    None
 
 -- what the words of a command line ask for, or none where they are refused
 abbrev pub command_of : List Text → Option Request

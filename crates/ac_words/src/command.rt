@@ -1,6 +1,6 @@
 //! The commands, and the values of their words.
 ghost use Rattle.std.specs.Prelude.{◌≡◌, ◌==◌, option_map, slice_index};
-ghost use Rattle.ac_words.specs.Commands.{are_one, channel_in, channel_named, channel_of, request_of, run_by, steps_in};
+ghost use Rattle.ac_words.specs.Commands.{are_one, channel_in, channel_named, channel_of, files_of, program_by, request_of, run_by, shelf_in, steps_in};
 ghost use Rattle.ac_words.specs.WordValues.{is_file, number_in};
 
 // The steps of a `run` that names none.
@@ -20,11 +20,20 @@ pub enum Channel<'a> {
     File(&'a str),
 }
 
+/// The files of a program.
+#[derive(Clone, Copy, Debug)]
+pub struct Program<'a> {
+    /// The program's file.
+    pub file: &'a str,
+    /// The file of the list of its shelf, if it has one.
+    pub shelf: Option<&'a str>,
+}
+
 /// Loads a program and runs it.
 #[derive(Clone, Copy, Debug)]
 pub struct Run<'a> {
-    /// The program's file.
-    pub file: &'a str,
+    /// The program.
+    pub program: Program<'a>,
     /// How many applications the run may make.
     pub steps: u64,
     /// Where it receives from, if it has an input.
@@ -38,6 +47,10 @@ pub struct Run<'a> {
 pub enum Command<'a> {
     /// To run a program.
     Run(Run<'a>),
+    /// To print the names of a program's definitions.
+    Names(Program<'a>),
+    /// To print a program's code.
+    Code(Program<'a>),
 }
 
 // Whether a plus stands first, which `parse` takes.
@@ -126,21 +139,48 @@ fn are_one(first: Option<Channel>, second: Option<Channel>) -> bool
     }
 }
 
-/// A `run`, by the texts of its FILE, its N and its two CH.
-pub fn run_from<'a>(
-    file: Option<&'a str>,
-    steps: Option<&str>,
-    input: Option<&'a str>,
-    output: Option<&'a str>,
-) -> Option<Command<'a>>
-    ensures { option_map request_of result
-        ≡ run_by (option_map (λ s. s.now) file.entry) (option_map (λ s. s.now) steps.entry)
-        (option_map (λ s. s.now) input.entry) (option_map (λ s. s.now) output.entry) }
+// The list of a shelf by the text of its FILE, if one is given.
+fn shelf_in<'a>(text: Option<&'a str>) -> Option<Option<&'a str>>
+    ensures { option_map (option_map (λ s. s.now)) result
+        ≡ shelf_in (option_map (λ s. s.now) text.entry) }
+{
+    match text {
+        None => Some(None),
+        Some(text) => {
+            if is_file_name(text) {
+                Some(Some(text))
+            } else {
+                None
+            }
+        }
+    }
+}
+
+/// The files of a program, by the texts of its FILE and of the FILE of its shelf.
+pub fn program_from<'a>(file: Option<&'a str>, shelf: Option<&'a str>) -> Option<Program<'a>>
+    ensures { option_map files_of result
+        ≡ program_by (option_map (λ s. s.now) file.entry) (option_map (λ s. s.now) shelf.entry) }
 {
     let file = file?;
     if !is_file_name(file) {
         return None;
     }
+    let shelf = shelf_in(shelf)?;
+    Some(Program { file, shelf })
+}
+
+/// A `run`, by its program and the texts of its N and of its two CH.
+pub fn run_from<'a>(
+    program: Option<Program<'a>>,
+    steps: Option<&str>,
+    input: Option<&'a str>,
+    output: Option<&'a str>,
+) -> Option<Command<'a>>
+    ensures { option_map request_of result
+        ≡ run_by (option_map files_of program.entry) (option_map (λ s. s.now) steps.entry)
+        (option_map (λ s. s.now) input.entry) (option_map (λ s. s.now) output.entry) }
+{
+    let program = program?;
     let steps = steps_of(steps)?;
     let input = channel_in(input)?;
     let output = channel_in(output)?;
@@ -148,7 +188,7 @@ pub fn run_from<'a>(
         return None;
     }
     Some(Command::Run(Run {
-        file,
+        program,
         steps,
         input,
         output,

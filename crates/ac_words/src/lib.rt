@@ -8,7 +8,8 @@ ghost use Rattle.ac_words.specs.Form.{is_fit};
 mod command;
 
 pub use command::{
-    Channel, Command, Run, channel_from, is_file_name, number_of, run_from, steps_of,
+    Channel, Command, Program, Run, channel_from, is_file_name, number_of, program_from, run_from,
+    steps_of,
 };
 
 /// Whether the word may stand after a command's name: it doesn't begin with a hyphen, or is `-`, or

@@ -6,7 +6,7 @@
 
 use ac_command::read_words;
 use ac_types::Memory;
-use ac_words::{Channel, Command, Run};
+use ac_words::{Channel, Command, Program, Run};
 use std::alloc::Global;
 use std::io;
 
@@ -25,22 +25,30 @@ fn answer_to(alloc: Global, line: &str) -> Result<String, Memory> {
     let words = words_in(alloc, line)?;
     match read_words(alloc, words.as_slice())? {
         None => Ok(format!(in alloc; "refused")?),
-        Some(
-            Command::Run(
-                Run {
-                    file,
-                    steps,
-                    input,
-                    output,
-                },
-            ),
-        ) => {
-            let mut answer = format!(in alloc; "run {file}, {steps} steps")?;
-            add_channel(&mut answer, ", in ", input)?;
-            add_channel(&mut answer, ", out ", output)?;
-            Ok(answer)
-        }
+        Some(Command::Run(run)) => run_answer(alloc, run),
+        Some(Command::Names(program)) => program_answer(alloc, "names", program),
+        Some(Command::Code(program)) => program_answer(alloc, "code", program),
     }
+}
+
+fn run_answer(alloc: Global, run: Run) -> Result<String, Memory> {
+    let steps = run.steps;
+    let mut answer = program_answer(alloc, "run", run.program)?;
+    answer.push_str(format!(in alloc; ", {steps} steps")?.as_str())?;
+    add_channel(&mut answer, ", in ", run.input)?;
+    add_channel(&mut answer, ", out ", run.output)?;
+    Ok(answer)
+}
+
+// A command with the files of its program.
+fn program_answer(alloc: Global, command: &str, program: Program) -> Result<String, Memory> {
+    let file = program.file;
+    let mut answer = format!(in alloc; "{command} {file}")?;
+    if let Some(shelf) = program.shelf {
+        answer.push_str(", shelf ")?;
+        answer.push_str(shelf)?;
+    }
+    Ok(answer)
 }
 
 // Adds what a channel is, if there is one.

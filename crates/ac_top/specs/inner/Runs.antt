@@ -8,7 +8,7 @@ use Rattle.ac_words.specs.Commands.{ChannelName, standard, file}
 use Rattle.ac_run.specs.Sessions.{Session, Streams, RunsTo}
 use Rattle.ac_run.specs.declared.end.RunEnd.{RunEnd}
 use Rattle.ac_top.specs.Channels.{GetsInput, KeptBut}
-use Rattle.ac_top.specs.Handed.{FilesSeen}
+use Rattle.ac_files.specs.Files.{FilesSeen}
 
 -- a session has run with some input that a channel may give
 pub record RanIn (from : Option ChannelName) (told : Bool) (left : Bytes) (old new : Streams) (s t : Session) (r : RunEnd) : Type 0 where
@@ -28,12 +28,6 @@ abbrev pub Emptied : Option ChannelName → Contents → Type 0
 Emptied None now = Unit {0}
 Emptied (Some standard) now = Unit {0}
 Emptied (Some (file name)) now = now name ≡ Some []
-
--- files since a call began: they have what they had, and no count has fallen
-pub record Since (told : Bool) (start now : FilesSeen) : Type 0 where
-  pub same : IsTrue told → now.contents ≡ start.contents
-  pub reads : NeverFall start.read_faults now.read_faults
-  pub writes : NeverFall start.write_faults now.write_faults
 
 -- files in front of a run: the channel's has been made empty, and the others have what they had
 pub record Prepared (told : Bool) (to : Option ChannelName) (start now : FilesSeen) : Type 0 where

@@ -2,13 +2,13 @@ use Rattle.std.proofs.Common.{◌∙◌, sym, refl, ap, Some, None}
 use Rattle.ac_top.specs.Endings.{texts}
 use Rattle.ac_top.proofs.EndingLaws.{words_refused, end_at_words}
 use Rattle.ac_top.proofs.PlaceLaws.{untouched_by}
-use Rattle.ac_top.proofs.WordLaws.{words_apart, same_run}
+use Rattle.ac_top.proofs.WordLaws.{words_apart}
 use Rattle.ac_top.proofs.top.acute.Goals as goal
 
-pub run_file-requires : goal.run_file-requires
-run_file-requires g c =
+pub obey-requires : goal.obey-requires
+obey-requires g c =
     let some = rw c.in-Ok-Some.field-0-is at c.in-Ok-Some.ensures in
-    words_apart (texts c.args.words.now) _ _ _ _ (sym some ∙ ap Some c.run_of.ensures)
+    words_apart (texts c.args.words.now) _ (sym some)
 
 pub returns-in-Ok-None-clause-ends : goal.returns-in-Ok-None-clause-ends
 returns-in-Ok-None-clause-ends g c =
@@ -18,7 +18,7 @@ returns-in-Ok-None-clause-ends g c =
 pub returns-in-Ok-Some-clause-ends : goal.returns-in-Ok-Some-clause-ends
 returns-in-Ok-Some-clause-ends g c =
     let some = rw c.in-Ok-Some.field-0-is at c.in-Ok-Some.ensures in
-    rw (sym some) (rw c.run_of.ensures c.run_file.ensures.ends)
+    rw (sym some) c.obey.ensures.ends
 
 pub returns-in-Err-clause-ends : goal.returns-in-Err-clause-ends
 returns-in-Err-clause-ends g c = end_at_words _ _ (record { same = refl }) (λ to. untouched_by _ _ _ _ _ _ to (λ t. refl)) _ c.no_memory.ensures
@@ -29,19 +29,18 @@ returns-in-Ok-None-clause-kept g c = λ told name h. refl
 pub returns-in-Ok-Some-clause-kept : goal.returns-in-Ok-Some-clause-kept
 returns-in-Ok-Some-clause-kept g c =
     let some = rw c.in-Ok-Some.field-0-is at c.in-Ok-Some.ensures in
-    rw (sym some) (rw c.run_of.ensures c.run_file.ensures.kept)
+    rw (sym some) c.obey.ensures.kept
 
 pub returns-in-Err-clause-kept : goal.returns-in-Err-clause-kept
 returns-in-Err-clause-kept g c = λ told name h. refl
 
 pub returns-in-Ok-None-clause-only : goal.returns-in-Ok-None-clause-only
-returns-in-Ok-None-clause-only g c = λ name steps from to e f t. g.F.Files.reads_none name _
+returns-in-Ok-None-clause-only g c = λ name only. g.F.Files.reads_none name _
 
 pub returns-in-Ok-Some-clause-only : goal.returns-in-Ok-Some-clause-only
-returns-in-Ok-Some-clause-only g c = λ name steps from to e f t.
+returns-in-Ok-Some-clause-only g c =
     let some = rw c.in-Ok-Some.field-0-is at c.in-Ok-Some.ensures in
-    let same = same_run _ _ name _ steps _ from _ to c.run_of.ensures (some ∙ e) in
-    rw (sym same.0) (c.run_file.ensures.only (rw same.1.0 f) (rw same.1.1 t))
+    rw (sym some) c.obey.ensures.only
 
 pub returns-in-Err-clause-only : goal.returns-in-Err-clause-only
-returns-in-Err-clause-only g c = λ name steps from to e f t. g.F.Files.reads_none name _
+returns-in-Err-clause-only g c = λ name only. g.F.Files.reads_none name _

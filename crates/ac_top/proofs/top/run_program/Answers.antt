@@ -16,9 +16,9 @@ same_some f None = refl
 same_some f (Some x) = refl
 
 pub returns-in-Ok-clause-ends : goal.returns-in-Ok-clause-ends
-returns-in-Ok-clause-ends g c = λ start since text is_text accepted.
-    c.make_and_run.ensures.ends start since text is_text c.args.loaded c.requires.loaded accepted
+returns-in-Ok-clause-ends g c = λ start since shelf is_shelf text is_text accepted.
+    c.make_and_run.ensures.ends start since shelf is_shelf text is_text c.args.loaded c.requires.loaded accepted
     (c.in-Ok.ensures ∙ ap (λ (b : Bool). begun c.args.loaded c.args.run.steps b c.in-Ok.session.machine) (c.is_some.ensures ∙ same_some channel_of c.args.run.output))
 
 pub returns-in-Err-clause-ends : goal.returns-in-Err-clause-ends
-returns-in-Err-clause-ends g c = λ start since text is_text accepted. end_early _ _ _ _ _ (record { same = refl }) (untouched_by _ _ _ _ _ _ _ since.same) _ c.no_memory.ensures
+returns-in-Err-clause-ends g c = λ start since shelf is_shelf text is_text accepted. end_early _ _ _ _ _ (record { same = refl }) (untouched_by _ _ _ _ _ _ _ since.same) _ c.no_memory.ensures

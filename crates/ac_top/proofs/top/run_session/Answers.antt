@@ -5,8 +5,10 @@ use Rattle.ac_top.proofs.RunLaws.{finished_in, raised_in, spent_in, unread_in, f
 use Rattle.ac_top.proofs.top.run_session.Goals as goal
 
 pub returns-in-Finished-clause-ends : goal.returns-in-Finished-clause-ends
-returns-in-Finished-clause-ends g c = λ start p text is_text loaded is_loaded accepted is.
+returns-in-Finished-clause-ends g c = λ start p shelf is_shelf text is_text loaded is_loaded accepted is.
     finished_in (record {
+      shelf = shelf;
+      is_shelf = is_shelf;
       text = text;
       is_text = is_text;
       loaded = loaded;
@@ -22,8 +24,10 @@ returns-in-Finished-clause-ends g c = λ start p text is_text loaded is_loaded a
     }) (still_behind g.E.Sink.told g.E.Sink.written g.E.Sink.faults _ _ _ _ refl c.in-Finished.ensures.apart)
 
 pub returns-in-Uncaught-clause-ends : goal.returns-in-Uncaught-clause-ends
-returns-in-Uncaught-clause-ends g c = λ start p text is_text loaded is_loaded accepted is.
+returns-in-Uncaught-clause-ends g c = λ start p shelf is_shelf text is_text loaded is_loaded accepted is.
     raised_in (record {
+      shelf = shelf;
+      is_shelf = is_shelf;
       text = text;
       is_text = is_text;
       loaded = loaded;
@@ -39,8 +43,10 @@ returns-in-Uncaught-clause-ends g c = λ start p text is_text loaded is_loaded a
     }) _ (told_behind g.E.Sink.told g.E.Sink.written g.E.Sink.faults _ _ _ _ _ _ _ _ _ _ refl c.in-Uncaught.ensures.apart c.in-Uncaught.ensures.later c.tell_uncaught.ensures)
 
 pub returns-in-Spent-clause-ends : goal.returns-in-Spent-clause-ends
-returns-in-Spent-clause-ends g c = λ start p text is_text loaded is_loaded accepted is.
+returns-in-Spent-clause-ends g c = λ start p shelf is_shelf text is_text loaded is_loaded accepted is.
     spent_in (record {
+      shelf = shelf;
+      is_shelf = is_shelf;
       text = text;
       is_text = is_text;
       loaded = loaded;
@@ -56,8 +62,10 @@ returns-in-Spent-clause-ends g c = λ start p text is_text loaded is_loaded acce
     }) _ (told_behind g.E.Sink.told g.E.Sink.written g.E.Sink.faults _ _ _ _ _ _ _ _ _ _ refl c.in-Spent.ensures.apart c.in-Spent.ensures.later c.tell_spent.ensures)
 
 pub returns-in-ReadFault-clause-ends : goal.returns-in-ReadFault-clause-ends
-returns-in-ReadFault-clause-ends g c = λ start p text is_text loaded is_loaded accepted is.
+returns-in-ReadFault-clause-ends g c = λ start p shelf is_shelf text is_text loaded is_loaded accepted is.
     unread_in (record {
+      shelf = shelf;
+      is_shelf = is_shelf;
       text = text;
       is_text = is_text;
       loaded = loaded;
@@ -73,8 +81,10 @@ returns-in-ReadFault-clause-ends g c = λ start p text is_text loaded is_loaded 
     }) _ p.reads (c.in-ReadFault.ensures.cause_read (ap (λ (s : Session). s.end) is) refl) _ (said_behind g.E.Sink.told g.E.Sink.written g.E.Sink.faults _ _ _ _ _ _ _ _ refl c.in-ReadFault.ensures.apart c.in-ReadFault.ensures.later c.say.ensures.said)
 
 pub returns-in-WriteFault-clause-ends : goal.returns-in-WriteFault-clause-ends
-returns-in-WriteFault-clause-ends g c = λ start p text is_text loaded is_loaded accepted is.
+returns-in-WriteFault-clause-ends g c = λ start p shelf is_shelf text is_text loaded is_loaded accepted is.
     failed_in (record {
+      shelf = shelf;
+      is_shelf = is_shelf;
       text = text;
       is_text = is_text;
       loaded = loaded;
@@ -90,8 +100,10 @@ returns-in-WriteFault-clause-ends g c = λ start p text is_text loaded is_loaded
     }) _ _ c.say-in-WriteFault.ensures.later p.writes (c.in-WriteFault.ensures.cause (ap (λ (s : Session). s.end) is) refl) _ (said_behind g.E.Sink.told g.E.Sink.written g.E.Sink.faults _ _ _ _ _ _ _ _ refl c.in-WriteFault.ensures.apart c.in-WriteFault.ensures.later c.say-in-WriteFault.ensures.said)
 
 pub returns-in-Memory-clause-ends : goal.returns-in-Memory-clause-ends
-returns-in-Memory-clause-ends g c = λ start p text is_text loaded is_loaded accepted is.
+returns-in-Memory-clause-ends g c = λ start p shelf is_shelf text is_text loaded is_loaded accepted is.
     lost_in (record {
+      shelf = shelf;
+      is_shelf = is_shelf;
       text = text;
       is_text = is_text;
       loaded = loaded;

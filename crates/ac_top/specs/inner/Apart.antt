@@ -1,0 +1,8 @@
+-- Requests whose channels aren't one file.
+use Rattle.std.specs.Prelude.{◌≡◌, false}
+use Rattle.ac_words.specs.Commands.{Request, run, names, code, are_one}
+
+abbrev pub IsApart : Request → Type 0
+IsApart (run p steps from to) = are_one from to ≡ false
+IsApart (names p) = Unit {0}
+IsApart (code p) = Unit {0}
