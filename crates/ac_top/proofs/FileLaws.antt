@@ -1,5 +1,6 @@
 -- Files that are told have one text, one shelf, or one bad line.
-use Rattle.std.proofs.Common.{◌≡◌, ℕ, IsTrue, List, [], ◌∷◌, Option, Some, None, refl, sym, ◌∙◌, ap, ap₂, subst, take}
+use mathlib.Core.Bool.{true≢false}
+use Rattle.std.proofs.Common.{◌≡◌, ℕ, true, false, IsTrue, List, [], ◌∷◌, Option, Some, None, refl, sym, ◌∙◌, ap, ap₂, subst, take}
 use Rattle.ac_types.specs.Types.{Bytes}
 use Rattle.ac_types.proofs.FirstLaws.{some_eq}
 use Rattle.ac_shelf.specs.ShelfLists.{Listed, ShelfAnswer, Lists, BadLine, shelf_answer}
@@ -17,7 +18,7 @@ lists_eq : {xs ys : List Listed} → Lists xs ≡ Lists ys → xs ≡ ys
 lists_eq {xs} {ys} e = ap (λ (a : ShelfAnswer). elim a [ Lists zs ↦ zs | BadLine n ↦ xs ]) e
 
 not_lists : {xs : List Listed} {n : ℕ} → Lists xs ≡ BadLine n → ⊥
-not_lists e = absurd cc
+not_lists e = true≢false (ap (λ (a : ShelfAnswer). elim a [ Lists zs ↦ true | BadLine k ↦ false ]) e)
 
 module _ (files : Bytes → Reading) (told : (name : Bytes) → IsTrue (files name).told) where
   one_answer : {list : Bytes} {a b : ShelfAnswer} → ListSays files list a → ListSays files list b → a ≡ b

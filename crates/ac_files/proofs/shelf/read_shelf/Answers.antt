@@ -6,4 +6,4 @@ use Rattle.ac_files.proofs.shelf.read_shelf.Goals as goal
 
 pub returns-in-None-clause-shelf : goal.returns-in-None-clause-shelf
 returns-in-None-clause-shelf g c =
-    none_given _ _ _ (ap (λ (o : Option (Bor (List ℕ))). option_map (λ s. s.now) o) c.in-None.is) (ap (map shelved) c.empty.ensures)
+    none_given _ _ _ (ap (λ (o : Option (Bor (List ℕ))). option_map (λ s. s.now) o) c.in-None.is) (ap (map shelved) c.empty.ensures.none)
