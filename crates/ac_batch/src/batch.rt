@@ -1,0 +1,72 @@
+// The verdicts of texts, each in a thread of its own where one can be had.
+
+ghost use Rattle.std.specs.Prelude.{◌≡◌, ◌<◌, ◌≤◌, length, map, slice_get, IfOk, IfSome};
+ghost use Rattle.ac_acceptance.specs.Accepting.{IsShelf};
+ghost use Rattle.ac_load.specs.Loading.{shelf_of};
+ghost use Rattle.ac_batch.specs.Verdicts.{IsVerdict, AreVerdicts};
+
+use crate::verdict::{Verdict, judge};
+use ac_load::Shelf;
+use ac_outside::Gate;
+use ac_types::{Many, Memory, Text};
+use std::alloc::Global;
+use std::thread;
+use std::thread::Threads;
+
+/// The verdict of each text, in their order, beside a shelf of at most 256 texts, each under a URI
+/// of its own of 1 to 1,024 bytes. The piece of a text is between one `enter` and one `leave` of
+/// its number, from 0. `Err` for want of memory in any piece.
+pub fn check_all<R: Threads + Sync, G: Gate + Sync>(
+    rt: &R,
+    alloc: Global,
+    texts: &Many<Text>,
+    shelf: &Shelf,
+    gate: &G,
+) -> Result<Many<Verdict>, Memory>
+    requires few { length shelf.now.0 ≤ 256 }
+    requires shelved { IsShelf (shelf_of shelf.now) }
+    ensures { IfOk result (λ vs. AreVerdicts texts.now (shelf_of shelf.now) vs) }
+{
+    let texts = texts.as_slice();
+    let results = thread::map_indices(
+        rt,
+        alloc,
+        texts.len(),
+        &|i| piece(alloc, texts, shelf, gate, i),
+    )?;
+    collected(alloc, results.as_slice())
+}
+
+// The verdict of text `i`, between the gate's `enter` and `leave` of this number.
+fn piece<G: Gate>(
+    alloc: Global,
+    texts: &[Text],
+    shelf: &Shelf,
+    gate: &G,
+    i: usize,
+) -> Result<Verdict, Memory>
+    requires few { length shelf.now.0 ≤ 256 }
+    requires shelved { IsShelf (shelf_of shelf.now) }
+    requires within { i < length texts.now }
+    ensures { IfOk result (λ v.
+        IfSome (slice_get texts.now i) (λ t. IsVerdict t.0 (shelf_of shelf.now) v)) }
+{
+    gate.enter(i);
+    let found = judge(alloc, texts[i].as_slice(), shelf);
+    gate.leave(i);
+    found
+}
+
+// The verdicts, where each piece has one.
+fn collected(alloc: Global, results: &[Result<Verdict, Memory>]) -> Result<Many<Verdict>, Memory>
+    ensures { IfOk result (λ vs. map Ok vs ≡ results.now) }
+{
+    let mut all = Many::new(alloc);
+    for found in results {
+        match *found {
+            Ok(verdict) => all.push(verdict)?,
+            Err(e) => return Err(e),
+        }
+    }
+    Ok(all)
+}

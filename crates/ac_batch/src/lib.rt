@@ -1,0 +1,8 @@
+//! The verdicts of many texts, in parallel.
+#![tactic(auto)]
+
+mod batch;
+mod verdict;
+
+pub use batch::check_all;
+pub use verdict::Verdict;

@@ -1,0 +1,5 @@
+//! Tests of verdicts in parallel.
+#![tactic(auto)]
+
+#[cfg(test)]
+mod meeting;
