@@ -3,3 +3,5 @@
 
 #[cfg(test)]
 mod meeting;
+#[cfg(test)]
+mod order;
