@@ -1,8 +1,16 @@
-//! From trees to patterns, and to types with names: likespecs, structs' types and signatures.
+//! From trees to entries and core terms: programs, and modules by themselves.
 #![tactic(auto)]
 
+mod defs;
+mod fault;
+pub mod laws;
 mod patterns;
+mod program;
+mod structs;
+mod term;
 mod types;
+mod whole;
 
-pub use patterns::{pattern, variables};
-pub use types::{Abbrevs, like, outer_ty, signature};
+pub use fault::ScopeFault;
+pub use program::RawProgram;
+pub use whole::elaborate;

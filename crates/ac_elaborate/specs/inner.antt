@@ -1,0 +1,4 @@
+pub mod Arms
+pub mod Bounds
+pub mod Crowd
+pub mod Joining
