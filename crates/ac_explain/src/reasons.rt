@@ -1,15 +1,18 @@
 // Why a program is refused.
 
+ghost use Rattle.std.specs.Prelude.{◌<◌, ◌^◌, length, IfSome};
+
 use crate::place::{name_at, place_behind, write_line};
 use crate::types::write_type;
-use crate::untyped::{Untyped, first_untyped};
+use crate::untyped::{Standing, Untyped, first_untyped};
 use crate::wants::wants;
+use ac_elaborate::{RawProgram, elaborate};
 use ac_load::Kind;
+use ac_outer::named;
 use ac_page::Page;
 use ac_parser::parse_program;
-use ac_resolve::{RawProgram, elaborate, named};
-use ac_syntax::{SExpr, SExprKind, Surface};
-use ac_terms::{Env, Term};
+use ac_syntax::{SDefKind, SExpr, SExprKind, SField, Surface};
+use ac_terms::{Def, Env, Field, Home, Term};
 use ac_types::{Many, Memory, Ty};
 use std::alloc::Global;
 
@@ -25,6 +28,11 @@ fn told(kind: Kind) -> (&'static [u8], u64) {
         Kind::Repeated { at } => (b"repeated", u64::from(at)),
         Kind::TooMany { count } => (b"too_many", u64::from(count)),
         Kind::IllTyped { def } => (b"type", u64::from(def)),
+        Kind::Signature { def, .. } => (b"signature", u64::from(def)),
+        Kind::NotValuable { def, .. } => (b"not_valuable", u64::from(def)),
+        Kind::LikeMissing { def, .. } => (b"like_missing", u64::from(def)),
+        Kind::Unresolved { def } => (b"unresolved", u64::from(def)),
+        Kind::Clash { second, .. } => (b"clash", u64::from(second)),
         Kind::Memory => (b"memory", 0),
     }
 }
@@ -38,7 +46,15 @@ fn place_of(kind: Kind) -> Option<u32> {
         | Kind::Unbuilt { at }
         | Kind::Unbound { at }
         | Kind::Repeated { at } => Some(at),
-        Kind::TooLong { .. } | Kind::TooMany { .. } | Kind::IllTyped { .. } | Kind::Memory => None,
+        Kind::TooLong { .. }
+        | Kind::TooMany { .. }
+        | Kind::IllTyped { .. }
+        | Kind::Signature { .. }
+        | Kind::NotValuable { .. }
+        | Kind::LikeMissing { .. }
+        | Kind::Unresolved { .. }
+        | Kind::Clash { .. }
+        | Kind::Memory => None,
     }
 }
 
@@ -79,10 +95,19 @@ fn write_reason(page: &mut Page, text: &[u8], kind: Kind) {
         Kind::Syntax { .. } => page.put(b"here no program goes on\n"),
         Kind::Unbuilt { .. } => page.put(b"this form doesn't run yet\n"),
         Kind::Unbound { at } => write_name(page, text, at, b" isn't in scope\n"),
-        Kind::Repeated { at } => write_name(page, text, at, b" is bound twice in one pattern\n"),
+        Kind::Repeated { at } => write_name(page, text, at, b" stands twice where it may once\n"),
         Kind::TooMany { .. } => page.put(
             b"a count passes its limit, which is one less than this number\n",
         ),
+        Kind::Signature { .. } => page.put(
+            b"the struct of this module doesn't have all that its signature says\n",
+        ),
+        Kind::NotValuable { .. } => page.put(b"a field of this module computes something\n"),
+        Kind::LikeMissing { .. } => page.put(
+            b"this import doesn't say what one of its abstract types stands for\n",
+        ),
+        Kind::Unresolved { .. } => page.put(b"no module serves this import\n"),
+        Kind::Clash { .. } => page.put(b"two definitions have one name and two texts\n"),
         Kind::IllTyped { .. } | Kind::Memory => {}
     }
 }
@@ -143,42 +168,132 @@ fn write_untyped(alloc: Global, page: &mut Page, file: &str, text: &[u8], found:
     }
 }
 
-// The term of a program without definitions.
-fn main_term(alloc: Global, surface: &Surface) -> Option<Term> {
-    if !surface.defs.as_slice().is_empty() {
-        return None;
-    }
+// The entries and the term of a program.
+fn elaborated(alloc: Global, surface: &Surface) -> Option<RawProgram>
+    ensures { IfSome result (λ r. length r.env.entries < 2 ^ 32) }
+{
     let env = Env {
         entries: Many::new(alloc),
     };
-    match elaborate(alloc, surface, &env) {
-        Ok(RawProgram { env: _, main }) => Some(main),
-        Err(_) => None,
-    }
+    elaborate(alloc, surface, env).ok()
 }
 
-// Adds what is to be said of the first part that has no type.
+// Adds what is to be said of the first part of an expression that has no type.
 fn explain_term(
     alloc: Global,
     page: &mut Page,
     file: &str,
     text: &[u8],
+    standing: &Standing<'_>,
     tree: &SExpr,
-    main: &Term,
-) {
-    match first_untyped(alloc, tree, main) {
+    term: &Term,
+)
+    requires { length standing.now.env.now.entries < 2 ^ 32 }
+{
+    match first_untyped(alloc, standing, tree, term) {
         Ok(Some(found)) => write_untyped(alloc, page, file, text, &found),
         Ok(None) => {}
         Err(_) => page.lose(),
     }
 }
 
-// Looks for the part of a program that has no type.
-fn explain_type(alloc: Global, page: &mut Page, file: &str, text: &[u8], surface: &Surface) {
-    if let Some(tree) = &surface.expr
-        && let Some(main) = main_term(alloc, surface)
+// Adds what is to be said of a field whose expression has no type, or another one than it writes.
+// Gives whether it is such a field.
+fn explain_field(
+    alloc: Global,
+    page: &mut Page,
+    file: &str,
+    text: &[u8],
+    standing: &Standing<'_>,
+    tree: &SExpr,
+    field: &Field,
+) -> bool
+    requires { length standing.now.env.now.entries < 2 ^ 32 }
+{
+    match standing.type_of(alloc, &field.term, &Many::new(alloc)) {
+        Ok(Some(ty)) => {
+            let sound = standing.sees(&ty, &field.ty);
+            if !sound {
+                write_place(page, file, text, tree.at);
+                page.put(b"this field has another type than it writes\n");
+                write_fact(page, b"written", &field.ty);
+                write_fact(page, b"found", &ty);
+            }
+            drop(ty);
+            !sound
+        }
+        Ok(None) => {
+            explain_term(alloc, page, file, text, standing, tree, &field.term);
+            true
+        }
+        Err(_) => {
+            page.lose();
+            true
+        }
+    }
+}
+
+// Adds what is to be said of the first ill-typed field of entry `i`.
+fn explain_fields(
+    alloc: Global,
+    page: &mut Page,
+    file: &str,
+    text: &[u8],
+    env: &Env,
+    i: u32,
+    trees: &[SField],
+    fields: &[Field],
+)
+    requires { length env.now.entries < 2 ^ 32 }
+{
+    let mut own = 0u32;
+    for tree in trees {
+        if let SField::Val(_, _, body) = tree
+            && let Some(field) = fields.get(own as usize)
+        {
+            let standing = Standing {
+                env,
+                home: Home::In(i),
+                own,
+                refs: i,
+            };
+            if explain_field(alloc, page, file, text, &standing, body, field) {
+                return;
+            }
+            own = own.saturating_add(1);
+        }
+    }
+}
+
+// Looks for the part of definition `def`, or of the expression behind all, that has no type.
+fn explain_type(
+    alloc: Global,
+    page: &mut Page,
+    file: &str,
+    text: &[u8],
+    surface: &Surface,
+    def: u32,
+) {
+    let Some(RawProgram { env, main }) = elaborated(alloc, surface) else {
+        return;
+    };
+    if let Some(tree) = surface.defs.get(def as usize)
+        && let Some(entry) = env.entries.get(def as usize)
     {
-        explain_term(alloc, page, file, text, tree, &main);
+        if let SDefKind::Module { fields: trees, .. } = &tree.kind
+            && let Def::Module(module) = &entry.def
+        {
+            let fields = module.fields.as_slice();
+            explain_fields(alloc, page, file, text, &env, def, trees.as_slice(), fields);
+        }
+    } else if let Some(tree) = &surface.expr {
+        let standing = Standing {
+            env: &env,
+            home: Home::Main,
+            own: 0,
+            refs: env.entries.len() as u32,
+        };
+        explain_term(alloc, page, file, text, &standing, tree, &main);
     }
 }
 
@@ -198,9 +313,9 @@ pub fn write_refusal(alloc: Global, page: &mut Page, file: &str, text: &[u8], ki
         write_place(page, file, text, at);
     }
     write_reason(page, text, kind);
-    if let Kind::IllTyped { .. } = kind
+    if let Kind::IllTyped { def } = kind
         && let Ok(surface) = parse_program(alloc, text)
     {
-        explain_type(alloc, page, file, text, &surface);
+        explain_type(alloc, page, file, text, &surface, def);
     }
 }
