@@ -6,6 +6,4 @@ mod loading;
 #[cfg(test)]
 mod modules;
 #[cfg(test)]
-mod scopes;
-#[cfg(test)]
 mod typing;

@@ -1,9 +1,0 @@
-use Rattle.std.proofs.Common.{◌≡◌, map, drop}
-use Rattle.ac_syntax.specs.Trees.{pat_trees}
-use Rattle.ac_syntax.specs.ReadTrees.{pat_of}
-use Rattle.ac_resolve.specs.inner.Flaws.{flaws_joined, pats_flaws}
-use Rattle.ac_resolve.proofs.patterns.+pat_flaws.Given as goal
-
-abbrev pub invariant-pats_flaws-loop-tree : goal.invariant-pats_flaws-loop-tree
-invariant-pats_flaws-loop-tree l =
-    pats_flaws (pat_trees (map pat_of l.trees)) ≡ flaws_joined l.found (pats_flaws (pat_trees (map pat_of (drop l.tree-index l.trees))))

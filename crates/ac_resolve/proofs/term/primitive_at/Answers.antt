@@ -1,7 +1,0 @@
-use Rattle.std.proofs.Common.{◌∙◌, ap, sym}
-use Rattle.ac_resolve.specs.Elaboration.{primitive_at}
-use Rattle.ac_resolve.proofs.TreeLaws.{expr_of-Of}
-use Rattle.ac_resolve.proofs.term.primitive_at.Goals as goal
-
-pub returns-in-Of : goal.returns-in-Of
-returns-in-Of c = c.named.ensures ∙ ap primitive_at (sym (expr_of-Of _ _ _ c.in-Of.is))

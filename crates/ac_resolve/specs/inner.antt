@@ -1,3 +1,0 @@
-pub mod Flaws
-pub mod Joining
-pub mod NameScopes
