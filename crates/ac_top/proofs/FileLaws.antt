@@ -36,8 +36,9 @@ module _ (files : Bytes → Reading) (told : (name : Bytes) → IsTrue (files na
 
   pub one_shelf : {list : Option Bytes} {s t : List Shelved} → IsShelfBy files list s → IsShelfBy files list t → s ≡ t
   one_shelf no_list no_list = refl
-  one_shelf (listed xs {s} says are) (listed ys {t} others these) =
+  one_shelf (listed xs {shelf = s} says are) (listed ys {shelf = t} others these) =
       one_listed xs s t are (subst (λ (zs : List Listed). AreListed files zs t) (sym (lists_eq (one_answer says others))) these)
 
   pub shelf_or_bad : {list : Option Bytes} {s : List Shelved} {n : ℕ} → IsShelfBy files list s → HasBadLine files list n → ⊥
+  shelf_or_bad {n = n} no_list bad = elim bad [ ]
   shelf_or_bad (listed xs says are) (bad_line others) = not_lists (one_answer says others)

@@ -1,5 +1,5 @@
 -- A text means one thing.
-use Rattle.std.proofs.Common.{◌≡◌, ◌⊎◌, inl, inr, ℕ, Bool, List, [], refl, sym, ◌∙◌, ap, subst}
+use Rattle.std.proofs.Common.{◌≡◌, ◌≤◌, ◌⊎◌, inl, inr, ℕ, Bool, List, [], length, refl, sym, ◌∙◌, ap, subst}
 use Rattle.ac_types.specs.Types.{Bytes, Typ}
 use Rattle.ac_terms.specs.Terms.{Expr, Value}
 use Rattle.ac_terms.specs.Defs.{Environment}
@@ -9,9 +9,11 @@ use Rattle.ac_meaning.specs.Laws.{IsTypedProgram, bare_end, writes_of}
 use Rattle.ac_meaning.specs.Reduction.{Ends}
 use Rattle.ac_meaning.proofs.Admitted.{arrives}
 use Rattle.ac_meaning.proofs.BareEndings.{ends_alike, one_bare_end}
-use Rattle.ac_acceptance.specs.Accepting.{Shelved}
+use Rattle.ac_meaning.proofs.Runs.{one_end}
+use Rattle.ac_acceptance.specs.Accepting.{Shelved, IsShelf}
 use Rattle.ac_load.specs.Loading.{Loads, Rejects}
 use Rattle.ac_load.specs.declared.kind.Kind.{Kind}
+use Rattle.ac_load.proofs.Loaded.{loads_ready}
 use Rattle.ac_top.proofs.LoadedLaws.{not_rejected, one_program}
 use Rattle.ac_top.specs.declared.status.Status.{Status}
 use Rattle.ac_top.specs.declared.status.TheConstants.Status.{FINISHED, REFUSED, UNCAUGHT, SPENT}
@@ -83,17 +85,33 @@ refused_alike r s =
     let right = same_answer s.is in
     (left.0 ∙ sym right.0, left.1 ∙ sym right.1)
 
-run_alike : (m n : Mode) {text : List ℕ} {shelf : List Shelved} {steps : ℕ} {input : Bytes} {sends : Bool} {a b : CommandAnswer} → IsRun m text shelf steps input sends a → IsRun n text shelf steps input sends b → Alike a b
-run_alike m n {steps = steps} {input = input} {sends = sends} r s =
+run_alike : (m n : Mode) {text : List ℕ} {shelf : List Shelved} {steps : ℕ} {input : Bytes} {sends : Bool} {a b : CommandAnswer} → IsShelf shelf → length shelf ≤ 256 → IsRun m text shelf steps input sends a → IsRun n text shelf steps input sends b → Alike a b
+run_alike m n {text = text} {shelf = shelf} {steps = steps} {input = input} {sends = sends} good few r s =
     let one = one_program r.accepted s.accepted in
     let moved = subst (λ (e : Expr). Ends m s.env e input sends steps r.outcome) one.1 (subst (λ (E : Environment). Ends m E r.term input sends steps r.outcome) one.0 r.ends) in
-    same_answer (r.is ∙ one_answer m n steps input sends (runs s.accepted) moved s.ends ∙ sym s.is)
+    same_answer (r.is ∙ one_answer m n steps input sends (loads_ready text shelf s.env s.term s.type good few s.accepted).program moved s.ends ∙ sym s.is)
 
-alike : (m n : Mode) {text : List ℕ} {shelf : List Shelved} {steps : ℕ} {input : Bytes} {sends : Bool} {a b : CommandAnswer} → IsRefusal text shelf a ⊎ IsRun m text shelf steps input sends a → IsRefusal text shelf b ⊎ IsRun n text shelf steps input sends b → Alike a b
-alike m n (inl r) (inl s) = refused_alike r s
-alike m n (inl r) (inr s) = absurd (not_rejected r.refused s.accepted)
-alike m n (inr r) (inl s) = absurd (not_rejected s.refused r.accepted)
-alike m n (inr r) (inr s) = run_alike m n r s
+alike : (m n : Mode) {text : List ℕ} {shelf : List Shelved} {steps : ℕ} {input : Bytes} {sends : Bool} {a b : CommandAnswer} → IsShelf shelf → length shelf ≤ 256 → IsRefusal text shelf a ⊎ IsRun m text shelf steps input sends a → IsRefusal text shelf b ⊎ IsRun n text shelf steps input sends b → Alike a b
+alike m n good few (inl r) (inl s) = refused_alike r s
+alike m n good few (inl r) (inr s) = absurd (not_rejected r.refused s.accepted)
+alike m n good few (inr r) (inl s) = absurd (not_rejected s.refused r.accepted)
+alike m n good few (inr r) (inr s) = run_alike m n good few r s
 
-pub one : (m n : Mode) {text : List ℕ} {shelf : List Shelved} {steps : ℕ} {input : Bytes} {sends : Bool} {a b : CommandAnswer} → Means m text shelf steps input sends a → Means n text shelf steps input sends b → (a.status ≡ b.status) × (a.writes ≡ b.writes)
-one m n a b = alike m n (cases a) (cases b)
+pub one : (m n : Mode) {text : List ℕ} {shelf : List Shelved} {steps : ℕ} {input : Bytes} {sends : Bool} {a b : CommandAnswer} → IsShelf shelf → length shelf ≤ 256 → Means m text shelf steps input sends a → Means n text shelf steps input sends b → (a.status ≡ b.status) × (a.writes ≡ b.writes)
+one m n good few a b = alike m n good few (cases a) (cases b)
+
+-- in one mode this asks nothing of the shelf
+run_same : (m : Mode) {text : List ℕ} {shelf : List Shelved} {steps : ℕ} {input : Bytes} {sends : Bool} {a b : CommandAnswer} → IsRun m text shelf steps input sends a → IsRun m text shelf steps input sends b → Alike a b
+run_same m {steps = steps} {input = input} {sends = sends} r s =
+    let one = one_program r.accepted s.accepted in
+    let moved = subst (λ (e : Expr). Ends m s.env e input sends steps r.outcome) one.1 (subst (λ (E : Environment). Ends m E r.term input sends steps r.outcome) one.0 r.ends) in
+    same_answer (r.is ∙ ap (given_by steps) (one_end m s.env s.term input sends steps r.outcome s.outcome moved s.ends) ∙ sym s.is)
+
+same : (m : Mode) {text : List ℕ} {shelf : List Shelved} {steps : ℕ} {input : Bytes} {sends : Bool} {a b : CommandAnswer} → IsRefusal text shelf a ⊎ IsRun m text shelf steps input sends a → IsRefusal text shelf b ⊎ IsRun m text shelf steps input sends b → Alike a b
+same m (inl r) (inl s) = refused_alike r s
+same m (inl r) (inr s) = absurd (not_rejected r.refused s.accepted)
+same m (inr r) (inl s) = absurd (not_rejected s.refused r.accepted)
+same m (inr r) (inr s) = run_same m r s
+
+pub one_in : (m : Mode) {text : List ℕ} {shelf : List Shelved} {steps : ℕ} {input : Bytes} {sends : Bool} {a b : CommandAnswer} → Means m text shelf steps input sends a → Means m text shelf steps input sends b → (a.status ≡ b.status) × (a.writes ≡ b.writes)
+one_in m a b = same m (cases a) (cases b)

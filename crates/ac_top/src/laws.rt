@@ -1,10 +1,10 @@
 // What follows from the contract of the top call.
-ghost use Rattle.std.specs.Prelude.{◌≡◌, ◌⊎◌, List, ℕ, Bool, Option, IsTrue, None, Some, is_some};
+ghost use Rattle.std.specs.Prelude.{◌≡◌, ◌≤◌, ◌⊎◌, List, ℕ, length, Bool, Option, IsTrue, None, Some, is_some};
 ghost use Rattle.ac_types.specs.Types.{Bytes};
 ghost use Rattle.ac_outside.specs.Outside.{Rose};
 ghost use Rattle.ac_rules.specs.Views.{Mode};
 ghost use Rattle.ac_words.specs.Commands.{ChannelName, ProgramFiles, Request, run};
-ghost use Rattle.ac_acceptance.specs.Accepting.{Shelved};
+ghost use Rattle.ac_acceptance.specs.Accepting.{Shelved, IsShelf};
 ghost use Rattle.ac_files.specs.Files.{Reading, IsTextOf};
 ghost use Rattle.ac_files.specs.ProgramTexts.{IsShelfBy, HasBadLine, ReadsFail};
 ghost use Rattle.ac_top.specs.declared.status.Status.{Status};
@@ -16,11 +16,12 @@ ghost use Rattle.ac_top.specs.Meaning.{CommandAnswer, Means};
 ghost use Rattle.ac_top.specs.Showing.{ShownAnswer, Shows};
 ghost use Rattle.ac_top.specs.Endings.{Ended, ShownEnded, files_asked};
 
-/// Within a budget, with an input, and with or without a channel to send to, a text has one meaning,
-/// which is the same in both modes: it is refused or not, and ends in one way, with the same writes.
+/// Beside a shelf, within a budget, with an input, and with or without a channel to send to, a text
+/// has one meaning, which is the same in both modes: it is refused or not, and ends in one way, with
+/// the same writes.
 pub fn one_meaning()
     ensures { (m n : Mode) (text : List ℕ) (shelf : List Shelved) (steps : ℕ) (input : Bytes)
-        (sends : Bool) (a b : CommandAnswer) →
+        (sends : Bool) (a b : CommandAnswer) → IsShelf shelf → length shelf ≤ 256 →
         Means m text shelf steps input sends a → Means n text shelf steps input sends b →
         (a.status ≡ b.status) × (a.writes ≡ b.writes) }
 {}

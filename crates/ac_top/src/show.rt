@@ -71,7 +71,11 @@ fn show_texts<O: Sink, E: Sink>(
         (writing E.told E.written E.faults errors.old errors.new) result }
 {
     match load(alloc, texts.program.as_slice(), &texts.shelf) {
-        Ok(loaded) => show_loaded(alloc, what, loaded, output, errors),
+        Ok(loaded) => {
+            let status = show_loaded(alloc, what, &loaded, output, errors);
+            drop(loaded);
+            status
+        }
         Err(refusal) => refuse(alloc, refusal, errors),
     }
 }
@@ -80,16 +84,16 @@ fn show_texts<O: Sink, E: Sink>(
 fn show_loaded<O: Sink, E: Sink>(
     alloc: Global,
     what: Showing,
-    loaded: Loaded,
+    loaded: &Loaded,
     output: &mut O,
     errors: &mut E,
 ) -> Status
-    requires { length loaded.env.entries < 2 ^ 32 }
-    ensures { Printed (shown what (environment_of loaded.env) (expr_of loaded.main))
+    requires { length loaded.now.env.entries < 2 ^ 32 }
+    ensures { Printed (shown what (environment_of loaded.now.env) (expr_of loaded.now.main))
         (writing O.told O.written O.faults output.old output.new)
         (writing E.told E.written E.faults errors.old errors.new) result }
 {
-    match shown_text(alloc, what, &loaded) {
+    match shown_text(alloc, what, loaded) {
         Ok(text) => print(text.as_slice(), output, errors),
         Err(_) => no_memory(errors),
     }

@@ -16,7 +16,7 @@ use Rattle.ac_top.specs.Meaning.{CommandAnswer, Means}
 use Rattle.ac_top.specs.Endings.{HasRead, GivesStatus, RunEnded, is_refused, has_run, bad_list, unread_file, unmade_file, unread_input, unwritten, no_memory_yet, no_memory_making, no_memory_left, Said, said, failed, no_memory, SaidIfAny}
 use Rattle.ac_top.proofs.FileLaws.{one_text, one_shelf, shelf_or_bad}
 use Rattle.ac_top.proofs.SaidLaws.{said_wholly, said_if_any_wholly}
-use Rattle.ac_top.proofs.TextLaws.{one}
+use Rattle.ac_top.proofs.TextLaws.{one_in}
 use Rattle.ac_top.proofs.laws.nothing_failed.Goals as goal
 
 -- the counts of errors are the same behind a run
@@ -41,7 +41,7 @@ module _ (prog : ProgramFiles) (steps : ℕ) (from to : Option ChannelName) (o :
       let input : r.input ≡ input_of from o = input_is from to o r.input known r.is_input in
       let first = subst (λ (l : Bytes). Means mode l r.shelf steps r.input (is_some to) b) same (g mode) in
       let second = subst (λ (s : List Shelved). Means mode text s steps r.input (is_some to) b) one_of first in
-      (one mode mode (subst (λ (l : Bytes). Means mode text shelf steps l (is_some to) b) input second) means).0
+      (one_in mode (subst (λ (l : Bytes). Means mode text shelf steps l (is_some to) b) input second) means).0
 
   complete : RunEnded prog steps from to o end → end ≡ a.status
   complete (is_refused r b g runs x u s) = said_wholly m o.errors e refl s ∙ as_meant r b g

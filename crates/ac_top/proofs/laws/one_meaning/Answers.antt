@@ -2,4 +2,4 @@ use Rattle.ac_top.proofs.TextLaws.{one}
 use Rattle.ac_top.proofs.laws.one_meaning.Goals as goal
 
 pub returns : goal.returns
-returns c = λ m n text shelf steps input sends a b x y. one m n x y
+returns c = λ m n text shelf steps input sends a b good few x y. one m n good few x y

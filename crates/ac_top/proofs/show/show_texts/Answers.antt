@@ -8,8 +8,8 @@ use Rattle.ac_load.specs.Kinds.{Says}
 use Rattle.ac_top.proofs.ShowLaws.{of_loaded, of_refused}
 use Rattle.ac_top.proofs.show.show_texts.Goals as goal
 
-pub show_loaded-requires : goal.show_loaded-requires
-show_loaded-requires g c =
+pub show_loaded-status-requires : goal.show_loaded-status-requires
+show_loaded-status-requires g c =
     let l = c.in-Ok.loaded in
     omega (arith, entries_length l.env.entries, c.in-Ok.ensures.loaded.program.coherent.few)
 
@@ -18,7 +18,7 @@ returns-in-Ok g c =
     let l = c.in-Ok.loaded in
     let shelf = shelf_of c.args.texts.shelf in
     of_loaded _ c.args.texts.program.0 shelf _ _ (environment_of l.env) (expr_of l.main) (typ_of l.ty)
-    (subst (λ (text : Bytes). Loads text shelf (environment_of l.env) (expr_of l.main) (typ_of l.ty)) c.as_slice.ensures c.in-Ok.ensures.accepted) _ c.show_loaded.ensures
+    (subst (λ (text : Bytes). Loads text shelf (environment_of l.env) (expr_of l.main) (typ_of l.ty)) c.as_slice.ensures c.in-Ok.ensures.accepted) _ c.show_loaded-status.ensures
 
 pub returns : goal.returns
 returns g c =
