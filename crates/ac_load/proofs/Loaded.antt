@@ -21,7 +21,7 @@ pub loads_ready : (text : Bytes) (shelf : List Shelved) (E : Environment) (e : E
 loads_ready text shelf E e T good few l = ready_loaded E e T (accepted_ready text shelf E e T good few l.accepted)
 
 -- of a shelf whose forms all run so do those of each text
-built_at : (before rest : List Shelved) (s : Shelved) → AreBuilt (before ++ s ∷ rest) → AreBuilt (s ∷ rest)
+pub built_at : (before rest : List Shelved) (s : Shelved) → AreBuilt (before ++ s ∷ rest) → AreBuilt (s ∷ rest)
 built_at [] rest s b = b
 built_at (x ∷ before) rest s b = built_at before rest s b.1
 

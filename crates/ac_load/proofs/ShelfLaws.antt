@@ -49,7 +49,7 @@ says (Clash first second) f p = f p
 says (Unbuilt at) f p = f p
 
 -- a text has one tree at most
-abbrev One : (List Sign → ProgramTree → Type 0) → Type 0
+abbrev pub One : (List Sign → ProgramTree → Type 0) → Type 0
 One G = (text : Bytes) (p q : ProgramTree) → HasTree G text p → HasTree G text q → p ≡ q
 
 module _ (G : List Sign → ProgramTree → Type 0) (E : Environment) (seen : Seen) (text : Bytes) where

@@ -16,7 +16,7 @@ use Rattle.ac_load.specs.Kinds.{kind_of}
 use Rattle.ac_load.specs.declared.shelf.ShelfEntry.{ShelfEntry}
 use Rattle.ac_load.specs.declared.shelf.Shelf as code
 use Rattle.ac_load.specs.declared.kind.Kind.{Kind}
-use Rattle.ac_load.specs.declared.kind.Kind.TheVariants.{Unbuilt}
+use Rattle.ac_load.specs.declared.kind.Kind.TheVariants.{Syntax, Unbuilt}
 
 -- the texts of a shelf, in their order
 abbrev pub shelved : ShelfEntry → Shelved
@@ -49,3 +49,8 @@ pub data Rejects (text : Bytes) (shelf : List Shelved) : ℕ → Kind → Type 0
   of_shelf : (before rest : List Shelved) {s : Shelved} {E : Environment} {kind : Kind}
       → shelf ≡ before ++ s ∷ rest → Gives sha256 [] before E → AreBuilt before → RejectsPart IsModule E (Shelf s.uri) s.text kind → Rejects text shelf (suc (length before)) kind
   of_program : {E : Environment} {kind : Kind} → Gives sha256 [] shelf E → AreBuilt shelf → RejectsPart IsProgram E Own' text kind → Rejects text shelf 0 kind
+
+-- the same kind, at the same place where it isn't one of syntax
+pub data SameKind : Kind → Kind → Type 0 where
+  equal : {a : Kind} → SameKind a a
+  two_places : {i j : ℕ} → SameKind (Syntax i) (Syntax j)
