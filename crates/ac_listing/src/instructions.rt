@@ -80,7 +80,7 @@ pub fn put_instr(alloc: Global, text: &mut Text, instr: &Instr) -> Result<(), Me
     }
 }
 
-// Adds a name and a number behind it.
+/// Adds a name and a number behind it.
 pub fn put_numbered(alloc: Global, text: &mut Text, name: &[u8], number: u64) -> Result<(), Memory>
     ensures { OnOk result (text.new.0 ≡ text.old.0 ++ (name.now ++ decimal number)) }
 {

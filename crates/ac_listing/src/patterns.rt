@@ -12,7 +12,7 @@ use ac_types::exceptions::exception_name;
 use ac_types::{Memory, Text};
 use std::alloc::Global;
 
-// Adds a pattern.
+/// Adds a pattern.
 #[cycle(pat)]
 #[tactic(auto, using(ac_canon::proofs::PatternForms::pattern_laws))]
 pub fn put_pattern(alloc: Global, text: &mut Text, pat: &Pat) -> Result<(), Memory>

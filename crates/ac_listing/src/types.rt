@@ -9,7 +9,7 @@ ghost use Rattle.ac_listing.specs.Listing.{type_shown, parts_shown};
 use ac_types::{Memory, Name, Text, Ty};
 use std::alloc::Global;
 
-// Adds a type.
+/// Adds a type.
 #[cycle(ty)]
 #[tactic(auto, using(ac_canon::proofs::TypeForms::type_laws))]
 pub fn put_type(alloc: Global, text: &mut Text, ty: &Ty) -> Result<(), Memory>

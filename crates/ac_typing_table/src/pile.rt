@@ -52,28 +52,34 @@ impl Pile {
         self.terms.push(term).ok()
     }
 
+    /// Takes the number on top, where it fits a byte.
     pub fn small(&mut self) -> Option<u8> {
         u8::try_from(self.numbers.pop()?).ok()
     }
 
+    /// Takes the number on top, where it fits two bytes.
     pub fn short(&mut self) -> Option<u16> {
         u16::try_from(self.numbers.pop()?).ok()
     }
 
+    /// Takes the number on top as a truth: one is true.
     pub fn truth(&mut self) -> Option<bool> {
         Some(self.numbers.pop()? == 1)
     }
 
+    /// Takes the type on top, in a box.
     pub fn boxed_type(&mut self) -> Option<Box<Ty>> {
         let ty = self.types.pop()?;
         Box::new(self.alloc, ty).ok()
     }
 
+    /// Takes the pattern on top, in a box.
     pub fn boxed_pat(&mut self) -> Option<Box<Pat>> {
         let pat = self.pats.pop()?;
         Box::new(self.alloc, pat).ok()
     }
 
+    /// Takes the term on top, in a box.
     pub fn boxed_term(&mut self) -> Option<Box<Term>> {
         let term = self.terms.pop()?;
         Box::new(self.alloc, term).ok()
