@@ -2,7 +2,9 @@
 #![tactic(auto)]
 
 mod admitting;
+mod commit;
 mod fault;
+mod spoken;
 
 pub use admitting::{Admitted, admit};
 pub use fault::AdmitFault;

@@ -1,0 +1,24 @@
+-- The test of what a packet's value speaks of.
+use Rattle.std.specs.Prelude.{ℕ, Bool, true, false, nat_lt, List, map, length, slice_get}
+use Rattle.std.specs.List.{list_all}
+use Rattle.std.specs.Option.{option_map_or}
+use Rattle.sha2.specs.Sha256.{sha256}
+use Rattle.ac_types.specs.Types.{mentions}
+use Rattle.ac_terms.specs.Terms.{Main, In}
+use Rattle.ac_terms.specs.Defs.{Environment, Entry, Def}
+use Rattle.ac_terms.specs.Parts.{Portion, OfType, OfRef, OfHome, Captured}
+use Rattle.ac_rules.specs.Views.{is_known}
+use Rattle.ac_rules.specs.Packets.{may_be_home}
+
+abbrev pub defs_of : Environment → List Def
+defs_of E = map (λ (e : Entry). e.def) E
+
+abbrev pub home_passes : Environment → ℕ → Bool
+home_passes E k = option_map_or (λ (e : Entry). may_be_home sha256 e.def) (slice_get E k) false
+
+abbrev pub passes_there : Environment → Portion → Bool
+passes_there E (OfType T) = list_all (is_known E) (mentions T)
+passes_there E (OfRef j x) = nat_lt j (length E)
+passes_there E (OfHome Main) = true
+passes_there E (OfHome (In k)) = home_passes E k
+passes_there E Captured = true

@@ -1,0 +1,9 @@
+//! Tests of packets that are accepted or refused.
+#![tactic(auto)]
+
+#[cfg(test)]
+mod accepted;
+#[cfg(test)]
+mod make;
+#[cfg(test)]
+mod refused;

@@ -1,0 +1,73 @@
+// Packets that are refused, which leave the environment as it was.
+
+use crate::make::{OWN_M1, PAIR, fault, nothing, own, type_of};
+use ac_admit::AdmitFault;
+use ac_types::Ty;
+use std::test::Fail;
+
+/// The packet of `true` as a bool, and as an int.
+const TRUE: &[u8] = b"ACUP\x01\x00\x00\x02\x02\x01";
+
+const TRUE_AS_INT: &[u8] = b"ACUP\x01\x00\x00\x01\x02\x01";
+
+/// A packet that brings a module, with `true` as an int.
+const BRINGS_FALSELY: &[u8] = b"ACUP\x01\x00\x01\x01\x02M2\x01\x02\x00\x00\x00\x01\x01z\x01\x00\x00\x00\x01\x01z\x01\x01\x00\x00\x00\x00\x00\x00\x00\x03\x01\x02\x01";
+
+/// A module with a field of the wrong type, and one that refers to itself; each with unit.
+const ILL_TYPED: &[u8] = b"ACUP\x01\x00\x01\x01\x02M2\x01\x02\x00\x00\x00\x01\x01z\x01\x00\x00\x00\x01\x01z\x01\x02\x01\x04\x04";
+
+const REFERS_ON: &[u8] = b"ACUP\x01\x00\x01\x01\x02M2\x01\x02\x00\x00\x00\x01\x01z\x01\x00\x00\x00\x01\x01z\x01\x0D\x00\x00\x01z\x04\x04";
+
+/// A module whose signature has two values of one name.
+const TWICE: &[u8] = b"ACUP\x01\x00\x01\x01\x02M2\x01\x02\x00\x00\x00\x02\x01z\x01\x01z\x01\x00\x00\x00\x01\x01z\x01\x01\x00\x00\x00\x00\x00\x00\x00\x03\x04\x04";
+
+/// A function at home in a definition that isn't there, and one at home in an import by version.
+const NO_HOME: &[u8] = b"ACUP\x01\x00\x00\x09\x04\x04\x0A\x00\x01\x0E\x04\x04";
+
+const IMPORT_HOME: &[u8] = b"ACUP\x01\x00\x01\x02\x02M1\x00\x00\x00\x01\x01y\x01\x01\x00\x01\x00\x00\x01\x02\x09\x04\x04\x0A\x00\x01\x0E\x04\x04";
+
+#[test]
+fn types_and_values(rt: HostRuntime) -> Result<(), Fail> {
+    let alloc = rt.alloc();
+    let mut env = nothing(alloc);
+    assert_eq!(rt; fault(alloc, &mut env, TRUE, &Ty::Int), Some(AdmitFault::WrongType));
+    assert_eq!(rt; fault(alloc, &mut env, TRUE, &Ty::Bool), None);
+    assert_eq!(rt; fault(alloc, &mut env, TRUE_AS_INT, &Ty::Int), Some(AdmitFault::Value));
+    assert_eq!(rt; fault(alloc, &mut env, BRINGS_FALSELY, &Ty::Int), Some(AdmitFault::Value));
+    assert_eq!(rt; env.entries.len(), 0);
+    Ok(())
+}
+
+#[test]
+fn definitions(rt: HostRuntime) -> Result<(), Fail> {
+    let alloc = rt.alloc();
+    let mut env = nothing(alloc);
+    let ill = Some(AdmitFault::Definition { i: 0 });
+    assert_eq!(rt; fault(alloc, &mut env, ILL_TYPED, &Ty::Unit), ill);
+    assert_eq!(rt; fault(alloc, &mut env, REFERS_ON, &Ty::Unit), ill);
+    assert_eq!(rt; fault(alloc, &mut env, TWICE, &Ty::Unit), ill);
+    assert_eq!(rt; env.entries.len(), 0);
+    Ok(())
+}
+
+#[test]
+fn homes(rt: HostRuntime) -> Result<(), Fail> {
+    let alloc = rt.alloc();
+    let mut env = own(alloc, OWN_M1)?;
+    let ty = type_of(alloc, NO_HOME)?;
+    assert_eq!(rt; fault(alloc, &mut env, NO_HOME, &ty), Some(AdmitFault::Value));
+    assert_eq!(rt; fault(alloc, &mut env, IMPORT_HOME, &ty), Some(AdmitFault::Value));
+    assert_eq!(rt; env.entries.len(), 1);
+    Ok(())
+}
+
+// An import without a link comes before the type.
+#[test]
+fn an_import_without_a_link(rt: HostRuntime) -> Result<(), Fail> {
+    let alloc = rt.alloc();
+    let mut env = nothing(alloc);
+    let open = Some(AdmitFault::Unresolved { i: 0 });
+    assert_eq!(rt; fault(alloc, &mut env, PAIR, &Ty::Int), open);
+    assert_eq!(rt; env.entries.len(), 0);
+    Ok(())
+}

@@ -1,0 +1,4 @@
+pub mod FindLaws
+pub mod KeyLaws
+pub mod OpenLaws
+pub mod StateLaws

@@ -1,0 +1,5 @@
+pub mod Behind
+pub mod Keys
+pub mod Maps
+pub mod Open
+pub mod State
