@@ -1,8 +1,8 @@
 -- What a map of keys has, after each key that goes in where it isn't there yet.
-use Rattle.std.proofs.Common.{◌≡◌, refl, sym, ap, ap₂, ◌∙◌, ℕ, zero, suc, ◌+◌, ◌≤◌, ◌<◌, cond, add-one, get_or, Bool, true, false, List, [], ◌∷◌, ◌++◌, map, length, take, Option, Some, None}
+use Rattle.std.proofs.Common.{Ordering, ◌≡◌, refl, sym, ap, ap₂, ◌∙◌, ℕ, zero, suc, ◌+◌, ◌≤◌, ◌<◌, cond, add-one, get_or, Bool, true, false, List, [], ◌∷◌, ◌++◌, map, length, take, drop, Option, Some, None}
 use Rattle.std.specs.Prelude.{position}
 use Rattle.std.proofs.Math.Seq.{take-suc, take-length}
-use Rattle.std.proofs.lemmas.List.{map-append, length-map}
+use Rattle.std.proofs.lemmas.List.{map-append, length-map, drop_more}
 use native.Mathlib.Omega.{arith}
 use Rattle.ac_terms.specs.declared.def.Entry as code
 use Rattle.ac_terms.specs.Read.{entry_of}
@@ -17,7 +17,7 @@ use Rattle.ac_clashes.proofs.KnownLaws.{same_order, position_more, noted_none}
 use Rattle.ac_placing.specs.inner.Keys.{key_bytes, keyed}
 use Rattle.ac_placing.specs.inner.Maps.{Key, key_found}
 
-abbrev key_cmp : Key → Key → _
+abbrev key_cmp : Key → Key → Ordering
 key_cmp a b = slice_cmp nat_cmp a.items b.items
 
 pub none_keyed : (m : BTreeMap Key ℕ) → IsEmpty m → (k : Key) → key_found m k ≡ None
@@ -79,3 +79,7 @@ entries_taken i xs h = length-map (take i xs) entry_of ∙ taken xs i (omega (ar
 
 pub entries_all : (i : ℕ) (xs : List code.Entry) → i ≡ length xs → map entry_of (take i xs) ≡ map entry_of xs
 entries_all i xs e = ap (map entry_of) (ap (λ n. take n xs) e ∙ take-length xs)
+
+-- the definitions that are left
+pub left_next : {A : Type 0} (i : ℕ) (xs : List A) (x : A) → i < length xs → x ≡ get_or xs i x → drop i xs ≡ x ∷ drop (i + 1) xs
+left_next i xs x h e = drop_more xs i x h ∙ ap (λ y. y ∷ drop (i + 1) xs) (sym e)

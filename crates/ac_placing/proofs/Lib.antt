@@ -1,3 +1,5 @@
+pub mod BehindLaws
+pub mod BoundLaws
 pub mod FindLaws
 pub mod KeyLaws
 pub mod OpenLaws

@@ -1,6 +1,6 @@
 -- What holds of the places of the code, after one more.
-use Rattle.std.proofs.Common.{◌≡◌, refl, sym, ap, ap₂, ◌∙◌, subst, ℕ, zero, suc, ◌+◌, ◌≤◌, ◌<◌, Bool, true, false, ◌&&◌, List, [], ◌∷◌, ◌++◌, map, length, Option, Some, None, append_assoc, length-append}
-use Rattle.std.specs.Prelude.{unwrap_or, slice_get, is_none, option_map, option_and_then}
+use Rattle.std.proofs.Common.{◌≡◌, refl, sym, ap, ap₂, ◌∙◌, subst, ℕ, zero, suc, ◌+◌, ◌≤◌, ◌<◌, Bool, true, false, ◌&&◌, not, List, [], ◌∷◌, ◌++◌, map, length, Option, Some, None, append_assoc, append-nil, length-append}
+use Rattle.std.specs.Prelude.{unwrap_or, slice_get, option_map, option_and_then}
 use mathlib.Core.Path.{fun_ext}
 use Rattle.std.proofs.lemmas.Bool.Decides.{nat_tests}
 use Rattle.sha2.specs.Sha256.{sha256}
@@ -12,7 +12,8 @@ use Rattle.ac_types.proofs.Same.{and_true}
 use Rattle.ac_types.specs.Types.{Bytes, same_bytes}
 use Rattle.ac_types.specs.First.{or_else, given}
 use Rattle.ac_terms.specs.declared.def.Entry as code
-use Rattle.ac_terms.specs.Defs.{Environment, Entry, Module, Import, Def, AModule, AnImport, AMark}
+use Rattle.ac_terms.specs.Defs.{Environment, Entry, Module, Import, Def, AModule, AnImport, AMark, Arrived}
+use Rattle.ac_terms.specs.Names.{name_by}
 use Rattle.ac_terms.specs.Parts.{part_refs, def_parts}
 use Rattle.ac_terms.specs.Renumbered.{def_renumbered}
 use Rattle.ac_terms.specs.Bounds.{is_four}
@@ -20,8 +21,12 @@ use Rattle.ac_parts.specs.Numbers.{number_in}
 use Rattle.ac_rules.specs.Coherent.{IsCoherent, IsLinked, link_at}
 use Rattle.ac_rules.specs.Links.{linked, InPacket, is_exact}
 use Rattle.ac_rules.proofs.ViewLaws.{within}
-use Rattle.ac_terms.specs.Read.{entry_of}
+use Rattle.ac_terms.specs.Read.{entry_of, def_of_code, name_of_code}
+use Rattle.ac_terms.specs.declared.def.Def as code_def
+use Rattle.ac_terms.specs.declared.def.Seen as code_seen
+use Rattle.ac_types.specs.declared.text.Name.{Name}
 use Rattle.ac_terms.proofs.AllLaws.{all_append}
+use Rattle.ac_terms.proofs.TestLaws.{not_true, not_false}
 use Rattle.ac_rules.specs.Packets.{Place, Placed, placed_number, is_unresolved, find_def, put, placed_there, found_or_put, place_exact, place_ranges, place}
 use Rattle.ac_rules.proofs.ListLaws.{all_at, length_more}
 use Rattle.ac_placing.specs.declared.places.Place as code_place
@@ -57,28 +62,33 @@ module _ (E : Environment) (old new : Placing) (sound : IsSound E old) (at : Opt
   stays_state p m = ap₂ (λ es (ps : List Place). (E ++ map entry_of es, ps)) m (places_more p)
 
 -- a new entry
-module _ (E : Environment) (old new : Placing) (sound : IsSound E old) (e : code.Entry) (u : Bool) (key : Bytes) (n : ℕ) where
+module _ (E : Environment) (old new : Placing) (sound : IsSound E old) (d : code_def.Def) (m : Option Name) (l : Option ℕ) (u : Bool) (key : Bytes) (n : ℕ) where
   abbrev X : Environment
   X = E ++ map entry_of old.more
 
+  abbrev e : code.Entry
+  e = record { def = d; name = m; seen = code_seen.Seen.Arrived; link = l }
+
   grown : new.more ≡ old.more ++ e ∷ [] → E ++ map entry_of new.more ≡ X ++ entry_of e ∷ []
-  grown m = ap (λ es. E ++ map entry_of es) m ∙ ap (λ es. E ++ es) (map-append entry_of old.more (e ∷ [])) ∙ sym (append_assoc E (map entry_of old.more) (entry_of e ∷ []))
+  grown h = ap (λ es. E ++ map entry_of es) h ∙ ap (λ es. E ++ es) (map-append entry_of old.more (e ∷ [])) ∙ sym (append_assoc E (map entry_of old.more) (entry_of e ∷ []))
 
   many : n ≡ length E + length old.more → length X ≡ n
   many h = length-append E (map entry_of old.more) ∙ ap (λ k. length E + k) (length-map old.more entry_of) ∙ sym h
 
-  pub put_sound : is_short e.link ≡ true → key ≡ key_bytes (entry_of e).def (entry_of e).link → n ≡ length E + length old.more → new.more ≡ old.more ++ e ∷ [] → new.numbers ≡ old.numbers ++ n ∷ [] →
+  pub put_sound : is_short l ≡ true → key ≡ key_bytes (def_of_code d) l → n ≡ length E + length old.more → new.more ≡ old.more ++ e ∷ [] → new.numbers ≡ old.numbers ++ n ∷ [] →
       new.places ≡ old.places ++ record { at = Some n; unresolved = u } ∷ [] → ((k : Key) → key_found new.keys k ≡ or_else (key_found old.keys k) (given (same_bytes key k.items) (Some n))) → IsSound E new
-  put_sound s is h m num p k = record {
+  put_sound s is h more num p k = record {
     numbers = numbers_more E old new sound (Some n) u num p;
-    keys = λ x. keys_next X (entry_of e) n (many h) (key_found old.keys) (key_found new.keys) sound.keys key is k x ∙ ap (λ Y. keyed Y x.items) (sym (grown m));
-    short = ap (list_all has_short_link) (grown m) ∙ all_append has_short_link X (entry_of e ∷ []) sound.short (and_true {a = is_short e.link} {b = true} s refl);
-    few = let a = ap length m in let b = ap length p in omega (arith, a, b, sound.few, length_more old.more e, length_more old.places (record { at = Some n; unresolved = u }));
+    keys = λ x. keys_next X (entry_of e) n (many h) (key_found old.keys) (key_found new.keys) sound.keys key is k x ∙ ap (λ Y. keyed Y x.items) (sym (grown more));
+    short = ap (list_all has_short_link) (grown more) ∙ all_append has_short_link X (entry_of e ∷ []) sound.short (and_true {a = is_short l} {b = true} s refl);
+    few = let a = ap length more in let b = ap length p in omega (arith, a, b, sound.few, length_more old.more e, length_more old.places (record { at = Some n; unresolved = u }));
   }
 
-  pub put_state : n ≡ length E + length old.more → new.more ≡ old.more ++ e ∷ [] → new.places ≡ old.places ++ record { at = Some n; unresolved = u } ∷ [] → state_of E new ≡ ((state_of E old).0 ++ entry_of e ∷ [], (state_of E old).1 ++ record { at = Some (length (state_of E old).0); unresolved = u } ∷ [])
-  put_state h m p =
-      ap₂ (λ es (ps : List Place). (es, ps)) (grown m)
+  pub put_state : option_map name_of_code m ≡ name_by sha256 X (def_of_code d) → n ≡ length E + length old.more → new.more ≡ old.more ++ e ∷ [] → new.places ≡ old.places ++ record { at = Some n; unresolved = u } ∷ [] →
+      state_of E new ≡ put sha256 (state_of E old) (def_of_code d) l u
+  put_state named h more p =
+      ap₂ (λ es (ps : List Place). (es, ps))
+      (grown more ∙ ap (λ (o : Option Bytes). X ++ record { def = def_of_code d; name = o; seen = Arrived; link = l } ∷ []) named)
       (places_more E old new sound (Some n) u p ∙ ap (λ k. map place_of old.places ++ record { at = Some k; unresolved = u } ∷ []) (sym (many h)))
 
 -- what the map has for a definition's key is the least entry that equals it
@@ -104,13 +114,8 @@ pub unfound_state : (s : Placed) (d : Def) (l : Option ℕ) → find_def s.0 d l
 unfound_state s d l h = ap (λ o. elim o as (λ z. Placed) [ Some k ↦ placed_there sha256 s k | None ↦ put sha256 s d l false ]) h
 
 -- an import by exact name, and by version
-pub exact_state : (E : Environment) (s : Placed) (i : Import) → is_exact i.constraint ≡ true → (o : Option ℕ) → o ≡ linked E i InPacket → place sha256 E s (AnImport i) ≡ (s.0, s.1 ++ record { at = o; unresolved = is_none o } ∷ [])
-exact_state E s i x o h =
-    ap₂ (λ b (l : Option ℕ). elim b as (λ z. Placed) [ true ↦ place_exact sha256 s l | false ↦ place_ranges sha256 s i l ]) x (sym h) ∙ by o
-  where
-    by : (l : Option ℕ) → place_exact sha256 s l ≡ (s.0, s.1 ++ record { at = l; unresolved = is_none l } ∷ [])
-    by None = refl
-    by (Some j) = refl
+pub exact_state : (E : Environment) (s : Placed) (i : Import) → is_exact i.constraint ≡ true → place sha256 E s (AnImport i) ≡ place_exact sha256 s (linked E i InPacket)
+exact_state E s i x = ap (λ b. elim b as (λ z. Placed) [ true ↦ place_exact sha256 s (linked E i InPacket) | false ↦ place_ranges sha256 s i (linked E i InPacket) ]) x
 
 pub ranges_state : (E : Environment) (s : Placed) (i : Import) → is_exact i.constraint ≡ false → place sha256 E s (AnImport i) ≡ place_ranges sha256 s i (linked E i InPacket)
 ranges_state E s i x = ap (λ b. elim b as (λ z. Placed) [ true ↦ place_exact sha256 s (linked E i InPacket) | false ↦ place_ranges sha256 s i (linked E i InPacket) ]) x
@@ -119,11 +124,15 @@ ranges_state E s i x = ap (λ b. elim b as (λ z. Placed) [ true ↦ place_exact
 abbrev refers_open : Placed → Module → Bool
 refers_open s m = list_any (is_unresolved s.1) (part_refs (def_parts (AModule m)))
 
-pub open_state : (E : Environment) (s : Placed) (m : Module) → refers_open s m ≡ true → place sha256 E s (AModule m) ≡ put sha256 s (AMark []) None false
-open_state E s m h = ap (λ b. elim b as (λ z. Placed) [ true ↦ put sha256 s (AMark []) None false | false ↦ found_or_put sha256 s (def_renumbered (placed_number s.1) (AModule m)) None ]) h
+module _ (E : Environment) (p : Placing) (m : Module) (r : Bool) (is : r ≡ not (list_any (is_unresolved (map place_of p.places)) (part_refs (def_parts (AModule m))))) where
+  abbrev after : Bool → Placed
+  after b = elim b as (λ z. Placed) [ true ↦ put sha256 (state_of E p) (AMark []) None false | false ↦ found_or_put sha256 (state_of E p) (def_renumbered (placed_number (state_of E p).1) (AModule m)) None ]
 
-pub module_state : (E : Environment) (s : Placed) (m : Module) → refers_open s m ≡ false → place sha256 E s (AModule m) ≡ found_or_put sha256 s (def_renumbered (placed_number s.1) (AModule m)) None
-module_state E s m h = ap (λ b. elim b as (λ z. Placed) [ true ↦ put sha256 s (AMark []) None false | false ↦ found_or_put sha256 s (def_renumbered (placed_number s.1) (AModule m)) None ]) h
+  pub open_state : r ≡ false → place sha256 E (state_of E p) (AModule m) ≡ put sha256 (state_of E p) (AMark []) None false
+  open_state h = ap after (not_false (refers_open (state_of E p) m) (sym is ∙ h))
+
+  pub module_state : r ≡ true → place sha256 E (state_of E p) (AModule m) ≡ found_or_put sha256 (state_of E p) (def_renumbered (placed_number (state_of E p).1) (AModule m)) None
+  module_state h = ap after (not_true (refers_open (state_of E p) m) (sym is ∙ h))
 
 -- the links of a coherent environment
 pub coherent_short : (E : Environment) → IsCoherent E → list_all has_short_link E ≡ true
@@ -148,3 +157,21 @@ coherent_short E c = every E (λ i e g. one e.def e.link i (c.linked i e.def (ap
     one (AModule m) l i p q h = none_short (link_at E i) l p q
     one (AnImport m) l i p q h = some_short (link_at E i) l p.0 p.1 q (omega (arith, p.2, h, c.few))
     one (AMark t) l i p q h = none_short (link_at E i) l p q
+
+-- nothing is placed yet
+pub sound_first : (E : Environment) (p : Placing) → IsCoherent E → p.numbers ≡ [] → p.places ≡ [] → p.more ≡ [] → ((k : Key) → key_found p.keys k ≡ keyed E k.items) → IsSound E p
+sound_first E p c numbers places more keys =
+    let all : E ++ map entry_of p.more ≡ E = ap (λ es. E ++ map entry_of es) more ∙ append-nil E in
+    record {
+      numbers = numbers ∙ sym (ap (λ ps. map number_of (map place_of ps)) places);
+      keys = λ k. keys k ∙ ap (λ X. keyed X k.items) (sym all);
+      short = ap (list_all has_short_link) all ∙ coherent_short E c;
+      few = let a = ap length more in let b = ap length places in omega (arith, a, b);
+    }
+
+pub state_first : (E : Environment) (p : Placing) → p.places ≡ [] → p.more ≡ [] → state_of E p ≡ (E, [])
+state_first E p places more = ap₂ (λ es (ps : List Place). (es, ps)) (ap (λ es. E ++ map entry_of es) more ∙ append-nil E) (ap (map place_of) places)
+
+-- the numbers of a state
+pub numbers_of : (E : Environment) (p : Placing) (s : Placed) → IsSound E p → state_of E p ≡ s → p.numbers ≡ map number_of s.1
+numbers_of E p s sound e = sound.numbers ∙ ap (λ (z : Placed). map number_of z.1) e

@@ -1,13 +1,13 @@
 // The name of a definition behind the entries that are there and those that come.
 
-ghost use Rattle.std.specs.Prelude.{◌≡◌, ◌++◌, Some, map, option_map, IfOk};
+ghost use Rattle.std.specs.Prelude.{◌≡◌, ◌++◌, Some, map, option_map, slice_get, IfOk};
 ghost use Rattle.sha2.specs.Sha256.{sha256};
 ghost use Rattle.ac_terms.specs.Defs.{AModule, AnImport, name_at};
 ghost use Rattle.ac_terms.specs.Names.{name_by};
 ghost use Rattle.ac_terms.specs.Spelling.{type_bytes};
 ghost use Rattle.ac_terms.specs.Read.{environment_of, entry_of, name_of_code, def_of_code, module_of_code, import_of_code};
 ghost use Rattle.ac_canon.specs.Canon.{kept};
-ghost use Rattle.ac_placing.specs.inner.Behind.{all_of};
+ghost use Rattle.ac_placing.specs.inner.Behind.{all_of, kept_of};
 
 use ac_bytes::Out;
 use ac_canon::{Spelling, put_import, put_module, put_type};
@@ -47,9 +47,17 @@ fn kept_name(env: &Env, more: &[Entry], j: usize) -> Option<Name>
 {
     let many = env.entries.len();
     if j < many {
-        env.entries.get(j)?.name
-    } else {
-        more.get(j - many)?.name
+        return name_in(env.entries.as_slice(), j);
+    }
+    name_in(more, j - many)
+}
+
+fn name_in(entries: &[Entry], j: usize) -> Option<Name>
+    ensures { option_map name_of_code result ≡ kept_of (slice_get entries.now j) }
+{
+    match entries.get(j) {
+        None => None,
+        Some(entry) => entry.name,
     }
 }
 
@@ -97,8 +105,8 @@ pub fn name_behind(
 {
     let spelling = Behind { env, more };
     match def {
-        Def::Module(m) => module_name(alloc, &spelling, m).map(Some),
-        Def::Import(i) => import_name(alloc, &spelling, i).map(Some),
+        Def::Module(m) => Ok(Some(module_name(alloc, &spelling, m)?)),
+        Def::Import(i) => Ok(Some(import_name(alloc, &spelling, i)?)),
         Def::Mark(_) => Ok(None),
     }
 }

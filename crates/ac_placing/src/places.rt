@@ -34,6 +34,7 @@ impl<'a> Test for Resolved<'a> {
         true
     }
 
+    #[tactic(auto, using(crate::proofs::OpenLaws::place_at))]
     fn passes_reference(&self, entry: u32, _field: &Word) -> bool {
         match self.places.get(entry as usize) {
             None => false,

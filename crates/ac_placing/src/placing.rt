@@ -8,7 +8,7 @@ ghost use Rattle.ac_terms.specs.Defs.{AModule, AnImport};
 ghost use Rattle.ac_terms.specs.Read.{environment_of, def_of_code, pdef_of, module_of_code, import_of_code};
 ghost use Rattle.ac_rules.specs.Coherent.{IsCoherent};
 ghost use Rattle.ac_rules.specs.Links.{linked, InPacket};
-ghost use Rattle.ac_rules.specs.Packets.{put, found_or_put, place_ranges, place, places};
+ghost use Rattle.ac_rules.specs.Packets.{put, found_or_put, place_exact, place_ranges, place, places};
 ghost use Rattle.ac_placing.specs.Placed.{state_of, number_of};
 ghost use Rattle.ac_placing.specs.inner.Keys.{is_short};
 ghost use Rattle.ac_placing.specs.inner.State.{IsSound};
@@ -61,7 +61,8 @@ fn stands(p: &mut Placing, at: Option<u32>, unresolved: bool) -> Result<(), Memo
     ensures keys { OnOk result (p.new.keys ≡ p.old.keys) }
 {
     p.numbers.push(at.unwrap_or(0))?;
-    p.places.push(Place { at, unresolved })
+    p.places.push(Place { at, unresolved })?;
+    Ok(())
 }
 
 // A new entry.
@@ -136,7 +137,8 @@ fn place_ranges(alloc: Global, env: &Env, p: &mut Placing, i: &Import) -> Result
         (state_of (environment_of env.now) p.old) (import_of_code i.now)
         (linked (environment_of env.now) (import_of_code i.now) InPacket)) }
 {
-    let def = Def::Import(i.copy(alloc)?);
+    let copy = i.copy(alloc)?;
+    let def = Def::Import(copy);
     match resolve(env, i, When::Packet) {
         None => {
             put(alloc, env, p, def, None, true)?;
@@ -144,6 +146,29 @@ fn place_ranges(alloc: Global, env: &Env, p: &mut Placing, i: &Import) -> Result
         }
         Some(j) => {
             find_or_put(alloc, env, p, def, Some(j))?;
+            Ok(())
+        }
+    }
+}
+
+// An import by exact name: what it is linked to stands for it.
+fn place_exact(env: &Env, p: &mut Placing, i: &Import) -> Result<(), Memory>
+    requires room { length env.now.entries + length p.old.places + 1 < 2 ^ 32 }
+    requires sound { IsSound (environment_of env.now) p.old }
+    requires fits { IsTrue (fits_def (AnImport (import_of_code i.now))) }
+    ensures sound { OnOk result (IsSound (environment_of env.now) p.new) }
+    ensures many { OnOk result (length p.new.places ≡ length p.old.places + 1) }
+    ensures placed { OnOk result (state_of (environment_of env.now) p.new ≡ place_exact sha256
+        (state_of (environment_of env.now) p.old)
+        (linked (environment_of env.now) (import_of_code i.now) InPacket)) }
+{
+    match resolve(env, i, When::Packet) {
+        None => {
+            stands(p, None, true)?;
+            Ok(())
+        }
+        Some(j) => {
+            stands(p, Some(j), false)?;
             Ok(())
         }
     }
@@ -161,10 +186,12 @@ fn place_import(alloc: Global, env: &Env, p: &mut Placing, i: &Import) -> Result
         (AnImport (import_of_code i.now))) }
 {
     match &i.constraint {
-        Constraint::Ranges { atoms: _, star: _ } => place_ranges(alloc, env, p, i),
+        Constraint::Ranges { atoms: _, star: _ } => {
+            place_ranges(alloc, env, p, i)?;
+            Ok(())
+        }
         Constraint::Exact(_) => {
-            let at = resolve(env, i, When::Packet);
-            stands(p, at, at.is_none())?;
+            place_exact(env, p, i)?;
             Ok(())
         }
     }
@@ -180,12 +207,15 @@ fn place_module(alloc: Global, env: &Env, p: &mut Placing, m: &Module) -> Result
         (environment_of env.now) (state_of (environment_of env.now) p.old)
         (AModule (module_of_code m.now))) }
 {
-    if !is_resolved(p.places.as_slice(), m) {
-        put(alloc, env, p, Def::Mark(Text::new(alloc)), None, false)?;
+    let places = p.places.as_slice();
+    if is_resolved(places, m) {
+        let numbers = p.numbers.as_slice();
+        let m = module_renumbered(alloc, m, numbers)?;
+        find_or_put(alloc, env, p, Def::Module(m), None)?;
         return Ok(());
     }
-    let m = module_renumbered(alloc, m, p.numbers.as_slice())?;
-    find_or_put(alloc, env, p, Def::Module(m), None)?;
+    let empty = Text::new(alloc);
+    put(alloc, env, p, Def::Mark(empty), None, false)?;
     Ok(())
 }
 
@@ -199,8 +229,14 @@ fn place(alloc: Global, env: &Env, p: &mut Placing, def: &PDef) -> Result<(), Me
         (environment_of env.now) (state_of (environment_of env.now) p.old) (pdef_of def.now)) }
 {
     match def {
-        PDef::Module(m) => place_module(alloc, env, p, m),
-        PDef::Import(i) => place_import(alloc, env, p, i),
+        PDef::Module(m) => {
+            place_module(alloc, env, p, m)?;
+            Ok(())
+        }
+        PDef::Import(i) => {
+            place_import(alloc, env, p, i)?;
+            Ok(())
+        }
     }
 }
 

@@ -1,8 +1,15 @@
 -- The entries that are there and those that come.
-use Rattle.std.specs.Prelude.{◌++◌, map}
+use Rattle.std.specs.Prelude.{◌++◌, map, Option, None, Some, option_map}
+use Rattle.ac_types.specs.Types.{Bytes}
 use Rattle.ac_terms.specs.Defs.{Environment}
-use Rattle.ac_terms.specs.Read.{environment_of, entry_of}
+use Rattle.ac_terms.specs.Read.{environment_of, entry_of, name_of_code}
+use Rattle.ac_terms.specs.declared.def.Entry as code
 use Rattle.ac_placing.specs.declared.names.Behind.{Behind}
 
 abbrev pub all_of : Behind → Environment
 all_of s = environment_of s.env.now ++ map entry_of s.more.now
+
+-- the name that an entry of the code keeps
+abbrev pub kept_of : Option code.Entry → Option Bytes
+kept_of None = None
+kept_of (Some e) = option_map name_of_code e.name
