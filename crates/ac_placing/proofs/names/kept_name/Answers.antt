@@ -14,4 +14,4 @@ pub returns : goal.returns
 returns c =
     let es = c.args.env.now.entries in
     let l : length es ≤ c.args.j = omega arith in
-    c.name_in.ensures ∙ ap (λ n. kept_of (slice_get c.args.more.now (c.args.j - n))) c.len-many.ensures ∙ sym (name_coming es c.args.more.now c.args.j l)
+    c.name_in-2.ensures ∙ ap (λ n. kept_of (slice_get c.args.more.now (c.args.j - n))) c.len-many.ensures ∙ sym (name_coming es c.args.more.now c.args.j l)

@@ -10,24 +10,24 @@ use Rattle.ac_placing.proofs.placing.place_exact.Goals as goal
 pub resolve-requires-clause-specs : goal.resolve-requires-clause-specs
 resolve-requires-clause-specs c = few_specs c.args.i.now c.requires.fits
 
-pub returns-in-None-clause-sound : goal.returns-in-None-clause-sound
-returns-in-None-clause-sound c =
-    let s = c.in_ok-stands.ensures in
+pub returns-in_ok-stands-in-None-clause-sound : goal.returns-in_ok-stands-in-None-clause-sound
+returns-in_ok-stands-in-None-clause-sound c =
+    let s = c.in_ok-stands-in-None.ensures in
     stays (environment_of c.args.env.now) c.args.p.now c.stands.new.p c.requires.sound None true s.numbers s.places s.more s.keys
 
-pub returns-in-None-clause-placed : goal.returns-in-None-clause-placed
-returns-in-None-clause-placed c =
+pub returns-in_ok-stands-in-None-clause-placed : goal.returns-in_ok-stands-in-None-clause-placed
+returns-in_ok-stands-in-None-clause-placed c =
     let E = environment_of c.args.env.now in
-    let s = c.in_ok-stands.ensures in
+    let s = c.in_ok-stands-in-None.ensures in
     stays_state E c.args.p.now c.stands.new.p c.requires.sound None true s.places s.more ∙ sym (ap (place_exact sha256 (state_of E c.args.p.now)) (sym c.resolve.ensures ∙ c.in-None.is))
 
-pub returns-in-Some-clause-sound : goal.returns-in-Some-clause-sound
-returns-in-Some-clause-sound c =
+pub returns-in_ok-stands-in-Some-clause-sound : goal.returns-in_ok-stands-in-Some-clause-sound
+returns-in_ok-stands-in-Some-clause-sound c =
     let s = c.in_ok-stands-in-Some.ensures in
     stays (environment_of c.args.env.now) c.args.p.now c.stands-in-Some.new.p c.requires.sound (Some c.in-Some.j) false s.numbers s.places s.more s.keys
 
-pub returns-in-Some-clause-placed : goal.returns-in-Some-clause-placed
-returns-in-Some-clause-placed c =
+pub returns-in_ok-stands-in-Some-clause-placed : goal.returns-in_ok-stands-in-Some-clause-placed
+returns-in_ok-stands-in-Some-clause-placed c =
     let E = environment_of c.args.env.now in
     let s = c.in_ok-stands-in-Some.ensures in
     stays_state E c.args.p.now c.stands-in-Some.new.p c.requires.sound (Some c.in-Some.j) false s.places s.more ∙ sym (ap (place_exact sha256 (state_of E c.args.p.now)) (sym c.resolve.ensures ∙ c.in-Some.is))

@@ -6,12 +6,12 @@ use Rattle.ac_placing.specs.Placed.{state_of}
 use Rattle.ac_placing.proofs.StateLaws.{exact_state, ranges_state}
 use Rattle.ac_placing.proofs.placing.place_import.Goals as goal
 
-pub returns-in-Ranges-clause-placed : goal.returns-in-Ranges-clause-placed
-returns-in-Ranges-clause-placed c =
+pub returns-in_ok-place_ranges-in-Ranges-clause-placed : goal.returns-in_ok-place_ranges-in-Ranges-clause-placed
+returns-in_ok-place_ranges-in-Ranges-clause-placed c =
     let E = environment_of c.args.env.now in
-    c.in_ok-place_ranges.ensures.placed ∙ sym (ranges_state E (state_of E c.args.p.now) (import_of_code c.args.i.now) (ap (λ x. is_exact (constraint_of x)) c.in-Ranges.is))
+    c.in_ok-place_ranges-in-Ranges.ensures.placed ∙ sym (ranges_state E (state_of E c.args.p.now) (import_of_code c.args.i.now) (ap (λ x. is_exact (constraint_of x)) c.in-Ranges.is))
 
-pub returns-in-Exact-clause-placed : goal.returns-in-Exact-clause-placed
-returns-in-Exact-clause-placed c =
+pub returns-in_ok-place_exact-in-Exact-clause-placed : goal.returns-in_ok-place_exact-in-Exact-clause-placed
+returns-in_ok-place_exact-in-Exact-clause-placed c =
     let E = environment_of c.args.env.now in
-    c.in_ok-place_exact.ensures.placed ∙ sym (exact_state E (state_of E c.args.p.now) (import_of_code c.args.i.now) (ap (λ x. is_exact (constraint_of x)) c.in-Exact.is))
+    c.in_ok-place_exact-in-Exact.ensures.placed ∙ sym (exact_state E (state_of E c.args.p.now) (import_of_code c.args.i.now) (ap (λ x. is_exact (constraint_of x)) c.in-Exact.is))

@@ -20,7 +20,7 @@ loop-def-init c =
       sound = c.in_ok-p.ensures.sound;
       many = ap length c.in_ok-p.ensures.empty.0;
       fits = c.requires.fits;
-      left = ap (λ s. place_all sha256 E s ds) (state_first E _ c.in_ok-p.ensures.empty.0 c.in_ok-p.ensures.empty.1);
+      left = ap (λ s. place_all sha256 E s ds) (state_first E c.in_ok-p.p c.in_ok-p.ensures.empty.0 c.in_ok-p.ensures.empty.1);
     }
 
 fit_next : (i : ℕ) (ds : List code.PDef) (d : code.PDef) → drop i ds ≡ d ∷ drop (i + 1) ds → list_all fits_def (map pdef_of (drop i ds)) ≡ true → (fits_def (pdef_of d) ≡ true) × (list_all fits_def (map pdef_of (drop (i + 1) ds)) ≡ true)
