@@ -1,6 +1,5 @@
 -- What a map of keys has, after each key that goes in where it isn't there yet.
 use Rattle.std.proofs.Common.{Ordering, ◌≡◌, refl, sym, ap, ap₂, ◌∙◌, ℕ, zero, suc, ◌+◌, ◌≤◌, ◌<◌, cond, add-one, get_or, Bool, true, false, List, [], ◌∷◌, ◌++◌, map, length, take, drop, Option, Some, None}
-use Rattle.std.specs.Prelude.{position}
 use Rattle.std.proofs.Math.Seq.{take-suc, take-length}
 use Rattle.std.proofs.lemmas.List.{map-append, length-map, drop_more}
 use native.Mathlib.Omega.{arith}

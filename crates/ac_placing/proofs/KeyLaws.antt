@@ -1,12 +1,11 @@
 -- Two keys are equal exactly where the definitions and their links are.
-use Rattle.std.proofs.Common.{◌≡◌, refl, sym, ap, ap₂, ◌∙◌, ℕ, zero, suc, Bool, true, false, ◌&&◌, nat_eq, List, [], ◌∷◌, ◌++◌, Option, Some, None}
+use Rattle.std.proofs.Common.{◌≡◌, refl, sym, ap, ap₂, ◌∙◌, ℕ, suc, Bool, true, false, ◌&&◌, nat_eq, List, [], ◌∷◌, ◌++◌, Option, Some, None}
 use Rattle.std.specs.Prelude.{position, option_map, slice_get}
 use mathlib.Core.Bool.{true≢false}
-use Rattle.ac_types.proofs.FirstLaws.{none≢some, some_eq}
+use Rattle.ac_types.proofs.FirstLaws.{some_eq}
 use Rattle.ac_types.proofs.Same.{both_true, and_true, bytes_eq, bytes_refl}
 use Rattle.ac_types.specs.Types.{Bytes, same_bytes}
 use Rattle.ac_terms.specs.Spelling.{four_written}
-use Rattle.ac_terms.specs.Bounds.{is_four}
 use Rattle.ac_terms.specs.Defs.{Environment, Entry, Def}
 use Rattle.ac_terms.proofs.Back.{read_four, back_four_bytes}
 use Rattle.ac_terms.proofs.TestLaws.{eq_true, eq_self}

@@ -1,5 +1,5 @@
 -- Places of the code, and the test that a reference goes to no import without a link.
-use Rattle.std.specs.Prelude.{ℕ, Bool, true, not, List}
+use Rattle.std.specs.Prelude.{Bool, true, not, List}
 use Rattle.ac_terms.specs.Parts.{Portion, OfType, OfRef, OfHome, Captured}
 use Rattle.ac_rules.specs.Packets.{Place, is_unresolved}
 use Rattle.ac_placing.specs.declared.places.Place as code

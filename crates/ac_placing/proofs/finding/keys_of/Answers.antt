@@ -1,4 +1,4 @@
-use Rattle.std.proofs.Common.{◌≡◌, ◌∙◌, sym, ap, ℕ, ◌<◌, length, map, take, arith}
+use Rattle.std.proofs.Common.{◌≡◌, ◌∙◌, sym, ap, ℕ, length, map, take, arith}
 use Rattle.ac_terms.specs.Read.{entry_of}
 use Rattle.ac_placing.specs.inner.Keys.{keyed}
 use Rattle.ac_placing.specs.inner.Maps.{key_found}

@@ -1,4 +1,4 @@
-use Rattle.std.proofs.Common.{◌≡◌, ◌∙◌, ◌<◌, ◌^◌, sym, ap, true, Some, None, arith}
+use Rattle.std.proofs.Common.{◌∙◌, sym, ap, true, Some, None}
 use Rattle.sha2.specs.Sha256.{sha256}
 use Rattle.ac_terms.specs.Defs.{AnImport}
 use Rattle.ac_terms.specs.Read.{environment_of, import_of_code}

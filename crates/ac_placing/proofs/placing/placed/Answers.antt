@@ -1,6 +1,6 @@
-use Rattle.std.proofs.Common.{◌≡◌, ◌∙◌, ◌+◌, sym, ap, ℕ, length, map, drop, true, arith, ◌∷◌, List}
+use Rattle.std.proofs.Common.{◌≡◌, ◌∙◌, ◌+◌, sym, ap, ℕ, length, map, drop, true, ◌∷◌, List}
 use Rattle.std.specs.List.{list_all}
-use Rattle.std.proofs.lemmas.List.{drop_all, length-map}
+use Rattle.std.proofs.lemmas.List.{drop_all}
 use Rattle.sha2.specs.Sha256.{sha256}
 use Rattle.ac_types.proofs.Same.{both_true}
 use Rattle.ac_terms.specs.declared.def.PDef as code

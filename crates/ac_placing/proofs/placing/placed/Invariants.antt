@@ -1,4 +1,4 @@
-use Rattle.std.proofs.Common.{◌≡◌, ◌+◌, true, map, drop, length}
+use Rattle.std.proofs.Common.{◌≡◌, true, map, drop, length}
 use Rattle.std.specs.List.{list_all}
 use Rattle.sha2.specs.Sha256.{sha256}
 use Rattle.ac_terms.specs.Bounds.{fits_def}
