@@ -142,7 +142,8 @@ fn add_plain<'a>(
     match (kind, term) {
         (SExprKind::Exn(_, Some(a)), Term::ExnVal(_, Some(x)))
         | (SExprKind::Present(a), Term::Present(x))
-        | (SExprKind::Raise(a, _), Term::Raise(_, x)) => add(alloc, parts, a, x, vars),
+        | (SExprKind::Raise(a, _), Term::Raise(_, x))
+        | (SExprKind::Unmarshal(a, _), Term::Unmarshal(_, x)) => add(alloc, parts, a, x, vars),
         (SExprKind::Tuple(trees), Term::Tuple(terms))
         | (SExprKind::Seq(trees), Term::Seq(terms))
         | (SExprKind::Op(_, trees), Term::Prim(_, terms)) => {
@@ -154,6 +155,7 @@ fn add_plain<'a>(
         },
         (SExprKind::Cons(a, b), Term::Cons(x, y))
         | (SExprKind::App(a, b), Term::App(x, y))
+        | (SExprKind::Marshal(a, b, _), Term::Marshal(_, x, y))
         | (SExprKind::And(a, b), Term::If(x, y, _))
         | (SExprKind::Or(a, b), Term::If(x, _, y)) => {
             add(alloc, parts, a, x, vars)?;

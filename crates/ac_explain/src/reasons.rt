@@ -23,7 +23,6 @@ fn told(kind: Kind) -> (&'static [u8], u64) {
         Kind::Lexical { at } => (b"lexical", u64::from(at)),
         Kind::TooDeep { at } => (b"too_deep", u64::from(at)),
         Kind::Syntax { at } => (b"syntax", u64::from(at)),
-        Kind::Unbuilt { at } => (b"unbuilt", u64::from(at)),
         Kind::Unbound { at } => (b"unbound", u64::from(at)),
         Kind::Repeated { at } => (b"repeated", u64::from(at)),
         Kind::TooMany { count } => (b"too_many", u64::from(count)),
@@ -43,7 +42,6 @@ fn place_of(kind: Kind) -> Option<u32> {
         Kind::Lexical { at }
         | Kind::TooDeep { at }
         | Kind::Syntax { at }
-        | Kind::Unbuilt { at }
         | Kind::Unbound { at }
         | Kind::Repeated { at } => Some(at),
         Kind::TooLong { .. }
@@ -93,7 +91,6 @@ fn write_reason(page: &mut Page, text: &[u8], kind: Kind) {
             page.put(b"here the text ends, and the program doesn't\n");
         }
         Kind::Syntax { .. } => page.put(b"here no program goes on\n"),
-        Kind::Unbuilt { .. } => page.put(b"this form doesn't run yet\n"),
         Kind::Unbound { at } => write_name(page, text, at, b" isn't in scope\n"),
         Kind::Repeated { at } => write_name(page, text, at, b" stands twice where it may once\n"),
         Kind::TooMany { .. } => page.put(
@@ -117,7 +114,7 @@ fn written(term: &Term) -> Option<&Ty> {
     match term {
         Term::Nil(ty) | Term::Empty(ty) => Some(ty),
         Term::Rec(_, to, _) => Some(to),
-        Term::Let(ty, _, _) => Some(ty),
+        Term::Let(ty, _, _) | Term::Marshal(ty, _, _) => Some(ty),
         _ => None,
     }
 }

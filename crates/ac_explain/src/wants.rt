@@ -29,6 +29,10 @@ pub fn wants(kind: &SExprKind) -> &'static [u8] {
         SExprKind::Raise(_, _) => b"what is raised is an exn",
         SExprKind::And(_, _) | SExprKind::Or(_, _) => b"both sides of `&&` and `||` are bools",
         SExprKind::Op(number, _) => operator(*number),
+        SExprKind::Marshal(_, _, _) => {
+            b"a mark is a string, and what is marshalled has the type that is written"
+        }
+        SExprKind::Unmarshal(_, _) => b"what is unmarshalled is a string",
         _ => TOO_LARGE,
     }
 }

@@ -13,9 +13,9 @@ use Rattle.ac_syntax.specs.declared.fault.ParseFault.{ParseFault}
 use Rattle.ac_parser.specs.Texts.{too_long, lexical, too_deep, Refused, unread, syntax}
 use Rattle.ac_scopes.specs.Surfaces.{SurfaceFault, surface_fault, Unbound, Repeated, TooMany}
 use Rattle.ac_acceptance.specs.Causes.{Cause, BadScopes, IllTyped, Uncovered, NotValuable, LikeMissing, Unresolved, Clash, first_at, first_below, ill_typed, uncovering, not_valuable, unlike, unlinked, clashes, clash_of, first_clash, added, loaded, main_type, cause}
-use Rattle.ac_acceptance.specs.Accepting.{Shelved, no_tree, with_tree}
-use Rattle.ac_load.specs.Kinds.{parse_kind, kind_of}
-use Rattle.ac_load.specs.Loading.{RejectsPart, unbuilt, refused, Rejects, of_shelf, of_program}
+use Rattle.ac_acceptance.specs.Accepting.{Shelved, IsRefused, no_tree, with_tree, Refuses, of_shelf, of_program}
+use Rattle.ac_load.specs.Kinds.{parse_kind, kind_of, of_cause}
+use Rattle.ac_load.specs.Loading.{Rejects}
 use Rattle.ac_load.specs.declared.kind.Kind.{Kind}
 use Rattle.ac_load.specs.declared.kind.Kind.TheVariants.{Memory}
 use mathlib.Core.Bool.{true≢false}
@@ -102,14 +102,16 @@ text_told G text e (unread (lexical short fails)) = refl
 text_told G text e (unread (too_deep short lexed deep)) = refl
 text_told G text e (syntax read none here) = refl
 
-part_told : (G : List Sign → ProgramTree → Type 0) (E : Environment) (seen : Seen) (text : Bytes) (a : Kind) → RejectsPart G E seen text a → speaks a ≡ true
-part_told G E seen text a (unbuilt has found) = refl
-part_told G E seen text a (refused none (no_tree {e = e} r)) = text_told G text e r
-part_told G E seen text a (refused none (with_tree {tree = p} has found)) = sym (ap told found) ∙ cause_told E seen p
+part_told : (G : List Sign → ProgramTree → Type 0) (E : Environment) (seen : Seen) (text : Bytes) (c : Cause) → IsRefused sha256 G E seen text c → speaks (kind_of c) ≡ true
+part_told G E seen text c (no_tree {e = e} r) = text_told G text e r
+part_told G E seen text c (with_tree {tree = p} has found) = sym (ap told found) ∙ cause_told E seen p
 
-all_told : (text : Bytes) (shelf : List Shelved) (part : ℕ) (a : Kind) → Rejects text shelf part a → speaks a ≡ true
-all_told text shelf part a (of_shelf before rest is gives built r) = part_told _ _ _ _ a r
-all_told text shelf part a (of_program gives built r) = part_told _ _ _ _ a r
+all_told : (text : Bytes) (shelf : List Shelved) (part : ℕ) (c : Cause) → Refuses sha256 text shelf part c → speaks (kind_of c) ≡ true
+all_told text shelf part c (of_shelf before rest is gives r) = part_told _ _ _ _ c r
+all_told text shelf part c (of_program gives r) = part_told _ _ _ _ c r
+
+kind_told : (text : Bytes) (shelf : List Shelved) (part : ℕ) (a : Kind) → Rejects text shelf part a → speaks a ≡ true
+kind_told text shelf part a (of_cause {c = c} r) = all_told text shelf part c r
 
 pub never_memory : (text : Bytes) (shelf : List Shelved) (part : ℕ) → Rejects text shelf part Memory → ⊥
-never_memory text shelf part r = true≢false (sym (all_told text shelf part Memory r))
+never_memory text shelf part r = true≢false (sym (kind_told text shelf part Memory r))

@@ -13,22 +13,20 @@ use Rattle.ac_syntax.specs.Programs.{IsProgram, IsModule}
 use Rattle.ac_syntax.specs.declared.fault.ParseFault.{ParseFault}
 use Rattle.ac_syntax.specs.declared.fault.ParseFault.TheVariants as parse
 use Rattle.ac_parser.specs.Texts.{HasTree, Refused, IsTextFault}
-use Rattle.ac_parser.proofs.TextLaws.{one_program_text, one_module_text, tree_and_refusal}
-use Rattle.ac_acceptance.specs.Causes.{NoTree, loaded}
-use Rattle.ac_acceptance.specs.Accepting.{Shelved, IsShelf, Gives, nothing, a_module, no_tree, with_tree}
+use Rattle.ac_acceptance.specs.Causes.{Cause, NoTree, loaded}
+use Rattle.ac_acceptance.specs.Accepting.{Shelved, IsShelf, Gives, nothing, a_module, no_tree, with_tree, Refuses, of_shelf, of_program}
 use Rattle.std.specs.List.{list_all}
 use Rattle.ac_outer.specs.Entries.{keeps_name}
 use Rattle.ac_elaborate.proofs.Kept.{all_named}
 use Rattle.ac_acceptance.specs.Counted.{has_counted}
 use Rattle.ac_acceptance.proofs.Counted.{coherent_counted}
 use Rattle.ac_acceptance.proofs.Coherence.{front_coherent}
-use Rattle.ac_load.specs.Built.{first_unbuilt}
-use Rattle.ac_load.specs.Kinds.{parse_kind, kind_of, Says}
+use Rattle.ac_load.specs.Kinds.{OfCause, of_cause, parse_kind, kind_of, Says}
 use Rattle.ac_load.specs.declared.shelf.ShelfEntry.{ShelfEntry}
-use Rattle.ac_load.specs.Loading.{shelved, IsBuilt, AreBuilt, Loads, RejectsPart, unbuilt, refused, Rejects, of_shelf, of_program}
-use Rattle.ac_load.specs.inner.Parts.{IsTaken, IsTreeRefused, not_built, by_cause, IsModuleTaken, IsProgramTaken}
+use Rattle.ac_load.specs.Loading.{shelved, Loads, Rejects}
+use Rattle.ac_load.specs.inner.Parts.{IsTaken, IsTreeRefused, RejectsPart, IsModuleTaken, IsProgramTaken}
 use Rattle.ac_load.specs.declared.kind.Kind.{Kind}
-use Rattle.ac_load.specs.declared.kind.Kind.TheVariants.{TooLong, Lexical, TooDeep, Syntax, Unbound, Repeated, TooMany, IllTyped, Signature, NotValuable, LikeMissing, Unresolved, Clash, Unbuilt, Memory}
+use Rattle.ac_load.specs.declared.kind.Kind.TheVariants.{TooLong, Lexical, TooDeep, Syntax, Unbound, Repeated, TooMany, IllTyped, Signature, NotValuable, LikeMissing, Unresolved, Clash, Memory}
 
 -- a kind says what follows from what it says
 pub says : {P Q : Type 0} (kind : Kind) → (P → Q) → Says kind P → Says kind Q
@@ -46,18 +44,14 @@ says (NotValuable def field) f p = f p
 says (LikeMissing def spec) f p = f p
 says (Unresolved def) f p = f p
 says (Clash first second) f p = f p
-says (Unbuilt at) f p = f p
 
--- a text has one tree at most
-abbrev pub One : (List Sign → ProgramTree → Type 0) → Type 0
-One G = (text : Bytes) (p q : ProgramTree) → HasTree G text p → HasTree G text q → p ≡ q
+-- a kind of a cause with P is one of a cause with Q
+of_causes : {P Q : Cause → Type 0} → ((c : Cause) → P c → Q c) → (kind : Kind) → OfCause P kind → OfCause Q kind
+of_causes f kind (of_cause {c = c} p) = of_cause (f c p)
 
 module _ (G : List Sign → ProgramTree → Type 0) (E : Environment) (seen : Seen) (text : Bytes) where
-  built_tree : One G → (p : ProgramTree) → HasTree G text p → first_unbuilt p ≡ None → IsBuilt G text
-  built_tree one p has built q there = ap first_unbuilt (one text q p there has) ∙ built
-
   no_trees : (e : ParseFault) → Refused G text e → RejectsPart G E seen text (kind_of (NoTree e))
-  no_trees e r = refused (λ p has. absurd (tree_and_refusal G text p e has r)) (no_tree r)
+  no_trees e r = of_cause (no_tree r)
 
   pub text_refused : (e : ParseFault) → IsTextFault G text e → Says (parse_kind e) (RejectsPart G E seen text (parse_kind e))
   text_refused (parse.TooLong len) f = no_trees (parse.TooLong len) f
@@ -66,21 +60,13 @@ module _ (G : List Sign → ProgramTree → Type 0) (E : Environment) (seen : Se
   text_refused (parse.Syntax at) f = no_trees (parse.Syntax at) f
   text_refused parse.Memory f = tt
 
-  tree_rejects : One G → (p : ProgramTree) (kind : Kind) → HasTree G text p → IsTreeRefused E seen p kind → RejectsPart G E seen text kind
-  tree_rejects one p kind has (not_built found) = unbuilt has found
-  tree_rejects one p kind has (by_cause built found) = refused (built_tree one p has built) (with_tree has found)
-
-pub program_refused : (E : Environment) (text : Bytes) (p : ProgramTree) (kind : Kind) → HasTree IsProgram text p → Says kind (IsTreeRefused E Own' p kind) → Says kind (RejectsPart IsProgram E Own' text kind)
-program_refused E text p kind has h = says kind (tree_rejects IsProgram E Own' text one_program_text p kind has) h
-
-pub module_refused : (E : Environment) (uri text : Bytes) (p : ProgramTree) (kind : Kind) → HasTree IsModule text p → Says kind (IsTreeRefused E (Shelf uri) p kind) → Says kind (RejectsPart IsModule E (Shelf uri) text kind)
-module_refused E uri text p kind has h = says kind (tree_rejects IsModule E (Shelf uri) text one_module_text p kind has) h
+  pub tree_refused : (p : ProgramTree) (kind : Kind) → HasTree G text p → Says kind (IsTreeRefused E seen p kind) → Says kind (RejectsPart G E seen text kind)
+  tree_refused p kind has h = says kind (of_causes (λ c found. with_tree has found) kind) h
 
 pub program_taken : (E : Environment) (text : Bytes) (p : ProgramTree) (F : Environment) (e : Expr) (T : Typ) → HasTree IsProgram text p → IsTaken E Own' p F e T → IsProgramTaken E text F e T
 program_taken E text p F e T has t = record {
   tree = p;
   part = record { has = has; sound = t.sound };
-  built = built_tree IsProgram E Own' text one_program_text p has t.built;
   entries = t.entries;
   main = t.main;
   typed = t.typed;
@@ -90,7 +76,6 @@ pub module_taken : (E : Environment) (s : Shelved) (p : ProgramTree) (F : Enviro
 module_taken E s p F e T has t = record {
   tree = p;
   part = record { has = has; sound = t.sound };
-  built = built_tree IsModule E (Shelf s.uri) s.text one_module_text p has t.built;
   entries = t.entries;
 }
 
@@ -99,22 +84,14 @@ gives_more : {E F : Environment} {before : List Shelved} (s : Shelved) → Gives
 gives_more {E} s nothing G t = a_module t.part (subst (λ (H : Environment). Gives sha256 (loaded sha256 E (Shelf s.uri) t.tree) [] H) (sym t.entries) nothing)
 gives_more s (a_module part more) G t = a_module part (gives_more s more G t)
 
-built_more : (before : List Shelved) (s : Shelved) → AreBuilt before → IsBuilt IsModule s.text → AreBuilt (before ++ s ∷ [])
-built_more [] s b is = (is, tt)
-built_more (x ∷ before) s b is = (b.0, built_more before s b.1 is)
-
 -- what stands in front of a part
-pub record Before (shelf : List Shelved) (n : ℕ) (E : Environment) : Type 0 where
-  pub gives : Gives sha256 [] (take n shelf) E
-  pub built : AreBuilt (take n shelf)
-
-pub at_first : (shelf : List Shelved) → Before shelf 0 []
-at_first shelf = record { gives = nothing; built = tt }
+abbrev pub Before : List Shelved → ℕ → Environment → Type 0
+Before shelf n E = Gives sha256 [] (take n shelf) E
 
 coherent_before : (shelf : List Shelved) (n : ℕ) (E : Environment) → IsShelf shelf → length shelf ≤ 256 → Before shelf n E → IsCoherent E × (length E ≤ 256)
 coherent_before shelf n E good few b =
     let all = take-append-drop n shelf in
-    front_coherent (take n shelf) (drop n shelf) (subst IsShelf (sym all) good) (subst (λ (l : List Shelved). length l ≤ 256) (sym all) few) b.gives
+    front_coherent (take n shelf) (drop n shelf) (subst IsShelf (sym all) good) (subst (λ (l : List Shelved). length l ≤ 256) (sym all) few) b
 
 -- what the entries of a front are asked for
 pub record IsSound (E : Environment) : Type 0 where
@@ -149,15 +126,12 @@ module _ (xs : List ShelfEntry) (i : ℕ) (x : ShelfEntry) (within : i < length 
       length-take-le i texts (omega (arith, a, within))
 
   pub before_next : (E F : Environment) → Before texts i E → IsModuleTaken E (shelved x) F → Before texts (i + 1) F
-  before_next E F b t = record {
-    gives = subst (λ (l : List Shelved). Gives sha256 [] l F) (sym take_next) (gives_more (shelved x) b.gives F t);
-    built = subst AreBuilt (sym take_next) (built_more (take i texts) (shelved x) b.built t.built);
-  }
+  before_next E F b t = subst (λ (l : List Shelved). Gives sha256 [] l F) (sym take_next) (gives_more (shelved x) b F t)
 
   pub rejects_here : (text : Bytes) (E : Environment) (kind : Kind) (part : ℕ) → part ≡ i + 1 → Before texts i E → Says kind (RejectsPart IsModule E (Shelf (shelved x).uri) (shelved x).text kind) → Says kind (Rejects text texts part kind)
   rejects_here text E kind part e b r =
       let same : suc (length (take i texts)) ≡ part = let f = front_long in omega (arith, f, e) in
-      says kind (λ q. subst (λ (k : ℕ). Rejects text texts k kind) same (of_shelf (take i texts) (drop (i + 1) texts) split b.gives b.built q)) r
+      says kind (of_causes (λ c q. subst (λ (k : ℕ). Refuses sha256 text texts k c) same (of_shelf (take i texts) (drop (i + 1) texts) split b q)) kind) r
 
 -- behind all of them
 pub all_seen : (ys xs : List ShelfEntry) (n : ℕ) → ys ≡ xs → n ≤ length ys → length ys ≤ n → n ≡ length xs
@@ -171,17 +145,10 @@ module _ (xs : List ShelfEntry) (n : ℕ) (E : Environment) (text : Bytes) (past
   whole = ap (λ (k : ℕ). take k shelf) (past ∙ sym (length-map xs shelved)) ∙ take-length shelf
 
   all_given : Gives sha256 [] shelf E
-  all_given = subst (λ (l : List Shelved). Gives sha256 [] l E) whole b.gives
-
-  all_built : AreBuilt shelf
-  all_built = subst AreBuilt whole b.built
+  all_given = subst (λ (l : List Shelved). Gives sha256 [] l E) whole b
 
   pub rejects_last : (kind : Kind) → Says kind (RejectsPart IsProgram E Own' text kind) → Says kind (Rejects text shelf 0 kind)
-  rejects_last kind r = says kind (λ q. of_program all_given all_built q) r
+  rejects_last kind r = says kind (of_causes (λ c q. of_program all_given q) kind) r
 
   pub loads_last : (F : Environment) (e : Expr) (T : Typ) → IsProgramTaken E text F e T → Loads text shelf F e T
-  loads_last F e T t = record {
-    accepted = record { front = E; shelved = all_given; tree = t.tree; part = t.part; entries = t.entries; main = t.main; typed = t.typed };
-    built = t.built;
-    shelf_built = all_built;
-  }
+  loads_last F e T t = record { front = E; shelved = all_given; tree = t.tree; part = t.part; entries = t.entries; main = t.main; typed = t.typed }

@@ -23,9 +23,8 @@ use Rattle.ac_terms.proofs.AllLaws.{all_append, all_left, all_right}
 use Rattle.ac_causes.specs.Entries.{term_type, part_cause, Tells}
 use Rattle.ac_causes.specs.declared.fault.PartFault.{PartFault}
 use Rattle.ac_causes.specs.declared.fault.PartFault.TheVariants as part
-use Rattle.ac_load.specs.Built.{first_unbuilt}
-use Rattle.ac_load.specs.Kinds.{fault_kind, part_kind, Says}
-use Rattle.ac_load.specs.inner.Parts.{linked_part, IsTaken, IsTreeRefused, by_cause}
+use Rattle.ac_load.specs.Kinds.{of_cause, fault_kind, part_kind, Says}
+use Rattle.ac_load.specs.inner.Parts.{linked_part, IsTaken, IsTreeRefused}
 
 linked_long : (seen : Seen) (E : Environment) (es : List Entry) → length (linked_behind seen E es) ≡ length es
 linked_long seen E [] = refl
@@ -64,11 +63,11 @@ module _ (E : Environment) (seen : Seen) (p : ProgramTree) where
   scopes_first : (f : SurfaceFault) → surface_fault sha256 E p ≡ Some f → cause sha256 E seen p ≡ Some (BadScopes f)
   scopes_first f h = ap (λ o. or_else (option_map BadScopes o) (causes_with (added sha256 E seen p))) h
 
-  pub scopes_refused : first_unbuilt p ≡ None → (f : ScopeFault) → RefusesScopes E p f → Says (fault_kind f) (IsTreeRefused E seen p (fault_kind f))
-  scopes_refused built (scope.Unbound at) h = by_cause {c = BadScopes (surface.Unbound at)} built (scopes_first (surface.Unbound at) h)
-  scopes_refused built (scope.Repeated at) h = by_cause {c = BadScopes (surface.Repeated at)} built (scopes_first (surface.Repeated at) h)
-  scopes_refused built (scope.TooMany count) h = by_cause {c = BadScopes (surface.TooMany count)} built (scopes_first (surface.TooMany count) h)
-  scopes_refused built scope.Memory h = tt
+  pub scopes_refused : (f : ScopeFault) → RefusesScopes E p f → Says (fault_kind f) (IsTreeRefused E seen p (fault_kind f))
+  scopes_refused (scope.Unbound at) h = of_cause {c = BadScopes (surface.Unbound at)} (scopes_first (surface.Unbound at) h)
+  scopes_refused (scope.Repeated at) h = of_cause {c = BadScopes (surface.Repeated at)} (scopes_first (surface.Repeated at) h)
+  scopes_refused (scope.TooMany count) h = of_cause {c = BadScopes (surface.TooMany count)} (scopes_first (surface.TooMany count) h)
+  scopes_refused scope.Memory h = tt
 
   module _ (F : Environment) (e : Expr) (x : Elaborates sha256 E p F e) where
     behind : F ≡ E ++ entries_in sha256 (first_scope E p.expr) p.defs
@@ -103,20 +102,19 @@ module _ (E : Environment) (seen : Seen) (p : ProgramTree) where
           ∙ ap₂ (λ (k : ℕ) (f : Expr). part_cause (loaded sha256 E seen p) k f) (sym is) (sym x.is)
           ∙ ap (λ (H : Environment). part_cause H n e) (sym entries_are)
 
-      pub taken : first_unbuilt p ≡ None → (m : Expr) (T : Typ) → m ≡ e → term_type G m ≡ Some T → part_cause G n m ≡ None → IsTaken E seen p G m T
-      taken built m T same typed none = record {
-        built = built;
+      pub taken : (m : Expr) (T : Typ) → m ≡ e → term_type G m ≡ Some T → part_cause G n m ≡ None → IsTaken E seen p G m T
+      taken m T same typed none = record {
         sound = cause_is ∙ ap (part_cause G n) (sym same) ∙ none;
         entries = entries_are;
         main = same ∙ x.is;
         typed = ap₂ term_type (sym entries_are) (sym (same ∙ x.is)) ∙ typed;
       }
 
-      pub part_refused : first_unbuilt p ≡ None → (f : PartFault) → Tells f (part_cause G n e) → Says (part_kind f) (IsTreeRefused E seen p (part_kind f))
-      part_refused built (part.IllTyped def) h = by_cause built (cause_is ∙ h)
-      part_refused built (part.Signature def spec) h = by_cause built (cause_is ∙ h)
-      part_refused built (part.NotValuable def field) h = by_cause built (cause_is ∙ h)
-      part_refused built (part.LikeMissing def spec) h = by_cause built (cause_is ∙ h)
-      part_refused built (part.Unresolved def) h = by_cause built (cause_is ∙ h)
-      part_refused built (part.Clash first second) h = by_cause built (cause_is ∙ h)
-      part_refused built part.Memory h = tt
+      pub part_refused : (f : PartFault) → Tells f (part_cause G n e) → Says (part_kind f) (IsTreeRefused E seen p (part_kind f))
+      part_refused (part.IllTyped def) h = of_cause (cause_is ∙ h)
+      part_refused (part.Signature def spec) h = of_cause (cause_is ∙ h)
+      part_refused (part.NotValuable def field) h = of_cause (cause_is ∙ h)
+      part_refused (part.LikeMissing def spec) h = of_cause (cause_is ∙ h)
+      part_refused (part.Unresolved def) h = of_cause (cause_is ∙ h)
+      part_refused (part.Clash first second) h = of_cause (cause_is ∙ h)
+      part_refused part.Memory h = tt

@@ -34,6 +34,10 @@ kind_of (cause.LikeMissing def spec) = LikeMissing def spec
 kind_of (cause.Unresolved def) = Unresolved def
 kind_of (cause.Clash first second) = Clash first second
 
+-- the kind of a cause with P
+pub data OfCause (P : Cause → Type 0) : Kind → Type 0 where
+  of_cause : {c : Cause} → P c → OfCause P (kind_of c)
+
 -- the faults of the layers
 abbrev pub fault_kind : ScopeFault → Kind
 fault_kind (scope.Unbound at) = Unbound at

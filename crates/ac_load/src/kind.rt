@@ -5,8 +5,8 @@ use ac_elaborate::ScopeFault;
 use ac_syntax::ParseFault;
 use ac_types::Memory;
 
-/// Why a text is refused: the first cause that applies, in this order, but that `Unbuilt` comes
-/// in front of `Unbound`. Definitions are counted in the text, entries among all that are there.
+/// Why a text is refused: the first cause that applies, in this order. Definitions are counted in
+/// the text, entries among all that are there.
 #[derive(Clone, Copy, Debug, PartialEq, Eq)]
 pub enum Kind {
     /// It has more than 1,048,576 bytes: its length.
@@ -37,8 +37,6 @@ pub enum Kind {
     Unresolved { def: u32 },
     /// Two entries with one name and two texts: the least second, and for it the least first.
     Clash { first: u32, second: u32 },
-    /// The place of the first form of expression that doesn't run yet.
-    Unbuilt { at: u32 },
     Memory,
 }
 

@@ -2,14 +2,12 @@
 //! there are none.
 #![tactic(auto)]
 
-mod built;
 mod kind;
 pub mod laws;
 mod loading;
 mod part;
 mod shelf;
 
-pub use built::unbuilt;
 pub use kind::{Kind, Refusal};
 pub use loading::load;
 pub use shelf::{Shelf, ShelfEntry};

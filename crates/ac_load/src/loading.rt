@@ -14,8 +14,8 @@ ghost use Rattle.ac_syntax.specs.Programs.{IsProgram, IsModule};
 ghost use Rattle.ac_syntax.specs.ReadTrees.{surface_of};
 ghost use Rattle.ac_acceptance.specs.Accepting.{IsShelf};
 ghost use Rattle.ac_load.specs.Kinds.{Says};
-ghost use Rattle.ac_load.specs.Loading.{shelved, shelf_of, Loads, RejectsPart, Rejects};
-ghost use Rattle.ac_load.specs.inner.Parts.{IsTaken, IsTreeRefused, IsModuleTaken, IsProgramTaken};
+ghost use Rattle.ac_load.specs.Loading.{shelved, shelf_of, Loads, Rejects};
+ghost use Rattle.ac_load.specs.inner.Parts.{IsTaken, IsTreeRefused, RejectsPart, IsModuleTaken, IsProgramTaken};
 
 use crate::kind::{Kind, Refusal};
 use crate::part::part;

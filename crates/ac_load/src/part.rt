@@ -8,11 +8,9 @@ ghost use Rattle.ac_outer.specs.Entries.{keeps_name};
 ghost use Rattle.ac_acceptance.specs.Counted.{has_counted};
 ghost use Rattle.ac_causes.specs.Entries.{term_type, part_cause, Tells};
 ghost use Rattle.ac_syntax.specs.ReadTrees.{surface_of};
-ghost use Rattle.ac_load.specs.Built.{first_unbuilt};
 ghost use Rattle.ac_load.specs.Kinds.{Says};
 ghost use Rattle.ac_load.specs.inner.Parts.{linked_part, IsTaken, IsTreeRefused};
 
-use crate::built::unbuilt;
 use crate::kind::Kind;
 use ac_causes::{PartFault, linked, part_type};
 use ac_elaborate::{RawProgram, elaborate};
@@ -24,26 +22,6 @@ use std::alloc::Global;
 /// The entries, the term and its type of a tree from `seen`, behind these entries; or the first
 /// cause why it has none.
 pub fn part(alloc: Global, env: Env, surface: &Surface, seen: &Seen) -> Result<Loaded, Kind>
-    requires few { length env.entries ≤ 256 }
-    requires names { IsTrue (list_all keeps_name (environment_of env)) }
-    requires counted { IsTrue (list_all has_counted (environment_of env)) }
-    ensures taken { IfOk result (λ l. IsTaken (environment_of env) (seen_of seen.now)
-        (surface_of surface.now) (environment_of l.env) (expr_of l.main) (typ_of l.ty)) }
-    ensures refused { IfErr result (λ kind. Says kind (IsTreeRefused (environment_of env)
-        (seen_of seen.now) (surface_of surface.now) kind)) }
-{
-    match unbuilt(surface) {
-        Some(at) => {
-            drop(env);
-            Err(Kind::Unbuilt { at })
-        }
-        None => built_part(alloc, env, surface, seen),
-    }
-}
-
-// The same of a tree whose forms all run.
-fn built_part(alloc: Global, env: Env, surface: &Surface, seen: &Seen) -> Result<Loaded, Kind>
-    requires built { first_unbuilt (surface_of surface.now) ≡ None }
     requires few { length env.entries ≤ 256 }
     requires names { IsTrue (list_all keeps_name (environment_of env)) }
     requires counted { IsTrue (list_all has_counted (environment_of env)) }

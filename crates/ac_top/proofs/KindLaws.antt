@@ -6,7 +6,7 @@ use Rattle.ac_acceptance.specs.Accepting.{Shelved}
 use Rattle.ac_load.specs.Loading.{Rejects}
 use Rattle.ac_load.specs.Kinds.{Says}
 use Rattle.ac_load.specs.declared.kind.Kind.{Kind}
-use Rattle.ac_load.specs.declared.kind.Kind.TheVariants.{TooLong, Lexical, TooDeep, Syntax, Unbuilt, Unbound, Repeated, TooMany, IllTyped, Signature, NotValuable, LikeMissing, Unresolved, Clash, Memory}
+use Rattle.ac_load.specs.declared.kind.Kind.TheVariants.{TooLong, Lexical, TooDeep, Syntax, Unbound, Repeated, TooMany, IllTyped, Signature, NotValuable, LikeMissing, Unresolved, Clash, Memory}
 use Rattle.ac_files.specs.Files.{IsTextOf}
 use Rattle.ac_files.specs.ProgramTexts.{IsShelfBy}
 use Rattle.ac_top.specs.declared.status.Status.{Status}
@@ -25,7 +25,6 @@ refusal_said errors part (TooLong len) status end s = s
 refusal_said errors part (Lexical at) status end s = s
 refusal_said errors part (TooDeep at) status end s = s
 refusal_said errors part (Syntax at) status end s = s
-refusal_said errors part (Unbuilt at) status end s = s
 refusal_said errors part (Unbound at) status end s = s
 refusal_said errors part (Repeated at) status end s = s
 refusal_said errors part (TooMany count) status end s = s
@@ -49,7 +48,6 @@ told part (TooLong len) P S h (inl s) = of_kind h s
 told part (Lexical at) P S h (inl s) = of_kind h s
 told part (TooDeep at) P S h (inl s) = of_kind h s
 told part (Syntax at) P S h (inl s) = of_kind h s
-told part (Unbuilt at) P S h (inl s) = of_kind h s
 told part (Unbound at) P S h (inl s) = of_kind h s
 told part (Repeated at) P S h (inl s) = of_kind h s
 told part (TooMany count) P S h (inl s) = of_kind h s

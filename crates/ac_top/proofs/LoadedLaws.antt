@@ -14,4 +14,4 @@ pub not_rejected : {text : Bytes} {shelf : List Shelved} {part : ℕ} {kind : Ki
 not_rejected {text} {shelf} {part} {kind} {E} {e} {T} r l = loaded.not_rejected text shelf part kind E e T r l
 
 pub one_program : {text : Bytes} {shelf : List Shelved} {E F : Environment} {e f : Expr} {T U : Typ} → Loads text shelf E e T → Loads text shelf F f U → (E ≡ F) × (e ≡ f)
-one_program a b = let x = one_result sha256 a.accepted b.accepted in (x.0, x.1)
+one_program a b = let x = one_result sha256 a b in (x.0, x.1)

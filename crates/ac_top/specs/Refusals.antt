@@ -2,7 +2,7 @@
 use Rattle.std.specs.Prelude.{ℕ, ◌==◌, List, [], ◌∷◌, ◌++◌, codes, if◌then◌else◌}
 use Rattle.std.specs.Fmt.{decimal}
 use Rattle.ac_load.specs.declared.kind.Kind.{Kind}
-use Rattle.ac_load.specs.declared.kind.Kind.TheVariants.{TooLong, Lexical, TooDeep, Syntax, Unbuilt, Unbound, Repeated, TooMany, IllTyped, Signature, NotValuable, LikeMissing, Unresolved, Clash, Memory}
+use Rattle.ac_load.specs.declared.kind.Kind.TheVariants.{TooLong, Lexical, TooDeep, Syntax, Unbound, Repeated, TooMany, IllTyped, Signature, NotValuable, LikeMissing, Unresolved, Clash, Memory}
 use Rattle.ac_top.specs.declared.status.Status.{Status}
 use Rattle.ac_top.specs.declared.status.TheConstants.Status.{REFUSED, OUT_OF_MEMORY}
 use Rattle.ac_top.specs.Streams.{memory_line}
@@ -13,7 +13,6 @@ kind_word (TooLong len) = codes "too_long"
 kind_word (Lexical at) = codes "lexical"
 kind_word (TooDeep at) = codes "too_deep"
 kind_word (Syntax at) = codes "syntax"
-kind_word (Unbuilt at) = codes "unbuilt"
 kind_word (Unbound at) = codes "unbound"
 kind_word (Repeated at) = codes "repeated"
 kind_word (TooMany count) = codes "too_many"
@@ -31,7 +30,6 @@ kind_number (TooLong len) = len
 kind_number (Lexical at) = at
 kind_number (TooDeep at) = at
 kind_number (Syntax at) = at
-kind_number (Unbuilt at) = at
 kind_number (Unbound at) = at
 kind_number (Repeated at) = at
 kind_number (TooMany count) = count

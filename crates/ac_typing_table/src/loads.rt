@@ -34,7 +34,6 @@ fn write_kind(page: &mut Page, kind: Kind) {
         Kind::LikeMissing { def, spec } => write_both(page, b" like_missing ", def, spec),
         Kind::Unresolved { def } => write_place(page, b" unresolved ", def),
         Kind::Clash { first, second } => write_both(page, b" clash ", first, second),
-        Kind::Unbuilt { at } => write_place(page, b" unbuilt at ", at),
         Kind::Memory => page.lose(),
     }
 }

@@ -3,4 +3,4 @@ use Rattle.ac_acceptance.proofs.OneAnswer.{one_result}
 use Rattle.ac_load.proofs.laws.one_program.Goals as goal
 
 pub returns : goal.returns
-returns c = λ text shelf E F e f T U a b. one_result sha256 a.accepted b.accepted
+returns c = λ text shelf E F e f T U a b. one_result sha256 a b

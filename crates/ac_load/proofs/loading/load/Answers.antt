@@ -3,16 +3,17 @@ use Rattle.std.proofs.lemmas.List.{length-map}
 use Rattle.ac_types.specs.ReadTypes.{typ_of}
 use Rattle.ac_terms.specs.Read.{environment_of, entry_of, expr_of}
 use Rattle.ac_terms.specs.declared.def.Entry.{Entry}
+use Rattle.ac_acceptance.specs.Accepting.{nothing}
 use Rattle.ac_load.specs.declared.shelf.ShelfEntry.{ShelfEntry}
 use Rattle.ac_load.specs.Loading.{shelved, shelf_of}
 use Rattle.ac_load.proofs.Loaded.{loads_ready}
-use Rattle.ac_load.proofs.ShelfLaws.{Before, all_seen, at_first, sound_before, before_next, rejects_here, rejects_last, loads_last}
+use Rattle.ac_load.proofs.ShelfLaws.{Before, all_seen, sound_before, before_next, rejects_here, rejects_last, loads_last}
 use Rattle.ac_load.proofs.loading.load.Goals as goal
 
 pub loop-entry-init : goal.loop-entry-init
 loop-entry-init c = record {
   part = refl;
-  before = subst (λ (l : List Entry). Before (shelf_of c.args.shelf.now) 0 (map entry_of l)) (sym c.new.ensures) (at_first (shelf_of c.args.shelf.now));
+  before = subst (λ (l : List Entry). Before (shelf_of c.args.shelf.now) 0 (map entry_of l)) (sym c.new.ensures) nothing;
 }
 
 pub module_behind-requires-clause-few : goal.module_behind-requires-clause-few

@@ -7,7 +7,7 @@ use Rattle.ac_syntax.specs.Programs.{IsModule}
 use Rattle.ac_syntax.specs.ReadTrees.{surface_of}
 use Rattle.ac_parser.specs.Texts.{HasTree, IsTextFault}
 use Rattle.ac_load.specs.Loading.{shelved}
-use Rattle.ac_load.proofs.ShelfLaws.{text_refused, module_refused, module_taken}
+use Rattle.ac_load.proofs.ShelfLaws.{text_refused, tree_refused, module_taken}
 use Rattle.ac_load.proofs.loading.module_behind.Goals as goal
 
 pub returns-in_err-surface-clause-refused : goal.returns-in_err-surface-clause-refused
@@ -25,5 +25,5 @@ returns-clause-taken c =
 pub returns-clause-refused : goal.returns-clause-refused
 returns-clause-refused c =
     IfErr-weaker c.entries_behind-found.result _ _
-    (λ kind r. module_refused (environment_of c.args.env) (bytes_of c.args.entry.now.uri) (bytes_of c.args.entry.now.text) (surface_of c.in_ok-surface.surface) kind (subst (λ (t : Bytes). HasTree IsModule t (surface_of c.in_ok-surface.surface)) c.as_slice.ensures c.in_ok-surface.ensures.tree) r)
+    (λ kind r. tree_refused IsModule (environment_of c.args.env) (Shelf (bytes_of c.args.entry.now.uri)) (bytes_of c.args.entry.now.text) (surface_of c.in_ok-surface.surface) kind (subst (λ (t : Bytes). HasTree IsModule t (surface_of c.in_ok-surface.surface)) c.as_slice.ensures c.in_ok-surface.ensures.tree) r)
     c.entries_behind-found.ensures.refused

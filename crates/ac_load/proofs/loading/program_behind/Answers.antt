@@ -4,7 +4,7 @@ use Rattle.ac_terms.specs.Defs.{Own'}
 use Rattle.ac_terms.specs.Read.{environment_of, expr_of}
 use Rattle.ac_syntax.specs.Programs.{IsProgram}
 use Rattle.ac_syntax.specs.ReadTrees.{surface_of}
-use Rattle.ac_load.proofs.ShelfLaws.{text_refused, program_refused, program_taken}
+use Rattle.ac_load.proofs.ShelfLaws.{text_refused, tree_refused, program_taken}
 use Rattle.ac_load.proofs.loading.program_behind.Goals as goal
 
 pub returns-in_err-surface-clause-refused : goal.returns-in_err-surface-clause-refused
@@ -21,5 +21,5 @@ returns-clause-taken c =
 pub returns-clause-refused : goal.returns-clause-refused
 returns-clause-refused c =
     IfErr-weaker c.part-found.result _ _
-    (λ kind r. program_refused (environment_of c.args.env) c.args.text.now (surface_of c.in_ok-surface.surface) kind c.in_ok-surface.ensures.tree r)
+    (λ kind r. tree_refused IsProgram (environment_of c.args.env) Own' c.args.text.now (surface_of c.in_ok-surface.surface) kind c.in_ok-surface.ensures.tree r)
     c.part-found.ensures.refused
