@@ -76,6 +76,16 @@ impl Desk {
         }
     }
 
+    /// Prints how many bytes a file has.
+    pub fn measure(&self, page: &mut Page, name: &str) {
+        let Some(text) = self.files.bytes(name) else {
+            page.put(b"no such file\n");
+            return;
+        };
+        page.number(text.as_slice().len() as u64);
+        page.put(b"\n");
+    }
+
     /// Calls `acute`, and prints how it ended and what it wrote.
     pub fn call(&mut self, alloc: Global, page: &mut Page, line: &str) {
         let Ok(words) = words_in(alloc, line) else {

@@ -9,7 +9,7 @@
 //! - `take NAME` is the file of that name that lies beside the program.
 //! - `$ WORDS` calls `acute` with these words, which are parted by single spaces. Behind it stand
 //!   its status, what it wrote on output, a `|` in front and behind each line feed, and on errors.
-//! - `show NAME` prints a file's bytes, in hexadecimal digits.
+//! - `show NAME` prints a file's bytes, in hexadecimal digits; `length NAME` how many they are.
 //! - `new` begins anew, without files. Any other line is a heading.
 #![tactic(auto)]
 
@@ -44,6 +44,7 @@ fn set_up(rt: &HostRuntime, desk: &mut Desk, page: &mut Page, word: &str, rest: 
         "bytes" => add_bytes(rt.alloc(), desk, page, rest),
         "take" => take(rt, desk, page, rest),
         "show" => desk.show(rt.alloc(), page, rest),
+        "length" => desk.measure(page, rest),
         _ => {}
     }
 }
