@@ -21,14 +21,18 @@ const PRINTS_ONE: &[u8] = b"IO.print_string (IO.receive ())";
 #[derive(Clone, Copy)]
 struct Faults<'a> {
     input: &'a [u64],
+    reads: &'a [u64],
     writes: &'a [u64],
     output: &'a [u64],
+    errors: &'a [u64],
 }
 
 const NONE: Faults<'static> = Faults {
     input: &[],
+    reads: &[],
     writes: &[],
     output: &[],
+    errors: &[],
 };
 
 // How a call ends, and what it leaves on output, on errors and in the file `c`, if that is there.
@@ -71,12 +75,13 @@ fn left_behind(
     list.push(file(alloc, "a", text)?)?;
     list.push(file(alloc, "b", bytes)?)?;
     list.push(file(alloc, "c", b"old")?)?;
+    let reads = numbers(alloc, faults.reads)?;
     let writes = numbers(alloc, faults.writes)?;
-    let mut files = MemoryFiles::new(alloc, list, Many::new(alloc), writes);
+    let mut files = MemoryFiles::new(alloc, list, reads, writes);
     let bytes = Text::from_slice(alloc, bytes)?;
     let mut input = MemorySource::new(bytes, numbers(alloc, faults.input)?);
     let mut output = MemorySink::new(alloc, numbers(alloc, faults.output)?);
-    let mut errors = SureSink::new(alloc);
+    let mut errors = MemorySink::new(alloc, numbers(alloc, faults.errors)?);
     let words = words_of(alloc, line)?;
     let status = acute(
         alloc,
@@ -215,6 +220,64 @@ fn each_write_may_fail(rt: HostRuntime) -> Result<(), Fail> {
     };
     let unmade = left_behind(alloc, "run a --out c", b"IO.print_int 1", b"", faults)?;
     assert!(rt; is_left(&unmade, 6, b"", line, b"old"));
+    Ok(())
+}
+
+// Whether errors hold a front of the letters and then this line.
+fn is_front_and(errors: &[u8], line: &[u8]) -> bool {
+    match errors.strip_suffix(line) {
+        Some(front) => b"abcdefghij".starts_with(front),
+        None => false,
+    }
+}
+
+// The channel's reads are the last of the files', two for each frame.
+#[test]
+fn each_read_of_a_file_may_fail(rt: HostRuntime) -> Result<(), Fail> {
+    let alloc = rt.alloc();
+    let line = b"acute: read fault\n".as_slice();
+    let mut failed = 0u32;
+    let mut whole = 0u32;
+    for k in 0..40u64 {
+        let fail = [k];
+        let faults = Faults {
+            reads: &fail,
+            ..NONE
+        };
+        let left = left_behind(alloc, "run a --in b --out c", TEN, FRAMES, faults)?;
+        if is_left(&left, 0, b"abcdefghij", b"", FRAMES) {
+            whole = whole.saturating_add(1);
+        } else if is_front(&left, 5, line) {
+            failed = failed.saturating_add(1);
+        } else {
+            assert!(rt; is_left(&left, 5, b"", line, b"old"));
+        }
+    }
+    assert!(rt; failed == 20 && whole > 0);
+    Ok(())
+}
+
+#[test]
+fn each_write_of_a_stream_may_fail(rt: HostRuntime) -> Result<(), Fail> {
+    let alloc = rt.alloc();
+    let line = b"acute: write fault\n".as_slice();
+    for k in 0..10u64 {
+        let fail = [k];
+        let sends = Faults {
+            output: &fail,
+            ..NONE
+        };
+        let prints = Faults {
+            errors: &fail,
+            ..NONE
+        };
+        for faults in [sends, prints] {
+            let left = left_behind(alloc, "run a --in b --out -", TEN, FRAMES, faults)?;
+            assert!(rt; left.status == Status(6));
+            assert!(rt; FRAMES.starts_with(left.output.as_slice()));
+            assert!(rt; is_front_and(left.errors.as_slice(), line));
+        }
+    }
     Ok(())
 }
 
