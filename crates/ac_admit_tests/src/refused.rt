@@ -1,8 +1,10 @@
-// Packets that are refused, which leave the environment as it was.
+// Packets that are refused, which leave the environment as it was. Of a clash there is no row: it
+// takes two texts of one digest.
 
-use crate::make::{OWN_M1, PAIR, fault, nothing, own, type_of};
+use crate::make::{NOTHING, OWN_M1, PAIR, fault, own, type_of};
+use crate::spelled::{imports_by_name, modules};
 use ac_admit::AdmitFault;
-use ac_types::Ty;
+use ac_types::{Name, Ty};
 use std::test::Fail;
 
 /// The packet of `true` as a bool, and as an int.
@@ -21,6 +23,13 @@ const REFERS_ON: &[u8] = b"ACUP\x01\x00\x01\x01\x02M2\x01\x02\x00\x00\x00\x01\x0
 /// A module whose signature has two values of one name.
 const TWICE: &[u8] = b"ACUP\x01\x00\x01\x01\x02M2\x01\x02\x00\x00\x00\x02\x01z\x01\x01z\x01\x00\x00\x00\x01\x01z\x01\x01\x00\x00\x00\x00\x00\x00\x00\x03\x04\x04";
 
+/// An import of `M1` by version, and behind it the module with a field of the wrong type.
+const ILL_TYPED_LATER: &[u8] = b"ACUP\x01\x00\x02\x02\x02M1\x00\x00\x00\x01\x01y\x01\x01\x00\x01\x00\x00\x01\x02\x01\x02M2\x01\x02\x00\x00\x00\x01\x01z\x01\x00\x00\x00\x01\x01z\x01\x02\x01\x04\x04";
+
+/// A module, and behind it an import of `M1` by `Static_Link`, which gives nothing in a packet; with
+/// unit.
+const LINKS_TO_NOTHING: &[u8] = b"ACUP\x01\x00\x02\x01\x02M2\x01\x02\x00\x00\x00\x01\x01z\x01\x00\x00\x00\x01\x01z\x01\x01\x00\x00\x00\x00\x00\x00\x00\x03\x02\x02M1\x00\x00\x00\x01\x01y\x01\x01\x00\x01\x00\x00\x01\x01\x04\x04";
+
 /// A function at home in a definition that isn't there, and one at home in an import by version.
 const NO_HOME: &[u8] = b"ACUP\x01\x00\x00\x09\x04\x04\x0A\x00\x01\x0E\x04\x04";
 
@@ -29,23 +38,27 @@ const IMPORT_HOME: &[u8] = b"ACUP\x01\x00\x01\x02\x02M1\x00\x00\x00\x01\x01y\x01
 #[test]
 fn types_and_values(rt: HostRuntime) -> Result<(), Fail> {
     let alloc = rt.alloc();
-    let mut env = nothing(alloc);
+    let mut env = own(alloc, NOTHING)?;
     assert_eq!(rt; fault(alloc, &mut env, TRUE, &Ty::Int), Some(AdmitFault::WrongType));
-    assert_eq!(rt; fault(alloc, &mut env, TRUE, &Ty::Bool), None);
+    assert_eq!(rt; fault(alloc, &mut env, TRUE_AS_INT, &Ty::Bool), Some(AdmitFault::WrongType));
     assert_eq!(rt; fault(alloc, &mut env, TRUE_AS_INT, &Ty::Int), Some(AdmitFault::Value));
     assert_eq!(rt; fault(alloc, &mut env, BRINGS_FALSELY, &Ty::Int), Some(AdmitFault::Value));
+    assert_eq!(rt; fault(alloc, &mut env, TRUE, &Ty::Bool), None);
     assert_eq!(rt; env.entries.len(), 0);
     Ok(())
 }
 
+// A definition that isn't well formed comes before an import without a link.
 #[test]
 fn definitions(rt: HostRuntime) -> Result<(), Fail> {
     let alloc = rt.alloc();
-    let mut env = nothing(alloc);
+    let mut env = own(alloc, NOTHING)?;
     let ill = Some(AdmitFault::Definition { i: 0 });
     assert_eq!(rt; fault(alloc, &mut env, ILL_TYPED, &Ty::Unit), ill);
     assert_eq!(rt; fault(alloc, &mut env, REFERS_ON, &Ty::Unit), ill);
     assert_eq!(rt; fault(alloc, &mut env, TWICE, &Ty::Unit), ill);
+    let later = Some(AdmitFault::Definition { i: 1 });
+    assert_eq!(rt; fault(alloc, &mut env, ILL_TYPED_LATER, &Ty::Unit), later);
     assert_eq!(rt; env.entries.len(), 0);
     Ok(())
 }
@@ -61,13 +74,37 @@ fn homes(rt: HostRuntime) -> Result<(), Fail> {
     Ok(())
 }
 
-// An import without a link comes before the type.
+// An import without a link comes before the type, and the type comes after a link.
 #[test]
-fn an_import_without_a_link(rt: HostRuntime) -> Result<(), Fail> {
+fn imports_without_a_link(rt: HostRuntime) -> Result<(), Fail> {
     let alloc = rt.alloc();
-    let mut env = nothing(alloc);
+    let mut env = own(alloc, NOTHING)?;
     let open = Some(AdmitFault::Unresolved { i: 0 });
     assert_eq!(rt; fault(alloc, &mut env, PAIR, &Ty::Int), open);
+    let named = imports_by_name(alloc, Name([7; 32]))?;
+    assert_eq!(rt; fault(alloc, &mut env, named.as_slice(), &Ty::Unit), open);
     assert_eq!(rt; env.entries.len(), 0);
+    let mut env = own(alloc, OWN_M1)?;
+    let later = Some(AdmitFault::Unresolved { i: 1 });
+    assert_eq!(rt; fault(alloc, &mut env, LINKS_TO_NOTHING, &Ty::Unit), later);
+    assert_eq!(rt; fault(alloc, &mut env, PAIR, &Ty::Int), Some(AdmitFault::WrongType));
+    assert_eq!(rt; env.entries.len(), 1);
+    Ok(())
+}
+
+// An environment has 65,535 entries at most. It comes before the type.
+#[test]
+fn more_entries_than_there_may_be(rt: HostRuntime) -> Result<(), Fail> {
+    let alloc = rt.alloc();
+    let mut env = own(alloc, NOTHING)?;
+    let there = modules(alloc, 0, 61_000)?;
+    assert_eq!(rt; fault(alloc, &mut env, there.as_slice(), &Ty::Unit), None);
+    let one = modules(alloc, 61_000, 4_536)?;
+    let full = Some(AdmitFault::Full { count: 65_536 });
+    assert_eq!(rt; fault(alloc, &mut env, one.as_slice(), &Ty::Unit), full);
+    let two = modules(alloc, 60_999, 4_538)?;
+    let fuller = Some(AdmitFault::Full { count: 65_537 });
+    assert_eq!(rt; fault(alloc, &mut env, two.as_slice(), &Ty::Int), fuller);
+    assert_eq!(rt; env.entries.len(), 61_000);
     Ok(())
 }
