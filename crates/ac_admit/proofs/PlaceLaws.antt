@@ -1,6 +1,6 @@
 -- What the places of a packet's definitions say: which imports have no link, how many entries come, and the number of each.
 use Rattle.std.proofs.Common.{◌≡◌, refl, sym, ap, ◌∙◌, ℕ, zero, suc, ◌+◌, ◌≤◌, Bool, true, false, not, List, [], ◌∷◌, ◌++◌, map, length, Option, Some, None, append_assoc, append-nil}
-use Rattle.std.specs.Prelude.{position, is_some, option_and_then, slice_get, unwrap_or}
+use Rattle.std.specs.Prelude.{position, is_some}
 use Rattle.std.specs.List.{list_any}
 use Rattle.std.proofs.lemmas.List.{map-append, length-map}
 use mathlib.Core.Path.{fun_ext}

@@ -35,12 +35,7 @@ pub struct Admitted {
 }
 
 // The entries and the value of a packet, where no cause applies.
-fn take_in(
-    alloc: Global,
-    env: &mut Env,
-    p: &Packet,
-    expected: &Ty,
-) -> Result<Admitted, AdmitFault>
+fn take_in(alloc: Global, env: &mut Env, p: &Packet, expected: &Ty) -> Result<Admitted, AdmitFault>
     requires coherent { IsCoherent (environment_of env.old) }
     requires packet { IsTrue (fits_packet (packet_of p.now)) }
     ensures accepted { IfOk result (λ a. Accepts (environment_of env.old) (packet_of p.now)

@@ -111,12 +111,7 @@ fn placing(alloc: Global, env: &Env, p: &Packet, own: &Env) -> Result<Placing, A
 
 /// The places of a packet's definitions, where none of the causes applies but that the value may
 /// not be of the type. An `Err` is the first that applies, or want of memory.
-pub fn judged(
-    alloc: Global,
-    env: &Env,
-    p: &Packet,
-    expected: &Ty,
-) -> Result<Placing, AdmitFault>
+pub fn judged(alloc: Global, env: &Env, p: &Packet, expected: &Ty) -> Result<Placing, AdmitFault>
     requires coherent { IsCoherent (environment_of env.now) }
     requires fits { IsTrue (fits_packet (packet_of p.now)) }
     ensures front { OnOk result (front_cause (environment_of env.now) (packet_of p.now).defs ≡ None) }

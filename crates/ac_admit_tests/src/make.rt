@@ -17,13 +17,19 @@ use std::alloc::Global;
 pub const NOTHING: &[u8] = b"()";
 
 /// A program with the module `M1` of version 2, whose int `y` is 7.
-pub const OWN_M1: &[u8] = b"module M1 : sig val y : int end version 2 = struct val y : int = 7 end ()";
+pub const OWN_M1: &[u8] =
+    b"module M1 : sig val y : int end version 2 = struct val y : int = 7 end ()";
+
+/// A program with two modules.
+pub const OWN_TWO: &[u8] = b"module M1 : sig end = struct end module M2 : sig end = struct end ()";
 
 /// The packet of a function of `M1`, imported, and of `M2`.
-pub const PAIR: &[u8] = b"ACUP\x01\x00\x02\x02\x02M1\x00\x00\x00\x01\x01y\x01\x01\x00\x01\x00\x00\x01\x02\x01\x02M2\x01\x02\x00\x00\x00\x01\x01z\x01\x00\x00\x00\x01\x01z\x01\x01\x00\x00\x00\x00\x00\x00\x00\x03\x09\x04\x06\x02\x01\x01\x0A\x00\x00\x0E\x04\x06\x02\x0D\x00\x00\x01y\x0D\x00\x01\x01z";
+pub const PAIR: &[u8] =
+    b"ACUP\x01\x00\x02\x02\x02M1\x00\x00\x00\x01\x01y\x01\x01\x00\x01\x00\x00\x01\x02\x01\x02M2\x01\x02\x00\x00\x00\x01\x01z\x01\x00\x00\x00\x01\x01z\x01\x01\x00\x00\x00\x00\x00\x00\x00\x03\x09\x04\x06\x02\x01\x01\x0A\x00\x00\x0E\x04\x06\x02\x0D\x00\x00\x01y\x0D\x00\x01\x01z";
 
 /// A packet that brings `M1` of version 3, with the int 5.
-pub const BRINGS_M1: &[u8] = b"ACUP\x01\x00\x01\x01\x02M1\x01\x01\x00\x00\x00\x03\x00\x00\x00\x01\x01y\x01\x00\x00\x00\x01\x01y\x01\x01\x00\x00\x00\x00\x00\x00\x00\x09\x01\x01\x00\x00\x00\x00\x00\x00\x00\x05";
+pub const BRINGS_M1: &[u8] =
+    b"ACUP\x01\x00\x01\x01\x02M1\x01\x01\x00\x00\x00\x03\x00\x00\x00\x01\x01y\x01\x00\x00\x00\x01\x01y\x01\x01\x00\x00\x00\x00\x00\x00\x00\x09\x01\x01\x00\x00\x00\x00\x00\x00\x00\x05";
 
 /// The packet that the bytes spell.
 pub fn packet(alloc: Global, bytes: &[u8]) -> Result<Packet, Memory>
@@ -61,12 +67,7 @@ fn admitted(alloc: Global, env: &mut Env, bytes: &[u8], ty: &Ty) -> Result<Admit
 }
 
 /// The entries that the packet's definitions become.
-pub fn entries(
-    alloc: Global,
-    env: &mut Env,
-    bytes: &[u8],
-    ty: &Ty,
-) -> Result<Many<u32>, AdmitFault>
+pub fn entries(alloc: Global, env: &mut Env, bytes: &[u8], ty: &Ty) -> Result<Many<u32>, AdmitFault>
     requires { IsCoherent (environment_of env.old) }
     ensures { IsCoherent (environment_of env.new) }
 {

@@ -5,15 +5,13 @@ use ac_terms::Env;
 use ac_types::{Memory, Name, Text};
 use std::alloc::Global;
 
-/// The packet of unit with so many modules `M`, whose versions are the numbers from `first` on.
-pub fn modules(alloc: Global, first: u16, many: u16) -> Result<Text, Memory> {
+/// The packet of unit with so many imports by `Static_Link`, which gives nothing in a packet.
+pub fn imports(alloc: Global, many: u16) -> Result<Text, Memory> {
     let mut out = Out::new(alloc);
     out.put_bytes(b"ACUP\x01")?;
     out.put_u16(many)?;
-    for k in 0..many {
-        out.put_bytes(b"\x01\x01M\x01\x01")?;
-        out.put_u32(u32::from(first) + u32::from(k))?;
-        out.put_bytes(b"\x00\x00\x00\x00\x00\x00\x00\x00")?;
+    for _ in 0..many {
+        out.put_bytes(b"\x02\x01M\x00\x00\x00\x00\x01\x00\x01\x00\x00\x01\x01")?;
     }
     out.put_bytes(b"\x04\x04")?;
     Ok(out.into_text())

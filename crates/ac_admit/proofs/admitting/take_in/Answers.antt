@@ -1,5 +1,4 @@
-use Rattle.std.proofs.Common.{◌≡◌, sym, ap, ◌∙◌, subst, ℕ, true, false, List, ◌++◌, map}
-use Rattle.sha2.specs.Sha256.{sha256}
+use Rattle.std.proofs.Common.{ap, ◌∙◌, subst, ℕ, false, List, ◌++◌, map}
 use Rattle.ac_types.specs.ReadTypes.{typ_of}
 use Rattle.ac_terms.specs.declared.def.Entry as code_entry
 use Rattle.ac_terms.specs.Read.{environment_of, entry_of, packet_of, value_of}
