@@ -1,19 +1,81 @@
 -- The causes of refusal, from the first to the last.
-use Rattle.std.proofs.Common.{◌≡◌, refl, sym, ap, ap₂, ◌∙◌, ℕ, Bool, true, false, not, List, [], ◌∷◌, ◌++◌, map, length, Option, Some, None, append_assoc}
-use Rattle.std.specs.Prelude.{position, option_map, is_some}
-use Rattle.std.specs.List.{list_all, list_any}
-use Rattle.std.proofs.lemmas.List.{map-append}
+use Rattle.std.proofs.Common.{◌≡◌, refl, sym, ap, ◌∙◌, ℕ, ◌<◌, ◌≤◌, Bool, true, false, ◌&&◌, nat_lt, subst, List, Option, Some, None}
+use Rattle.std.specs.Prelude.{not}
+use Rattle.std.proofs.lemmas.Bool.Decides.{nat_tests}
+use mathlib.Core.Path.{ap₂}
+use native.Mathlib.Omega.{arith}
 use Rattle.sha2.specs.Sha256.{sha256}
-use Rattle.ac_types.specs.Types.{Typ}
-use Rattle.ac_types.specs.First.{or_else, first_some, first_failing, first_wrong}
-use Rattle.ac_terms.specs.Defs.{Environment, Entry, Import, Def, AModule, AnImport, AMark, Packet, Arrived}
-use Rattle.ac_terms.specs.Names.{name_by}
-use Rattle.ac_terms.specs.Parts.{part_refs, def_parts}
-use Rattle.ac_terms.specs.Renumbered.{def_renumbered}
-use Rattle.ac_terms.proofs.EnvLaws.{position-map}
-use Rattle.ac_rules.specs.Links.{linked, InPacket, is_exact}
-use Rattle.ac_rules.specs.Packets.{Cause, Place, Placed, cause, alone_after, alone, ill_formed, clash, too_many, unresolved, wrong_type, no_value, is_resolved, is_unresolved, placed_number, place, place_all, places, place_exact, place_ranges, put, found_or_put, placed_there, find_def}
-use Rattle.ac_admit.specs.inner.Front.{front_cause}
+use Rattle.ac_types.specs.Types.{Typ, same}
+use Rattle.ac_types.specs.First.{or_else, given}
+use Rattle.ac_terms.specs.Defs.{Environment, Def, Packet}
+use Rattle.ac_rules.specs.Views.{Coloured}
+use Rattle.ac_rules.specs.Typing.{holds}
+use Rattle.ac_rules.specs.Packets.{Cause, Full, WrongType, NoValue, cause, ill_formed, clash, too_many, unresolved, wrong_type, no_value, places, value_there}
+use Rattle.ac_admit.specs.declared.fault.AdmitFault.{AdmitFault}
+use Rattle.ac_admit.specs.declared.fault.AdmitFault.TheVariants as fault
+use Rattle.ac_admit.specs.Refusing.{IsFor}
+use Rattle.ac_admit.specs.inner.Judging.{front_cause}
+use Rattle.ac_admit.specs.inner.Spoken.{is_spoken}
+
+-- the first that applies is the first of more
+still : {c : Cause} (o r : Option Cause) → o ≡ Some c → or_else o r ≡ Some c
+still o r h = ap (λ x. or_else x r) h
+
+still_for : (f : AdmitFault) (o r : Option Cause) → IsFor f o → IsFor f (or_else o r)
+still_for (fault.Definition i) o r h = still o r h
+still_for (fault.Clash i j) o r h = still o r h
+still_for (fault.Full n) o r h = still o r h
+still_for (fault.Unresolved i) o r h = still o r h
+still_for fault.WrongType o r h = still o r h
+still_for fault.Value o r h = still o r h
+still_for fault.Memory o r h = tt
+
+behind_none : (f : AdmitFault) (o r : Option Cause) → o ≡ None → IsFor f r → IsFor f (or_else o r)
+behind_none f o r n h = subst (λ (x : Option Cause). IsFor f (or_else x r)) (sym n) h
+
+-- the first four, one after the other
+module _ (E : Environment) (ds : List Def) where
+  abbrev third : Option Cause
+  third = or_else (too_many sha256 E ds) (or_else (unresolved sha256 E ds) None)
+
+  abbrev second : Option Cause
+  second = or_else (clash sha256 E ds) third
+
+  pub first_for : (f : AdmitFault) → IsFor f (ill_formed sha256 ds) → IsFor f (front_cause E ds)
+  first_for f h = still_for f (ill_formed sha256 ds) second h
+
+  module _ (ill : ill_formed sha256 ds ≡ None) where
+    pub second_for : (f : AdmitFault) → IsFor f (clash sha256 E ds) → IsFor f (front_cause E ds)
+    second_for f h = behind_none f (ill_formed sha256 ds) second ill (still_for f (clash sha256 E ds) third h)
+
+    module _ (clear : clash sha256 E ds ≡ None) where
+      after : (f : AdmitFault) → IsFor f third → IsFor f (front_cause E ds)
+      after f h = behind_none f (ill_formed sha256 ds) second ill (behind_none f (clash sha256 E ds) third clear h)
+
+      pub third_for : (f : AdmitFault) → IsFor f (too_many sha256 E ds) → IsFor f (front_cause E ds)
+      third_for f h = after f (still_for f (too_many sha256 E ds) (or_else (unresolved sha256 E ds) None) h)
+
+      module _ (few : too_many sha256 E ds ≡ None) where
+        pub fourth_for : (f : AdmitFault) → IsFor f (unresolved sha256 E ds) → IsFor f (front_cause E ds)
+        fourth_for f h = after f (behind_none f (too_many sha256 E ds) (or_else (unresolved sha256 E ds) None) few (still_for f (unresolved sha256 E ds) None h))
+
+        pub none_of_four : unresolved sha256 E ds ≡ None → front_cause E ds ≡ None
+        none_of_four linked =
+            ap (λ (x : Option Cause). or_else x second) ill ∙ ap (λ (x : Option Cause). or_else x third) clear ∙
+            ap (λ (x : Option Cause). or_else x (or_else (unresolved sha256 E ds) None)) few ∙ ap (λ (x : Option Cause). or_else x None) linked
+
+-- room for so many entries
+is_full : (n : ℕ) → 65535 < n → nat_lt 65535 n ≡ true
+is_full n h = grind (arith, nat_tests)
+
+has_room : (n : ℕ) → n ≤ 65535 → nat_lt 65535 n ≡ false
+has_room n h = grind (arith, nat_tests)
+
+pub full : (n : ℕ) → 65535 < n → given (nat_lt 65535 n) (Some (Full n)) ≡ Some (Full n)
+full n h = ap (λ b. given b (Some (Full n))) (is_full n h)
+
+pub room : (n : ℕ) → n ≤ 65535 → given (nat_lt 65535 n) (Some (Full n)) ≡ None
+room n h = ap (λ b. given b (Some (Full n))) (has_room n h)
 
 first_four : {A : Type 0} (a b c d r : Option A) → or_else a (or_else b (or_else c (or_else d r))) ≡ or_else (or_else a (or_else b (or_else c (or_else d None)))) r
 first_four (Some a) b c d r = refl
@@ -23,70 +85,34 @@ first_four None None None (Some d) r = refl
 first_four None None None None r = refl
 
 module _ (E : Environment) (p : Packet) (T : Typ) where
-  pub split_cause : cause sha256 E p T ≡ or_else (front_cause E p.defs) (or_else (wrong_type sha256 p T) (or_else (no_value sha256 E p T) None))
-  split_cause = first_four (ill_formed sha256 p.defs) (clash sha256 E p.defs) (too_many sha256 E p.defs) (unresolved sha256 E p.defs) (or_else (wrong_type sha256 p T) (or_else (no_value sha256 E p T) None))
+  abbrev rest : Option Cause
+  rest = or_else (wrong_type sha256 p T) (or_else (no_value sha256 E p T) None)
 
-  pub front_some : (c : Cause) → front_cause E p.defs ≡ Some c → cause sha256 E p T ≡ Some c
-  front_some c h = split_cause ∙ ap (λ o. or_else o (or_else (wrong_type sha256 p T) (or_else (no_value sha256 E p T) None))) h
+  split_cause : cause sha256 E p T ≡ or_else (front_cause E p.defs) rest
+  split_cause = first_four (ill_formed sha256 p.defs) (clash sha256 E p.defs) (too_many sha256 E p.defs) (unresolved sha256 E p.defs) rest
 
-  pub front_none : front_cause E p.defs ≡ None → cause sha256 E p T ≡ or_else (wrong_type sha256 p T) (or_else (no_value sha256 E p T) None)
-  front_none h = split_cause ∙ ap (λ o. or_else o (or_else (wrong_type sha256 p T) (or_else (no_value sha256 E p T) None))) h
+  pub front_for : (f : AdmitFault) → IsFor f (front_cause E p.defs) → IsFor f (cause sha256 E p T)
+  front_for f h = subst (IsFor f) (sym split_cause) (still_for f (front_cause E p.defs) rest h)
 
--- the definitions by themselves are the definitions
-defs_after : (E : Environment) (ds : List Def) → map (λ (e : Entry). e.def) (alone_after sha256 E ds) ≡ map (λ (e : Entry). e.def) E ++ ds
-defs_after E [] = sym (append_none (map (λ (e : Entry). e.def) E))
-  where
-    append_none : (xs : List Def) → xs ++ [] ≡ xs
-    append_none [] = refl
-    append_none (x ∷ xs) = ap (λ ys. x ∷ ys) (append_none xs)
-defs_after E (d ∷ ds) =
-    let e : Entry = record { def = d; name = name_by sha256 E d; seen = Arrived; link = None } in
-    defs_after (E ++ e ∷ []) ds ∙ ap (λ xs. xs ++ ds) (map-append (λ (x : Entry). x.def) E (e ∷ [])) ∙ append_assoc (map (λ (x : Entry). x.def) E) (d ∷ []) ds
+  abbrev behind : Bool → Bool → Option Cause
+  behind t v = or_else (given (not t) (Some WrongType)) (or_else (given (not v) (Some NoValue)) None)
 
-pub defs_alone : (ds : List Def) → map (λ (e : Entry). e.def) (alone sha256 ds) ≡ ds
-defs_alone ds = defs_after [] ds
+  -- whether the value holds
+  abbrev pub held : Bool
+  held = holds Coloured false (places sha256 E p.defs).0 (value_there sha256 E p) T
 
--- whether a definition is an import without a link, beside its place
-abbrev flag : Place → Bool
-flag q = q.unresolved
+  module _ (none : front_cause E p.defs ≡ None) where
+    ends : (t s h : Bool) → same p.ty T ≡ t → is_spoken p ≡ s → held ≡ h → cause sha256 E p T ≡ behind t (s && h)
+    ends t s h q r u = split_cause ∙ ap (λ o. or_else o rest) none ∙ ap₂ behind q (ap₂ (λ a b. a && b) r u)
 
-abbrev is_open : Environment → Def → Bool
-is_open E d = not (is_resolved sha256 E d)
+    pub another_type : same p.ty T ≡ false → cause sha256 E p T ≡ Some WrongType
+    another_type q = ends false (is_spoken p) held q refl refl
 
-module _ (E : Environment) where
+    pub not_spoken : same p.ty T ≡ true → is_spoken p ≡ false → cause sha256 E p T ≡ Some NoValue
+    not_spoken q r = ends true false held q r refl
 
-  found_flag : (s : Placed) (d : Def) (link : Option ℕ) → map flag (found_or_put sha256 s d link).1 ≡ map flag s.1 ++ false ∷ []
-  found_flag s d link = by (find_def s.0 d link)
-    where
-      by : (o : Option ℕ) → map flag (elim o as (λ z. Placed) [ Some j ↦ placed_there sha256 s j | None ↦ put sha256 s d link false ]).1 ≡ map flag s.1 ++ false ∷ []
-      by (Some j) = map-append flag s.1 (record { at = Some j; unresolved = false } ∷ [])
-      by None = map-append flag s.1 (record { at = Some (length s.0); unresolved = false } ∷ [])
+    pub not_held : same p.ty T ≡ true → is_spoken p ≡ true → held ≡ false → cause sha256 E p T ≡ Some NoValue
+    not_held q r u = ends true true false q r u
 
-  other_flag : (s : Placed) (d : Def) (b : Bool) → map flag (elim b as (λ z. Placed) [ true ↦ put sha256 s (AMark []) None false | false ↦ found_or_put sha256 s d None ]).1 ≡ map flag s.1 ++ false ∷ []
-  other_flag s d true = map-append flag s.1 (record { at = Some (length s.0); unresolved = false } ∷ [])
-  other_flag s d false = found_flag s d None
-
-  place_flag : (s : Placed) (d : Def) → map flag (place sha256 E s d).1 ≡ map flag s.1 ++ is_open E d ∷ []
-  place_flag s (AnImport i) = by (is_exact i.constraint) (linked E i InPacket)
-    where
-      by : (b : Bool) (o : Option ℕ) → map flag (elim b as (λ z. Placed) [ true ↦ place_exact sha256 s o | false ↦ place_ranges sha256 s i o ]).1 ≡ map flag s.1 ++ not (is_some o) ∷ []
-      by true None = map-append flag s.1 (record { at = None; unresolved = true } ∷ [])
-      by true (Some j) = map-append flag s.1 (record { at = Some j; unresolved = false } ∷ [])
-      by false None = map-append flag s.1 (record { at = Some (length s.0); unresolved = true } ∷ [])
-      by false (Some j) = found_flag s (AnImport i) (Some j)
-  place_flag s (AModule m) = other_flag s (def_renumbered (placed_number s.1) (AModule m)) (list_any (is_unresolved s.1) (part_refs (def_parts (AModule m))))
-  place_flag s (AMark t) = found_flag s (AMark t) None
-
-  all_flags : (s : Placed) (ds : List Def) → map flag (place_all sha256 E s ds).1 ≡ map flag s.1 ++ map (is_open E) ds
-  all_flags s [] = sym (append_none (map flag s.1))
-    where
-      append_none : (xs : List Bool) → xs ++ [] ≡ xs
-      append_none [] = refl
-      append_none (x ∷ xs) = ap (λ ys. x ∷ ys) (append_none xs)
-  all_flags s (d ∷ ds) = all_flags (place sha256 E s d) ds ∙ ap (λ xs. xs ++ map (is_open E) ds) (place_flag s d) ∙ append_assoc (map flag s.1) (is_open E d ∷ []) (map (is_open E) ds)
-
-  -- the first import without a link is the first of whose place that is said
-  pub first_open : (ds : List Def) → position flag (places sha256 E ds).1 ≡ first_failing (is_resolved sha256 E) ds
-  first_open ds =
-      sym (position-map flag (λ b. b) flag (λ q. refl) (places sha256 E ds).1) ∙ ap (position (λ b. b)) (all_flags (E, []) ds)
-      ∙ position-map (is_open E) (λ b. b) (is_open E) (λ d. refl) ds
+    pub no_cause : same p.ty T ≡ true → is_spoken p ≡ true → held ≡ true → cause sha256 E p T ≡ None
+    no_cause q r u = ends true true true q r u

@@ -1,2 +1,5 @@
+pub mod AcceptLaws
 pub mod CauseLaws
+pub mod PlaceLaws
+pub mod RoomLaws
 pub mod SpokenLaws

@@ -1,5 +1,5 @@
 -- One test of all that a packet's type and value speak of.
-use Rattle.std.proofs.Common.{◌≡◌, refl, sym, ap, ap₂, ◌∙◌, ℕ, zero, suc, Bool, true, false, ◌&&◌, List, [], ◌∷◌, ◌++◌, map, length, Option, Some, None}
+use Rattle.std.proofs.Common.{◌≡◌, refl, sym, ap, ap₂, ◌∙◌, ℕ, zero, suc, Bool, true, false, ◌&&◌, List, [], ◌∷◌, ◌++◌, map, length}
 use Rattle.std.specs.Prelude.{nat_lt, slice_get}
 use Rattle.std.specs.List.{list_all}
 use Rattle.std.specs.Option.{option_map_or}
@@ -7,12 +7,12 @@ use Rattle.std.proofs.lemmas.List.{length-map}
 use Rattle.std.proofs.lemmas.List.Folds.{list_all-append}
 use Rattle.sha2.specs.Sha256.{sha256}
 use Rattle.ac_types.specs.Types.{Typ, mentions}
-use Rattle.ac_terms.specs.Terms.{Home, Main, In}
+use Rattle.ac_terms.specs.Terms.{Main, In}
 use Rattle.ac_terms.specs.Defs.{Environment, Entry, Def}
 use Rattle.ac_terms.specs.Parts.{Portion, OfType, OfRef, OfHome, Captured, part_mentions, part_refs, part_homes}
 use Rattle.ac_rules.specs.Views.{is_known}
 use Rattle.ac_rules.specs.Packets.{is_there, is_home_there, may_be_home}
-use Rattle.ac_admit.specs.inner.Spoken.{defs_of, home_passes, passes_there}
+use Rattle.ac_admit.specs.inner.Spoken.{defs_of, passes_there}
 
 of_type : (k m r h : Bool) → (k && ((m && r) && h)) ≡ (((k && m) && r) && h)
 of_type true m r h = refl

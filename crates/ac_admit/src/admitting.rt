@@ -1,37 +1,29 @@
 // Packets are accepted or refused.
 
-ghost use Rattle.std.specs.Prelude.{◌≡◌, ◌++◌, ◌<◌, ◌^◌, None, length, map, position, is_none, nat_le, IfOk, IfErr, OnOk, OnErr, IsTrue};
+ghost use Rattle.std.specs.Prelude.{◌≡◌, ◌++◌, map, is_none, nat_le, IfOk, IfErr, OnOk, OnErr, IsTrue};
 ghost use Rattle.std.specs.List.{list_all};
 ghost use Rattle.sha2.specs.Sha256.{sha256};
 ghost use Rattle.ac_types.specs.ReadTypes.{typ_of};
 ghost use Rattle.ac_terms.specs.Bounds.{fits_packet};
 ghost use Rattle.ac_terms.specs.Defs.{Environment, Entry};
+ghost use Rattle.ac_terms.specs.Nesting.{value_nesting};
 ghost use Rattle.ac_terms.specs.Read.{environment_of, packet_of, value_of};
 ghost use Rattle.ac_rules.specs.Coherent.{IsCoherent, mark_of};
 ghost use Rattle.ac_rules.specs.Links.{has_arrived};
-ghost use Rattle.ac_rules.specs.Widened.{Widens, IsKept};
-ghost use Rattle.ac_terms.specs.Nesting.{value_nesting};
-ghost use Rattle.ac_placing.specs.inner.Open.{place_of};
+ghost use Rattle.ac_rules.specs.Packets.{places, cause, Accepts};
 ghost use Rattle.ac_rules.specs.RoundTrip.{IsPackable};
-ghost use Rattle.ac_rules.specs.Packets.{alone, places, cause, Accepts};
-ghost use Rattle.ac_placing.specs.Placed.{state_of, number_of};
+ghost use Rattle.ac_rules.specs.Widened.{Widens, IsKept};
+ghost use Rattle.ac_placing.specs.Placed.{number_of};
 ghost use Rattle.ac_admit.specs.Refusing.{IsFor};
-ghost use Rattle.ac_admit.specs.inner.Front.{front_cause};
 
 use crate::commit::commit;
 use crate::fault::AdmitFault;
-use crate::spoken::speaks_of_its_own;
+use crate::judging::judged;
 use ac_check::CheckFault;
-use ac_formed::{alone, ill_formed};
 use ac_parts::value_renumbered;
-use ac_clashes::clash;
-use ac_placing::{Place, Placing, placed};
 use ac_terms::{Env, PVal, Packet};
-use ac_types::{Many, Ty, ty_eq};
+use ac_types::{Many, Ty};
 use std::alloc::Global;
-
-/// The most entries of an environment.
-const MOST_ENTRIES: usize = 65_535;
 
 /// What an accepted packet gives.
 #[derive(Drop)]
@@ -42,48 +34,25 @@ pub struct Admitted {
     pub value: PVal,
 }
 
-// The first import without a link.
-fn unresolved(places: &[Place]) -> Option<u32>
-    requires { length places.now < 2 ^ 32 }
-    ensures { result ≡ position (λ q. q.unresolved) (map place_of places.now) }
+// The entries and the value of a packet, where no cause applies.
+fn take_in(alloc: Global, env: &mut Env, p: &Packet, expected: &Ty) -> Result<Admitted, AdmitFault>
+    requires coherent { IsCoherent (environment_of env.old) }
+    requires packet { IsTrue (fits_packet (packet_of p.now)) }
+    ensures accepted { IfOk result (λ a. Accepts (environment_of env.old) (packet_of p.now)
+        (typ_of expected.now) (environment_of env.new) (value_of a.value)) }
+    ensures entries { IfOk result (λ a. a.entries ≡ map number_of (places sha256
+        (environment_of env.old) (packet_of p.now).defs).1) }
+    ensures refused { IfErr result (λ f. IsFor f (cause sha256 (environment_of env.old)
+        (packet_of p.now) (typ_of expected.now))) }
+    ensures kept { OnErr result (env.new ≡ env.old) }
 {
-    let at = places.iter().position(|place| place.unresolved)?;
-    Some(at as u32)
-}
-
-// The definitions by themselves and their places, where none of the first four causes applies.
-fn placing(alloc: Global, env: &Env, p: &Packet, own: &Env) -> Result<Placing, AdmitFault>
-    requires coherent { IsCoherent (environment_of env.now) }
-    requires fits { IsTrue (fits_packet (packet_of p.now)) }
-    requires own { environment_of own.now ≡ alone sha256 (packet_of p.now).defs }
-    ensures none { OnOk result (front_cause (environment_of env.now) (packet_of p.now).defs ≡ None) }
-    ensures placed { IfOk result (λ q. state_of (environment_of env.now) q ≡ places sha256
-        (environment_of env.now) (packet_of p.now).defs) }
-    ensures numbers { IfOk result (λ q. q.numbers ≡ map number_of (places sha256
-        (environment_of env.now) (packet_of p.now).defs).1) }
-    ensures refused { IfErr result (λ f. IsFor f (front_cause (environment_of env.now)
-        (packet_of p.now).defs)) }
-{
-    if let Some(i) = ill_formed(alloc, own)? {
-        return Err(AdmitFault::Definition { i });
-    }
-    if let Some((i, j)) = clash(alloc, env, own)? {
-        return Err(AdmitFault::Clash { i, j });
-    }
-    let placing = placed(alloc, env, p.defs.as_slice())?;
-    let count = env.entries.len() + placing.more.len();
-    if count > MOST_ENTRIES {
-        drop(placing);
-        return Err(AdmitFault::Full {
-            count: count as u32,
-        });
-    }
-    match unresolved(placing.places.as_slice()) {
-        None => Ok(placing),
-        Some(i) => {
-            drop(placing);
-            Err(AdmitFault::Unresolved { i })
-        }
+    let placing = judged(alloc, env, p, expected)?;
+    let (entries, more) = placing.into_parts();
+    let value = value_renumbered(alloc, &p.value, entries.as_slice())?;
+    match commit(alloc, env, more, expected, &value) {
+        Ok(()) => Ok(Admitted { entries, value }),
+        Err(CheckFault::IllTyped) => Err(AdmitFault::Value),
+        Err(CheckFault::Memory) => Err(AdmitFault::Memory),
     }
 }
 
@@ -116,21 +85,5 @@ pub fn admit(
     ensures widened { OnOk result ((F : Environment) → Widens (environment_of env.old) F →
         IsCoherent F → IsKept (cause sha256 F (packet_of p.now) (typ_of expected.now))) }
 {
-    let own = alone(alloc, p.defs.as_slice())?;
-    let placing = placing(alloc, env, p, &own)?;
-    if !ty_eq(&p.ty, expected) {
-        drop(placing);
-        return Err(AdmitFault::WrongType);
-    }
-    if !speaks_of_its_own(&own, p) {
-        drop(placing);
-        return Err(AdmitFault::Value);
-    }
-    let (entries, more) = placing.into_parts();
-    let value = value_renumbered(alloc, &p.value, entries.as_slice())?;
-    match commit(alloc, env, more, expected, &value) {
-        Ok(()) => Ok(Admitted { entries, value }),
-        Err(CheckFault::IllTyped) => Err(AdmitFault::Value),
-        Err(CheckFault::Memory) => Err(AdmitFault::Memory),
-    }
+    take_in(alloc, env, p, expected)
 }

@@ -1,6 +1,6 @@
 // The one change of the environment.
 
-ghost use Rattle.std.specs.Prelude.{◌≡◌, ◌++◌, ◌+◌, ◌<◌, ◌^◌, OnOk, OnErr, IfErr, length, map, take};
+ghost use Rattle.std.specs.Prelude.{◌≡◌, ◌++◌, ◌+◌, ◌<◌, ◌^◌, false, OnOk, OnErr, IfErr, length, map, take};
 ghost use Rattle.ac_types.specs.ReadTypes.{typ_of};
 ghost use Rattle.ac_terms.specs.Read.{environment_of, entry_of, value_of};
 ghost use Rattle.ac_rules.specs.Views.{Coloured};

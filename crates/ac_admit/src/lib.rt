@@ -4,6 +4,7 @@
 mod admitting;
 mod commit;
 mod fault;
+mod judging;
 mod spoken;
 
 pub use admitting::{Admitted, admit};

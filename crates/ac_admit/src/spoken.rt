@@ -1,14 +1,8 @@
 // Whether a packet's type and value speak of its definitions alone.
 
-ghost use Rattle.std.specs.Prelude.{◌≡◌, ◌&&◌, ◌++◌, map};
-ghost use Rattle.std.specs.List.{list_all};
-ghost use Rattle.ac_types.specs.Types.{mentions};
-ghost use Rattle.ac_terms.specs.Parts.{part_mentions, part_refs, part_homes, value_parts};
-ghost use Rattle.ac_terms.specs.Defs.{Entry};
+ghost use Rattle.std.specs.Prelude.{◌≡◌};
 ghost use Rattle.ac_terms.specs.Read.{environment_of, packet_of};
-ghost use Rattle.ac_rules.specs.Views.{is_known};
-ghost use Rattle.ac_rules.specs.Packets.{is_there, is_home_there};
-ghost use Rattle.ac_admit.specs.inner.Spoken.{passes_there, home_passes, defs_of};
+ghost use Rattle.ac_admit.specs.inner.Spoken.{passes_there, home_passes, defs_of, spoken_in};
 
 use ac_formed::are_known;
 use ac_parts::{Test, value_passes};
@@ -65,11 +59,10 @@ fn may_be_home(alone: &Env, k: u32) -> bool
 
 /// Whether a packet's type and value speak of its definitions alone, and no home is an import by
 /// version. `alone` are the definitions by themselves.
+#[tactic(auto, using(crate::proofs::SpokenLaws::spoken))]
 pub fn speaks_of_its_own(alone: &Env, p: &Packet) -> bool
-    ensures { let E = environment_of alone.now in let q = packet_of p.now in result ≡
-        (list_all (is_known E) (mentions q.ty ++ part_mentions (value_parts q.value)) &&
-        list_all (is_there (defs_of E)) (part_refs (value_parts q.value)) &&
-        list_all (is_home_there (defs_of E)) (part_homes (value_parts q.value))) }
+    ensures { result ≡ spoken_in (environment_of alone.now) (defs_of (environment_of alone.now))
+        (packet_of p.now) }
 {
     are_known(&p.ty, alone.entries.as_slice()) & value_passes(&p.value, &There { alone })
 }

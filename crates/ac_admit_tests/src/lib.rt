@@ -7,3 +7,5 @@ mod accepted;
 mod make;
 #[cfg(test)]
 mod refused;
+#[cfg(test)]
+mod spelled;

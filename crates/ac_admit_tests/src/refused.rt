@@ -1,8 +1,10 @@
-// Packets that are refused, which leave the environment as it was.
+// Packets that are refused, which leave the environment as it was. Of a clash there is no row: it
+// takes two texts of one digest.
 
-use crate::make::{OWN_M1, PAIR, fault, nothing, own, type_of};
+use crate::make::{NOTHING, OWN_M1, OWN_TWO, PAIR, fault, own, type_of};
+use crate::spelled::{imports, imports_by_name};
 use ac_admit::AdmitFault;
-use ac_types::Ty;
+use ac_types::{Name, Ty};
 use std::test::Fail;
 
 /// The packet of `true` as a bool, and as an int.
@@ -11,41 +13,71 @@ const TRUE: &[u8] = b"ACUP\x01\x00\x00\x02\x02\x01";
 const TRUE_AS_INT: &[u8] = b"ACUP\x01\x00\x00\x01\x02\x01";
 
 /// A packet that brings a module, with `true` as an int.
-const BRINGS_FALSELY: &[u8] = b"ACUP\x01\x00\x01\x01\x02M2\x01\x02\x00\x00\x00\x01\x01z\x01\x00\x00\x00\x01\x01z\x01\x01\x00\x00\x00\x00\x00\x00\x00\x03\x01\x02\x01";
+const BRINGS_FALSELY: &[u8] =
+    b"ACUP\x01\x00\x01\x01\x02M2\x01\x02\x00\x00\x00\x01\x01z\x01\x00\x00\x00\x01\x01z\x01\x01\x00\x00\x00\x00\x00\x00\x00\x03\x01\x02\x01";
 
 /// A module with a field of the wrong type, and one that refers to itself; each with unit.
-const ILL_TYPED: &[u8] = b"ACUP\x01\x00\x01\x01\x02M2\x01\x02\x00\x00\x00\x01\x01z\x01\x00\x00\x00\x01\x01z\x01\x02\x01\x04\x04";
+const ILL_TYPED: &[u8] =
+    b"ACUP\x01\x00\x01\x01\x02M2\x01\x02\x00\x00\x00\x01\x01z\x01\x00\x00\x00\x01\x01z\x01\x02\x01\x04\x04";
 
-const REFERS_ON: &[u8] = b"ACUP\x01\x00\x01\x01\x02M2\x01\x02\x00\x00\x00\x01\x01z\x01\x00\x00\x00\x01\x01z\x01\x0D\x00\x00\x01z\x04\x04";
+const REFERS_ON: &[u8] =
+    b"ACUP\x01\x00\x01\x01\x02M2\x01\x02\x00\x00\x00\x01\x01z\x01\x00\x00\x00\x01\x01z\x01\x0D\x00\x00\x01z\x04\x04";
 
 /// A module whose signature has two values of one name.
-const TWICE: &[u8] = b"ACUP\x01\x00\x01\x01\x02M2\x01\x02\x00\x00\x00\x02\x01z\x01\x01z\x01\x00\x00\x00\x01\x01z\x01\x01\x00\x00\x00\x00\x00\x00\x00\x03\x04\x04";
+const TWICE: &[u8] =
+    b"ACUP\x01\x00\x01\x01\x02M2\x01\x02\x00\x00\x00\x02\x01z\x01\x01z\x01\x00\x00\x00\x01\x01z\x01\x01\x00\x00\x00\x00\x00\x00\x00\x03\x04\x04";
+
+/// An import of `M1` by version, and behind it the module with a field of the wrong type.
+const ILL_TYPED_LATER: &[u8] =
+    b"ACUP\x01\x00\x02\x02\x02M1\x00\x00\x00\x01\x01y\x01\x01\x00\x01\x00\x00\x01\x02\x01\x02M2\x01\x02\x00\x00\x00\x01\x01z\x01\x00\x00\x00\x01\x01z\x01\x02\x01\x04\x04";
+
+/// A module, and behind it an import of `M1` by `Static_Link`, which gives nothing in a packet; with
+/// unit.
+const LINKS_TO_NOTHING: &[u8] =
+    b"ACUP\x01\x00\x02\x01\x02M2\x01\x02\x00\x00\x00\x01\x01z\x01\x00\x00\x00\x01\x01z\x01\x01\x00\x00\x00\x00\x00\x00\x00\x03\x02\x02M1\x00\x00\x00\x01\x01y\x01\x01\x00\x01\x00\x00\x01\x01\x04\x04";
 
 /// A function at home in a definition that isn't there, and one at home in an import by version.
 const NO_HOME: &[u8] = b"ACUP\x01\x00\x00\x09\x04\x04\x0A\x00\x01\x0E\x04\x04";
 
-const IMPORT_HOME: &[u8] = b"ACUP\x01\x00\x01\x02\x02M1\x00\x00\x00\x01\x01y\x01\x01\x00\x01\x00\x00\x01\x02\x09\x04\x04\x0A\x00\x01\x0E\x04\x04";
+const IMPORT_HOME: &[u8] =
+    b"ACUP\x01\x00\x01\x02\x02M1\x00\x00\x00\x01\x01y\x01\x01\x00\x01\x00\x00\x01\x02\x09\x04\x04\x0A\x00\x01\x0E\x04\x04";
 
 #[test]
 fn types_and_values(rt: HostRuntime) -> Result<(), Fail> {
     let alloc = rt.alloc();
-    let mut env = nothing(alloc);
-    assert_eq!(rt; fault(alloc, &mut env, TRUE, &Ty::Int), Some(AdmitFault::WrongType));
+    let mut env = own(alloc, NOTHING)?;
+    assert_eq!(rt;
+        fault(alloc, &mut env, TRUE, &Ty::Int),
+        Some(AdmitFault::WrongType)
+    );
+    assert_eq!(rt;
+        fault(alloc, &mut env, TRUE_AS_INT, &Ty::Bool),
+        Some(AdmitFault::WrongType)
+    );
+    assert_eq!(rt;
+        fault(alloc, &mut env, TRUE_AS_INT, &Ty::Int),
+        Some(AdmitFault::Value)
+    );
+    assert_eq!(rt;
+        fault(alloc, &mut env, BRINGS_FALSELY, &Ty::Int),
+        Some(AdmitFault::Value)
+    );
     assert_eq!(rt; fault(alloc, &mut env, TRUE, &Ty::Bool), None);
-    assert_eq!(rt; fault(alloc, &mut env, TRUE_AS_INT, &Ty::Int), Some(AdmitFault::Value));
-    assert_eq!(rt; fault(alloc, &mut env, BRINGS_FALSELY, &Ty::Int), Some(AdmitFault::Value));
     assert_eq!(rt; env.entries.len(), 0);
     Ok(())
 }
 
+// A definition that isn't well formed comes before an import without a link.
 #[test]
 fn definitions(rt: HostRuntime) -> Result<(), Fail> {
     let alloc = rt.alloc();
-    let mut env = nothing(alloc);
+    let mut env = own(alloc, NOTHING)?;
     let ill = Some(AdmitFault::Definition { i: 0 });
     assert_eq!(rt; fault(alloc, &mut env, ILL_TYPED, &Ty::Unit), ill);
     assert_eq!(rt; fault(alloc, &mut env, REFERS_ON, &Ty::Unit), ill);
     assert_eq!(rt; fault(alloc, &mut env, TWICE, &Ty::Unit), ill);
+    let later = Some(AdmitFault::Definition { i: 1 });
+    assert_eq!(rt; fault(alloc, &mut env, ILL_TYPED_LATER, &Ty::Unit), later);
     assert_eq!(rt; env.entries.len(), 0);
     Ok(())
 }
@@ -55,19 +87,60 @@ fn homes(rt: HostRuntime) -> Result<(), Fail> {
     let alloc = rt.alloc();
     let mut env = own(alloc, OWN_M1)?;
     let ty = type_of(alloc, NO_HOME)?;
-    assert_eq!(rt; fault(alloc, &mut env, NO_HOME, &ty), Some(AdmitFault::Value));
-    assert_eq!(rt; fault(alloc, &mut env, IMPORT_HOME, &ty), Some(AdmitFault::Value));
+    assert_eq!(rt;
+        fault(alloc, &mut env, NO_HOME, &ty),
+        Some(AdmitFault::Value)
+    );
+    assert_eq!(rt;
+        fault(alloc, &mut env, IMPORT_HOME, &ty),
+        Some(AdmitFault::Value)
+    );
     assert_eq!(rt; env.entries.len(), 1);
     Ok(())
 }
 
-// An import without a link comes before the type.
+// An import without a link comes before the type, and the type comes after a link.
 #[test]
-fn an_import_without_a_link(rt: HostRuntime) -> Result<(), Fail> {
+fn imports_without_a_link(rt: HostRuntime) -> Result<(), Fail> {
     let alloc = rt.alloc();
-    let mut env = nothing(alloc);
+    let mut env = own(alloc, NOTHING)?;
     let open = Some(AdmitFault::Unresolved { i: 0 });
     assert_eq!(rt; fault(alloc, &mut env, PAIR, &Ty::Int), open);
+    let named = imports_by_name(alloc, Name([7; 32]))?;
+    assert_eq!(rt; fault(alloc, &mut env, named.as_slice(), &Ty::Unit), open);
     assert_eq!(rt; env.entries.len(), 0);
+    let mut env = own(alloc, OWN_M1)?;
+    let later = Some(AdmitFault::Unresolved { i: 1 });
+    assert_eq!(rt; fault(alloc, &mut env, LINKS_TO_NOTHING, &Ty::Unit), later);
+    assert_eq!(rt;
+        fault(alloc, &mut env, PAIR, &Ty::Int),
+        Some(AdmitFault::WrongType)
+    );
+    assert_eq!(rt; env.entries.len(), 1);
+    Ok(())
+}
+
+// An environment has 65,535 entries at most. Want of room comes before an import without a link.
+#[test]
+fn more_entries_than_there_may_be(rt: HostRuntime) -> Result<(), Fail> {
+    let alloc = rt.alloc();
+    let mut env = own(alloc, OWN_M1)?;
+    let fit = imports(alloc, 65_534)?;
+    let open = Some(AdmitFault::Unresolved { i: 0 });
+    assert_eq!(rt; fault(alloc, &mut env, fit.as_slice(), &Ty::Unit), open);
+    let one_too_many = imports(alloc, 65_535)?;
+    let full = Some(AdmitFault::Full { count: 65_536 });
+    assert_eq!(rt;
+        fault(alloc, &mut env, one_too_many.as_slice(), &Ty::Unit),
+        full
+    );
+    assert_eq!(rt; env.entries.len(), 1);
+    let mut env = own(alloc, OWN_TWO)?;
+    let fuller = Some(AdmitFault::Full { count: 65_537 });
+    assert_eq!(rt;
+        fault(alloc, &mut env, one_too_many.as_slice(), &Ty::Int),
+        fuller
+    );
+    assert_eq!(rt; env.entries.len(), 2);
     Ok(())
 }

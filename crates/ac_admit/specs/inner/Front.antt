@@ -1,9 +1,0 @@
--- The first four causes, which ask nothing of the type and the value.
-use Rattle.std.specs.Prelude.{List, [], ◌∷◌, Option}
-use Rattle.sha2.specs.Sha256.{sha256}
-use Rattle.ac_types.specs.First.{first_some}
-use Rattle.ac_terms.specs.Defs.{Environment, Def}
-use Rattle.ac_rules.specs.Packets.{Cause, ill_formed, clash, too_many, unresolved}
-
-abbrev pub front_cause : Environment → List Def → Option Cause
-front_cause E ds = first_some (ill_formed sha256 ds ∷ clash sha256 E ds ∷ too_many sha256 E ds ∷ unresolved sha256 E ds ∷ [])
