@@ -1,5 +1,5 @@
 -- Texts behind the entries in front of them, one after another.
-use Rattle.std.proofs.Common.{◌≡◌, ◌∙◌, ◌≤◌, ◌<◌, ◌+◌, sym, ap, subst, ℕ, suc, true, List, [], ◌∷◌, ◌++◌, length, take, drop, map, get_or, Some, None, arith, append_assoc}
+use Rattle.std.proofs.Common.{◌≡◌, ◌∙◌, ◌≤◌, ◌<◌, ◌+◌, sym, ap, subst, ℕ, suc, true, List, [], ◌∷◌, ◌++◌, length, take, drop, map, get_or, Some, arith, append_assoc}
 use Rattle.std.proofs.Math.Seq.{take-length}
 use Rattle.std.proofs.lemmas.List.{take-append-drop, take_more, take-map, length-take-le, map-append, length-map}
 use Rattle.sha2.specs.Sha256.{sha256}
