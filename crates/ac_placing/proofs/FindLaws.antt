@@ -1,7 +1,6 @@
 -- What a map of keys has, after each key that goes in where it isn't there yet.
 use Rattle.std.proofs.Common.{Ordering, ◌≡◌, refl, sym, ap, ap₂, ◌∙◌, ℕ, zero, suc, ◌+◌, ◌≤◌, ◌<◌, cond, add-one, get_or, Bool, true, false, List, [], ◌∷◌, ◌++◌, map, length, take, drop, Option, Some, None}
-use Rattle.std.proofs.Math.Seq.{take-suc, take-length}
-use Rattle.std.proofs.lemmas.List.{map-append, length-map, drop_more}
+use Rattle.std.proofs.lemmas.List.{map-append, length-map, drop_more, take_more, length-take}
 use native.Mathlib.Omega.{arith}
 use Rattle.ac_terms.specs.declared.def.Entry as code
 use Rattle.ac_terms.specs.Read.{entry_of}
@@ -61,23 +60,12 @@ keys_next E e n many old new h key is u k =
 
 pub ruleset noted = (noted_new, noted_old)
 
--- one more element
-pub take_next : {A : Type 0} (i : ℕ) (xs : List A) (x : A) → i < length xs → x ≡ get_or xs i x → take (i + 1) xs ≡ take i xs ++ x ∷ []
-take_next i xs x h e = rw (add-one, take-suc xs i x) (ap (λ y. take i xs ++ y ∷ []) (sym e))
-
+-- one more entry of the code
 pub entries_next : (i : ℕ) (xs : List code.Entry) (x : code.Entry) → i < length xs → x ≡ get_or xs i x → map entry_of (take (i + 1) xs) ≡ map entry_of (take i xs) ++ entry_of x ∷ []
-entries_next i xs x h e = ap (map entry_of) (take_next i xs x h e) ∙ map-append entry_of (take i xs) (x ∷ [])
+entries_next i xs x h e = ap (map entry_of) (take_more xs i x h ∙ ap (λ y. take i xs ++ y ∷ []) (sym e)) ∙ map-append entry_of (take i xs) (x ∷ [])
 
 pub entries_taken : (i : ℕ) (xs : List code.Entry) → i < length xs → length (map entry_of (take i xs)) ≡ i
-entries_taken i xs h = length-map (take i xs) entry_of ∙ taken xs i (omega (arith, h))
-  where
-    taken : {A : Type 0} (ys : List A) (j : ℕ) → j ≤ length ys → length (take j ys) ≡ j
-    taken ys zero l = refl
-    taken [] (suc j) l = absurd (omega (arith, l))
-    taken (y ∷ ys) (suc j) l = ap suc (taken ys j (omega (arith, l)))
-
-pub entries_all : (i : ℕ) (xs : List code.Entry) → i ≡ length xs → map entry_of (take i xs) ≡ map entry_of xs
-entries_all i xs e = ap (map entry_of) (ap (λ n. take n xs) e ∙ take-length xs)
+entries_taken i xs h = let n = length-take i xs in length-map (take i xs) entry_of ∙ omega (arith, h, n)
 
 -- the definitions that are left
 pub left_next : {A : Type 0} (i : ℕ) (xs : List A) (x : A) → i < length xs → x ≡ get_or xs i x → drop i xs ≡ x ∷ drop (i + 1) xs

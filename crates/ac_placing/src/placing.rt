@@ -1,6 +1,6 @@
 // The entries that the definitions of a packet take.
 
-ghost use Rattle.std.specs.Prelude.{◌≡◌, ◌<◌, ◌+◌, ◌^◌, ◌++◌, ◌∷◌, [], true, length, map, unwrap_or, IfOk, OnOk, IsTrue};
+ghost use Rattle.std.specs.Prelude.{◌≡◌, ◌<◌, ◌≤◌, ◌+◌, ◌^◌, ◌++◌, ◌∷◌, [], true, length, map, unwrap_or, IfOk, OnOk, IsTrue};
 ghost use Rattle.std.specs.List.{list_all};
 ghost use Rattle.sha2.specs.Sha256.{sha256};
 ghost use Rattle.ac_terms.specs.Bounds.{fits_def};
@@ -264,6 +264,7 @@ pub fn placed(alloc: Global, env: &Env, defs: &[PDef]) -> Result<Placing, Memory
         (environment_of env.now) (map pdef_of defs.now)) }
     ensures numbers { IfOk result (λ p. p.numbers ≡ map number_of (places sha256
         (environment_of env.now) (map pdef_of defs.now)).1) }
+    ensures few { IfOk result (λ p. length p.more ≤ length defs.now) }
 {
     let mut p = at_first(alloc, env)?;
     for def in defs {

@@ -1,8 +1,9 @@
-use Rattle.std.proofs.Common.{◌≡◌, ◌∙◌, sym, ap, ℕ, length, map, take, arith}
+use Rattle.std.proofs.Common.{◌∙◌, sym, ap, ℕ, ◌≤◌, length, map, take, arith}
+use Rattle.std.proofs.lemmas.List.{take_all}
 use Rattle.ac_terms.specs.Read.{entry_of}
 use Rattle.ac_placing.specs.inner.Keys.{keyed}
 use Rattle.ac_placing.specs.inner.Maps.{key_found}
-use Rattle.ac_placing.proofs.FindLaws.{none_keyed, keys_next, entries_next, entries_taken, entries_all}
+use Rattle.ac_placing.proofs.FindLaws.{none_keyed, keys_next, entries_next, entries_taken}
 use Rattle.ac_placing.proofs.finding.keys_of.Goals as goal
 
 pub loop-i-init : goal.loop-i-init
@@ -19,5 +20,5 @@ loop-i-preserved c =
 pub returns : goal.returns
 returns c =
     let es = c.args.entries.now in
-    let all : c.loop-i.i ≡ length es = omega arith in
-    λ k. c.loop-i.invariant k ∙ ap (λ Y. keyed Y k.items) (entries_all c.loop-i.i es all)
+    let all : length es ≤ c.loop-i.i = omega arith in
+    λ k. c.loop-i.invariant k ∙ ap (λ xs. keyed (map entry_of xs) k.items) (take_all c.loop-i.i es all)

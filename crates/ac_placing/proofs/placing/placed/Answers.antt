@@ -1,4 +1,4 @@
-use Rattle.std.proofs.Common.{◌≡◌, ◌∙◌, ◌+◌, sym, ap, ℕ, length, map, drop, true, ◌∷◌, List}
+use Rattle.std.proofs.Common.{◌≡◌, ◌∙◌, ◌+◌, sym, ap, ℕ, length, map, drop, true, ◌∷◌, List, arith}
 use Rattle.std.specs.List.{list_all}
 use Rattle.std.proofs.lemmas.List.{drop_all}
 use Rattle.sha2.specs.Sha256.{sha256}
@@ -61,3 +61,9 @@ returns-clause-numbers c =
     let ds = c.args.defs.now in
     numbers_of E c.loop-def.p (places sha256 E (map pdef_of ds)) c.loop-def.invariant.sound
     (ap (λ xs. place_all sha256 E (state_of E c.loop-def.p) (map pdef_of xs)) (sym (drop_all c.loop-def.def-index ds c.loop-def-test.false)) ∙ c.loop-def.invariant.left)
+
+pub returns-clause-few : goal.returns-clause-few
+returns-clause-few c =
+    let few = c.loop-def.invariant.sound.few in
+    let many : length c.loop-def.p.places ≡ c.loop-def.def-index = c.loop-def.invariant.many in
+    omega (arith, few, many)
