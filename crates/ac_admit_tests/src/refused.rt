@@ -122,25 +122,24 @@ fn imports_without_a_link(rt: HostRuntime) -> Result<(), Fail> {
 
 // An environment has 65,535 entries at most. Want of room comes before an import without a link.
 #[test]
-fn more_entries_than_there_may_be(rt: HostRuntime) -> Result<(), Fail> {
+fn one_entry_too_many(rt: HostRuntime) -> Result<(), Fail> {
     let alloc = rt.alloc();
     let mut env = own(alloc, OWN_M1)?;
-    let fit = imports(alloc, 65_534)?;
-    let open = Some(AdmitFault::Unresolved { i: 0 });
-    assert_eq!(rt; fault(alloc, &mut env, fit.as_slice(), &Ty::Unit), open);
-    let one_too_many = imports(alloc, 65_535)?;
+    let packet = imports(alloc, 65_535)?;
     let full = Some(AdmitFault::Full { count: 65_536 });
-    assert_eq!(rt;
-        fault(alloc, &mut env, one_too_many.as_slice(), &Ty::Unit),
-        full
-    );
+    assert_eq!(rt; fault(alloc, &mut env, packet.as_slice(), &Ty::Unit), full);
     assert_eq!(rt; env.entries.len(), 1);
+    Ok(())
+}
+
+// It comes before the type too.
+#[test]
+fn two_entries_too_many(rt: HostRuntime) -> Result<(), Fail> {
+    let alloc = rt.alloc();
     let mut env = own(alloc, OWN_TWO)?;
-    let fuller = Some(AdmitFault::Full { count: 65_537 });
-    assert_eq!(rt;
-        fault(alloc, &mut env, one_too_many.as_slice(), &Ty::Int),
-        fuller
-    );
+    let packet = imports(alloc, 65_535)?;
+    let full = Some(AdmitFault::Full { count: 65_537 });
+    assert_eq!(rt; fault(alloc, &mut env, packet.as_slice(), &Ty::Int), full);
     assert_eq!(rt; env.entries.len(), 2);
     Ok(())
 }
