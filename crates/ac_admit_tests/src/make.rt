@@ -20,9 +20,6 @@ pub const NOTHING: &[u8] = b"()";
 pub const OWN_M1: &[u8] =
     b"module M1 : sig val y : int end version 2 = struct val y : int = 7 end ()";
 
-/// A program with two modules.
-pub const OWN_TWO: &[u8] = b"module M1 : sig end = struct end module M2 : sig end = struct end ()";
-
 /// The packet of a function of `M1`, imported, and of `M2`.
 pub const PAIR: &[u8] =
     b"ACUP\x01\x00\x02\x02\x02M1\x00\x00\x00\x01\x01y\x01\x01\x00\x01\x00\x00\x01\x02\x01\x02M2\x01\x02\x00\x00\x00\x01\x01z\x01\x00\x00\x00\x01\x01z\x01\x01\x00\x00\x00\x00\x00\x00\x00\x03\x09\x04\x06\x02\x01\x01\x0A\x00\x00\x0E\x04\x06\x02\x0D\x00\x00\x01y\x0D\x00\x01\x01z";

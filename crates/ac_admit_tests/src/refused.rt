@@ -1,8 +1,8 @@
 // Packets that are refused, which leave the environment as it was. Of a clash there is no row: it
 // takes two texts of one digest.
 
-use crate::make::{NOTHING, OWN_M1, OWN_TWO, PAIR, fault, own, type_of};
-use crate::spelled::{imports, imports_by_name};
+use crate::make::{NOTHING, OWN_M1, PAIR, fault, own, type_of};
+use crate::spelled::imports_by_name;
 use ac_admit::AdmitFault;
 use ac_types::{Name, Ty};
 use std::test::Fail;
@@ -117,30 +117,5 @@ fn imports_without_a_link(rt: HostRuntime) -> Result<(), Fail> {
         Some(AdmitFault::WrongType)
     );
     assert_eq!(rt; env.entries.len(), 1);
-    Ok(())
-}
-
-// An environment has 65,535 entries at most. Want of room comes before an import without a link.
-#[test]
-fn more_entries_than_there_may_be(rt: HostRuntime) -> Result<(), Fail> {
-    let alloc = rt.alloc();
-    let mut env = own(alloc, OWN_M1)?;
-    let fit = imports(alloc, 65_534)?;
-    let open = Some(AdmitFault::Unresolved { i: 0 });
-    assert_eq!(rt; fault(alloc, &mut env, fit.as_slice(), &Ty::Unit), open);
-    let one_too_many = imports(alloc, 65_535)?;
-    let full = Some(AdmitFault::Full { count: 65_536 });
-    assert_eq!(rt;
-        fault(alloc, &mut env, one_too_many.as_slice(), &Ty::Unit),
-        full
-    );
-    assert_eq!(rt; env.entries.len(), 1);
-    let mut env = own(alloc, OWN_TWO)?;
-    let fuller = Some(AdmitFault::Full { count: 65_537 });
-    assert_eq!(rt;
-        fault(alloc, &mut env, one_too_many.as_slice(), &Ty::Int),
-        fuller
-    );
-    assert_eq!(rt; env.entries.len(), 2);
     Ok(())
 }

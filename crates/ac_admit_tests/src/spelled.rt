@@ -5,18 +5,6 @@ use ac_terms::Env;
 use ac_types::{Memory, Name, Text};
 use std::alloc::Global;
 
-/// The packet of unit with so many imports by `Static_Link`, which gives nothing in a packet.
-pub fn imports(alloc: Global, many: u16) -> Result<Text, Memory> {
-    let mut out = Out::new(alloc);
-    out.put_bytes(b"ACUP\x01")?;
-    out.put_u16(many)?;
-    for _ in 0..many {
-        out.put_bytes(b"\x02\x01M\x00\x00\x00\x00\x01\x00\x01\x00\x00\x01\x01")?;
-    }
-    out.put_bytes(b"\x04\x04")?;
-    Ok(out.into_text())
-}
-
 /// The packet of unit with an import of `M1` by exact name.
 pub fn imports_by_name(alloc: Global, name: Name) -> Result<Text, Memory> {
     let mut out = Out::new(alloc);
