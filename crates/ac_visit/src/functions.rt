@@ -49,7 +49,7 @@ pub fn is_function(t: &Term) -> bool
 }
 
 /// Whether a term is a lambda, or a recursive one where that is wanted.
-#[tactic(auto, using(crate::proofs::FormLaws::form_laws))]
+#[tactic(auto, using(crate::proofs::FunctionLaws::form_laws))]
 pub fn is_wanted(t: &Term, recursive: bool) -> bool
     ensures { result ≡ is_wanted (expr_of t.now) recursive }
 {

@@ -110,13 +110,14 @@ fn packed_list<'a>(walk: &mut Walk<'a>, items: &'a [PVal],
         (packed_at walk.old.site (KList (pvalues (map value_of items.now))) (typ_of ty.now)) walk.old walk.new }
 {
     let site = walk.site;
-    if items.is_empty() {
+    let count = items.len();
+    if count == 0 {
         return walk.nil(d);
     }
     match list_item(head(site.env, ty)) {
-        None => walk.lost(d, items.len()),
+        None => walk.lost(d, count),
         Some(item) => {
-            walk.many(d, 0x07, items.len(), Piece::PackedItems(items, item, d))
+            walk.many(d, 0x07, count, Piece::PackedItems(items, item, d))
         }
     }
 }

@@ -14,7 +14,7 @@ use ac_walk::{later, newest_type};
 use ac_walk::{Around, Site};
 use ac_check::travels_with;
 use ac_terms::{Env, Home, Term};
-use ac_types::{Many, Memory, Ty};
+use ac_types::{Box, Many, Memory, Ty};
 use ac_values::read::opened;
 use ac_views::{Site as Place, seen_type};
 use std::alloc::Global;
@@ -90,7 +90,7 @@ fn too_large(alloc: Global) -> Result<Ty, Memory>
     ensures { IfOk result (λ t. is_small (typ_of t) ≡ false) }
 {
     let mut ty = Ty::Unit;
-    for _ in 0..101 {
+    for _ in 0u32..101 {
         ty = Ty::Opt(Box::new(alloc, ty)?);
     }
     Ok(ty)

@@ -39,7 +39,7 @@ pub struct Written {
 
 /// The bytes of a type and of a value at it, where each definition is written by its number, and the
 /// definitions that they speak of. Stops at the first part that fails.
-#[tactic(auto, using(crate::proofs::WrittenLaws::written_laws))]
+#[tactic(auto, using(ac_types::proofs::SizeLaws::type_laws))]
 pub fn write(
     alloc: Global,
     env: &Env,
@@ -74,10 +74,10 @@ pub fn write(
 }
 
 // Visits a type and a value at it.
-#[tactic(auto, using(crate::proofs::WrittenLaws::begun_laws))]
+#[tactic(auto, using(crate::proofs::WrittenLaws::written_laws))]
 fn walked<'a>(alloc: Global, site: Site<'a>, value: Value, ty: &'a Ty) -> Result<Written, Stop>
-    requires entries { length site.entry.env.now.entries < 2 ^ 32 }
-    requires int { typ_of site.entry.int.now ≡ TInt }
+    requires entries { length site.env.now.entries < 2 ^ 32 }
+    requires int { typ_of site.int.now ≡ TInt }
     ensures { MatchResult result
         (λ w. (after [] (type_heads (typ_of ty.now) ++ value_written site.entry 1
         (held_at site.entry value (typ_of ty.now))) ≡ On w.text.0) × (w.roots ≡
