@@ -1,6 +1,6 @@
 use Rattle.std.proofs.Common.{◌≡◌, ◌∙◌, sym, ap, true, List, map, option_map, Some}
 use Rattle.std.specs.Prelude.{slice_get}
-use Rattle.std.proofs.lemmas.Grind.{common_steps}
+use Rattle.std.proofs.lemmas.Option.{slice_get-map}
 use Rattle.ac_types.specs.Types.{Typ}
 use Rattle.ac_types.specs.ReadTypes.{typ_of}
 use Rattle.ac_types.specs.declared.ty.Ty.{Ty}
@@ -29,7 +29,7 @@ returns c =
     let l = expr_of c.in-Some-lambda.lambda in
     let m = stands_as s.store.now c.args.env.0 in
     let its = slice_get (map block_of s.table.now.blocks) c.args.block.0 in
-    let found : its ≡ Some (block_of b) = grind (common_steps, c.in-Some.ensures) in
+    let found : its ≡ Some (block_of b) = slice_get-map block_of s.table.now.blocks c.args.block.0 ∙ ap (option_map block_of) (sym c.in-Some.ensures) in
     let q : is_wanted l c.args.recursive ≡ true = cc in
     visits_value c.function.result c.args.d _ _ c.args.walk.now c.function.new.walk
     (ap (λ (G : List Ty). travelling E h (bare_packed_term E (inst 0 (variables (code_at s) m (map typ_of G)) (bare h l))) T) c.as_slice.ensures

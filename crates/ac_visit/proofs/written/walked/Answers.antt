@@ -1,4 +1,5 @@
 use Rattle.std.proofs.Common.{◌∙◌, ◌<◌, ◌^◌, ◌≡◌, length, subst, sym}
+use Rattle.std.proofs.lemmas.Result.{err_from_is_err_and}
 use Rattle.ac_types.specs.ReadTypes.{typ_of}
 use Rattle.ac_types.specs.Types.{TInt}
 use Rattle.ac_terms.specs.Parts.{value_parts}
@@ -10,7 +11,8 @@ use Rattle.ac_visit.proofs.written.walked.Goals as goal
 
 pub returns-in_err-both : goal.returns-in_err-both
 returns-in_err-both c =
-    rw c.from_residual.ensures
+    let p = err_from_is_err_and c.from_residual.result c.from_residual.ensures.1 in
+    rw (p.1, p.2)
     (both_not_begun c.in_err-both.field-0.0 c.args.site (piece.Type c.args.ty) (piece.Held c.args.value c.args.ty 0) c.new-walk.result c.both.new.self c.new-walk.ensures.site c.new-walk.ensures.text c.in_err-both.ensures)
 
 pub run-requires-clause-entries : goal.run-requires-clause-entries
@@ -24,11 +26,12 @@ run-requires-clause-int c =
 pub returns-in_err-run : goal.returns-in_err-run
 returns-in_err-run c =
     let b = both_begun tt c.args.site (piece.Type c.args.ty) (piece.Held c.args.value c.args.ty 0) c.new-walk.result c.both.new.self c.new-walk.ensures.site c.new-walk.ensures.text c.new-walk.ensures.roots c.new-walk.ensures.pieces c.in_ok-both.ensures in
-    rw c.from_residual-in_err-run.ensures (λ f q. stopped _ _ f _ b (c.in_err-run.ensures f q))
+    let p = err_from_is_err_and c.from_residual-in_err-run.result c.from_residual-in_err-run.ensures.1 in
+    rw (p.1, p.2) (λ f q. stopped _ _ f c.both.new.self b (c.in_err-run.ensures f q))
 
 pub returns : goal.returns
 returns c =
     let s = c.args.site in
     let T = typ_of c.args.ty.now in
     let b = both_begun tt s (piece.Type c.args.ty) (piece.Held c.args.value c.args.ty 0) c.new-walk.result c.both.new.self c.new-walk.ensures.site c.new-walk.ensures.text c.new-walk.ensures.roots c.new-walk.ensures.pieces c.in_ok-both.ensures in
-    ended _ _ _ _ _ _ b (type_first (entries_at s) T (value_parts (held_at s c.args.value T))) c.in_ok-run.ensures
+    ended _ _ _ _ _ c.both.new.self b (type_first (entries_at s) T (value_parts (held_at s c.args.value T))) c.in_ok-run.ensures
