@@ -1,12 +1,12 @@
 // Functions of packed values, and their homes.
 
-ghost use Rattle.std.specs.Prelude.{◌≡◌, ◌<◌, ◌^◌, IfOk, length, option_map};
+ghost use Rattle.std.specs.Prelude.{◌≡◌, ◌<◌, ◌^◌, IfOk, length, map, option_map};
 ghost use Rattle.ac_types.specs.ReadTypes.{typ_of};
 ghost use Rattle.ac_terms.specs.PrimitiveTypes.{is_exception};
 ghost use Rattle.ac_terms.specs.Read.{environment_of, home_of, expr_of, bytes_of};
 ghost use Rattle.ac_rules.specs.Plain.{may_travel};
 ghost use Rattle.ac_rules.specs.Typing.{fields_of, is_function_home};
-ghost use Rattle.ac_check.specs.inner.Captured.{declared_agrees};
+ghost use Rattle.ac_check.specs.inner.Captured.{declared_agrees, travels_with};
 
 use ac_terms::{Def, Env, Exn, Home, Term};
 use ac_types::{Many, Memory, Ty};
@@ -60,18 +60,19 @@ fn is_function_home(env: &Env, home: Home) -> bool
     }
 }
 
-/// Whether a function has in its home a type as that home sees it, each captured value counting as
-/// of the type beside it.
+/// Whether a function has in its home a type as that home sees it, where the variables around it have
+/// the types `vars`, the newest first, and each captured value counts as of the type beside it.
 fn is_declared_as<'a>(
     alloc: Global,
     env: &'a Env,
     home: Home,
+    vars: &'a Many<Ty>,
     l: &'a Term,
     ty: &'a Ty,
 ) -> Result<bool, Memory>
     requires { length env.now.entries < 2 ^ 32 }
     ensures { IfOk result (λ b. b ≡ declared_agrees (environment_of env.now) (home_of home)
-        (expr_of l.now) (typ_of ty.now)) }
+        (map typ_of vars.now) (expr_of l.now) (typ_of ty.now)) }
 {
     let site = Site {
         env,
@@ -79,8 +80,7 @@ fn is_declared_as<'a>(
         own: field_count(env, home),
         refs: env.entries.len(),
     };
-    let vars = Many::new(alloc);
-    let Some(found) = declared_type(alloc, &site, &vars, l)? else {
+    let Some(found) = declared_type(alloc, &site, vars, l)? else {
         return Ok(false);
     };
     let fits = is_seen_as(ty, &found, &site);
@@ -88,9 +88,32 @@ fn is_declared_as<'a>(
     Ok(fits)
 }
 
-/// Whether a function of a home may travel at a type: the home is the main program or a module, and
-/// the function has there the type as the home sees it, each captured value counting as of the type
-/// beside it.
+/// Whether a function of a home may travel at a type, where the variables around it have the types
+/// `vars`, the newest first: the home is the main program or a module, and the function has there
+/// the type as the home sees it, each captured value counting as of the type beside it.
+pub fn travels_with<'a>(
+    alloc: Global,
+    env: &'a Env,
+    home: Home,
+    vars: &'a Many<Ty>,
+    l: &'a Term,
+    ty: &'a Ty,
+) -> Result<bool, Memory>
+    requires { length env.now.entries < 2 ^ 32 }
+    ensures { IfOk result (λ b. b ≡ travels_with (environment_of env.now) (home_of home)
+        (map typ_of vars.now) (expr_of l.now) (typ_of ty.now)) }
+{
+    let at = head(env, ty);
+    if ends(at).is_none() {
+        return Ok(false);
+    }
+    if !is_function_home(env, home) {
+        return Ok(false);
+    }
+    is_declared_as(alloc, env, home, vars, l, at)
+}
+
+/// The same where there are no variables around the function.
 pub fn may_travel<'a>(
     alloc: Global,
     env: &'a Env,
@@ -102,12 +125,8 @@ pub fn may_travel<'a>(
     ensures { IfOk result (λ b. b ≡ may_travel (environment_of env.now) (home_of home)
         (expr_of l.now) (typ_of ty.now)) }
 {
-    let at = head(env, ty);
-    if ends(at).is_none() {
-        return Ok(false);
-    }
-    if !is_function_home(env, home) {
-        return Ok(false);
-    }
-    is_declared_as(alloc, env, home, l, at)
+    let vars = Many::new(alloc);
+    let travels = travels_with(alloc, &*env, home, &vars, &*l, &*ty);
+    drop(vars);
+    travels
 }

@@ -9,4 +9,4 @@ mod holding;
 
 pub use checking::{check_value, type_of};
 pub use fault::CheckFault;
-pub use functions::may_travel;
+pub use functions::{may_travel, travels_with};

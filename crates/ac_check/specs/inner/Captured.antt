@@ -1,14 +1,18 @@
 -- Captured values, functions of packed values, and the terms of the code: no value of the reduction and no bracket stands in them.
-use Rattle.std.specs.Prelude.{Bool, true, false, ◌&&◌}
+use Rattle.std.specs.Prelude.{Bool, true, false, ◌&&◌, List}
 use Rattle.ac_types.specs.Types.{Typ, agree}
 use Rattle.ac_terms.specs.Terms.{Home, Expr, Int, Boolean, Str, Unit', Exn, ExnOf, Tuple, Nil, Empty, Present, Cons, Var, Own, Ref, Lam, Rec, App, Let, If, Seq, Match, Try, Raise, Prim, Marshal, Unmarshal, Val, Evaluated, Bracket, Exprs, no_exprs, expr, Arms, no_arms, arm}
 use Rattle.ac_terms.specs.Defs.{Environment}
-use Rattle.ac_rules.specs.Views.{Coloured}
-use Rattle.ac_rules.specs.Typing.{type_of, all_of, type_seen, holds}
+use Rattle.ac_rules.specs.Views.{Coloured, head}
+use Rattle.ac_rules.specs.Typing.{type_of, all_of, type_seen, holds, is_function, is_function_home}
 
--- whether a function has in a home a type as that home sees it, each captured value counting as of the type beside it
-abbrev pub declared_agrees : Environment → Home → Expr → Typ → Bool
-declared_agrees E h l T = agree (type_of Coloured true E (all_of E h) l) (type_seen Coloured true E h T)
+-- whether a function has in a home a type as that home sees it, where the variables around it are of these types, and each captured value counts as of the type beside it
+abbrev pub declared_agrees : Environment → Home → List Typ → Expr → Typ → Bool
+declared_agrees E h Vs l T = agree (type_of Coloured true E (record (all_of E h) { vars = Vs }) l) (type_seen Coloured true E h T)
+
+-- whether a function may travel at a type, where the variables around it are of these types
+abbrev pub travels_with : Environment → Home → List Typ → Expr → Typ → Bool
+travels_with E h Vs l T = is_function (head E T) && is_function_home E h && declared_agrees E h Vs l (head E T)
 
 -- whether each captured value of a term is of the type beside it
 module _ (E : Environment) where

@@ -1,0 +1,5 @@
+pub mod ListLaws
+pub mod ValueLaws
+pub mod FunctionLaws
+pub mod TravelLaws
+pub mod WrittenLaws
