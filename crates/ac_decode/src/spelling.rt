@@ -62,9 +62,9 @@ fn put_text(out: &mut Out, text: &Text) -> Result<(), Memory>
     out.put_bytes(bytes)
 }
 
-// A resolvespec.
+/// Puts a resolvespec.
 #[tactic(auto, using(ac_canon::proofs::Lists::lists))]
-fn put_resolves(out: &mut Out, places: &[Resolve]) -> Result<(), Memory>
+pub fn put_resolves(out: &mut Out, places: &[Resolve]) -> Result<(), Memory>
     ensures { OnOk result (out.new ≡ out.old ++
         listed byte resolve_bytes (map resolve_of places.now)) }
 {
