@@ -1,5 +1,5 @@
--- What marshalling comes to, case by case.
-use Rattle.std.proofs.Common.{◌≡◌, refl, sym, ap, ap₂, ◌∙◌, subst, ℕ, ◌+◌, ◌<◌, ◌≤◌, Bool, true, false, arith, List, [], ◌∷◌, ◌++◌, length, get_or, length-append, append_assoc, Option, Some, None, Result, Ok, Err}
+-- What a whole packet comes to, and what it needs.
+use Rattle.std.proofs.Common.{◌≡◌, refl, sym, ap, ap₂, ◌∙◌, subst, ℕ, ◌+◌, ◌<◌, ◌≤◌, Bool, true, false, arith, List, [], ◌∷◌, ◌++◌, length, get_or, length-append, append_assoc, Some, None, Ok, Err}
 use Rattle.std.specs.Prelude.{not, nat_lt}
 use Rattle.std.specs.List.{list_all}
 use Rattle.std.proofs.Math.Path.{fun_ext}
@@ -16,21 +16,18 @@ use Rattle.ac_terms.specs.Heads.{packed_heads}
 use Rattle.ac_terms.specs.Parts.{OfType, value_parts}
 use Rattle.ac_terms.specs.Renumbered.{value_renumbered}
 use Rattle.ac_terms.specs.Spelling.{two_written, type_bytes, value_bytes, packet_bytes}
-use Rattle.ac_rules.specs.Needed.{mark_at, place_in, packet_of_entries, packet_for, needed_by, roots_of}
-use Rattle.ac_rules.specs.Faults.{Fault, NoMark, Depth, Function, Size, Marshalled, NoString, AString, first_fault, whole_fault, whole, behind, cut_at, marshalled}
+use Rattle.ac_rules.specs.Needed.{mark_at, place_in, packet_of_entries, needed_by, roots_of}
+use Rattle.ac_rules.specs.Faults.{Depth, Function, Size, Marshalled, NoString, AString, first_fault, whole_fault, whole}
 use Rattle.ac_types.proofs.FirstLaws.{some_eq}
 use Rattle.ac_rules.proofs.PacketFits.{few_needed}
 use Rattle.ac_parts.specs.Numbers.{number_in}
 use Rattle.ac_walk.specs.Spoken.{spoken_by_all}
 use Rattle.ac_heads.specs.declared.stop.Stop.{Stop}
 use Rattle.ac_heads.specs.declared.stop.Stop.TheVariants as stop
-use Rattle.ac_heads.specs.Outcomes.{fault_in}
-use Rattle.ac_closure.specs.declared.fault.NeedFault.{NeedFault}
-use Rattle.ac_closure.specs.declared.fault.NeedFault.TheVariants as need
 use Rattle.ac_forms.specs.Forms.{AllBelow, forms, front_bytes, IsLong}
 use Rattle.ac_pack.specs.Packs.{Packed}
 use Rattle.ac_pack.specs.declared.packing.PackFault.{PackFault}
-use Rattle.ac_pack.specs.inner.Faults.{of_stop, of_need}
+use Rattle.ac_pack.specs.inner.Faults.{of_stop}
 use Rattle.ac_pack.specs.inner.Needs.{AreChosen}
 use Rattle.ac_pack.proofs.RootLaws.{needed_alike, needed_inside}
 
@@ -40,44 +37,9 @@ lt_is n m h = grind (arith, nat_tests)
 not_lt : (n m : ℕ) → m ≤ n → nat_lt n m ≡ false
 not_lt n m h = grind (arith, nat_tests)
 
-module _ (E : Environment) (mark : Bytes) (T : Typ) (v : PValue) where
-  pub no_mark : mark_at E mark ≡ None → marshalled E mark T v ≡ NoString NoMark
-  no_mark e = ap (cut_at E T v) e
-
-  -- a fault of the type and the value
-  fails : (m : ℕ) (f : Fault) → mark_at E mark ≡ Some m → first_fault 500 longest_packet 0 (packed_heads T v) ≡ Some f → marshalled E mark T v ≡ NoString f
-  fails m f e h = ap (cut_at E T v) e ∙ ap (behind E m T v) h
-
-  -- else the whole packet decides
-  pub goes_on : (m : ℕ) → mark_at E mark ≡ Some m → first_fault 500 longest_packet 0 (packed_heads T v) ≡ None → marshalled E mark T v ≡ whole (packet_for E m T v) (whole_fault (packet_for E m T v))
-  goes_on m e h = ap (cut_at E T v) e ∙ ap (behind E m T v) h
-
-  pub stopped : (m : ℕ) (s : Stop) (x : PackFault) → mark_at E mark ≡ Some m → ((f : Fault) → fault_in s ≡ Some f → first_fault 500 longest_packet 0 (packed_heads T v) ≡ Some f) → x ≡ of_stop s → Packed (marshalled E mark T v) (Err x)
-  stopped m s x e h q = subst (λ (y : PackFault). Packed (marshalled E mark T v) (Err y)) (sym q) (by s h)
-    where
-      by : (s' : Stop) → ((f : Fault) → fault_in s' ≡ Some f → first_fault 500 longest_packet 0 (packed_heads T v) ≡ Some f) → Packed (marshalled E mark T v) (Err (of_stop s'))
-      by stop.Depth g = fails m Depth e (g Depth refl)
-      by stop.Function g = fails m Function e (g Function refl)
-      by stop.Size g = fails m Size e (g Size refl)
-      by stop.Memory g = tt
-
-  pub not_needed : (n : NeedFault) (x : PackFault) → (n ≡ need.NoMark → mark_at E mark ≡ None) → x ≡ of_need n → Packed (marshalled E mark T v) (Err x)
-  not_needed n x h q = subst (λ (y : PackFault). Packed (marshalled E mark T v) (Err y)) (sym q) (by n h)
-    where
-      by : (n' : NeedFault) → (n' ≡ need.NoMark → mark_at E mark ≡ None) → Packed (marshalled E mark T v) (Err (of_need n'))
-      by need.NoMark g = no_mark (g refl)
-      by need.Memory g = tt
-
 -- what is too long in front is too long in whole
-pub long_more : (e : Stop) (xs ys zs : Bytes) → IsLong e xs → xs ++ ys ≡ zs → IsLong e zs
+long_more : (e : Stop) (xs ys zs : Bytes) → IsLong e xs → xs ++ ys ≡ zs → IsLong e zs
 long_more e xs ys zs h p = λ f q. let r = h f q in (r.0, let lt = r.1 in omega (arith, lt, length-append xs ys, ap length p))
-
-none_some : (o : Option Fault) (f : Fault) → o ≡ None → o ≡ Some f → ⊥
-none_some o f p q = cc
-
--- a walk of which no part fails stops at no fault
-pub not_again : (o : Option Fault) (s : Stop) (bs : Bytes) → o ≡ None → ((f : Fault) → fault_in s ≡ Some f → o ≡ Some f) → IsLong s bs
-not_again o s bs e h = λ f q. absurd (none_some o f e (h f q))
 
 module _ (p : Packet) where
   abbrev outcome : Bool → Bool → Marshalled
@@ -130,12 +92,6 @@ module _ (E : Environment) (mark : ℕ) (T : Typ) (v : PValue) (is js : List ℕ
 
   pub inside : AllBelow (length E) js
   inside = subst (λ (ks : List ℕ). AllBelow (length E) ks) (sym (same ∙ chosen.needed)) (needed_inside E mark (roots_of E T v))
-
-  -- the whole packet decides
-  pub decides : (name : Bytes) (r : Result Text PackFault) → mark_at E name ≡ Some mark → Packed (whole (packet_of_entries E mark js T v) (whole_fault (packet_of_entries E mark js T v))) r → Packed (marshalled E name T v) r
-  decides name r marked h =
-      let at : List ℕ → Marshalled = λ ks. whole (packet_of_entries E mark ks T v) (whole_fault (packet_of_entries E mark ks T v)) in
-      subst (λ (m : Marshalled). Packed m r) (ap at (same ∙ chosen.needed) ∙ sym (goes_on E name T v mark marked chosen.sound)) h
 
 -- what a walk without numbers finds
 pub are_chosen : (E : Environment) (name : Bytes) (mark : ℕ) (T : Typ) (v : PValue) (is roots : List ℕ) → mark_at E name ≡ Some mark → first_fault 500 longest_packet 0 (packed_heads T v) ≡ None → roots ≡ spoken_by_all E (OfType T ∷ value_parts v) →

@@ -1,11 +1,11 @@
 -- The roots that a walk finds are those of the value, and what they need stands below the end.
-use Rattle.std.proofs.Common.{◌≡◌, refl, sym, ap, ap₂, ◌∙◌, subst, ℕ, zero, suc, ◌<◌, ◌≤◌, Bool, true, false, arith, List, [], ◌∷◌, ◌++◌, length, Option, Some, None}
-use Rattle.std.specs.Prelude.{◌||◌, nat_eq, filter_map}
+use Rattle.std.proofs.Common.{◌≡◌, refl, sym, ap, ◌∙◌, ℕ, zero, suc, ◌<◌, ◌≤◌, Bool, true, false, arith, List, [], ◌∷◌, ◌++◌, length}
+use Rattle.std.specs.Prelude.{◌||◌, nat_eq}
 use Rattle.std.specs.List.{list_any}
 use Rattle.std.proofs.lemmas.List.Folds.{list_any-append}
 use Rattle.std.proofs.lemmas.List.Elements.{filter_map-append}
 use Rattle.ac_types.specs.Types.{Bytes, Typ, mentions}
-use Rattle.ac_terms.specs.Terms.{Home, Main, In, PValue}
+use Rattle.ac_terms.specs.Terms.{Main, In, PValue}
 use Rattle.ac_terms.specs.Defs.{Environment, find_name}
 use Rattle.ac_terms.specs.Parts.{Portion, OfType, OfRef, OfHome, Captured, part_homes, part_refs, part_mentions, value_parts}
 use Rattle.ac_rules.specs.Needed.{spoken_of, uses, roots_of, needed_below, needed_by}
