@@ -2,5 +2,6 @@
 #![tactic(auto)]
 
 mod packing;
+mod packet;
 
 pub use packing::{PackFault, pack};

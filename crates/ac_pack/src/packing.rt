@@ -1,19 +1,33 @@
-// Packing, until it is built.
+// Packing.
 
+ghost use Rattle.std.specs.Prelude.{◌≡◌, ◌≤◌, Some, None, Err, length, map, MatchResult};
+ghost use Rattle.ac_types.specs.Limits.{longest_packet};
 ghost use Rattle.ac_types.specs.ReadTypes.{typ_of};
-ghost use Rattle.ac_terms.specs.Read.{environment_of};
+ghost use Rattle.ac_terms.specs.Heads.{packed_heads};
+ghost use Rattle.ac_terms.specs.Read.{entry_of, environment_of};
+ghost use Rattle.ac_terms.specs.Terms.{PValue};
 ghost use Rattle.ac_code.specs.ReadCode.{code_of};
 ghost use Rattle.ac_values.specs.Values.{stands_as};
 ghost use Rattle.ac_rules.specs.Coherent.{IsCoherent};
-ghost use Rattle.ac_rules.specs.Faults.{marshalled};
+ghost use Rattle.ac_terms.specs.Defs.{Packet};
+ghost use Rattle.ac_rules.specs.Faults.{first_fault, whole, whole_fault, marshalled};
+ghost use Rattle.ac_rules.specs.Needed.{is_mark, mark_at, packet_of_entries};
 ghost use Rattle.ac_meaning.specs.BarePacking.{bare_packed};
 ghost use Rattle.ac_simulation.specs.Stands.{stands};
+ghost use Rattle.ac_forms.specs.Forms.{AllBelow};
 ghost use Rattle.ac_pack.specs.Packs.{Packed};
+ghost use Rattle.ac_pack.specs.inner.Faults.{of_stop, of_need};
+ghost use Rattle.ac_pack.specs.inner.Needs.{AreChosen};
 
+use crate::packet::bytes;
+use ac_closure::{NeedFault, needed};
 use ac_code::CodeTable;
-use ac_terms::Env;
-use ac_types::{Text, Ty};
+use ac_heads::Stop;
+use ac_terms::{Def, Entry, Env};
+use ac_forms::forms_nest;
+use ac_types::{Many, Text, Ty};
 use ac_values::{Store, Value};
+use ac_visit::write;
 use std::alloc::Global;
 
 /// Why a value is not packed.
@@ -31,22 +45,151 @@ pub enum PackFault {
     Memory,
 }
 
+// The fault at which a walk stops.
+fn of_stop(stop: Stop) -> PackFault
+    ensures { result ≡ of_stop stop }
+{
+    match stop {
+        Stop::Depth => PackFault::Depth,
+        Stop::Function => PackFault::Function,
+        Stop::Size => PackFault::Size,
+        Stop::Memory => PackFault::Memory,
+    }
+}
+
+// The fault for which no entries are chosen.
+fn of_need(fault: NeedFault) -> PackFault
+    ensures { result ≡ of_need fault }
+{
+    match fault {
+        NeedFault::NoMark => PackFault::Mark,
+        NeedFault::Memory => PackFault::Memory,
+    }
+}
+
 /// The string of the value of this node at the type, with what it needs, as cut by the mark of this
 /// name; or the fault for which there is none.
 pub fn pack(
-    _alloc: Global,
-    _env: &Env,
-    _table: &CodeTable,
-    _store: &Store,
-    _mark: &Text,
-    _value: &Value,
-    _ty: &Ty,
+    alloc: Global,
+    env: &Env,
+    table: &CodeTable,
+    store: &Store,
+    mark: &Text,
+    value: &Value,
+    ty: &Ty,
 ) -> Result<Text, PackFault>
-    requires { IsCoherent (environment_of _env.now) }
-    ensures { Packed (marshalled (environment_of _env.now) _mark.now.0 (typ_of _ty.now)
-        (bare_packed (environment_of _env.now)
-        (stands (code_of _table.now) (stands_as _store.now _value.now.0)) (typ_of _ty.now)))
+    requires { IsCoherent (environment_of env.now) }
+    ensures { Packed (marshalled (environment_of env.now) mark.now.0 (typ_of ty.now)
+        (bare_packed (environment_of env.now)
+        (stands (code_of table.now) (stands_as store.now value.now.0)) (typ_of ty.now)))
         result }
 {
-    Err(PackFault::Memory)
+    match mark_at(env.entries.as_slice(), mark) {
+        None => Err(PackFault::Mark),
+        Some(at) => marked(alloc, env, table, store, mark, at, *value, ty),
+    }
+}
+
+// The entry of the mark of that name.
+fn mark_at(entries: &[Entry], mark: &Text) -> Option<usize>
+    ensures { result ≡ mark_at (map entry_of entries.now) mark.now.0 }
+{
+    entries.iter().position(|entry| is_mark(mark, entry))
+}
+
+// Whether an entry is the mark of that name.
+fn is_mark(mark: &Text, entry: &Entry) -> bool
+    ensures { result ≡ is_mark mark.now.0 (entry_of entry.now) }
+{
+    match &entry.def {
+        Def::Module(_) => false,
+        Def::Import(_) => false,
+        Def::Mark(name) => name.as_slice() == mark.as_slice(),
+    }
+}
+
+// The string, where the mark is entry `at`.
+fn marked(
+    alloc: Global,
+    env: &Env,
+    table: &CodeTable,
+    store: &Store,
+    mark: &Text,
+    at: usize,
+    value: Value,
+    ty: &Ty,
+) -> Result<Text, PackFault>
+    requires few { length env.now.entries ≤ 65535 }
+    requires marked { mark_at (environment_of env.now) mark.now.0 ≡ Some at }
+    ensures { Packed (marshalled (environment_of env.now) mark.now.0 (typ_of ty.now)
+        (bare_packed (environment_of env.now)
+        (stands (code_of table.now) (stands_as store.now value.0)) (typ_of ty.now)))
+        result }
+{
+    match chosen(alloc, env, table, store, mark, at, value, ty) {
+        Err(fault) => Err(fault),
+        Ok(chosen) => whole(alloc, env, table, store, at, chosen.as_slice(), value, ty),
+    }
+}
+
+// The entries that a type and a value at it need, where no part of them fails. Their numbers aren't
+// known yet: the parts are written without them.
+fn chosen(
+    alloc: Global,
+    env: &Env,
+    table: &CodeTable,
+    store: &Store,
+    mark: &Text,
+    at: usize,
+    value: Value,
+    ty: &Ty,
+) -> Result<Many<u32>, PackFault>
+    requires few { length env.now.entries ≤ 65535 }
+    requires marked { mark_at (environment_of env.now) mark.now.0 ≡ Some at }
+    ensures { let v : PValue = bare_packed (environment_of env.now)
+        (stands (code_of table.now) (stands_as store.now value.0)) (typ_of ty.now) in
+        MatchResult result
+        (λ is. AreChosen (environment_of env.now) at (typ_of ty.now) v is)
+        (λ e. Packed (marshalled (environment_of env.now) mark.now.0 (typ_of ty.now) v)
+        (Err e)) }
+{
+    match write(alloc, env, table, store, &[], value, ty) {
+        Err(stop) => Err(of_stop(stop)),
+        Ok(written) => match needed(alloc, env, mark, &written.roots) {
+            Err(fault) => Err(of_need(fault)),
+            Ok(chosen) => Ok(chosen),
+        },
+    }
+}
+
+// The string of the packet of the chosen entries, a type and a value at it, of which no part fails;
+// or the fault for which there is none: that a definition nests too far, then the size.
+fn whole(
+    alloc: Global,
+    env: &Env,
+    table: &CodeTable,
+    store: &Store,
+    mark: usize,
+    chosen: &[u32],
+    value: Value,
+    ty: &Ty,
+) -> Result<Text, PackFault>
+    requires few { length env.now.entries ≤ 65535 }
+    requires short { length chosen.now ≤ 65535 }
+    requires below { AllBelow (length env.now.entries) chosen.now }
+    requires sound { first_fault 500 longest_packet 0 (packed_heads (typ_of ty.now)
+        (bare_packed (environment_of env.now)
+        (stands (code_of table.now) (stands_as store.now value.0)) (typ_of ty.now))) ≡ None }
+    ensures { let p : Packet = packet_of_entries (environment_of env.now) mark chosen.now
+        (typ_of ty.now) (bare_packed (environment_of env.now)
+        (stands (code_of table.now) (stands_as store.now value.0)) (typ_of ty.now)) in
+        Packed (whole p (whole_fault p)) result }
+{
+    if !forms_nest(env, mark, chosen) {
+        return Err(PackFault::Depth);
+    }
+    match bytes(alloc, env, table, store, mark, chosen, value, ty) {
+        Err(stop) => Err(of_stop(stop)),
+        Ok(text) => Ok(text),
+    }
 }

@@ -1,0 +1,3 @@
+pub mod NestingLaws
+pub mod PlaceLaws
+pub mod FrontLaws

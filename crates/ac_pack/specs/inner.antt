@@ -1,0 +1,3 @@
+pub mod Faults
+pub mod Needs
+pub mod Wholes
