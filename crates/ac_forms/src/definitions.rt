@@ -105,13 +105,7 @@ fn with_forms(
 
 // The bytes of the form of an entry, none past the last one.
 #[tactic(auto, using(ac_canon::proofs::EntryForms::entry_forms))]
-fn bytes_at(
-    alloc: Global,
-    env: &Env,
-    mark: usize,
-    k: u32,
-    numbers: &[u32],
-) -> Result<Text, Memory>
+fn bytes_at(alloc: Global, env: &Env, mark: usize, k: u32, numbers: &[u32]) -> Result<Text, Memory>
     ensures { IfOk result (λ text. text.0 ≡ flat_map def_bytes
         (form_at (environment_of env.now) mark (number_in numbers.now) k)) }
 {

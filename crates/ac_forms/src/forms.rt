@@ -116,13 +116,7 @@ fn put_asked(out: &mut Out, i: &Import) -> Result<(), Memory>
 
 // Puts a module that is cut to an import by its exact name.
 #[tactic(auto, using(ac_canon::proofs::Lists::lists))]
-fn put_cut(
-    alloc: Global,
-    out: &mut Out,
-    m: &Module,
-    name: &Name,
-    seen: &Seen,
-) -> Result<(), Memory>
+fn put_cut(alloc: Global, out: &mut Out, m: &Module, name: &Name, seen: &Seen) -> Result<(), Memory>
     ensures { OnOk result (out.new ≡ out.old ++
         def_bytes (cut (module_of_code m.now) name.now.0 (seen_of seen.now))) }
 {

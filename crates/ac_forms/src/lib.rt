@@ -5,8 +5,8 @@
 //! list by a loop.
 #![tactic(auto)]
 
-mod forms;
 mod definitions;
+mod forms;
 mod nesting;
 mod numbers;
 

@@ -83,7 +83,7 @@ module _ (E : Environment) (mark : ℕ) where
       by rest true =
           ap (λ is. is ++ k ∷ [])
           (rest (xs ++ uses E mark k) (ys ++ uses E mark k) (λ i.
-            list_any-append (nat_eq i) xs (uses E mark k) ∙ ap (λ b. b || list_any (nat_eq i) (uses E mark k)) (alike i) ∙ sym (list_any-append (nat_eq i) ys (uses E mark k))))
+          list_any-append (nat_eq i) xs (uses E mark k) ∙ ap (λ b. b || list_any (nat_eq i) (uses E mark k)) (alike i) ∙ sym (list_any-append (nat_eq i) ys (uses E mark k))))
       by rest false = rest xs ys alike
 
   pub needed_alike : (T : Typ) (v : PValue) → needed_by E mark (spoken_by_all E (OfType T ∷ value_parts v)) ≡ needed_by E mark (roots_of E T v)

@@ -1,7 +1,7 @@
 //! Values packed into strings.
 #![tactic(auto)]
 
-mod packing;
 mod packet;
+mod packing;
 
 pub use packing::{PackFault, pack};

@@ -49,7 +49,17 @@ pub fn bytes(
         (stands (code_of table.now) (stands_as store.now value.0)) (typ_of ty.now)))) }
 {
     let numbers = places(alloc, env.entries.len(), chosen)?;
-    numbered(alloc, env, table, store, mark, chosen, numbers.as_slice(), value, ty)
+    numbered(
+        alloc,
+        env,
+        table,
+        store,
+        mark,
+        chosen,
+        numbers.as_slice(),
+        value,
+        ty,
+    )
 }
 
 // The bytes, where the places of the chosen entries are known.
