@@ -127,8 +127,8 @@ pub visits_function : (r : Result Unit Stop) (d : ℕ) (h : Home) (l : Expr) (T 
 visits_function r d h l T old new q m v =
     subst (λ (x : PValue). VisitsValue r d x old new) (goes_along (entries_at old.site) h l T m)
     (visits_same r _ _ _ _ old new
-     (ap (λ (b : Bool). record (next_head d (0x0A ∷ home_bytes (home_by (number_at old.site) h))) { travels = b } ∷ term_written old.site (suc d) l) (sym (lambda_renumbered (number_at old.site) l q)))
-     refl v)
+    (ap (λ (b : Bool). record (next_head d (0x0A ∷ home_bytes (home_by (number_at old.site) h))) { travels = b } ∷ term_written old.site (suc d) l) (sym (lambda_renumbered (number_at old.site) l q)))
+    refl v)
 
 pub ruleset form_laws = (term_forms)
 

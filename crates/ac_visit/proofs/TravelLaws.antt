@@ -187,8 +187,8 @@ module _ (E : Environment) where
           let q = both_true _ _ c in
           ap₂ also
           (and_then_same (λ (Ws : List Typ). D (Ws ++ Us) (P (binders p + length Us) e)) (λ (Ws : List Typ). D (Ws ++ (Us ++ Vs)) e) (variables Coloured true E h p T) (λ Ws x.
-            let n : binders p + length Us ≡ length (Ws ++ Us) = omega (arith, length-append Ws Us, counted h p T Ws x) in
-            ap (λ d. D (Ws ++ Us) (P d e)) n ∙ typed e q.0 (Ws ++ Us) ∙ ap (λ Xs. D Xs e) (append_assoc Ws Us Vs)))
+          let n : binders p + length Us ≡ length (Ws ++ Us) = omega (arith, length-append Ws Us, counted h p T Ws x) in
+          ap (λ d. D (Ws ++ Us) (P d e)) n ∙ typed e q.0 (Ws ++ Us) ∙ ap (λ Xs. D Xs e) (append_assoc Ws Us Vs)))
           (arms_typed rest q.1 Us T)
 
 -- a function travels as its lambda does where each variable around it is of the type of its value

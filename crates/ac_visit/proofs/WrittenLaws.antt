@@ -47,8 +47,8 @@ unfolding Visits
 begun u hs ns old new t r p v =
     v.1
     ∙ ap₂ (λ (o : Outcome) (l : List ℕ). (o, l))
-      (ap₂ (λ x y. after x (hs ++ pending (heads_at old.site) y)) t p ∙ ap (after []) (append-nil hs))
-      (ap₂ (λ x y. x ++ (ns ++ pending (roots_at old.site) y)) r p ∙ append-nil ns)
+    (ap₂ (λ x y. after x (hs ++ pending (heads_at old.site) y)) t p ∙ ap (after []) (append-nil hs))
+    (ap₂ (λ x y. x ++ (ns ++ pending (roots_at old.site) y)) r p ∙ append-nil ns)
 
 not_begun : (e : Stop) (hs : List Head) (ns : List ℕ) (old new : Walk) → old.text.0 ≡ [] → Visits (Err e) hs ns old new → (f : Fault) → fault_in e ≡ Some f → after [] hs ≡ Stopped f
 unfolding Visits

@@ -10,17 +10,18 @@ ghost use Rattle.ac_visit.specs.Forms.{is_wanted};
 ghost use Rattle.ac_walk.specs.Pieces.{entries_at, term_at};
 ghost use Rattle.ac_walk.specs.inner.Goes.{VisitsValue};
 
-use ac_walk::{Around, Piece};
 use crate::travels::may_travel;
-use ac_walk::Walk;
 use ac_heads::Stop;
 use ac_terms::Term;
 use ac_types::Ty;
+use ac_walk::{Around, Piece, Walk};
 use std::alloc::Global;
 
 /// Visits a function at a type, with the values around it.
 #[tactic(auto, using(crate::proofs::FunctionLaws::function_laws))]
-pub fn function<'a>(walk: &mut Walk<'a>, alloc: Global,
+pub fn function<'a>(
+    walk: &mut Walk<'a>,
+    alloc: Global,
     lambda: &'a Term,
     around: Around<'a>,
     ty: &'a Ty,

@@ -16,19 +16,20 @@ ghost use Rattle.ac_walk.specs.inner.Goes.{VisitsValue, VisitsValues};
 
 use crate::functions::{function, is_wanted};
 use crate::lists::{items_in, shared};
-use ac_walk::{Around, Piece};
-use ac_walk::Walk;
-use ac_heads::{Stop, deeper};
 use ac_code::CodeId;
+use ac_heads::{Stop, deeper};
 use ac_types::Ty;
 use ac_values::read::{cons_in, text_in};
 use ac_values::{Node, Value};
 use ac_views::{head, list_item, option_item, tuple_parts};
+use ac_walk::{Around, Piece, Walk};
 use std::alloc::Global;
 
 /// Visits a value of the store at a type. A value past the last stands for unit.
 #[tactic(auto, using(crate::proofs::ValueLaws::held_laws))]
-pub fn held<'a>(walk: &mut Walk<'a>, alloc: Global,
+pub fn held<'a>(
+    walk: &mut Walk<'a>,
+    alloc: Global,
     v: Value,
     ty: &'a Ty,
     outer: u32,
@@ -69,12 +70,7 @@ pub fn held<'a>(walk: &mut Walk<'a>, alloc: Global,
 
 // An exception; its text is a string of the store.
 #[tactic(auto, using(crate::proofs::ValueLaws::held_laws))]
-fn exception<'a>(
-    walk: &mut Walk<'a>,
-    number: u8,
-    text: Option<Value>,
-    d: u32,
-) -> Result<(), Stop>
+fn exception<'a>(walk: &mut Walk<'a>, number: u8, text: Option<Value>, d: u32) -> Result<(), Stop>
     ensures { VisitsValue result d
         (bare_packed (entries_at walk.old.site) (stands (code_at walk.old.site)
         (node_value (values walk.old.site.store.now) (Node.Exn number text))) TExn) walk.old
@@ -107,10 +103,7 @@ fn held_option<'a>(walk: &mut Walk<'a>, inner: Value, ty: &'a Ty, d: u32) -> Res
 
 // A tuple, at a type that is no abstract one.
 #[tactic(auto, using(crate::proofs::ValueLaws::held_laws))]
-fn held_tuple<'a>(walk: &mut Walk<'a>, parts: &'a [Value],
-    ty: &'a Ty,
-    d: u32,
-) -> Result<(), Stop>
+fn held_tuple<'a>(walk: &mut Walk<'a>, parts: &'a [Value], ty: &'a Ty, d: u32) -> Result<(), Stop>
     ensures { VisitsValue result d
         (where_there (tuple_parts (typ_of ty.now))
         (λ Ts. KTuple (held_parts_at walk.old.site parts.now Ts))) walk.old walk.new }
@@ -137,15 +130,15 @@ fn held_list<'a>(walk: &mut Walk<'a>, list: Value, ty: &'a Ty, d: u32) -> Result
     };
     match list_item(head(site.env, ty)) {
         None => walk.lost(d, count),
-        Some(item) => {
-            walk.many(d, 0x07, count, Piece::HeldItems(list, item, d))
-        }
+        Some(item) => { walk.many(d, 0x07, count, Piece::HeldItems(list, item, d)) }
     }
 }
 
 // A function, with the values that it has captured.
 #[tactic(auto, using(crate::proofs::FunctionLaws::closure_laws))]
-fn closure<'a>(walk: &mut Walk<'a>, alloc: Global,
+fn closure<'a>(
+    walk: &mut Walk<'a>,
+    alloc: Global,
     block: CodeId,
     recursive: bool,
     env: Value,
@@ -179,7 +172,9 @@ fn closure<'a>(walk: &mut Walk<'a>, alloc: Global,
 
 /// Visits parts of a tuple of the store at their types.
 #[tactic(auto, using(crate::proofs::ValueLaws::held_laws))]
-pub fn held_parts<'a>(walk: &mut Walk<'a>, parts: &'a [Value],
+pub fn held_parts<'a>(
+    walk: &mut Walk<'a>,
+    parts: &'a [Value],
     types: &'a [Ty],
     outer: u32,
 ) -> Result<(), Stop>
@@ -200,10 +195,7 @@ pub fn held_parts<'a>(walk: &mut Walk<'a>, parts: &'a [Value],
 
 /// Visits items of a list of the store at their type.
 #[tactic(auto, using(crate::proofs::ValueLaws::held_laws))]
-pub fn held_items<'a>(walk: &mut Walk<'a>, list: Value,
-    ty: &'a Ty,
-    outer: u32,
-) -> Result<(), Stop>
+pub fn held_items<'a>(walk: &mut Walk<'a>, list: Value, ty: &'a Ty, outer: u32) -> Result<(), Stop>
     ensures { VisitsValues result (suc outer)
         (held_items_at walk.old.site list (typ_of ty.now)) walk.old walk.new }
 {

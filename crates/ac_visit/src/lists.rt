@@ -4,10 +4,10 @@ ghost use Rattle.std.specs.Prelude.{◌≡◌, ◌<◌, suc, option_map, MatchOp
 ghost use Rattle.ac_values.specs.Values.{stands_as};
 ghost use Rattle.ac_visit.specs.Forms.{items_counted, counted_none, paired};
 
-use ac_walk::sum;
 use ac_types::Memory;
 use ac_values::read::is_nil;
 use ac_values::{Node, Store, Value};
+use ac_walk::sum;
 
 /// How many items a list of the store has; none where it isn't one.
 pub fn items_in(store: &Store, list: Value) -> Result<Option<usize>, Memory>

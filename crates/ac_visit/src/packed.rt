@@ -13,17 +13,18 @@ ghost use Rattle.ac_walk.specs.inner.Goes.{VisitsValue, VisitsValues};
 
 use crate::functions::{function, is_function};
 use crate::lists::shared;
-use ac_walk::{Around, Piece};
-use ac_walk::Walk;
 use ac_heads::{Stop, deeper};
 use ac_terms::{Exn, Home, PVal, Term};
 use ac_types::Ty;
 use ac_views::{head, list_item, option_item, tuple_parts};
+use ac_walk::{Around, Piece, Walk};
 use std::alloc::Global;
 
 /// Visits a packed value at a type.
 #[tactic(auto, using(crate::proofs::ValueLaws::packed_laws))]
-pub fn packed<'a>(walk: &mut Walk<'a>, alloc: Global,
+pub fn packed<'a>(
+    walk: &mut Walk<'a>,
+    alloc: Global,
     value: &'a PVal,
     ty: &'a Ty,
     outer: u32,
@@ -66,10 +67,7 @@ fn exception<'a>(walk: &mut Walk<'a>, exn: &Exn, d: u32) -> Result<(), Stop>
 
 // An option of something.
 #[tactic(auto, using(crate::proofs::ValueLaws::packed_laws))]
-fn packed_option<'a>(walk: &mut Walk<'a>, inner: &'a PVal,
-    ty: &'a Ty,
-    d: u32,
-) -> Result<(), Stop>
+fn packed_option<'a>(walk: &mut Walk<'a>, inner: &'a PVal, ty: &'a Ty, d: u32) -> Result<(), Stop>
     requires { length walk.old.site.env.now.entries < 2 ^ 32 }
     ensures { VisitsValue result d
         (packed_at walk.old.site (KPresent (value_of inner.now)) (typ_of ty.now)) walk.old walk.new }
@@ -83,10 +81,7 @@ fn packed_option<'a>(walk: &mut Walk<'a>, inner: &'a PVal,
 
 // A tuple, at a type that is no abstract one.
 #[tactic(auto, using(crate::proofs::ValueLaws::packed_laws))]
-fn packed_tuple<'a>(walk: &mut Walk<'a>, parts: &'a [PVal],
-    ty: &'a Ty,
-    d: u32,
-) -> Result<(), Stop>
+fn packed_tuple<'a>(walk: &mut Walk<'a>, parts: &'a [PVal], ty: &'a Ty, d: u32) -> Result<(), Stop>
     ensures { VisitsValue result d
         (where_there (tuple_parts (typ_of ty.now)) (λ Ts. KTuple
         (packed_parts_at walk.old.site (pvalues (map value_of parts.now)) Ts))) walk.old walk.new }
@@ -101,10 +96,7 @@ fn packed_tuple<'a>(walk: &mut Walk<'a>, parts: &'a [PVal],
 
 // A list.
 #[tactic(auto, using(crate::proofs::ListLaws::packed_list_laws))]
-fn packed_list<'a>(walk: &mut Walk<'a>, items: &'a [PVal],
-    ty: &'a Ty,
-    d: u32,
-) -> Result<(), Stop>
+fn packed_list<'a>(walk: &mut Walk<'a>, items: &'a [PVal], ty: &'a Ty, d: u32) -> Result<(), Stop>
     requires { length walk.old.site.env.now.entries < 2 ^ 32 }
     ensures { VisitsValue result d
         (packed_at walk.old.site (KList (pvalues (map value_of items.now))) (typ_of ty.now)) walk.old walk.new }
@@ -116,15 +108,15 @@ fn packed_list<'a>(walk: &mut Walk<'a>, items: &'a [PVal],
     }
     match list_item(head(site.env, ty)) {
         None => walk.lost(d, count),
-        Some(item) => {
-            walk.many(d, 0x07, count, Piece::PackedItems(items, item, d))
-        }
+        Some(item) => { walk.many(d, 0x07, count, Piece::PackedItems(items, item, d)) }
     }
 }
 
 // A function. One that stands for nothing is unit.
 #[tactic(auto, using(crate::proofs::FunctionLaws::packed_function_laws))]
-fn packed_function<'a>(walk: &mut Walk<'a>, alloc: Global,
+fn packed_function<'a>(
+    walk: &mut Walk<'a>,
+    alloc: Global,
     home: Home,
     lambda: &'a Term,
     ty: &'a Ty,
@@ -149,7 +141,9 @@ fn packed_function<'a>(walk: &mut Walk<'a>, alloc: Global,
 
 /// Visits parts of a packed tuple at their types.
 #[tactic(auto, using(crate::proofs::ValueLaws::packed_laws))]
-pub fn packed_parts<'a>(walk: &mut Walk<'a>, parts: &'a [PVal],
+pub fn packed_parts<'a>(
+    walk: &mut Walk<'a>,
+    parts: &'a [PVal],
     types: &'a [Ty],
     outer: u32,
 ) -> Result<(), Stop>
@@ -170,7 +164,9 @@ pub fn packed_parts<'a>(walk: &mut Walk<'a>, parts: &'a [PVal],
 
 /// Visits items of a packed list at their type.
 #[tactic(auto, using(crate::proofs::ValueLaws::packed_laws))]
-pub fn packed_items<'a>(walk: &mut Walk<'a>, items: &'a [PVal],
+pub fn packed_items<'a>(
+    walk: &mut Walk<'a>,
+    items: &'a [PVal],
     ty: &'a Ty,
     outer: u32,
 ) -> Result<(), Stop>

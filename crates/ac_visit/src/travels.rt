@@ -10,13 +10,12 @@ ghost use Rattle.ac_rules.specs.Plain.{may_travel};
 ghost use Rattle.ac_walk.specs.Pieces.{entries_at, term_at, captured_at};
 ghost use Rattle.ac_walk.specs.inner.Slots.{AreTypes};
 
-use ac_walk::{later, newest_type};
-use ac_walk::{Around, Site};
 use ac_check::travels_with;
 use ac_terms::{Env, Home, Term};
 use ac_types::{Box, Many, Memory, Ty};
 use ac_values::read::opened;
 use ac_views::{Site as Place, seen_type};
+use ac_walk::{Around, Site, later, newest_type};
 use std::alloc::Global;
 
 /// Whether a function travels at a type, where each value around it counts as of its type.

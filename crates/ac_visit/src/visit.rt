@@ -10,8 +10,8 @@ ghost use Rattle.ac_walk.specs.inner.Goes.{comes, Visits};
 
 use crate::held::{held, held_items, held_parts};
 use crate::packed::{packed, packed_items, packed_parts};
-use ac_walk::{Piece, Walk};
 use ac_heads::Stop;
+use ac_walk::{Piece, Walk};
 use std::alloc::Global;
 
 /// Visits a piece.
