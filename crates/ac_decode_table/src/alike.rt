@@ -1,11 +1,24 @@
-// Bytes that are nearly those of a packet.
+// Bytes read as a packet, and others that are nearly the same.
 
 use ac_decode::{DecodeFault, decode, encode};
 use ac_page::Page;
+use ac_terms::Packet;
 use ac_types::{Memory, Text};
 use std::alloc::Global;
 
-/// How many of some bytes spell packets.
+/// The packet that bytes spell, and whether it is spelled as just these bytes again.
+pub fn read_again(alloc: Global, bytes: &[u8]) -> Result<(Packet, bool), DecodeFault> {
+    let packet = decode(alloc, bytes)?;
+    match encode(alloc, &packet) {
+        Err(Memory) => Err(DecodeFault::Memory),
+        Ok(text) => {
+            let same = text.as_slice() == bytes;
+            Ok((packet, same))
+        }
+    }
+}
+
+// How many strings spell packets.
 #[derive(Clone, Copy, Default)]
 struct Tally {
     // No packet, with the end as the place, and with another.
@@ -22,7 +35,7 @@ fn counted(count: &mut u64) {
 
 impl Tally {
     fn add(&mut self, alloc: Global, bytes: &[u8]) -> Result<(), Memory> {
-        match decode(alloc, bytes) {
+        match read_again(alloc, bytes) {
             Err(DecodeFault::Format { at }) => {
                 if at as usize == bytes.len() {
                     counted(&mut self.ended);
@@ -31,13 +44,8 @@ impl Tally {
                 }
             }
             Err(DecodeFault::Memory) => return Err(Memory),
-            Ok(packet) => {
-                if encode(alloc, &packet)?.as_slice() == bytes {
-                    counted(&mut self.same);
-                } else {
-                    counted(&mut self.other);
-                }
-            }
+            Ok((_, true)) => counted(&mut self.same),
+            Ok((_, false)) => counted(&mut self.other),
         }
         Ok(())
     }

@@ -22,10 +22,10 @@ mod sheet;
 mod terms;
 mod types;
 
-use ac_decode::{DecodeFault, decode, encode};
+use ac_decode::DecodeFault;
 use ac_page::Page;
 use ac_types::{Memory, Text};
-use alike::{write_changes, write_prefixes};
+use alike::{read_again, write_changes, write_prefixes};
 use defs::write_packet;
 use sheet::Sheet;
 use std::alloc::Global;
@@ -49,23 +49,20 @@ fn bytes_of(alloc: Global, pieces: &str) -> Result<Option<Text>, Memory> {
     Ok(Some(text))
 }
 
-// The packet that bytes spell, and whether it is spelled as them again.
+// The packet that bytes spell, or the place of the first byte that doesn't fit.
 fn write_read(alloc: Global, page: &mut Page, bytes: &[u8]) {
-    match decode(alloc, bytes) {
+    match read_again(alloc, bytes) {
         Err(DecodeFault::Format { at }) => {
             page.put(b" no packet at ");
             page.number(u64::from(at));
         }
         Err(DecodeFault::Memory) => page.lose(),
-        Ok(packet) => match encode(alloc, &packet) {
-            Err(Memory) => page.lose(),
-            Ok(text) => {
-                if text.as_slice() != bytes {
-                    page.put(b" otherwise");
-                }
-                write_packet(&mut Sheet(page), &packet);
+        Ok((packet, same)) => {
+            if !same {
+                page.put(b" otherwise");
             }
-        },
+            write_packet(&mut Sheet(page), &packet);
+        }
     }
 }
 
@@ -103,10 +100,9 @@ fn write_answer(alloc: Global, page: &mut Page, line: &str) -> Result<(), Memory
 
 // What is printed of an answer.
 fn shown(bytes: &[u8]) -> &[u8] {
-    if bytes.len() > 1000 {
-        &bytes[..60]
-    } else {
-        bytes
+    match bytes.get(..60) {
+        Some(front) if bytes.len() > 1000 => front,
+        _ => bytes,
     }
 }
 
