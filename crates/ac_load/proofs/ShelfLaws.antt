@@ -1,5 +1,5 @@
 -- Texts behind the entries in front of them, one after another.
-use Rattle.std.proofs.Common.{◌≡◌, ◌∙◌, ◌≤◌, ◌<◌, ◌+◌, sym, ap, subst, ℕ, suc, true, List, [], ◌∷◌, ◌++◌, length, take, drop, map, get_or, None, arith, append_assoc}
+use Rattle.std.proofs.Common.{◌≡◌, ◌∙◌, ◌≤◌, ◌<◌, ◌+◌, sym, ap, subst, ℕ, suc, true, List, [], ◌∷◌, ◌++◌, length, take, drop, map, get_or, Some, arith, append_assoc}
 use Rattle.std.proofs.Math.Seq.{take-length}
 use Rattle.std.proofs.lemmas.List.{take-append-drop, take_more, take-map, length-take-le, map-append, length-map}
 use Rattle.sha2.specs.Sha256.{sha256}
@@ -13,8 +13,8 @@ use Rattle.ac_syntax.specs.Programs.{IsProgram, IsModule}
 use Rattle.ac_syntax.specs.declared.fault.ParseFault.{ParseFault}
 use Rattle.ac_syntax.specs.declared.fault.ParseFault.TheVariants as parse
 use Rattle.ac_parser.specs.Texts.{HasTree, Refused, IsTextFault}
-use Rattle.ac_acceptance.specs.Causes.{Cause, NoTree, loaded}
-use Rattle.ac_acceptance.specs.Accepting.{Shelved, IsShelf, Gives, nothing, a_module, no_tree, with_tree, Refuses, of_shelf, of_program}
+use Rattle.ac_acceptance.specs.Causes.{Cause, NoTree, loaded, cause}
+use Rattle.ac_acceptance.specs.Accepting.{Shelved, IsShelf, Gives, nothing, a_module, IsRefused, no_tree, with_tree, Refuses, of_shelf, of_program}
 use Rattle.std.specs.List.{list_all}
 use Rattle.ac_outer.specs.Entries.{keeps_name}
 use Rattle.ac_elaborate.proofs.Kept.{all_named}
@@ -60,8 +60,11 @@ module _ (G : List Sign → ProgramTree → Type 0) (E : Environment) (seen : Se
   text_refused (parse.Syntax at) f = no_trees (parse.Syntax at) f
   text_refused parse.Memory f = tt
 
+  tree_rejects : (p : ProgramTree) → HasTree G text p → (c : Cause) → cause sha256 E seen p ≡ Some c → IsRefused sha256 G E seen text c
+  tree_rejects p has c found = with_tree has found
+
   pub tree_refused : (p : ProgramTree) (kind : Kind) → HasTree G text p → Says kind (IsTreeRefused E seen p kind) → Says kind (RejectsPart G E seen text kind)
-  tree_refused p kind has h = says kind (of_causes (λ c found. with_tree has found) kind) h
+  tree_refused p kind has h = says kind (of_causes (tree_rejects p has) kind) h
 
 pub program_taken : (E : Environment) (text : Bytes) (p : ProgramTree) (F : Environment) (e : Expr) (T : Typ) → HasTree IsProgram text p → IsTaken E Own' p F e T → IsProgramTaken E text F e T
 program_taken E text p F e T has t = record {
