@@ -6,6 +6,7 @@ pub mod PlaceLaws
 pub mod RunLaws
 pub mod LoadedLaws
 pub mod TextLaws
+pub mod TakenLaws
 pub mod WordLaws
 pub mod ShowLaws
 pub mod FileLaws

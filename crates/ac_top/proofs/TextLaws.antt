@@ -7,8 +7,10 @@ use Rattle.ac_rules.specs.Views.{Mode}
 use Rattle.ac_meaning.specs.Acts.{Outcome, Returned, Raised, Spent, Stuck}
 use Rattle.ac_meaning.specs.Laws.{IsTypedProgram, bare_end, writes_of}
 use Rattle.ac_meaning.specs.Reduction.{Ends}
-use Rattle.ac_meaning.proofs.Admitted.{arrives}
+use Rattle.ac_meaning.proofs.Admitted.{arrives, grow}
 use Rattle.ac_meaning.proofs.BareEndings.{ends_alike, one_bare_end}
+use Rattle.ac_meaning.proofs.Endings.{some_end}
+use Rattle.ac_meaning.proofs.NeverStuck.{never_stuck}
 use Rattle.ac_meaning.proofs.Runs.{one_end}
 use Rattle.ac_acceptance.specs.Accepting.{Shelved, IsShelf}
 use Rattle.ac_load.specs.Loading.{Loads, Rejects}
@@ -49,6 +51,19 @@ pub one_answer : (m n : Mode) (steps : ℕ) (input : Bytes) (sends : Bool) {E : 
 one_answer m n steps input sends {E = E} {e = e} {T = T} {o = o} {p = p} typed ends others =
     let same : bare_end o ≡ bare_end p = one_bare_end E e input sends steps (bare_end o) (bare_end p) (ends_alike arrives E e T typed m input sends steps o ends) (ends_alike arrives E e T typed n input sends steps p others) in
     sym (given_bare steps o) ∙ ap (given_by steps) same ∙ given_bare steps p
+
+-- a text that loads means something: its program isn't stuck at its end
+meant : (mode : Mode) (text : List ℕ) (shelf : List Shelved) (steps : ℕ) (input : Bytes) (sends : Bool) (E : Environment) (e : Expr) (T : Typ) → Loads text shelf E e T → IsTypedProgram E e T → (o : Outcome Value) → Ends mode E e input sends steps o → (a : CommandAnswer) × Means mode text shelf steps input sends a
+meant mode text shelf steps input sends E e T l p (Returned v z) h = (run_answer FINISHED z.writes [], finished E e T v z l h)
+meant mode text shelf steps input sends E e T l p (Raised x z) h = (run_answer UNCAUGHT z.writes (uncaught_line x), uncaught E e T x z l h)
+meant mode text shelf steps input sends E e T l p (Spent z) h = (run_answer SPENT z.writes (spent_line steps), spent E e T z l h)
+meant mode text shelf steps input sends E e T l p Stuck h = absurd (never_stuck arrives E e T p mode input sends steps h)
+
+pub some_meaning : (mode : Mode) (text : List ℕ) (shelf : List Shelved) (steps : ℕ) (input : Bytes) (sends : Bool) (E : Environment) (e : Expr) (T : Typ) → IsShelf shelf → length shelf ≤ 256 → Loads text shelf E e T → (a : CommandAnswer) × Means mode text shelf steps input sends a
+some_meaning mode text shelf steps input sends E e T good few l =
+    let p : IsTypedProgram E e T = (loads_ready text shelf E e T good few l).program in
+    let end = some_end grow mode E e input sends steps p.coherent in
+    meant mode text shelf steps input sends E e T l p end.0 end.1
 
 -- the text is refused
 record IsRefusal (text : List ℕ) (shelf : List Shelved) (a : CommandAnswer) : Type 0 where

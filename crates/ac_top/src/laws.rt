@@ -1,10 +1,16 @@
 // What follows from the contract of the top call.
-ghost use Rattle.std.specs.Prelude.{◌≡◌, ◌≤◌, ◌⊎◌, List, ℕ, length, Bool, Option, IsTrue, None, Some, is_some};
-ghost use Rattle.ac_types.specs.Types.{Bytes};
+ghost use Rattle.std.specs.Prelude.{◌≡◌, ◌≤◌, ◌⊎◌, ◌↔◌, List, ℕ, length, Bool, Option, IsTrue, None, Some, is_some, codes};
+ghost use Rattle.ac_types.specs.Types.{Bytes, Typ};
+ghost use Rattle.ac_terms.specs.Terms.{Expr, PValue};
+ghost use Rattle.ac_terms.specs.Defs.{Environment, Packet};
+ghost use Rattle.ac_terms.specs.Bounds.{Spells};
+ghost use Rattle.ac_rules.specs.Packets.{Cause, Accepts, Refuses};
+ghost use Rattle.ac_meaning.specs.Packing.{Lands, Sinks, landing, of_cause, unmarshal_failure_exn};
 ghost use Rattle.ac_outside.specs.Outside.{Rose};
 ghost use Rattle.ac_rules.specs.Views.{Mode};
 ghost use Rattle.ac_words.specs.Commands.{ChannelName, ProgramFiles, Request, run};
 ghost use Rattle.ac_acceptance.specs.Accepting.{Shelved, IsShelf};
+ghost use Rattle.ac_load.specs.Loading.{Loads};
 ghost use Rattle.ac_files.specs.Files.{Reading, IsTextOf};
 ghost use Rattle.ac_files.specs.ProgramTexts.{IsShelfBy, HasBadLine, ReadsFail};
 ghost use Rattle.ac_top.specs.declared.status.Status.{Status};
@@ -24,6 +30,29 @@ pub fn one_meaning()
         (sends : Bool) (a b : CommandAnswer) → IsShelf shelf → length shelf ≤ 256 →
         Means m text shelf steps input sends a → Means n text shelf steps input sends b →
         (a.status ≡ b.status) × (a.writes ≡ b.writes) }
+{}
+
+/// Beside a shelf, a text that loads has a meaning in each mode, within each budget and with each
+/// input: its program ends with a value, with an exception, or in front of an application too many,
+/// and never gets stuck.
+pub fn some_meaning()
+    ensures { (mode : Mode) (text : List ℕ) (shelf : List Shelved) (steps : ℕ) (input : Bytes)
+        (sends : Bool) (E : Environment) (e : Expr) (T : Typ) → IsShelf shelf →
+        length shelf ≤ 256 → Loads text shelf E e T →
+        (a : CommandAnswer) × Means mode text shelf steps input sends a }
+{}
+
+/// `unmarshal` takes exactly the strings that spell a packet which is accepted at the type, with
+/// the definitions and the value of that. Where the packet is refused, the exception is that of
+/// its first cause; where a string spells none, it is `Unmarshal_failure "format"`.
+pub fn taken_exactly()
+    ensures taken { (E : Environment) (T : Typ) (s : Bytes) (F : Environment) (v : PValue) →
+        landing E T s ≡ Lands F v ↔ ((p : Packet) × Spells s p × Accepts E p T F v) }
+    ensures refused { (E : Environment) (T : Typ) (s : Bytes) (p : Packet) (c : Cause) →
+        Spells s p → Refuses E p T c → landing E T s ≡ Sinks (of_cause p.defs c) }
+    ensures format { (E : Environment) (T : Typ) (s : Bytes) →
+        ((p : Packet) → Spells s p → ⊥) →
+        landing E T s ≡ Sinks (unmarshal_failure_exn (codes "format")) }
 {}
 
 /// Where the files are told and no count rose, a run's status is that of the text's meaning beside
