@@ -10,8 +10,8 @@ ghost use Rattle.ac_terms.specs.Read.{pattern_of};
 use crate::test::Test;
 use ac_terms::Pat;
 
-/// Whether the type of each variable of a pattern passes.
 // Each part is looked at (`&`): an `&&` would be one more branch of the proof.
+/// Whether the type of each variable of a pattern passes.
 #[cycle(pat)]
 #[tactic(auto, using(crate::proofs::WalkLaws::pattern_laws))]
 pub fn pattern_passes<T: Test>(pat: &Pat, test: &T) -> bool

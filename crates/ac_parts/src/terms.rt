@@ -12,8 +12,8 @@ use crate::patterns::pattern_passes;
 use crate::test::Test;
 use ac_terms::{Arm, PVal, Term};
 
-/// Whether each part of a term passes.
 // Each part is looked at (`&`): an `&&` would be one more branch of the proof.
+/// Whether each part of a term passes.
 #[cycle(term)]
 #[tactic(auto, using(crate::proofs::WalkLaws::term_laws))]
 pub fn term_passes<T: Test>(term: &Term, test: &T) -> bool
