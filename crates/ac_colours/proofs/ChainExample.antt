@@ -1,7 +1,7 @@
 -- A chain of two programs, computed: the first sends a sealed value, and the second receives it.
 use Rattle.std.proofs.Common.{◌≡◌, refl}
 use Rattle.std.specs.Int.{int_wrap}
-use Rattle.std.specs.Prelude.{pos, true, false, List, [], ◌∷◌, ◌++◌, codes}
+use Rattle.std.specs.Prelude.{ℕ, pos, true, false, List, [], ◌∷◌, ◌++◌, codes}
 use Rattle.ac_types.specs.Primitives as primitives
 use Rattle.ac_types.specs.Types.{Bytes, TAbs, same_bytes}
 use Rattle.ac_types.specs.Words as words
@@ -12,9 +12,10 @@ use Rattle.ac_meaning.specs.Acts.{State, At, Over, iter}
 use Rattle.ac_meaning.specs.Laws.{writes_of}
 use Rattle.ac_meaning.specs.Packing.{packing, landing}
 use Rattle.ac_meaning.specs.Reduction.{step}
-use Rattle.ac_meaning.specs.Worlds.{fresh}
+use Rattle.ac_meaning.specs.Worlds.{Crossing, Made, Read, fresh}
 use Rattle.ac_meaning.specs.Writes.{Channel, written}
-use Rattle.ac_colours.specs.Births.{Event, Born, Gave, Took, seal, events}
+use Rattle.ac_colours.specs.Births.{Event, Born, Gave, Took, seal, events, crossed, crossings_in}
+use Rattle.ac_colours.specs.Chains.{joined}
 use Rattle.ac_colours.specs.Veils.{DifferInside}
 use Rattle.ac_colours.proofs.SentExample.{long_name, cut, seals_of}
 
@@ -57,16 +58,43 @@ it_is_native : strings_taken all ≡ strings_given all
 unfolding int_wrap packing landing words.is_reserved
 it_is_native = refl
 
+abbrev front : List Bytes → Bytes
+front [] = []
+front (s ∷ rest) = s
+
+-- the first program's journal has the string as made, the second's the same as read; joined they are what the events tell
+abbrev the_string : Bytes
+the_string = front (strings_given all)
+
+abbrev journals : List (List Crossing)
+journals = crossings_in (iter (step Coloured 1) 30 (At first (fresh cut [] true))) ∷ crossings_in (iter (step Coloured 1) 30 (At second (fresh cut passed true))) ∷ []
+
+two_journals : journals ≡ (Made the_string ∷ []) ∷ (Read the_string ∷ []) ∷ []
+unfolding int_wrap packing landing words.is_reserved
+two_journals = refl
+
+they_tell : crossed all ≡ joined journals
+unfolding int_wrap packing landing words.is_reserved
+they_tell = refl
+
+-- a string that is refused is read too, and no seal is written
+refused : Bytes → Expr
+refused s = Unmarshal (TAbs long_name t) (Str s)
+
+a_string_is_read : (N : ℕ) → crossings_in (iter (step Coloured N) 1 (At (refused []) (fresh cut [] true))) ≡ Read [] ∷ []
+unfolding refused landing
+a_string_is_read N = refl
+
+its_event : (N : ℕ) → events N 1 (At (refused []) (fresh cut [] true)) ≡ Took cut [] [] ∷ []
+unfolding refused landing
+its_event N = refl
+
 -- marshal looks inside a seal: of two terms that differ only there it gives two strings
 abbrev marshalled : Value → Expr
 marshalled v = Marshal (TAbs long_name t) (Str (codes "M")) (Evaluated (TAbs long_name t) (VSeal (In 0) long_name t v))
 
 differ_inside : DifferInside long_name t (marshalled (VInt (pos 5))) (marshalled (VInt (pos 6)))
 differ_inside = refl
-
-abbrev front : List Bytes → Bytes
-front [] = []
-front (s ∷ rest) = s
 
 abbrev given : Value → Bytes
 given v = front (strings_given (events 0 1 (At (marshalled v) (fresh cut [] false))))

@@ -30,7 +30,7 @@ use Rattle.ac_colours.proofs.Steps.{took, gave, next_runs}
 use Rattle.ac_colours.proofs.ToldGrows.{BornIn, births_both}
 
 -- where one of two lists has it
-split_at : {A : Type 0} (xs ys front : List A) (x : A) (back : List A) → xs ++ ys ≡ front ++ x ∷ back → ((rest : List A) × (xs ≡ front ++ x ∷ rest)) ⊎ ((mid : List A) × (front ≡ xs ++ mid) × (ys ≡ mid ++ x ∷ back))
+pub split_at : {A : Type 0} (xs ys front : List A) (x : A) (back : List A) → xs ++ ys ≡ front ++ x ∷ back → ((rest : List A) × (xs ≡ front ++ x ∷ rest)) ⊎ ((mid : List A) × (front ≡ xs ++ mid) × (ys ≡ mid ++ x ∷ back))
 split_at [] ys front x back e = inr (front, refl, e)
 split_at (u ∷ xs) ys [] x back e = let q : u ≡ x = cc in inl (xs, ap (λ v. v ∷ xs) q)
 split_at {A} (u ∷ xs) ys (v ∷ front) x back e =
@@ -61,10 +61,10 @@ few_sealing E b c n t (Raises x) = tt
 few_sealing E b c n t Wrong = tt
 
 few_giving : (a : Act Expr Value) → IsFew (giving a)
-few_giving (Goes (Str s)) = tt
-few_giving (Goes _) = tt
+few_giving (Turns y (Str s)) = tt
+few_giving (Turns y _) = tt
 few_giving (Is v) = tt
-few_giving (Turns y x) = tt
+few_giving (Goes x) = tt
 few_giving (Applies x) = tt
 few_giving (Raises x) = tt
 few_giving Wrong = tt

@@ -12,7 +12,7 @@ use Rattle.ac_code.specs.Constants.{Const, CInt, CBool, CStr, CUnit, CPart, Prim
 use Rattle.ac_rules.specs.Views.{Coloured, opens, representation}
 use Rattle.ac_rules.specs.Plain.{packed}
 use Rattle.ac_rules.specs.Typing.{is_function}
-use Rattle.ac_meaning.specs.Worlds.{Exception, World, match_failure_exn, counted}
+use Rattle.ac_meaning.specs.Worlds.{Exception, World, match_failure_exn, counted, Read, with_crossing}
 use Rattle.ac_outside.specs.Frames.{Frame, Whole, Bad, AtEnd, next_frame}
 use Rattle.ac_meaning.specs.Acts.{Act, Is, Goes, Turns, Applies, Raises, Wrong, becomes, or_raises, within, part, Spent, At, Over, after}
 use Rattle.ac_meaning.specs.Substitution.{Written, Slot, Free, Bound, up, slot_in, slot, from_slot, binders, inst, inst_all, inst_arms}
@@ -267,7 +267,7 @@ module _ (q : Home → Bytes × Bytes → Bool) where
     answer_owned c (Fails k s) = tt
     answer_owned c NoSense = tt
 
-    packs_owned : (c : Home) (p : Packing) → Good c (packs p)
+    packs_owned : (c : Home) (p : Packing) → Good c (packs z p)
     packs_owned c (Refuses x) = tt
     packs_owned c (Packs s) = tt
 
@@ -275,12 +275,12 @@ module _ (q : Home → Bytes × Bytes → Bool) where
     marshal_owned c T (VStr m) v = packs_owned c (packing z T m (packed z.environment c v T))
     marshal_owned c T _ v = tt
 
-    brings_owned : (c : Home) (T : Typ) (a : Arrival) → BroughtOwned c (brings Coloured z T a) → Good c (brings Coloured z T a)
-    brings_owned c T (Unfit x) h = tt
-    brings_owned c T (Brings F v w) h = h
+    brings_owned : (y : World) (c : Home) (T : Typ) (a : Arrival) → BroughtOwned c (brings Coloured y T a) → Good c (brings Coloured y T a)
+    brings_owned y c T (Unfit x) h = h
+    brings_owned y c T (Brings F v w) h = h
 
     unmarshal_owned : (c : Home) (T : Typ) (v : Value) → ArrivingOwned c (Is v) (unmarshal_step Coloured z c T v) → Good c (unmarshal_step Coloured z c T v)
-    unmarshal_owned c T (VStr s) h = brings_owned c T (arrival z c T s) h
+    unmarshal_owned c T (VStr s) h = brings_owned (with_crossing (Read s) z) c T (arrival z c T s) h
     unmarshal_owned c T _ h = tt
 
     own_owned : (c : Home) (f : ℕ) (o : Option Expr) → own_field E c f ≡ o → Good c (becomes o)

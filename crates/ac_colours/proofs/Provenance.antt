@@ -97,19 +97,19 @@ can_pack E c T mark s v i k t w h e =
 
 -- what is in these events
 pub no_took : (D : Environment) (s : Bytes) (xs : List Seal) (a : Act Expr Value) → IsAmong (Took D s xs) (giving a) → ⊥
-no_took D s xs (Goes (Str r)) h = let e = among_one (Took D s xs) (Gave r) h in absurd cc
-no_took D s xs (Goes _) h = not_among (Took D s xs) h.0 h.1 h.2
+no_took D s xs (Turns y (Str r)) h = let e = among_one (Took D s xs) (Gave r) h in absurd cc
+no_took D s xs (Turns y _) h = not_among (Took D s xs) h.0 h.1 h.2
 no_took D s xs (Is v) h = not_among (Took D s xs) h.0 h.1 h.2
-no_took D s xs (Turns y t) h = not_among (Took D s xs) h.0 h.1 h.2
+no_took D s xs (Goes t) h = not_among (Took D s xs) h.0 h.1 h.2
 no_took D s xs (Applies t) h = not_among (Took D s xs) h.0 h.1 h.2
 no_took D s xs (Raises x) h = not_among (Took D s xs) h.0 h.1 h.2
 no_took D s xs Wrong h = not_among (Took D s xs) h.0 h.1 h.2
 
-pub gave_is : (s : Bytes) (a : Act Expr Value) → IsAmong (Gave s) (giving a) → a ≡ Goes (Str s)
-gave_is s (Goes (Str r)) h = let e = among_one (Gave s) (Gave r) h in let q : s ≡ r = cc in ap (λ x. Goes (Str x)) (sym q)
-gave_is s (Goes _) h = absurd (not_among (Gave s) h.0 h.1 h.2)
+pub gave_is : (s : Bytes) (a : Act Expr Value) → IsAmong (Gave s) (giving a) → (y : World) × (a ≡ Turns y (Str s))
+gave_is s (Turns y (Str r)) h = let e = among_one (Gave s) (Gave r) h in let q : s ≡ r = cc in (y, ap (λ x. Turns y (Str x)) (sym q))
+gave_is s (Turns y _) h = absurd (not_among (Gave s) h.0 h.1 h.2)
 gave_is s (Is v) h = absurd (not_among (Gave s) h.0 h.1 h.2)
-gave_is s (Turns y t) h = absurd (not_among (Gave s) h.0 h.1 h.2)
+gave_is s (Goes t) h = absurd (not_among (Gave s) h.0 h.1 h.2)
 gave_is s (Applies t) h = absurd (not_among (Gave s) h.0 h.1 h.2)
 gave_is s (Raises x) h = absurd (not_among (Gave s) h.0 h.1 h.2)
 gave_is s Wrong h = absurd (not_among (Gave s) h.0 h.1 h.2)

@@ -26,7 +26,7 @@ use Rattle.ac_meaning.specs.Acts.{Act, Is, Goes, Turns, Applies, Raises, Wrong, 
 use Rattle.ac_meaning.specs.Brackets.{enclosed, all_enclosed, is_function_value, inside_seal, unsealed_term, at_name, bracket_step}
 use Rattle.ac_meaning.specs.Laws.{IsTypedProgram}
 use Rattle.ac_meaning.specs.Matching.{fit, chosen}
-use Rattle.ac_meaning.specs.Packing.{Packing, Refuses, Packs, packs, packing, Landing, Sinks, Lands, landing, brought, brings, marshal_step, unmarshal_step}
+use Rattle.ac_meaning.specs.Packing.{Packing, Refuses, Packs, packs, packing, Landing, Sinks, Lands, landing, brought, brings, marshal_step, unmarshal_step, raising}
 use Rattle.ac_meaning.specs.PrimitiveSteps.{spelled, primitive, consts_of, answer_at, answered, sending, receiving, exception_of, exception_value, thrown}
 use Rattle.ac_meaning.specs.Rebuilding.{rebuilt}
 use Rattle.ac_meaning.specs.Reduction.{apply, branch, look, look_all, look_main, step}
@@ -34,7 +34,7 @@ use Rattle.ac_meaning.specs.References.{own_field, referred, Route, Nowhere, Onc
 use Rattle.ac_meaning.specs.Substitution.{Written, inst}
 use Rattle.ac_meaning.specs.Typed.{own_type, Typed, AllTyped}
 use Rattle.ac_meaning.specs.TypedStates.{IsTyped}
-use Rattle.ac_meaning.specs.Worlds.{Exception, World, match_failure_exn, counted, fresh}
+use Rattle.ac_meaning.specs.Worlds.{Exception, World, match_failure_exn, counted, fresh, Read, with_crossing}
 use Rattle.ac_meaning.proofs.Admitted.{sound, arrives}
 use Rattle.ac_meaning.proofs.FromTypes.{EachIs, one_is}
 use Rattle.ac_meaning.proofs.Homes.{all_seen, seen_tuple, view_shut, represented, representation_known, view_open, view_again}
@@ -286,12 +286,18 @@ module _ (z : World) (coherent : IsCoherent z.environment) where
   marshal_rules : (c : Home) (m v : Value) (A T : Typ) → TStr ≡ T → ValueOf c TStr E m → Good c T (marshal_step z c A m v)
   marshal_rules c m v A T e h = let s = looks E m c TStr h in subst (λ x. Good c T (marshal_step z c A x v)) (sym s.1) (by s.0 (packing z A s.0 (packed z.environment c v A)) refl)
     where
-      by : (s : Bytes) (p : Packing) → packing z A s (packed z.environment c v A) ≡ p → Good c T (packs p)
+      by : (s : Bytes) (p : Packing) → packing z A s (packed z.environment c v A) ≡ p → Good c T (packs z p)
       by s (Refuses x) q = (comes_within.refused z A s (packed z.environment c v A) x q).0
-      by s (Packs r) q = ap Some e
+      by s (Packs r) q = (grows_not E coherent, ap Some e)
 
-  landed_typed : (c : Home) (A : Typ) (s : Bytes) → AtHome c → IsKnown A → IsSmall (sees c A) → (l : Landing) → landing E A s ≡ l → Good c (sees c A) (brings Coloured z A (brought c A l))
-  landed_typed c A s i k m (Sinks x) q = (comes_within.unfit z c A s x coherent (ap (brought c A) q)).0
+  -- the raise of an exception has the type in whose place it stands
+  raising_rules : (c : Home) (A : Typ) (x : Exception) → IsKnown A → IsSmall (sees c A) → is_exception x.number x.text ≡ true → TermOf c (sees c A) E (raising A x)
+  raising_rules c A x k m i =
+      let e : TermOf c TExn E (Evaluated TExn (exception_value x)) = standing E c (home_scope E c []) TExn TExn (exception_value x) refl refl (ap (λ t. given t (Some TExn)) i) in
+      ap₂ (λ a b. given (has a TExn) (kept_in Coloured b)) e (is_seen E c A k) ∙ keep (sees c A) m
+
+  landed_typed : (c : Home) (A : Typ) (s : Bytes) → AtHome c → IsKnown A → IsSmall (sees c A) → (l : Landing) → landing E A s ≡ l → Good c (sees c A) (brings Coloured (with_crossing (Read s) z) A (brought c A l))
+  landed_typed c A s i k m (Sinks x) q = (grows_not E coherent, raising_rules c A x k m (comes_within.unfit z c A s x coherent (ap (brought c A) q)).0)
   landed_typed c A s i k m (Lands F v) q =
       let g = sound.grows E A s F v coherent q in
       let h = home_more E F g.extends c i in

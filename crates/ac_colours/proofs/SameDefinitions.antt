@@ -1,15 +1,15 @@
--- A step changes the definitions only where unmarshal is next.
+-- A step changes the definitions only where unmarshal is next, and what has crossed only where marshal or unmarshal is.
 use Rattle.std.proofs.Common.{◌≡◌, ◌⊎◌, inl, inr, refl, sym, subst, ℕ, Bool, true, false, cond, [], ◌∷◌, Option, Some, None}
 use Rattle.std.specs.Prelude.{option_map, is_some}
 use Rattle.ac_types.specs.First.{or_else}
 use Rattle.ac_types.specs.Types.{Bytes, Typ, TInt, TBool, TStr, TUnit, TExn, TTuple, TList, TOpt, TFun, TAbs}
-use Rattle.ac_terms.specs.Terms.{Home, Main, Expr, Int, Boolean, Str, Unit', Exn, ExnOf, Tuple, Nil, Empty, Present, Cons, Var, Own, Ref, Lam, Rec, App, Let, If, Seq, Match, Try, Raise, Prim, Marshal, Unmarshal, Val, Evaluated, Bracket, Exprs, no_exprs, expr, Value, VInt, VBool, VStr, VUnit, VExn, VTuple, VNil, VCons, VAbsent, VPresent, VLam, VRec, VProxy, value}
+use Rattle.ac_terms.specs.Terms.{Home, Expr, Int, Boolean, Str, Unit', Exn, ExnOf, Tuple, Nil, Empty, Present, Cons, Var, Own, Ref, Lam, Rec, App, Let, If, Seq, Match, Try, Raise, Prim, Marshal, Unmarshal, Val, Evaluated, Bracket, Exprs, no_exprs, expr, Value, VInt, VBool, VStr, VUnit, VExn, VTuple, VNil, VCons, VAbsent, VPresent, VLam, VRec, VProxy, value}
 use Rattle.ac_code.specs.Constants.{PrimitiveAnswer, Gives, Prints, Sends, Receives, Fails, NoSense}
 use Rattle.ac_rules.specs.Plain.{packed}
 use Rattle.ac_rules.specs.Views.{Mode, opens, representation}
 use Rattle.ac_rules.specs.Typing.{is_function}
 use Rattle.ac_outside.specs.Frames.{Frame, Whole, Bad, AtEnd, next_frame}
-use Rattle.ac_meaning.specs.Worlds.{Exception, World, match_failure_exn}
+use Rattle.ac_meaning.specs.Worlds.{Exception, World, match_failure_exn, Read, with_crossing}
 use Rattle.ac_meaning.specs.Acts.{Act, Is, Goes, Turns, Applies, Raises, Wrong, becomes, or_raises, within, part}
 use Rattle.ac_meaning.specs.Substitution.{inst}
 use Rattle.ac_meaning.specs.Matching.{chosen}
@@ -30,21 +30,37 @@ abbrev pub UnmarshalsNext : Option Redex → Type 0
 UnmarshalsNext None = ⊥
 UnmarshalsNext (Some r) = IsUnmarshalTerm r.term
 
-pub is_unmarshal : (e : Expr) → UnmarshalsNext (Some (record { home = Main; term = e })) → (T : Typ) × (d : Expr) × (e ≡ Unmarshal T d)
-is_unmarshal (Unmarshal T d) h = (T, d, refl)
-is_unmarshal _ h = absurd h
-
 module _ (mode : Mode) (z : World) where
-  -- the definitions stay as they are, or an unmarshal is next
+  -- an unmarshal; or a marshal, in whose step the definitions stay as they are
+  abbrev CrossesAt : World → Expr → Type 0
+  CrossesAt y (Marshal T m e) = y.environment ≡ z.environment
+  CrossesAt y (Unmarshal T e) = Unit {0}
+  CrossesAt y e = ⊥
+
+  abbrev pub CrossesNext : World → Option Redex → Type 0
+  CrossesNext y None = ⊥
+  CrossesNext y (Some r) = CrossesAt y r.term
+
+  -- the definitions and what has crossed stay as they are, or a marshal or an unmarshal is next
   abbrev pub Stays : {S A : Type 0} → Act S A → Option Redex → Type 0
-  Stays (Turns y s) o = (y.environment ≡ z.environment) ⊎ UnmarshalsNext o
+  Stays (Turns y s) o = ((y.environment ≡ z.environment) × (y.crossings ≡ z.crossings)) ⊎ CrossesNext y o
   Stays (Is v) o = Unit {0}
   Stays (Goes s) o = Unit {0}
   Stays (Applies s) o = Unit {0}
   Stays (Raises x) o = Unit {0}
   Stays Wrong o = Unit {0}
 
-  before_it : (y : World) (o p : Option Redex) → (y.environment ≡ z.environment) ⊎ UnmarshalsNext o → (y.environment ≡ z.environment) ⊎ UnmarshalsNext (or_else o p)
+  pub definitions_stay : (y : World) (o : Option Redex) → ((y.environment ≡ z.environment) × (y.crossings ≡ z.crossings)) ⊎ CrossesNext y o → (y.environment ≡ z.environment) ⊎ UnmarshalsNext o
+  definitions_stay y o (inl e) = inl e.0
+  definitions_stay y None (inr u) = absurd u
+  definitions_stay y (Some r) (inr u) = by r.term u
+    where
+      by : (e : Expr) → CrossesAt y e → (y.environment ≡ z.environment) ⊎ IsUnmarshalTerm e
+      by (Marshal T m e) u = inl u
+      by (Unmarshal T e) u = inr tt
+      by _ u = absurd u
+
+  before_it : (y : World) (o p : Option Redex) → ((y.environment ≡ z.environment) × (y.crossings ≡ z.crossings)) ⊎ CrossesNext y o → ((y.environment ≡ z.environment) × (y.crossings ≡ z.crossings)) ⊎ CrossesNext y (or_else o p)
   before_it y o p (inl e) = inl e
   before_it y None p (inr u) = absurd u
   before_it y (Some r) p (inr u) = inr u
@@ -120,36 +136,36 @@ module _ (mode : Mode) (z : World) where
   thrown_stays _ q = tt
 
   received_stays : (o : Frame) (q : Option Redex) → Stays {S = Expr} {A = Value} (receiving spelled o z) q
-  received_stays (Whole s left) q = inl refl
+  received_stays (Whole s left) q = inl (refl, refl)
   received_stays (Bad n got) q = tt
   received_stays AtEnd q = tt
 
   sent_stays : (b : Bool) (s : Bytes) (q : Option Redex) → Stays {S = Expr} {A = Value} (sending spelled b s z) q
-  sent_stays true s q = inl refl
+  sent_stays true s q = inl (refl, refl)
   sent_stays false s q = tt
 
   answer_stays : (a : PrimitiveAnswer) (q : Option Redex) → Stays {S = Expr} {A = Value} (answered spelled z a) q
   answer_stays (Gives k) q = tt
-  answer_stays (Prints s) q = inl refl
+  answer_stays (Prints s) q = inl (refl, refl)
   answer_stays (Sends s) q = sent_stays z.has_channel s q
   answer_stays Receives q = received_stays (next_frame z.input) q
   answer_stays (Fails k s) q = tt
   answer_stays NoSense q = tt
 
-  packs_stays : (p : Packing) (q : Option Redex) → Stays (packs p) q
-  packs_stays (Refuses x) q = tt
-  packs_stays (Packs s) q = tt
+  packs_stays : (c : Home) (T : Typ) (m e : Expr) (p : Packing) → Stays (packs z p) (stands_next c (Marshal T m e))
+  packs_stays c T m e (Refuses x) = tt
+  packs_stays c T m e (Packs s) = inr refl
 
-  marshal_stays : (c : Home) (T : Typ) (m v : Value) (q : Option Redex) → Stays (marshal_step z c T m v) q
-  marshal_stays c T (VStr m) v q = packs_stays (packing z T m (packed z.environment c v T)) q
-  marshal_stays c T _ v q = tt
+  marshal_stays : (c : Home) (T : Typ) (m e : Expr) (v w : Value) → Stays (marshal_step z c T v w) (stands_next c (Marshal T m e))
+  marshal_stays c T m e (VStr mark) w = packs_stays c T m e (packing z T mark (packed z.environment c w T))
+  marshal_stays c T m e _ w = tt
 
-  brings_stays : (c : Home) (T : Typ) (e : Expr) (a : Arrival) → Stays (brings mode z T a) (stands_next c (Unmarshal T e))
-  brings_stays c T e (Unfit x) = tt
-  brings_stays c T e (Brings F v w) = inr tt
+  brings_stays : (y : World) (c : Home) (T : Typ) (e : Expr) (a : Arrival) → Stays (brings mode y T a) (stands_next c (Unmarshal T e))
+  brings_stays y c T e (Unfit x) = inr tt
+  brings_stays y c T e (Brings F v w) = inr tt
 
   unmarshal_stays : (c : Home) (T : Typ) (e : Expr) (v : Value) → Stays (unmarshal_step mode z c T v) (stands_next c (Unmarshal T e))
-  unmarshal_stays c T e (VStr s) = brings_stays c T e (arrival z c T s)
+  unmarshal_stays c T e (VStr s) = brings_stays (with_crossing (Read s) z) c T e (arrival z c T s)
   unmarshal_stays c T e _ = tt
 
   mutual
@@ -186,7 +202,7 @@ module _ (mode : Mode) (z : World) where
         part_stays (Prim k) (λ vs. answered spelled z (primitive k vs)) (redex_all c es) (stands_next c (Prim k es)) (look_all mode z c es) (rest_all mode z es c) (stays_all es c) (λ vs. answer_stays (primitive k vs) (stands_next c (Prim k es)))
     stays (Marshal T m e) c =
         part_stays (λ x. Marshal T x e) (λ v. part (λ y. Marshal T m y) (λ w. marshal_step z c T v w) (look mode z c e)) (redex c m) (or_else (redex c e) (stands_next c (Marshal T m e))) (look mode z c m) (rest mode z m c) (stays m c)
-        (λ v. part_stays (λ y. Marshal T m y) (λ w. marshal_step z c T v w) (redex c e) (stands_next c (Marshal T m e)) (look mode z c e) (rest mode z e c) (stays e c) (λ w. marshal_stays c T v w (stands_next c (Marshal T m e))))
+        (λ v. part_stays (λ y. Marshal T m y) (λ w. marshal_step z c T v w) (redex c e) (stands_next c (Marshal T m e)) (look mode z c e) (rest mode z e c) (stays e c) (λ w. marshal_stays c T m e v w))
     stays (Unmarshal T e) c = part_stays (Unmarshal T) (unmarshal_step mode z c T) (redex c e) (stands_next c (Unmarshal T e)) (look mode z c e) (rest mode z e c) (stays e c) (λ v. unmarshal_stays c T e v)
     stays (Own f) c = becomes_stays (own_field z.environment c f) (stands_next c (Own f))
     stays (Ref j x) c = becomes_stays (referred z.environment j x) (stands_next c (Ref j x))

@@ -9,7 +9,7 @@ use Rattle.ac_rules.specs.Plain.{packed}
 use Rattle.ac_rules.specs.Coherent.{IsCoherent}
 use Rattle.ac_rules.specs.Growth.{Widening}
 use Rattle.ac_rules.proofs.Growth.{extends_not}
-use Rattle.ac_meaning.specs.Worlds.{World, counted, grown}
+use Rattle.ac_meaning.specs.Worlds.{World, counted, grown, Read, with_crossing}
 use Rattle.ac_meaning.specs.Acts.{Act, Is, Goes, Turns, Applies, Raises, Wrong, part, Spent, State, At, Over, after}
 use Rattle.ac_meaning.specs.Packing.{Landing, Sinks, Lands, landing, brought, brings, unmarshal_step}
 use Rattle.ac_meaning.specs.Rebuilding.{rebuilt}
@@ -38,7 +38,7 @@ use Rattle.ac_colours.proofs.OwnText.{speaks, speaks_more, owned_more, fields_ow
 use Rattle.ac_meaning.proofs.MarshalledRead.{marshal_parts}
 use Rattle.ac_colours.proofs.Provenance.{Runs, StateRuns, Given, Taken, told_weaker, take_given, made_string, can_pack, no_took, gave_is, bracket_births}
 use Rattle.ac_colours.proofs.RedexSound.{Sound, sound}
-use Rattle.ac_colours.proofs.SameDefinitions.{UnmarshalsNext, Stays, stays}
+use Rattle.ac_colours.proofs.SameDefinitions.{UnmarshalsNext, Stays, definitions_stay, stays}
 use Rattle.ac_colours.proofs.Says.{OfBirth, Told}
 use Rattle.ac_colours.proofs.ToldGrows.{BornIn, born_more, born_later, told_is, tells, told_grows}
 use Rattle.ac_colours.proofs.Telling.{told_same}
@@ -97,10 +97,14 @@ module _ (S : Texts) (one : AreOne S) (before : List Event) (given : (s : Bytes)
       let s = shape Coloured E v.0 c TStr TStr refl (of_value d c TStr v.0 t.1 t.2.1 v.1) in
       (s.0, v.1 ∙ ap Is s.1)
 
-  unmarshals : (c : Home) (U : Typ) (d : Expr) (s : Bytes) (l : Landing) → look Coloured z c d ≡ Is (VStr s) → landing E U s ≡ l → look Coloured z c (Unmarshal U d) ≡ brings Coloured z U (brought c U l)
-  unmarshals c U d s l q r = ap (part (Unmarshal U) (unmarshal_step Coloured z c U)) q ∙ ap (λ x. brings Coloured z U (brought c U x)) r
+  -- the world in which the string was read
+  abbrev read : Bytes → World
+  read s = with_crossing (Read s) z
 
-  happens : (c : Home) (U : Typ) (d : Expr) (s : Bytes) (l : Landing) → look Coloured z c d ≡ Is (VStr s) → landing E U s ≡ l → happening z c (Unmarshal U d) ≡ taken s (brings Coloured z U (brought c U l))
+  unmarshals : (c : Home) (U : Typ) (d : Expr) (s : Bytes) (l : Landing) → look Coloured z c d ≡ Is (VStr s) → landing E U s ≡ l → look Coloured z c (Unmarshal U d) ≡ brings Coloured (read s) U (brought c U l)
+  unmarshals c U d s l q r = ap (part (Unmarshal U) (unmarshal_step Coloured z c U)) q ∙ ap (λ x. brings Coloured (read s) U (brought c U x)) r
+
+  happens : (c : Home) (U : Typ) (d : Expr) (s : Bytes) (l : Landing) → look Coloured z c d ≡ Is (VStr s) → landing E U s ≡ l → happening z c (Unmarshal U d) ≡ taken s (brings Coloured (read s) U (brought c U l))
   happens c U d s l q r = ap₂ taking q (unmarshals c U d s l q r)
 
   -- what it takes was given
@@ -122,8 +126,8 @@ module _ (S : Texts) (one : AreOne S) (before : List Event) (given : (s : Bytes)
       let y = tells F x.of_home x.of_name x.of_type x.value_inside b j in
       subst (λ d. IsAmong d (births before)) (sym y.3) (each_among (Told F K) x (value_seals v) (value_collected (Told F K) v k) i y.0 y.1 y.2)
 
-  took_landing : (c : Home) (U : Typ) (d : Expr) → Next c (Unmarshal U d) → (s : Bytes) → look Coloured z c d ≡ Is (VStr s) → (l : Landing) → landing E U s ≡ l → (D : Environment) (r : Bytes) (xs : List Seal) → IsAmong (Took D r xs) (taken s (brings Coloured z U (brought c U l))) → Tells D xs
-  took_landing c U d n s q (Sinks x) r D u xs i = λ y j. let e = among_one (Took D u xs) (Took [] s []) i in let none : xs ≡ [] = cc in absurd (not_among y j.0 j.1 (sym none ∙ j.2))
+  took_landing : (c : Home) (U : Typ) (d : Expr) → Next c (Unmarshal U d) → (s : Bytes) → look Coloured z c d ≡ Is (VStr s) → (l : Landing) → landing E U s ≡ l → (D : Environment) (r : Bytes) (xs : List Seal) → IsAmong (Took D r xs) (taken s (brings Coloured (read s) U (brought c U l))) → Tells D xs
+  took_landing c U d n s q (Sinks x) r D u xs i = λ y j. let e = among_one (Took D u xs) (Took E s []) i in let none : xs ≡ [] = cc in absurd (not_among y j.0 j.1 (sym none ∙ j.2))
   took_landing c U d n s q (Lands F v) r D u xs i =
       let w : Value = rebuilt Coloured F c U v in
       let e = among_one (Took D u xs) (Took F s (value_seals w)) i in
@@ -165,7 +169,8 @@ module _ (S : Texts) (one : AreOne S) (before : List Event) (given : (s : Bytes)
       no_gave _ a j = not_among (Gave s) j.0 j.1 j.2
   gave_next c (Marshal U m d) n s i =
       let t = n.is_sound in
-      let x = marshal_parts z c U m d s (look Coloured z c m) (look Coloured z c d) (gave_is s (look Coloured z c (Marshal U m d)) i) in
+      let g = gave_is s (look Coloured z c (Marshal U m d)) i in
+      let x = marshal_parts z g.0 c U m d s (look Coloured z c m) (look Coloured z c d) g.1 in
       let v = x.value in
       let made = made_string z U x.mark s (packed E c v U) x.packs_so in
       let is_typed = of_value d c (as_seen Coloured E c U) v t.1 t.2.2 x.valued in
@@ -215,12 +220,12 @@ module _ (S : Texts) (one : AreOne S) (before : List Event) (given : (s : Bytes)
     bracket_news c b _ d x = tt
 
     module _ (same : (c : Home) (t : Expr) (y : World) (f : Expr) → Next c t → look Coloured z c t ≡ Turns y f → y.environment ≡ F) where
-      landing_news : (c : Home) (U : Typ) (d : Expr) → Next c (Unmarshal U d) → (s : Bytes) → look Coloured z c d ≡ Is (VStr s) → (l : Landing) → landing E U s ≡ l → Brought (Told F L) (brings Coloured z U (brought c U l)) × BroughtOwned (speaks F) c (brings Coloured z U (brought c U l))
-      landing_news c U d n s q (Sinks x) r = (tt, tt)
+      landing_news : (c : Home) (U : Typ) (d : Expr) → Next c (Unmarshal U d) → (s : Bytes) → look Coloured z c d ≡ Is (VStr s) → (l : Landing) → landing E U s ≡ l → Brought (Told F L) (brings Coloured (read s) U (brought c U l)) × BroughtOwned (speaks F) c (brings Coloured (read s) U (brought c U l))
+      landing_news c U d n s q (Sinks x) r = (tt, (tt, tt))
       landing_news c U d n s q (Lands G v) r =
           let w : Value = rebuilt Coloured G c U v in
           let t = its_string c U d n s G v q r in
-          let e : G ≡ F = same c (Unmarshal U d) (grown G z) (Evaluated U w) n (unmarshals c U d s (Lands G v) q r) in
+          let e : G ≡ F = same c (Unmarshal U d) (grown G (read s)) (Evaluated U w) n (unmarshals c U d s (Lands G v) q r) in
           (subst (λ X. ValueSealed (Told X L) w) e (told_weaker G K L more w t.told), (tt, subst (λ X. ValueOwned (speaks X) c w) e (rebuilt_owned (speaks G) G v c U t.owned)))
 
       arriving_news : (c : Home) (U : Typ) (d : Expr) → Next c (Unmarshal U d) → News (Told F L) z c (Unmarshal U d) × NewsOwned (speaks F) z c (Unmarshal U d)
@@ -289,10 +294,13 @@ module _ (S : Texts) (one : AreOne S) (before : List Event) (given : (s : Bytes)
   brings_keep c U d n y f q = let s = string_next c U d n in by s.0 s.1 (landing E U s.0) refl
     where
       by : (s : Bytes) → look Coloured z c d ≡ Is (VStr s) → (l : Landing) → landing E U s ≡ l → Keeps S y.environment
-      by s p (Sinks x) r = let k = sym (unmarshals c U d s (Sinks x) p r) ∙ q in absurd cc
+      by s p (Sinks x) r =
+          let k = sym (unmarshals c U d s (Sinks x) p r) ∙ q in
+          let w : read s ≡ y = cc in
+          subst (Keeps S) (ap (λ (x : World). x.environment) w) h.keeps
       by s p (Lands G v) r =
           let k = sym (unmarshals c U d s (Lands G v) p r) ∙ q in
-          let w : grown G z ≡ y = cc in
+          let w : grown G (read s) ≡ y = cc in
           let t = its_string c U d n s G v p r in
           subst (Keeps S) (ap (λ (x : World). x.environment) w) t.keeps
 
@@ -301,7 +309,7 @@ module _ (S : Texts) (one : AreOne S) (before : List Event) (given : (s : Bytes)
   next_keeps c _ u n y f q = absurd u
 
   keeps_then : (a : Act Expr Value) → look_main Coloured z e ≡ a → Keeps S (then_of a)
-  keeps_then (Turns y f) q = by (subst (λ a. Stays Coloured z a (redex Main e)) q (stays Coloured z e Main))
+  keeps_then (Turns y f) q = by (definitions_stay Coloured z y (redex Main e) (subst (λ a. Stays Coloured z a (redex Main e)) q (stays Coloured z e Main)))
     where
       at_redex : (o : Option Redex) → redex Main e ≡ o → UnmarshalsNext o → Keeps S y.environment
       at_redex None p u = absurd u

@@ -7,10 +7,10 @@ use Rattle.ac_terms.specs.Bounds.{fits_term}
 use Rattle.ac_terms.specs.Names.{text_of_entry}
 use Rattle.ac_rules.specs.Views.{Coloured}
 use Rattle.ac_meaning.specs.Writes.{Channel, written}
-use Rattle.ac_meaning.specs.Worlds.{fresh}
+use Rattle.ac_meaning.specs.Worlds.{Crossing, Made, Read, fresh}
 use Rattle.ac_meaning.specs.Acts.{Outcome, At, Over, iter}
-use Rattle.ac_meaning.specs.Reduction.{step}
-use Rattle.ac_meaning.specs.Laws.{IsTypedProgram, writes_of}
+use Rattle.ac_meaning.specs.Reduction.{step, Ends}
+use Rattle.ac_meaning.specs.Laws.{IsTypedProgram, writes_of, crossings_of}
 use Rattle.ac_colours.specs.Births.{Seal, Event, Gave, Took, events, IsAmong, Birth, told, births}
 
 -- programs, each with its definitions
@@ -33,6 +33,21 @@ IsChain N [] input all = all ≡ []
 IsChain N (p ∷ ps) input all =
     let start = At p.1 (fresh p.0 input true) in
     (k : ℕ) × (o : Outcome Value) × (later : List Event) × (iter (step Coloured N) k start ≡ Over o) × (all ≡ events N k start ++ later) × IsChain N ps (written Channel (writes_of o)) later
+
+-- the same by what stands at each program's end: these journals, in order, each with the strings that crossed in one program
+abbrev pub IsJournalled : ℕ → Programs → Bytes → List (List Crossing) → Type 0
+IsJournalled N [] input journals = journals ≡ []
+IsJournalled N (p ∷ ps) input journals = (o : Outcome Value) × (later : List (List Crossing)) × Ends Coloured p.0 p.1 input true N o × (journals ≡ crossings_of o ∷ later) × IsJournalled N ps (written Channel (writes_of o)) later
+
+-- all of them, one behind the other
+abbrev pub joined : List (List Crossing) → List Crossing
+joined [] = []
+joined (j ∷ js) = j ++ joined js
+
+-- behind what crossed earlier, each string that is read in one of these journals was made earlier, or in front of it in its own
+abbrev pub AreReadNatively : List Crossing → List (List Crossing) → Type 0
+AreReadNatively earlier [] = Unit {0}
+AreReadNatively earlier (j ∷ js) = ((front back : List Crossing) (s : Bytes) → j ≡ front ++ Read s ∷ back → IsAmong (Made s) (earlier ++ front)) × AreReadNatively (earlier ++ j) js
 
 -- each string that is taken was given earlier
 abbrev pub AreNative : List Event → Type 0

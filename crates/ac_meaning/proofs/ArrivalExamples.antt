@@ -16,7 +16,7 @@ use Rattle.ac_terms.proofs.Samples.{number_module, any_m1, pair_type}
 use Rattle.ac_rules.specs.Views.{Mode, Plain, Coloured}
 use Rattle.ac_rules.proofs.Samples.{t}
 use Rattle.ac_meaning.specs.Writes.{Console, written}
-use Rattle.ac_meaning.specs.Worlds.{Exception, fresh}
+use Rattle.ac_meaning.specs.Worlds.{Exception, fresh, Made, with_crossing}
 use Rattle.ac_meaning.specs.Acts.{State, At, Over, Returned, Raised, iter}
 use Rattle.ac_outside.specs.Frames.{frame_of}
 use Rattle.ac_terms.specs.Spelling.{packet_bytes}
@@ -70,7 +70,7 @@ abbrev pair_function : Expr
 pair_function = Lam TUnit (Tuple (exprs (Ref 1 (codes "y") ∷ Ref 3 (codes "z") ∷ [])))
 
 pub the_pair_is_sent :
-    iter (step Coloured 0) 4 (At (Marshal pair_type (Str (codes "MK")) pair_function) (fresh sends_pair [] false)) ≡ Over (Returned (VStr pair_string) (fresh sends_pair [] false))
+    iter (step Coloured 0) 4 (At (Marshal pair_type (Str (codes "MK")) pair_function) (fresh sends_pair [] false)) ≡ Over (Returned (VStr pair_string) (with_crossing (Made pair_string) (fresh sends_pair [] false)))
 unfolding packing
 the_pair_is_sent = refl
 

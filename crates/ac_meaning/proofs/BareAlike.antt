@@ -10,7 +10,7 @@ use Rattle.ac_rules.specs.Plain.{packed}
 use Rattle.ac_rules.specs.Views.{Mode, is_known}
 use Rattle.ac_terms.proofs.AllLaws.{all_append}
 use Rattle.ac_meaning.proofs.PackedAlike.{packed_alike}
-use Rattle.ac_meaning.specs.Worlds.{Exception, World, match_failure_exn, counted, grown}
+use Rattle.ac_meaning.specs.Worlds.{Exception, World, match_failure_exn, counted, grown, Read, with_crossing}
 use Rattle.ac_rules.specs.Growth.{Grows}
 use Rattle.ac_meaning.specs.Packing.{Packing, Refuses, Packs, Arrival, Unfit, Brings, packing, arrival}
 use Rattle.ac_meaning.specs.Substitution.{Written}
@@ -157,9 +157,9 @@ module _ (arrives : Arrives) (mode : Mode) where
   unmarshal_same : (s : Value) (c : Home) (A : Typ) (z : World) → Here z c → Known mode z.environment A → Alike c (full.unmarshals mode c A s z) (lean.unmarshals c A (bare_value c s) z)
   unmarshal_same (VStr s) c A z i k = by (arrival z c A s) refl
     where
-      by : (a : Arrival) → arrival z c A s ≡ a → Alike c (arrived_as (λ v w. v mode) a z) (arrived_as (λ v w. w) a z)
+      by : (a : Arrival) → arrival z c A s ≡ a → Alike c (arrived_as (λ v w. v mode) a (with_crossing (Read s) z)) (arrived_as (λ v w. w) a (with_crossing (Read s) z))
       by (Unfit x) q = refl
-      by (Brings F v w) q = ap (λ x. Fine x (grown F z)) (sym (arrives.alike mode z c A s F v w i.0 i.1 k q))
+      by (Brings F v w) q = ap (λ x. Fine x (grown F (with_crossing (Read s) z))) (sym (arrives.alike mode z c A s F v w i.0 i.1 k q))
   unmarshal_same _ c A z i k = tt
 
   module _ (N : ℕ) (next : Expr → Home → Written → M Value) (next' : Bare → Home → BareWritten → M BareValue) (go : (t : Expr) (c : Home) (G : List Typ) (T : Typ) (us : Written) (z : World) → Here z c → WrittenTyped mode z.environment us c G → Typed mode z.environment t c G T → Good arrives mode z c T (next t c us z)) (same : (t : Expr) (c : Home) (G : List Typ) (T : Typ) (us : Written) (z : World) → Here z c → WrittenTyped mode z.environment us c G → Typed mode z.environment t c G T → Alike c (next t c us z) (next' (bare c t) c (bare_env c us) z)) where

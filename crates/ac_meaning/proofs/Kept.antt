@@ -15,7 +15,7 @@ use Rattle.ac_rules.specs.Views.{Mode, Coloured, opens, representation, view, is
 use Rattle.ac_rules.specs.Typing.{all_of, fields_of}
 use Rattle.ac_rules.specs.Coherent.{IsCoherent}
 use Rattle.ac_terms.proofs.AllLaws.{all_left, all_right, all_append}
-use Rattle.ac_meaning.specs.Worlds.{Exception, World, match_failure_exn, counted, fresh}
+use Rattle.ac_meaning.specs.Worlds.{Exception, World, match_failure_exn, counted, fresh, Read, with_crossing}
 use Rattle.ac_rules.specs.Growth.{Grows}
 use Rattle.ac_outside.specs.Frames.{Frame, Whole, Bad, AtEnd, next_frame}
 use Rattle.ac_meaning.specs.Acts.{Act, Is, Goes, Turns, Applies, Raises, Wrong, becomes, or_raises, within, part, Spent, State, At, Over, after}
@@ -232,15 +232,15 @@ module _ (arrives : Arrives) (mode : Mode) where
     marshal_ok : (c : Home) (m v : Value) (A T : Typ) → T ≡ TStr → ValueTyped mode E m c TStr → Good c T (marshal_step z c A m v)
     marshal_ok c m v A T e h = let s = shape mode E m c TStr TStr refl h in subst (λ x. Good c T (marshal_step z c A x v)) (sym s.1) (by (packing z A s.0 (packed z.environment c v A)))
       where
-        by : (p : Packing) → Good c T (packs p)
+        by : (p : Packing) → Good c T (packs z p)
         by (Refuses x) = tt
-        by (Packs s) = e
+        by (Packs s) = (grows_not E coherent, e)
 
     unmarshal_ok : (c : Home) (v : Value) (A T : Typ) → AtHome c → ValueTyped mode E v c TStr → IsKnown A → T ≡ sees c A → Good c T (unmarshal_step mode z c A v)
     unmarshal_ok c v A T i h k e = let s = shape mode E v c TStr TStr refl h in subst (λ x. Good c T (unmarshal_step mode z c A x)) (sym s.1) (by s.0 (arrival z c A s.0) refl)
       where
-        by : (x : Bytes) (a : Arrival) → arrival z c A x ≡ a → Good c T (brings mode z A a)
-        by x (Unfit y) q = tt
+        by : (x : Bytes) (a : Arrival) → arrival z c A x ≡ a → Good c T (brings mode (with_crossing (Read x) z) A a)
+        by x (Unfit y) q = (grows_not E coherent, (e, (sym (seen_exn E mode c), refl, refl), k))
         by x (Brings F v w) q =
             let g = arrives.grows.grow z c A x F v w coherent q in
             (g, (e ∙ sees_more F c i g A k, subst (λ X. ValueTyped mode F (v mode) c X) (sym (e ∙ sees_more F c i g A k)) (arrives.typed mode z c A x F v w coherent i k q), know_more F g A k))

@@ -16,7 +16,7 @@ use Rattle.ac_rules.specs.Needed.{mark_at}
 use Rattle.ac_rules.specs.Faults.{Fault, AString, first_fault, behind, cut_at, marshalled}
 use Rattle.ac_rules.specs.Coherent.{IsCoherent}
 use Rattle.ac_rules.proofs.FaultLaws.{none_fails}
-use Rattle.ac_meaning.specs.Worlds.{World, fresh}
+use Rattle.ac_meaning.specs.Worlds.{World, fresh, Made, with_crossing}
 use Rattle.ac_meaning.specs.Acts.{Act, Is, Goes, Turns, Applies, Raises, Wrong, parts, State, At, Over, iter, Leads}
 use Rattle.ac_rules.specs.Growth.{Grows}
 use Rattle.ac_meaning.specs.BareTerms.{bare_value}
@@ -128,23 +128,23 @@ pub record Packs' (z : World) (c : Home) (T : Typ) (s : Bytes) (a b : Act Expr V
   pub valued : b ≡ Is value
   pub packs_so : packing z T mark (packed z.environment c value T) ≡ Packs s
 
-packed_string : (p : Packing) (s : Bytes) → packs p ≡ Goes (Str s) → p ≡ Packs s
-packed_string (Refuses x) s e = absurd cc
-packed_string (Packs r) s e = let q : r ≡ s = cc in ap Packs q
+packed_string : (z y : World) (p : Packing) (s : Bytes) → packs z p ≡ Turns y (Str s) → p ≡ Packs s
+packed_string z y (Refuses x) s e = absurd cc
+packed_string z y (Packs r) s e = let q : r ≡ s = cc in ap Packs q
 
-pub marshal_parts : (z : World) (c : Home) (T : Typ) (m w : Expr) (s : Bytes) (a b : Act Expr Value) → parts (Marshal T) m w (marshal_step z c T) a b ≡ Goes (Str s) → Packs' z c T s a b
-marshal_parts z c T m w s (Is (VStr mark)) (Is v) e = record { mark = mark; value = v; marked = refl; valued = refl; packs_so = packed_string (packing z T mark (packed z.environment c v T)) s e }
-marshal_parts z c T m w s (Is _) (Is v) e = absurd cc
-marshal_parts z c T m w s (Is u) (Goes t) e = absurd cc
-marshal_parts z c T m w s (Is u) (Turns y t) e = absurd cc
-marshal_parts z c T m w s (Is u) (Applies t) e = absurd cc
-marshal_parts z c T m w s (Is u) (Raises x) e = absurd cc
-marshal_parts z c T m w s (Is u) Wrong e = absurd cc
-marshal_parts z c T m w s (Goes t) b e = absurd cc
-marshal_parts z c T m w s (Turns y t) b e = absurd cc
-marshal_parts z c T m w s (Applies t) b e = absurd cc
-marshal_parts z c T m w s (Raises x) b e = absurd cc
-marshal_parts z c T m w s Wrong b e = absurd cc
+pub marshal_parts : (z y : World) (c : Home) (T : Typ) (m w : Expr) (s : Bytes) (a b : Act Expr Value) → parts (Marshal T) m w (marshal_step z c T) a b ≡ Turns y (Str s) → Packs' z c T s a b
+marshal_parts z y c T m w s (Is (VStr mark)) (Is v) e = record { mark = mark; value = v; marked = refl; valued = refl; packs_so = packed_string z y (packing z T mark (packed z.environment c v T)) s e }
+marshal_parts z y c T m w s (Is _) (Is v) e = absurd cc
+marshal_parts z y c T m w s (Is u) (Goes t) e = absurd cc
+marshal_parts z y c T m w s (Is u) (Turns x t) e = absurd cc
+marshal_parts z y c T m w s (Is u) (Applies t) e = absurd cc
+marshal_parts z y c T m w s (Is u) (Raises x) e = absurd cc
+marshal_parts z y c T m w s (Is u) Wrong e = absurd cc
+marshal_parts z y c T m w s (Goes t) b e = absurd cc
+marshal_parts z y c T m w s (Turns x t) b e = absurd cc
+marshal_parts z y c T m w s (Applies t) b e = absurd cc
+marshal_parts z y c T m w s (Raises x) b e = absurd cc
+marshal_parts z y c T m w s Wrong b e = absurd cc
 
 -- the string of a packed value: all of the value travels and is short
 pub string_fine : (E : Environment) (mark : Bytes) (T : Typ) (v : PValue) (s : Bytes) → marshalled E mark T v ≡ AString s → Fine (value_heads two_written 1 v)
@@ -181,7 +181,7 @@ marshal_read mode T z e h U s m F g =
     let r = subst (RedexFine mode E) m.is_next (redex_fine mode E e Main T refl h.0.1 h.1.0) in
     let t = r.2 in
     let w = r.3 in
-    let x = marshal_parts z c U m.mark m.packed s (look mode z c m.mark) (look mode z c m.packed) m.gives in
+    let x = marshal_parts z (with_crossing (Made s) z) c U m.mark m.packed s (look mode z c m.mark) (look mode z c m.packed) m.gives in
     let good : ActOk E (λ G d. Typed mode G d c [] (as_seen mode E c U)) (λ G d. ValueTyped mode G d c (as_seen mode E c U)) (look mode z c m.packed) = kept arrives mode z i m.packed c (as_seen mode E c U) r.1 t.2 in
     let typed : ValueTyped mode E x.value c (as_seen mode E c U) = subst (ActOk E (λ G d. Typed mode G d c [] (as_seen mode E c U)) (λ G d. ValueTyped mode G d c (as_seen mode E c U))) x.valued good in
     let within : ValueWithin x.value = subst (ActWithin (Within false) ValueWithin) x.valued (kept_within comes_within mode z i h.1.1 m.packed c w.2) in

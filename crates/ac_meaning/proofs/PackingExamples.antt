@@ -20,10 +20,10 @@ use Rattle.ac_rules.specs.Faults.{Fault, Depth, Function, Size, NoString, behind
 use Rattle.ac_rules.proofs.Samples.{c_t, one_entry}
 use Rattle.ac_rules.proofs.PlainExamples.{increment, b_t}
 use Rattle.ac_meaning.specs.Writes.{Print, Send}
-use Rattle.ac_meaning.specs.Worlds.{World, fresh}
-use Rattle.ac_meaning.specs.Acts.{Act, Goes, Raises, At, Over, Returned, iter}
+use Rattle.ac_meaning.specs.Worlds.{World, fresh, Made, Read, with_crossing}
+use Rattle.ac_meaning.specs.Acts.{Act, Turns, Raises, At, Over, Returned, iter}
 use Rattle.ac_rules.specs.Plain.{packed}
-use Rattle.ac_meaning.specs.Packing.{packing, landing, marshal_step, bare_marshal_step, unmarshal_step, marshal_failure_exn, unmarshal_failure_exn}
+use Rattle.ac_meaning.specs.Packing.{packing, landing, marshal_step, bare_marshal_step, unmarshal_step, marshal_failure_exn, unmarshal_failure_exn, raising}
 use Rattle.ac_meaning.specs.Reduction.{step}
 use Rattle.ac_meaning.specs.BareTerms.{WUnit, bare, bare_value}
 use Rattle.ac_meaning.specs.BareReduction as lean
@@ -49,15 +49,15 @@ send_five = sent_of (Marshal TInt (Str (codes "StdLib")) (number 5))
 abbrev five_world : World
 five_world = fresh (a_mark (codes "StdLib") ∷ []) [] true
 
-pub five_is_sent : iter (step Coloured 0) 4 (At send_five five_world) ≡ Over (Returned VUnit (record five_world { writes = Send five_bytes ∷ [] }))
+pub five_is_sent : iter (step Coloured 0) 4 (At send_five five_world) ≡ Over (Returned VUnit (record five_world { writes = Send five_bytes ∷ []; crossings = Made five_bytes ∷ [] }))
 unfolding packing
 five_is_sent = refl
 
-pub five_is_sent_plain : iter (step Plain 0) 4 (At send_five five_world) ≡ Over (Returned VUnit (record five_world { writes = Send five_bytes ∷ [] }))
+pub five_is_sent_plain : iter (step Plain 0) 4 (At send_five five_world) ≡ Over (Returned VUnit (record five_world { writes = Send five_bytes ∷ []; crossings = Made five_bytes ∷ [] }))
 unfolding packing
 five_is_sent_plain = refl
 
-pub five_is_sent_bare : iter (lean.step 0) 4 (At (bare Main send_five) five_world) ≡ Over (Returned WUnit (record five_world { writes = Send five_bytes ∷ [] }))
+pub five_is_sent_bare : iter (lean.step 0) 4 (At (bare Main send_five) five_world) ≡ Over (Returned WUnit (record five_world { writes = Send five_bytes ∷ []; crossings = Made five_bytes ∷ [] }))
 unfolding packing
 five_is_sent_bare = refl
 
@@ -68,11 +68,11 @@ add_received = print_int (plus (number 3) (Unmarshal TInt receive))
 abbrev in_a_frame : World
 in_a_frame = fresh [] (0 ∷ 0 ∷ 0 ∷ 0x11 ∷ five_bytes) false
 
-pub eight_is_printed : iter (step Coloured 0) 9 (At add_received in_a_frame) ≡ Over (Returned VUnit (record (fresh [] [] false) { writes = Print (codes "8") ∷ [] }))
+pub eight_is_printed : iter (step Coloured 0) 9 (At add_received in_a_frame) ≡ Over (Returned VUnit (record (fresh [] [] false) { writes = Print (codes "8") ∷ []; crossings = Read five_bytes ∷ [] }))
 unfolding int_wrap digits is_reserved landing
 eight_is_printed = refl
 
-pub eight_is_printed_bare : iter (lean.step 0) 9 (At (bare Main add_received) in_a_frame) ≡ Over (Returned WUnit (record (fresh [] [] false) { writes = Print (codes "8") ∷ [] }))
+pub eight_is_printed_bare : iter (lean.step 0) 9 (At (bare Main add_received) in_a_frame) ≡ Over (Returned WUnit (record (fresh [] [] false) { writes = Print (codes "8") ∷ []; crossings = Read five_bytes ∷ [] }))
 unfolding int_wrap digits is_reserved landing
 eight_is_printed_bare = refl
 
@@ -95,20 +95,33 @@ of_nothing = fresh [] [] false
 abbrev opened : Bytes → Act Expr Value
 opened s = unmarshal_step Coloured of_nothing Main TInt (VStr s)
 
-pub no_bytes : opened [] ≡ Raises (unmarshal_failure_exn (codes "format"))
+-- a string that is refused is read all the same: the step becomes the raise in the world that has it
+abbrev refused_so : Bytes → Bytes → Act Expr Value
+refused_so s why = Turns (with_crossing (Read s) of_nothing) (raising TInt (unmarshal_failure_exn why))
+
+pub no_bytes : opened [] ≡ refused_so [] (codes "format")
 unfolding landing
 no_bytes = refl
 
 -- a truth value of 2; another type; a value that isn't of the type
-pub not_a_truth_value : opened (codes "ACUP" ++ 1 ∷ 0 ∷ 0 ∷ 2 ∷ 2 ∷ 2 ∷ []) ≡ Raises (unmarshal_failure_exn (codes "format"))
+abbrev truth_of_two : Bytes
+truth_of_two = codes "ACUP" ++ 1 ∷ 0 ∷ 0 ∷ 2 ∷ 2 ∷ 2 ∷ []
+
+pub not_a_truth_value : opened truth_of_two ≡ refused_so truth_of_two (codes "format")
 unfolding is_reserved landing
 not_a_truth_value = refl
 
-pub another_type : opened (codes "ACUP" ++ 1 ∷ 0 ∷ 0 ∷ 2 ∷ 2 ∷ 1 ∷ []) ≡ Raises (unmarshal_failure_exn (codes "type"))
+abbrev of_bool : Bytes
+of_bool = codes "ACUP" ++ 1 ∷ 0 ∷ 0 ∷ 2 ∷ 2 ∷ 1 ∷ []
+
+pub another_type : opened of_bool ≡ refused_so of_bool (codes "type")
 unfolding is_reserved landing
 another_type = refl
 
-pub another_value : opened (codes "ACUP" ++ 1 ∷ 0 ∷ 0 ∷ 1 ∷ 2 ∷ 1 ∷ []) ≡ Raises (unmarshal_failure_exn (codes "value"))
+abbrev of_no_int : Bytes
+of_no_int = codes "ACUP" ++ 1 ∷ 0 ∷ 0 ∷ 1 ∷ 2 ∷ 1 ∷ []
+
+pub another_value : opened of_no_int ≡ refused_so of_no_int (codes "value")
 unfolding is_reserved landing
 another_value = refl
 
@@ -129,12 +142,14 @@ an_entry = TTuple (typs (TInt ∷ TStr ∷ []))
 abbrev marked : World
 marked = fresh (a_mark (codes "MK") ∷ []) [] false
 
-pub a_list_of_pairs :
-    marshal_step marked Main (TList an_entry) (VStr (codes "MK")) (VCons (VTuple (value (VInt (pos 1)) (value (VStr (codes "a")) no_values))) (VNil (TList an_entry))) ≡
-    Goes (Str (
+abbrev pairs_bytes : Bytes
+pairs_bytes =
     0x41 ∷ 0x43 ∷ 0x55 ∷ 0x50 ∷ 0x01 ∷ 0x00 ∷ 0x00 ∷ 0x07 ∷ 0x06 ∷ 0x02 ∷ 0x01 ∷ 0x03 ∷
     0x07 ∷ 0x00 ∷ 0x00 ∷ 0x00 ∷ 0x01 ∷ 0x06 ∷ 0x02 ∷ 0x01 ∷ 0x00 ∷ 0x00 ∷ 0x00 ∷ 0x00 ∷ 0x00 ∷ 0x00 ∷ 0x00 ∷ 0x01 ∷ 0x03 ∷ 0x00 ∷ 0x00 ∷ 0x00 ∷ 0x01 ∷ 0x61 ∷ []
-    ))
+
+pub a_list_of_pairs :
+    marshal_step marked Main (TList an_entry) (VStr (codes "MK")) (VCons (VTuple (value (VInt (pos 1)) (value (VStr (codes "a")) no_values))) (VNil (TList an_entry))) ≡
+    Turns (with_crossing (Made pairs_bytes) marked) (Str pairs_bytes)
 unfolding packing
 a_list_of_pairs = refl
 
@@ -159,7 +174,7 @@ abbrev wrapped : Value
 wrapped = VLam b_t (App (Ref 1 (codes "f")) (Var 0))
 
 abbrev gives : Act Expr Value → Bool
-gives (Goes (Str s)) = true
+gives (Turns z (Str s)) = true
 gives a = false
 
 pub a_wrapped_function : gives (marshal_step (fresh increments [] false) Main (TFun b_t b_t) (VStr (codes "MK")) wrapped) ≡ true

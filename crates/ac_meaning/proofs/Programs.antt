@@ -19,7 +19,7 @@ after_steps k mode e N = iter (step mode N) k (At e (fresh [] [] false))
 
 -- the world after these prints and so many applications
 abbrev pub printed_by : List Bytes → ℕ → World
-printed_by ss n = record { environment = []; writes = map Print ss; input = []; has_channel = false; made = n }
+printed_by ss n = record { environment = []; writes = map Print ss; crossings = []; input = []; has_channel = false; made = n }
 
 abbrev pub number : ℕ → Expr
 number n = Int (pos n)

@@ -8,7 +8,7 @@ use Rattle.ac_rules.specs.Plain.{packed}
 use Rattle.ac_rules.specs.Views.{Mode, is_known}
 use Rattle.ac_rules.specs.Coherent.{IsCoherent}
 use Rattle.ac_terms.proofs.AllLaws.{all_append}
-use Rattle.ac_meaning.specs.Worlds.{Exception, World, match_failure_exn, counted}
+use Rattle.ac_meaning.specs.Worlds.{Exception, World, match_failure_exn, counted, Read, with_crossing}
 use Rattle.ac_meaning.specs.Substitution.{Written}
 use Rattle.ac_meaning.specs.Matching.{fit}
 use Rattle.ac_meaning.specs.PrimitiveSteps.{answer_at, primitive, exception_value}
@@ -102,7 +102,7 @@ module _ (arrives : Arrives) (mode : Mode) where
       let x = shape mode z.environment s c TStr TStr refl h in
       subst (λ x. Good z c T (unmarshals mode c A x z)) (sym x.1) (by x.0 (arrival z c A x.0) refl)
     where
-      by : (x : Bytes) (a : Arrival) → arrival z c A x ≡ a → Good z c T (arrived_as (λ v w. v mode) a z)
+      by : (x : Bytes) (a : Arrival) → arrival z c A x ≡ a → Good z c T (arrived_as (λ v w. v mode) a (with_crossing (Read x) z))
       by x (Unfit y) q = grows_not z.environment i.0
       by x (Brings F v w) q =
           let g = arrives.grows.grow z c A x F v w i.0 q in

@@ -2,10 +2,10 @@
 use Rattle.std.proofs.Common.{◌≡◌, refl}
 use Rattle.std.specs.Prelude.{pos, false, [], ◌∷◌, None, codes}
 use Rattle.ac_types.specs.Types.{Bytes, Typ, TInt, TStr, TFun}
-use Rattle.ac_terms.specs.Terms.{Main, Expr, Int, Str, Var, Lam, App, Marshal, Unmarshal, KInt, VInt}
+use Rattle.ac_terms.specs.Terms.{Main, Expr, Int, Str, Var, Lam, App, Marshal, Unmarshal, KInt, KFun, VInt}
 use Rattle.ac_terms.specs.Defs.{Environment, AMark, Own'}
 use Rattle.ac_rules.specs.Views.{Mode, Plain, Coloured}
-use Rattle.ac_meaning.specs.Worlds.{fresh}
+use Rattle.ac_meaning.specs.Worlds.{fresh, Made, Read, World, with_crossing}
 use Rattle.ac_meaning.specs.Acts.{Returned, Raised, At, Over, iter}
 use Rattle.ac_meaning.specs.Reduction.{step}
 use Rattle.ac_meaning.specs.BareTerms.{bare, WInt}
@@ -34,17 +34,21 @@ marshals_seven : (mode : Mode) → Marshals mode (fresh marked [] false) seven T
 unfolding packing seven_sent
 marshals_seven mode = record { home = Main; mark = Str (codes "M"); packed = Int (pos 7); is_next = refl; gives = refl }
 
-there_and_back : (mode : Mode) → iter (step mode 0) 3 (At seven (fresh marked [] false)) ≡ Over (Returned (VInt (pos 7)) (fresh marked [] false))
-unfolding packing landing
+-- with this string given, and then read
+abbrev crossed : Bytes → World
+crossed s = with_crossing (Read s) (with_crossing (Made s) (fresh marked [] false))
+
+there_and_back : (mode : Mode) → iter (step mode 0) 3 (At seven (fresh marked [] false)) ≡ Over (Returned (VInt (pos 7)) (crossed seven_sent))
+unfolding packing landing seven_sent
 there_and_back mode = refl
 
-bare_there_and_back : iter (b.step 0) 3 (At (bare Main seven) (fresh marked [] false)) ≡ Over (Returned (WInt (pos 7)) (fresh marked [] false))
-unfolding packing landing
+bare_there_and_back : iter (b.step 0) 3 (At (bare Main seven) (fresh marked [] false)) ≡ Over (Returned (WInt (pos 7)) (crossed seven_sent))
+unfolding packing landing seven_sent
 bare_there_and_back = refl
 
--- at another type it is refused
-refused : (mode : Mode) → iter (step mode 0) 2 (At (Unmarshal TStr (Marshal TInt (Str (codes "M")) (Int (pos 7)))) (fresh marked [] false)) ≡ Over (Raised (unmarshal_failure_exn (codes "type")) (fresh marked [] false))
-unfolding packing landing
+-- at another type it is refused, and read all the same: a step more raises
+refused : (mode : Mode) → iter (step mode 0) 3 (At (Unmarshal TStr (Marshal TInt (Str (codes "M")) (Int (pos 7)))) (fresh marked [] false)) ≡ Over (Raised (unmarshal_failure_exn (codes "type")) (crossed seven_sent))
+unfolding packing landing seven_sent
 refused mode = refl
 
 -- `(unmarshal (marshal "M" (fun (x : int) -> x) : int -> int) as int -> int) 7`: a function travels and is applied, once
@@ -54,7 +58,10 @@ ints = TFun TInt TInt
 abbrev applied : Expr
 applied = App (Unmarshal ints (Marshal ints (Str (codes "M")) (Lam TInt (Var 0)))) (Int (pos 7))
 
-function_travels : (mode : Mode) → iter (step mode 1) 20 (At applied (fresh marked [] false)) ≡ Over (Returned (VInt (pos 7)) (record (fresh marked [] false) { made = 1 }))
-unfolding packing landing
+function_sent : Bytes
+function_sent = sent (packing (fresh marked [] false) ints (codes "M") (KFun Main (Lam TInt (Var 0))))
+
+function_travels : (mode : Mode) → iter (step mode 1) 20 (At applied (fresh marked [] false)) ≡ Over (Returned (VInt (pos 7)) (record (crossed function_sent) { made = 1 }))
+unfolding packing landing function_sent
 function_travels Coloured = refl
 function_travels Plain = refl

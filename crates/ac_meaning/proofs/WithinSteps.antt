@@ -11,7 +11,7 @@ use Rattle.ac_terms.specs.Defs.{Environment}
 use Rattle.ac_rules.specs.Plain.{packed}
 use Rattle.ac_rules.specs.Views.{Mode, opens, representation}
 use Rattle.ac_rules.specs.Coherent.{IsCoherent}
-use Rattle.ac_meaning.specs.Worlds.{Exception, World, match_failure_exn, counted}
+use Rattle.ac_meaning.specs.Worlds.{Exception, World, match_failure_exn, counted, Read, with_crossing}
 use Rattle.ac_meaning.specs.Acts.{Act, Is, Goes, Turns, Applies, Raises, Wrong, becomes, or_raises, part, State, At, Over, Returned, Raised, Spent, Stuck, after}
 use Rattle.ac_meaning.specs.Substitution.{inst}
 use Rattle.ac_meaning.specs.Matching.{chosen}
@@ -138,21 +138,21 @@ module _ (comes : ComesWithin) (mode : Mode) (z : World) (coherent : IsCoherent 
   bracket_within b c (TAbs m u) v h = name_within b m u (representation E m u) v (opens mode E b m) (opens mode E c m) h
   bracket_within b c _ _ h = tt
 
-  packs_within : (p : Packing) → ((x : Exception) → p ≡ Refuses x → RaisedWithin x) → ((s : Bytes) → p ≡ Packs s → is_string s ≡ true) → Good (packs p)
+  packs_within : (p : Packing) → ((x : Exception) → p ≡ Refuses x → RaisedWithin x) → ((s : Bytes) → p ≡ Packs s → is_string s ≡ true) → Good (packs z p)
   packs_within (Refuses x) h k = h x refl
-  packs_within (Packs s) h k = k s refl
+  packs_within (Packs s) h k = (k s refl, written)
 
   marshal_within : (c : Home) (T : Typ) (m v : Value) → Good (marshal_step z c T m v)
   marshal_within c T (VStr mark) v = let p : PValue = packed z.environment c v T in packs_within (packing z T mark p) (λ x e. comes.refused z T mark p x e) (λ s e. comes.packed z T mark p s e)
   marshal_within c T _ v = tt
 
-  brings_within : (T : Typ) (a : Arrival) → ((x : Exception) → a ≡ Unfit x → RaisedWithin x) → ((F : Environment) (v : Mode → Value) (w : BareValue) → a ≡ Brings F v w → ValueWithin (v mode)) → Good (brings mode z T a)
-  brings_within T (Unfit x) h k = h x refl
-  brings_within T (Brings F v w) h k = ((tt, k F v w refl), written)
+  brings_within : (y : World) → WritesWithin y.writes → (T : Typ) → TypeFits T → (a : Arrival) → ((x : Exception) → a ≡ Unfit x → RaisedWithin x) → ((F : Environment) (v : Mode → Value) (w : BareValue) → a ≡ Brings F v w → ValueWithin (v mode)) → Good (brings mode y T a)
+  brings_within y written T t (Unfit x) h k = ((t, (tt, h x refl)), written)
+  brings_within y written T t (Brings F v w) h k = ((tt, k F v w refl), written)
 
-  unmarshal_within : (c : Home) (T : Typ) (v : Value) → Good (unmarshal_step mode z c T v)
-  unmarshal_within c T (VStr s) = brings_within T (arrival z c T s) (λ x e. comes.unfit z c T s x coherent e) (λ F v w e. comes.brought mode z c T s F v w coherent e)
-  unmarshal_within c T _ = tt
+  unmarshal_within : (c : Home) (T : Typ) (v : Value) → TypeFits T → Good (unmarshal_step mode z c T v)
+  unmarshal_within c T (VStr s) t = brings_within (with_crossing (Read s) z) written T t (arrival z c T s) (λ x e. comes.unfit z c T s x coherent e) (λ F v w e. comes.brought mode z c T s F v w coherent e)
+  unmarshal_within c T _ t = tt
 
   own_within : (c : Home) (f : ℕ) (o : Option Expr) → own_field E c f ≡ o → Good (becomes o)
   own_within c f None q = tt
@@ -225,7 +225,7 @@ module _ (comes : ComesWithin) (mode : Mode) (z : World) (coherent : IsCoherent 
     kept_within (Marshal T m e) c h =
         one_part (λ x. Marshal T x e) (λ v. part (λ y. Marshal T m y) (λ w. marshal_step z c T v w) (next c e)) (next c m) (kept_within m c h.1) (λ s p. (h.0, p, h.2))
         (λ v p. one_part (λ y. Marshal T m y) (λ w. marshal_step z c T v w) (next c e) (kept_within e c h.2) (λ s r. (h.0, h.1, r)) (λ w r. marshal_within c T v w))
-    kept_within (Unmarshal T e) c h = one_part (Unmarshal T) (unmarshal_step mode z c T) (next c e) (kept_within e c h.1) (λ s p. (h.0, p)) (λ v p. unmarshal_within c T v)
+    kept_within (Unmarshal T e) c h = one_part (Unmarshal T) (unmarshal_step mode z c T) (next c e) (kept_within e c h.1) (λ s p. (h.0, p)) (λ v p. unmarshal_within c T v h.0)
     kept_within (Own f) c h = own_within c f (own_field E c f) refl
     kept_within (Ref j x) c h = routed_within j (route E j x)
     kept_within (Bracket b T e) c h = one_part (Bracket b T) (bracket_step mode E b c T) (next b e) (kept_within e b h) (λ s p. p) (λ v p. bracket_within b c T v p)

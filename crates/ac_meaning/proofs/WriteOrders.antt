@@ -10,7 +10,7 @@ use Rattle.ac_meaning.specs.Acts.{Act, Is, Goes, Turns, Applies, Raises, Wrong, 
 use Rattle.ac_meaning.specs.Reduction.{look_main, step, Ends}
 use Rattle.ac_meaning.specs.Laws.{writes_of, ComesTo}
 use Rattle.ac_meaning.proofs.Runs.{iter_still}
-use Rattle.ac_meaning.proofs.Changes.{Changes, Writes, Takes, Grown, Keeps, look_keeps}
+use Rattle.ac_meaning.proofs.Changes.{Changes, Writes, Takes, Crosses, Grown, Keeps, look_keeps}
 
 not_nil : (before after : List Write) (w : Write) → [] ≡ before ++ w ∷ after → ⊥
 not_nil [] after w e = absurd cc
@@ -74,7 +74,8 @@ module _ (mode : Mode) (N : ℕ) (before : List Write) (w : Write) where
 
   turned : (t t' : Expr) (z y : World) → look_main mode z t ≡ Turns y t' → Changes z y → Made t' y → Made t z
   turned t t' z y q (Takes left e) m = still t t' z y (ap (after N z) q) (ap (λ (x : World). x.writes) e) m
-  turned t t' z y q (Grown F e) m = still t t' z y (ap (after N z) q) (ap (λ (x : World). x.writes) e) m
+  turned t t' z y q (Crosses x e) m = still t t' z y (ap (after N z) q) (ap (λ (x : World). x.writes) e) m
+  turned t t' z y q (Grown F x e) m = still t t' z y (ap (after N z) q) (ap (λ (x : World). x.writes) e) m
   turned t t' z y q (Writes v e) m = onward t t' z v (q ∙ ap (λ x. Turns x t') e) (subst (Made t') e m)
 
   module _ (rest : List Write) where
@@ -118,7 +119,8 @@ module _ (mode : Mode) (N : ℕ) (o : Outcome Value) (stops : o ≡ Stuck → �
 
   before_change : (z y : World) → Changes z y → GoesOn y.writes → GoesOn z.writes
   before_change z y (Takes left e) h = subst (λ (x : World). GoesOn x.writes) e h
-  before_change z y (Grown F e) h = subst (λ (x : World). GoesOn x.writes) e h
+  before_change z y (Crosses x e) h = subst (λ (x : World). GoesOn x.writes) e h
+  before_change z y (Grown F x e) h = subst (λ (x : World). GoesOn x.writes) e h
   before_change z y (Writes v e) h =
       let goes = subst (λ (x : World). GoesOn x.writes) e h in
       (v ∷ goes.0, goes.1 ∙ append_assoc z.writes (v ∷ []) goes.0)

@@ -3,8 +3,8 @@ use Rattle.std.specs.Prelude.{◌≡◌, ◌⊎◌, Some, codes}
 use Rattle.ac_types.specs.Types.{Bytes, Typ}
 use Rattle.ac_terms.specs.Terms.{Home, Main, Expr, Str, Marshal}
 use Rattle.ac_rules.specs.Views.{Mode}
-use Rattle.ac_meaning.specs.Worlds.{World}
-use Rattle.ac_meaning.specs.Acts.{Goes}
+use Rattle.ac_meaning.specs.Worlds.{Made, World, with_crossing}
+use Rattle.ac_meaning.specs.Acts.{Turns}
 use Rattle.ac_meaning.specs.Packing.{Landing, Lands, Sinks, unmarshal_failure_exn, resolve_failure_exn}
 use Rattle.ac_meaning.specs.Reduction.{look}
 use Rattle.ac_meaning.specs.Redexes.{redex}
@@ -20,4 +20,4 @@ pub record Marshals (mode : Mode) (z : World) (e : Expr) (T : Typ) (s : Bytes) :
   pub mark : Expr
   pub packed : Expr
   pub is_next : redex Main e ≡ Some (record { home = home; term = Marshal T mark packed })
-  pub gives : look mode z home (Marshal T mark packed) ≡ Goes (Str s)
+  pub gives : look mode z home (Marshal T mark packed) ≡ Turns (with_crossing (Made s) z) (Str s)

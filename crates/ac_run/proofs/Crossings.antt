@@ -1,6 +1,6 @@
 -- The machine gets what crosses, or the exception of why nothing does.
-use Rattle.std.proofs.Common.{◌≡◌, inr, ℕ, Bool, false, List, [], Option, Some, None, IsTrue, refl, sym, ap, ◌∙◌, subst, subst₂}
-use Rattle.std.specs.Prelude.{option_map, Ok, Err, OnOk, OnErr}
+use Rattle.std.proofs.Common.{◌≡◌, inr, ℕ, Bool, false, [], Option, Some, None, IsTrue, refl, sym, ap, ◌∙◌, subst, subst₂}
+use Rattle.std.specs.Prelude.{option_map, Err, OnOk, OnErr}
 use Rattle.std.specs.declared.result.Result.{Result}
 use Rattle.ac_types.specs.declared.memory.Memory.{Memory}
 use Rattle.ac_types.specs.Types.{Bytes}
@@ -16,7 +16,7 @@ use Rattle.ac_machine.specs.Seen.{MachineSeen, standing}
 use Rattle.ac_rules.specs.Faults.{Fault, Marshalled, NoString, AString}
 use Rattle.ac_meaning.specs.Worlds.{Exception}
 use Rattle.ac_meaning.specs.ReadExn.{exn_of}
-use Rattle.ac_meaning.specs.Packing.{Packing, Refuses, Packs, answer, of_fault, Landing, Sinks, Lands}
+use Rattle.ac_meaning.specs.Packing.{Refuses, Packs, answer, of_fault, Landing, Sinks, Lands}
 use Rattle.ac_simulation.specs.Running.{with_more}
 use Rattle.ac_crossing.specs.Crossing.{Departs, HasLanded, Enters}
 use Rattle.ac_crossing.specs.declared.fault.CrossFault.{CrossFault}

@@ -15,7 +15,7 @@ use Rattle.ac_machine.specs.Resumes.{resumed, resumed_text, with_raise}
 use Rattle.ac_machine.specs.Seen.{MachineSeen, standing}
 use Rattle.ac_meaning.specs.ReadExn.{exn_of}
 use Rattle.ac_meaning.specs.Worlds.{end_of_file_exn, bad_frame}
-use Rattle.ac_run.specs.Sessions.{Streams, streams}
+use Rattle.ac_run.specs.Sessions.{Streams}
 use Rattle.ac_run.specs.inner.Inboxes.{MayCome, IsLeft, Heard, Comes}
 use Rattle.ac_run.specs.inner.Turns.{Served, HasGotFrame, Received}
 use Rattle.ac_run.specs.declared.end.RunEnd.{RunEnd}

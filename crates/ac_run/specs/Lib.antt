@@ -1,3 +1,4 @@
 pub mod Sessions
 pub mod Course
 pub mod inner
+pub mod Journals

@@ -17,20 +17,24 @@ use Rattle.ac_meaning.specs.Writes.{Write, Print, Send, Console, Channel, writte
 use Rattle.ac_meaning.specs.Worlds.{World, fresh}
 use Rattle.ac_meaning.specs.ReadExn.{exn_of}
 use Rattle.ac_meaning.specs.Acts.{Outcome, Returned, Raised, Spent, Stuck, Leads}
-use Rattle.ac_meaning.specs.Laws.{writes_of}
+use Rattle.ac_meaning.specs.Laws.{writes_of, crossings_of}
 use Rattle.ac_meaning.specs.Reduction.{Ends}
 use Rattle.ac_simulation.specs.Running.{Running, on, machine_step}
 use Rattle.ac_simulation.specs.Alike.{program_block}
+use Rattle.ac_run.specs.Journals.{read_journal, noted, BeginsWith}
+use Rattle.ac_run.specs.declared.crossing.Crossing as code
 use Rattle.ac_run.specs.declared.end.RunEnd.{RunEnd}
 use Rattle.ac_run.specs.declared.end.RunEnd.TheVariants as end
 
--- a session: a program, how many applications it may make, whether it has a channel to send to, its machine, and how its run has ended
+-- a session: a program, how many applications it may make, whether it has a channel to send to, its machine, how its run has ended, and whether it keeps a journal, with what stands in it
 pub record Session : Type 0 where
   pub program : Loaded
   pub steps : ℕ
   pub sends : Bool
   pub machine : MachineSeen
   pub end : Option RunEnd
+  pub keeps : Bool
+  pub journal : List code.Crossing
 
 abbrev pub environment : Session → Environment
 environment s = environment_of s.program.env
@@ -46,13 +50,18 @@ ProgramEnds mode s input o = Ends mode (environment s) (main s) input s.sends s.
 abbrev pub HasInput : Bool → Bytes → Bytes → Type 0
 HasInput told left input = IsTrue told → left ≡ input
 
--- a session's machine has stopped for this reason, and definitions and applications are those of this world
+-- a session's machine has stopped for this reason; definitions and applications are those of this world, and so are the crossings in its journal, if it keeps one
 pub record HasStopped (s : Session) (why : Ask) (z : World) : Type 0 where
   pub able : s.machine.lost ≡ false
   pub core : Core
   pub stands : standing s.machine ≡ standing.At (Paused why core)
   pub counted : core.made ≡ z.made
   pub defines : environment s ≡ z.environment
+  pub noted : read_journal s.journal ≡ noted s.keeps z.crossings
+
+-- a session's journal has the first of the crossings of this end, if it keeps one
+abbrev pub HasNoted : {A : Type 0} → Outcome A → Session → Type 0
+HasNoted o s = BeginsWith (read_journal s.journal) (noted s.keeps (crossings_of o))
 
 -- a session ends so where the reduction ends so, and its machine has stopped accordingly; a fault and want of memory may come on every way
 abbrev pub IsEnd : {A : Type 0} → RunEnd → Outcome A → Session → Type 0
@@ -68,9 +77,9 @@ IsEnd (end.Spent steps) (Returned v z) s = ⊥
 IsEnd (end.Spent steps) (Raised x z) s = ⊥
 IsEnd (end.Spent steps) (Spent z) s = (steps ≡ s.steps) × HasStopped s AskSpent z
 IsEnd (end.Spent steps) Stuck s = ⊥
-IsEnd end.ReadFault o s = Unit {0}
-IsEnd end.WriteFault o s = Unit {0}
-IsEnd end.Memory o s = Unit {0}
+IsEnd end.ReadFault o s = HasNoted o s
+IsEnd end.WriteFault o s = HasNoted o s
+IsEnd end.Memory o s = HasNoted o s
 
 -- console and channel of a world
 pub record Streams : Type 0 where

@@ -1,2 +1,3 @@
 pub mod Inboxes
 pub mod Turns
+pub mod Notes

@@ -17,10 +17,12 @@ use Rattle.ac_meaning.specs.Acts.{Outcome, Stuck, Over, Leads}
 use Rattle.ac_meaning.specs.Laws.{writes_of}
 use Rattle.ac_simulation.specs.Running.{Running, on, machine_step}
 use Rattle.ac_run.specs.Sessions.{Session, environment, Streams, with_writes, StopsIn, StopsBehind, IsEnd, Leaves, AtReceive}
+use Rattle.ac_run.specs.Journals.{read_journal, noted}
 use Rattle.ac_run.specs.inner.Inboxes.{MayCome, IsLeft}
 use Rattle.ac_run.specs.declared.end.RunEnd.{RunEnd}
 use Rattle.ac_run.specs.declared.end.RunEnd.TheVariants as end
 use Rattle.ac_run.specs.declared.inbox.Inbox.{Inbox}
+use Rattle.ac_run.specs.declared.journal.Journal.{Journal}
 
 -- the machine has got this answer
 abbrev pub HasGot : (Core → MState) → MachineSeen → MachineSeen → Type 0
@@ -59,7 +61,7 @@ Received inbox rest input m n (Some end.Memory) = Unit {0}
 abbrev pub AreShort : List Write → Type 0
 AreShort writes = (before after : List Write) (w : Write) → writes ≡ before ++ w ∷ after → length (string_of w) ≤ longest_frame
 
--- where a run stands: its definitions, its code and its machine, and what it has left to read and has written
+-- where a run stands: its definitions, its code and its machine, what it has left to read and has written, and its journal
 pub record Point : Type 0 where
   pub environment : Environment
   pub code : Code
@@ -67,12 +69,13 @@ pub record Point : Type 0 where
   pub inbox : Inbox
   pub left : Bytes
   pub streams : Streams
+  pub journal : Journal
 
-abbrev pub point : Environment → Code → MachineSeen → Inbox → Bytes → Streams → Point
-point E K m inbox left now = record { environment = E; code = K; machine = m; inbox = inbox; left = left; streams = now }
+abbrev pub point : Environment → Code → MachineSeen → Inbox → Bytes → Streams → Journal → Point
+point E K m inbox left now journal = record { environment = E; code = K; machine = m; inbox = inbox; left = left; streams = now; journal = journal }
 
 module _ (sends told : Bool) where
-  -- over coherent definitions a run that began there is on its way to this end, where it isn't stuck and all writes are short, and this is what comes; where that is told, the writes since the start were made
+  -- over coherent definitions a run that began there is on its way to this end, where it isn't stuck and all writes are short, and this is what comes; where that is told, the writes since the start were made; what crossed stands in the journal, if it is kept
   pub record OnItsWay (p : Point) (rest : Bytes) (from : Running) (start : Streams) (o : Outcome (Code × MValue)) : Type 0 where
     pub able : p.machine.lost ≡ false
     pub coherent : IsCoherent p.environment
@@ -87,14 +90,15 @@ module _ (sends told : Bool) where
     pub input : IsLeft p.inbox rest world.input
     pub channel : world.has_channel ≡ sends
     pub so_far : IsTrue told → p.streams ≡ with_writes world.writes start
+    pub crossed : read_journal p.journal.crossings ≡ noted p.journal.keeps world.crossings
 
   -- whatever comes, it is on the way to an end
   abbrev pub CanRun : Point → Type 0
   CanRun p = (rest : Bytes) → MayCome p.inbox told p.left rest → (o : Outcome (Code × MValue)) × (from : Running) × (start : Streams) × OnItsWay p rest from start o
 
-  -- each session with these definitions, this budget and this machine has ended so
+  -- each session with these definitions, this budget, this machine and this journal has ended so
   abbrev pub EndsSo : ℕ → Point → RunEnd → Outcome (Code × MValue) → Type 0
-  EndsSo N p r o = (s : Session) → environment s ≡ p.environment → s.steps ≡ N → s.machine ≡ p.machine → IsEnd r o s
+  EndsSo N p r o = (s : Session) → environment s ≡ p.environment → s.steps ≡ N → s.machine ≡ p.machine → s.keeps ≡ p.journal.keeps → s.journal ≡ p.journal.crossings → IsEnd r o s
 
   -- it is on its way, or has ended
   abbrev pub Turned : ℕ → Point → Bytes → Running → Streams → Outcome (Code × MValue) → Option RunEnd → Type 0

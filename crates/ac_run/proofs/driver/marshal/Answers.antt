@@ -14,15 +14,15 @@ use Rattle.ac_simulation.specs.Stands.{stands as meant}
 use Rattle.ac_run.proofs.Crossings.{taken, string_answers, string_fails_not, fault_gives_none, fault_answers}
 use Rattle.ac_run.proofs.driver.marshal.Goals as goal
 
-pub returns-in-Ok-clause-string : goal.returns-in-Ok-clause-string
-returns-in-Ok-clause-string c = λ s e told now.
+pub returns-in-Ok-made-clause-string : goal.returns-in-Ok-made-clause-string
+returns-in-Ok-made-clause-string c = λ s e told now.
     let q = marshalled (environment_of c.args.env.now) c.args.mark.now.0 (typ_of c.args.ty.now) (bare_packed (environment_of c.args.env.now) (meant (code_of c.args.table.now) (stands_as c.args.machine.now.engine.store c.args.value.now.0)) (typ_of c.args.ty.now)) in
     let over = subst (λ (ns : List Node). Departs (answer (marshalled (environment_of c.args.env.now) c.args.mark.now.0 (typ_of c.args.ty.now) (bare_packed (environment_of c.args.env.now) (meant (code_of c.args.table.now) (stands_as ns c.args.value.now.0)) (typ_of c.args.ty.now)))) (Ok c.in-Ok.text)) c.store.ensures c.in-Ok.ensures in
     string_answers told c.args.machine.now c.resume_text.new.self now c.going.result q c.in-Ok.text.0 over
     (taken told c.args.machine.now c.resume_text.new.self now c.going.result (resumed_text c.in-Ok.text.0) c.resume_text.result c.resume_text.ensures.ok c.going.ensures.ok c.going.ensures.err) s e
 
-pub returns-in-Ok-clause-fault : goal.returns-in-Ok-clause-fault
-returns-in-Ok-clause-fault c = λ f e told now.
+pub returns-in-Ok-made-clause-fault : goal.returns-in-Ok-made-clause-fault
+returns-in-Ok-made-clause-fault c = λ f e told now.
     let q = marshalled (environment_of c.args.env.now) c.args.mark.now.0 (typ_of c.args.ty.now) (bare_packed (environment_of c.args.env.now) (meant (code_of c.args.table.now) (stands_as c.args.machine.now.engine.store c.args.value.now.0)) (typ_of c.args.ty.now)) in
     let over = subst (λ (ns : List Node). Departs (answer (marshalled (environment_of c.args.env.now) c.args.mark.now.0 (typ_of c.args.ty.now) (bare_packed (environment_of c.args.env.now) (meant (code_of c.args.table.now) (stands_as ns c.args.value.now.0)) (typ_of c.args.ty.now)))) (Ok c.in-Ok.text)) c.store.ensures c.in-Ok.ensures in
     string_fails_not told c.args.machine.now c.resume_text.new.self now c.going.result q c.in-Ok.text.0 over f e

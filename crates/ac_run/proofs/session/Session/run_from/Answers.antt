@@ -9,18 +9,20 @@ use Rattle.ac_run.proofs.session.Session.run_from.Goals as goal
 
 pub drive-end-requires : goal.drive-end-requires
 drive-end-requires g c =
-    let before : Session = record { program = c.self.inside.program; steps = c.self.inside.steps; sends = c.self.inside.sends; machine = c.self.inside.machine; end = c.self.inside.end } in
+    let before : Session = record { program = c.self.inside.program; steps = c.self.inside.steps; sends = c.self.inside.sends; machine = c.self.inside.machine; end = c.self.inside.end; keeps = c.self.inside.journal.keeps; journal = c.self.inside.journal.crossings } in
+    let ready = stands_ready (environment_of c.self.inside.program.env) (expr_of c.self.inside.program.main) c.self.inside.steps c.self.inside.table c.self.inside.machine c.self.inside.journal.crossings c.self.inside.end c.in_default.is c.self.invariant in
     can_run before g.W.Source.told c.self.inside.table c.args.inbox (g.W.Source.left c.args.world.now) (streams (g.W.World.console c.args.world.now) (g.W.World.channel c.args.world.now))
-    (stands_ready (environment_of c.self.inside.program.env) (expr_of c.self.inside.program.main) c.self.inside.steps c.self.inside.table c.self.inside.machine c.self.inside.end c.in_default.is c.self.invariant)
+    c.self.inside.journal ready.1 ready.0
 
 pub returns-clause-ends : goal.returns-clause-ends
 returns-clause-ends g c = λ none.
     let old = streams (g.W.World.console c.args.world.now) (g.W.World.channel c.args.world.now) in
     let new = streams (g.W.World.console c.drive-end.new.world) (g.W.World.channel c.drive-end.new.world) in
-    let before : Session = record { program = c.self.inside.program; steps = c.self.inside.steps; sends = c.self.inside.sends; machine = c.self.inside.machine; end = c.self.inside.end } in
-    let after : Session = record { program = record c.self.inside.program { env = c.drive-end.new.env }; steps = c.self.inside.steps; sends = c.self.inside.sends; machine = c.drive-end.new.machine; end = Some c.twice-end.result.1 } in
+    let before : Session = record { program = c.self.inside.program; steps = c.self.inside.steps; sends = c.self.inside.sends; machine = c.self.inside.machine; end = c.self.inside.end; keeps = c.self.inside.journal.keeps; journal = c.self.inside.journal.crossings } in
+    let ready = stands_ready (environment_of c.self.inside.program.env) (expr_of c.self.inside.program.main) c.self.inside.steps c.self.inside.table c.self.inside.machine c.self.inside.journal.crossings c.self.inside.end c.in_default.is c.self.invariant in
+    let after : Session = record { program = record c.self.inside.program { env = c.drive-end.new.env }; steps = c.self.inside.steps; sends = c.self.inside.sends; machine = c.drive-end.new.machine; end = Some c.twice-end.result.1; keeps = c.drive-end.new.journal.keeps; journal = c.drive-end.new.journal.crossings } in
     subst (λ s. (first : Bytes) × MayCome c.args.inbox g.W.Source.told (g.W.Source.left c.args.world.now) first × ((input : Bytes) → IsLeft c.args.inbox first input → RunsTo g.W.Source.told s after input c.twice-end.result.0 old new)) c.self.view_is
     (run_done before g.W.Source.told c.self.inside.table c.args.inbox (g.W.Source.left c.args.world.now) old
-    (stands_ready (environment_of c.self.inside.program.env) (expr_of c.self.inside.program.main) c.self.inside.steps c.self.inside.table c.self.inside.machine c.self.inside.end c.in_default.is c.self.invariant)
-    after (environment_of c.drive-end.new.env) (code_of c.drive-end.new.table) c.drive-end.new.inbox (g.W.Source.left c.drive-end.new.world) new c.drive-end.result refl refl
+    c.self.inside.journal ready.1 ready.0
+    after (environment_of c.drive-end.new.env) (code_of c.drive-end.new.table) c.drive-end.new.inbox (g.W.Source.left c.drive-end.new.world) new c.drive-end.new.journal c.drive-end.result refl refl refl refl
     c.twice-end.result.0 c.twice-end.ensures.is c.drive-end.ensures.ends)
