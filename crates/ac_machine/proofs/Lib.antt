@@ -2,6 +2,7 @@ pub mod BindLaws
 pub mod CallLaws
 pub mod EachLaws
 pub mod FieldLaws
+pub mod GivingLaws
 pub mod HeldLaws
 pub mod PatternLaws
 pub mod PrimitiveLaws

@@ -1,6 +1,6 @@
 // Calls and returns.
 
-ghost use Rattle.std.specs.Prelude.{◌≡◌, ◌<◌, length, cond, get_or, [], ◌∷◌, IfOk};
+ghost use Rattle.std.specs.Prelude.{◌≡◌, ◌<◌, length, cond, get_or, [], ◌∷◌, IfOk, IfSome};
 ghost use Rattle.ac_values.specs.Values.{MMore, stands_as, values};
 ghost use Rattle.ac_machine.specs.States.{Run};
 ghost use Rattle.ac_machine.specs.Machine.{applies, returns, going_back};
@@ -12,7 +12,7 @@ use crate::pause::Pause;
 use ac_code::CodeId;
 use ac_types::Memory;
 use ac_values::read::closure_in;
-use ac_values::{Node, Value};
+use ac_values::{Node, Store, Value};
 
 impl Engine {
     /// Calls the closure below the argument on the stack, or stops in front of an application past
@@ -50,15 +50,28 @@ impl Engine {
             (cond recursive (MMore (stands_as self.old.store function.0) (stands_as self.old.store env.0))
             (stands_as self.old.store env.0))) }
     {
-        if recursive {
-            self.add(Node::EnvCons(function, env))
-        } else {
-            Ok(env)
+        if !recursive {
+            return Ok(env);
+        }
+        match env_behind(&self.store, function, env) {
+            Some(own) => Ok(own),
+            None => self.add(Node::EnvCons(function, env)),
         }
     }
 
     /// Starts a block with an environment, and keeps where the one that runs goes on.
     pub fn enter(&mut self, block: CodeId, env: Value, keeps: bool) -> Result<Step, Memory>
+        requires sound { Sound self.old }
+        requires env { env.0 < length self.old.store }
+        ensures { IfOk result (λ s. Does self.new s
+            (Run (entering keeps block.0 (stands_as self.old.store env.0) (core self.old)))) }
+    {
+        self.give_back();
+        let step = self.enter_here(block, env, keeps)?;
+        Ok(step)
+    }
+
+    fn enter_here(&mut self, block: CodeId, env: Value, keeps: bool) -> Result<Step, Memory>
         requires sound { Sound self.old }
         requires env { env.0 < length self.old.store }
         ensures { IfOk result (λ s. Does self.new s
@@ -79,6 +92,16 @@ impl Engine {
 
     /// Goes back to the newest frame; the value of a field is kept.
     pub fn return_back(&mut self) -> Result<Step, Memory>
+        requires sound { Sound self.old }
+        ensures { IfOk result (λ s. Does self.new s
+            (returns (core self.old).frames (core self.old))) }
+    {
+        self.give_back();
+        let step = self.return_here()?;
+        Ok(step)
+    }
+
+    fn return_here(&mut self) -> Result<Step, Memory>
         requires sound { Sound self.old }
         ensures { IfOk result (λ s. Does self.new s
             (returns (core self.old).frames (core self.old))) }
@@ -111,5 +134,29 @@ impl Engine {
         self.at.env = frame.env;
         self.at.frames = rest;
         Step::On
+    }
+}
+
+// The environment of a recursive closure, where it stands behind the closure's own node.
+fn env_behind(store: &Store, function: Value, env: Value) -> Option<Value>
+    requires { function.0 < length store.now }
+    ensures { IfSome result (λ v. (v.0 < length store.now) ×
+        (stands_as store.now v.0 ≡ MMore (stands_as store.now function.0)
+        (stands_as store.now env.0))) }
+{
+    let count = store.len();
+    let next = Value(function.0 + 1);
+    if next.0 >= count {
+        return None;
+    }
+    match store.node(next) {
+        Some(Node::EnvCons(newest, rest)) => {
+            if newest.0 == function.0 && rest.0 == env.0 {
+                Some(next)
+            } else {
+                None
+            }
+        }
+        _ => None,
     }
 }

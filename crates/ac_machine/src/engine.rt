@@ -79,6 +79,15 @@ impl Engine {
     pub fn start(alloc: Global, main: CodeId, budget: u64) -> Result<Engine, Memory>
         ensures { IfOk result (λ m. Sound m × (core m ≡ beginning main.0 budget)) }
     {
+        let mut engine = Engine::bare(alloc, main, budget)?;
+        engine.make_constants()?;
+        Ok(engine)
+    }
+
+    // One whose store has the empty environment alone.
+    fn bare(alloc: Global, main: CodeId, budget: u64) -> Result<Engine, Memory>
+        ensures { IfOk result (λ m. Sound m × (core m ≡ beginning main.0 budget)) }
+    {
         let mut store = Store::new(alloc);
         let empty = store.push(Node::EnvEnd)?;
         Ok(Engine {

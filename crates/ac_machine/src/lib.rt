@@ -2,9 +2,11 @@
 #![tactic(auto)]
 
 mod calls;
+mod constants;
 pub mod engine;
 mod fields;
 mod fits;
+mod giving;
 mod handlers;
 mod jumps;
 mod machine;

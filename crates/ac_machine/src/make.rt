@@ -1,12 +1,12 @@
 // Instructions that push constants and make values.
 
-ghost use Rattle.std.specs.Prelude.{◌≡◌, ◌<◌, IfOk, None, Some};
+ghost use Rattle.std.specs.Prelude.{◌≡◌, ◌<◌, length, IfOk, None, Some};
 ghost use Rattle.ac_terms.specs.PrimitiveTypes.{has_text};
-ghost use Rattle.ac_values.specs.Values.{MStr, MClosure, MEnd};
+ghost use Rattle.ac_values.specs.Values.{MStr, MClosure, MEnd, stands_as};
 ghost use Rattle.ac_machine.specs.States.{Run, push_value};
 ghost use Rattle.ac_machine.specs.Machine.{makes_exn, makes_some, makes_cons, makes_tuple};
 ghost use Rattle.ac_machine.specs.Held.{core, Sound};
-ghost use Rattle.ac_machine.specs.inner.Steps.{Does};
+ghost use Rattle.ac_machine.specs.inner.Steps.{Does, Grown};
 
 use crate::engine::{EMPTY, Engine, Step};
 use ac_code::CodeId;
@@ -39,12 +39,8 @@ impl Engine {
         ensures { IfOk result (λ s. Does self.new s
             (Run (push_value (MClosure block.0 recursive (core self.old).env) (core self.old)))) }
     {
-        let env = self.at.env;
-        self.push_node(Node::Closure {
-            block,
-            recursive,
-            env,
-        })
+        let v = self.add_closure(block, recursive, self.at.env)?;
+        self.push(v)
     }
 
     /// Pushes a closure of a block with the empty environment.
@@ -53,11 +49,28 @@ impl Engine {
         ensures { IfOk result (λ s. Does self.new s
             (Run (push_value (MClosure block.0 recursive MEnd) (core self.old)))) }
     {
-        self.push_node(Node::Closure {
+        let v = self.add_closure(block, recursive, EMPTY)?;
+        self.push(v)
+    }
+
+    // Adds a closure, and behind a recursive one the environment in which it stands itself.
+    #[tactic(auto, using(crate::proofs::HeldLaws::grown_more))]
+    fn add_closure(&mut self, block: CodeId, recursive: bool, env: Value) -> Result<Value, Memory>
+        requires sound { Sound self.old }
+        requires env { env.0 < length self.old.store }
+        ensures { IfOk result (λ v. Grown self.old self.new v
+            (MClosure block.0 recursive (stands_as self.old.store env.0))) }
+    {
+        let function = self.add(Node::Closure {
             block,
             recursive,
-            env: EMPTY,
-        })
+            env,
+        })?;
+        if !recursive {
+            return Ok(function);
+        }
+        self.add(Node::EnvCons(function, env))?;
+        Ok(function)
     }
 
     /// Pushes an exception, with the string on the stack where its number asks for one.

@@ -76,8 +76,8 @@ impl Engine {
         ensures { IfOk result (λ s. Does self.new s (answers (answer_of answer) (core self.old))) }
     {
         match answer {
-            Answer::Int(n) => self.push_node(Node::Int(n)),
-            Answer::Bool(b) => self.push_node(Node::Bool(b)),
+            Answer::Int(n) => self.push_int(n),
+            Answer::Bool(b) => self.push_bool(b),
             Answer::Str(text) => self.push_node(Node::Str(text)),
             Answer::Print(text) => Ok(Step::Pausing(Pause::Print(text))),
             Answer::Send(text) => Ok(Step::Pausing(Pause::Send(text))),

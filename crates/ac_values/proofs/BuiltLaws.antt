@@ -1,6 +1,7 @@
 -- Laws of tables that are made from lists.
 use Rattle.std.specs.Prelude.{ℕ, ◌≡◌, ◌<◌, ◌+◌, List, [], ◌∷◌, ◌++◌, length, get_or, suc, zero, Some, slice_get, refl}
-use Rattle.std.proofs.Common.{sym, ◌∙◌, subst, length-append, arith}
+use Rattle.std.proofs.Common.{◌≤◌, ap, sym, ◌∙◌, subst, take, take-take, take_all, length-append, arith}
+use Rattle.std.proofs.lemmas.List.{take-append-le}
 use Rattle.std.proofs.Math.Seq.{get_or-append_seam}
 use Rattle.std.proofs.Math.ListN.{get_or-append}
 use Rattle.ac_values.specs.Building.{built}
@@ -19,6 +20,28 @@ module _ {A B : Type 0} (make : List B → A → B) where
   built-keeps bs [] k d h = refl
   built-keeps bs (x ∷ xs) k d h =
       built-keeps (bs ++ make bs x ∷ []) xs k d (omega (arith, length-append bs (make bs x ∷ []))) ∙ get_or-append bs (make bs x ∷ []) d k h
+
+  -- the first entries are those that were there
+  pub built-front : (bs : List B) (as' : List A) → take (length bs) (built make bs as') ≡ bs
+  built-front bs [] = take_all (length bs) bs (omega arith)
+  built-front bs (x ∷ xs) =
+      let cs = bs ++ make bs x ∷ [] in
+      let longer : length bs ≤ length cs = omega (arith, length-append bs (make bs x ∷ [])) in
+      sym (take-take (length bs) (length cs) (built make cs xs) longer) ∙ ap (take (length bs)) (built-front cs xs)
+      ∙ take-append-le (length bs) bs (make bs x ∷ []) (omega arith) ∙ take_all (length bs) bs (omega arith)
+
+  -- the table of the first items
+  pub built-take : (bs : List B) (as' : List A) (n : ℕ) → built make bs (take n as') ≡ take (length bs + n) (built make bs as')
+  built-take bs [] zero = sym (take_all (length bs + 0) bs (omega arith))
+  built-take bs [] (suc n) = sym (take_all (length bs + suc n) bs (omega arith))
+  built-take bs (x ∷ xs) zero =
+      let zeroth : length bs + 0 ≡ length bs = omega arith in
+      rw zeroth (sym (built-front bs (x ∷ xs)))
+  built-take bs (x ∷ xs) (suc n) =
+      let cs = bs ++ make bs x ∷ [] in
+      let longer : length cs ≡ length bs + 1 = length-append bs (make bs x ∷ []) in
+      let shift : length cs + n ≡ length bs + suc n = omega (arith, longer) in
+      built-take cs xs n ∙ ap (λ k. take k (built make cs xs)) shift
 
   module _ (Fits : ℕ → A → Type 0) (d : B)
       (near : (bs cs : List B) (n : ℕ) (a : A) → Fits n a → ((k : ℕ) → k < n → get_or bs k d ≡ get_or cs k d) → make bs a ≡ make cs a) where

@@ -1,7 +1,8 @@
 -- Laws of lists that share their tails.
-use Rattle.std.proofs.Common.{◌≡◌, ◌⊎◌, inl, inr, ℕ, zero, suc, ◌<◌, ◌≤◌, ◌+◌, List, [], ◌∷◌, ◌++◌, Some, None, slice_get, length, get_or, refl, sym, ap, arith, length-append, subst}
+use Rattle.std.proofs.Common.{◌≡◌, ◌⊎◌, inl, inr, ℕ, zero, suc, ◌<◌, ◌≤◌, ◌+◌, List, [], ◌∷◌, ◌++◌, Some, None, slice_get, length, get_or, take, refl, sym, ap, arith, length-append, subst, ◌-◌, ◌∙◌}
 use Rattle.ac_values.specs.declared.chain.Cell.{Cell}
-use Rattle.ac_values.proofs.BuiltLaws.{built-push, length-built, built-keeps, built-at}
+use Rattle.ac_values.proofs.BuiltLaws.{built-push, length-built, built-keeps, built-at, built-take}
+use Rattle.ac_values.specs.Building.{built}
 use Rattle.ac_values.specs.inner.Chains.{list_of, lists, AreEarlier}
 
 pub length_lists : {T : Type 0} (cs : List (Cell T)) → length (lists cs) ≡ suc (length cs)
@@ -57,6 +58,27 @@ none_past (x ∷ xs) (suc k) e = omega (arith, none_past xs k e)
 pub length_pushed : {T : Type 0} (cs : List (Cell T)) (d : Cell T) → length (cs ++ d ∷ []) ≡ length (lists cs)
 length_pushed cs d = let l = length_lists cs in omega (arith, l, length-append cs (d ∷ []))
 
+-- the first lists are those of the first cells
+pub lists_take : {T : Type 0} (cs : List (Cell T)) (n : ℕ) → 0 < n → lists (take (n - 1) cs) ≡ take n (lists cs)
+unfolding lists
+lists_take cs n h =
+    let all : 1 + (n - 1) ≡ n = omega arith in
+    built-take list_of ([] ∷ []) cs (n - 1) ∙ ap (λ k. take k (built list_of ([] ∷ []) cs)) all
+
+slice_get_take : {T : Type 0} (cs : List T) (n k : ℕ) (c : T) → slice_get (take n cs) k ≡ Some c → slice_get cs k ≡ Some c
+slice_get_take [] zero k c e = e
+slice_get_take [] (suc n) k c e = e
+slice_get_take (x ∷ xs) zero k c e = absurd (cc)
+slice_get_take (x ∷ xs) (suc n) zero c e = e
+slice_get_take (x ∷ xs) (suc n) (suc k) c e = slice_get_take xs n k c e
+
+pub earlier_take : {T : Type 0} (cs : List (Cell T)) (n : ℕ) → AreEarlier cs → AreEarlier (take n cs)
+earlier_take cs n o k c e = o k c (slice_get_take cs n k c e)
+
 pub ruleset push_laws = (lists_push, length_lists, earlier_push, length_pushed)
 
 pub ruleset top_laws = (list_zero, none_past, cell_at, length_lists)
+
+pub ruleset len_laws = (list_zero, length_lists)
+
+pub ruleset truncate_laws = (lists_take, earlier_take)

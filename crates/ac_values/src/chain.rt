@@ -1,6 +1,7 @@
-ghost use Rattle.std.specs.Prelude.{◌≡◌, ◌++◌, ◌∷◌, [], ◌<◌, length, get_or, OnOk, OnErr, IfOk, MatchOption};
+ghost use Rattle.std.specs.Prelude.{◌≡◌, ◌++◌, ◌∷◌, [], ◌<◌, length, get_or, take, slice_get, OnOk, OnErr, IfOk, MatchOption};
+ghost use Rattle.std.specs.Option.{option_copied};
 
-use ac_types::{Many, Memory};
+use ac_types::Memory;
 use std::alloc::Global;
 use std::marker::Model;
 
@@ -14,7 +15,7 @@ struct Cell<T> {
 /// Lists that share their tails, each with a number. List 0 is empty.
 #[derive(Drop)]
 pub struct Chain<T> {
-    cells: Many<Cell<T>>,
+    cells: Vec<Cell<T>>,
 }
 
 impl<T> Model for Chain<T> {
@@ -27,9 +28,9 @@ impl<T> Model for Chain<T> {
 
     ghost use Rattle.ac_values.specs.inner.Chains.{lists, AreEarlier};
 
-    ghost view = { λ c. lists c.cells };
+    ghost view = { λ c. lists c.cells.items };
 
-    ghost invariant = { λ c. AreEarlier c.cells };
+    ghost invariant = { λ c. AreEarlier c.cells.items };
 }
 
 impl<T: Copy> Chain<T> {
@@ -39,8 +40,27 @@ impl<T: Copy> Chain<T> {
         ensures { result ≡ [] ∷ [] }
     {
         Chain {
-            cells: Many::new(alloc),
+            cells: Vec::new(alloc),
         }
+    }
+
+    /// How many lists there are.
+    #[tactic(auto, using(crate::proofs::ChainLaws::len_laws))]
+    pub fn len(&self) -> usize
+        ensures count { result ≡ length self.now }
+        ensures first { get_or self.now 0 [] ≡ [] }
+    {
+        let cells = &self.cells;
+        cells.len() + 1
+    }
+
+    /// Gives back all lists but the first so many.
+    #[tactic(auto, using(crate::proofs::ChainLaws::truncate_laws))]
+    pub fn truncate(&mut self, count: usize)
+        requires { 0 < count }
+        ensures { self.new ≡ take count self.old }
+    {
+        self.cells.truncate(count - 1);
     }
 
     /// One more list: an item on an older one.
@@ -66,9 +86,15 @@ impl<T: Copy> Chain<T> {
         if number == 0 {
             return None;
         }
-        match cells.get(number - 1) {
+        match cell_of(cells, number - 1) {
             Some(cell) => Some((cell.item, cell.below)),
             None => None,
         }
     }
+}
+
+fn cell_of<T>(cells: &Vec<Cell<T>>, i: usize) -> Option<&Cell<T>>
+    ensures { option_copied result ≡ slice_get cells.now.items i }
+{
+    cells.get(i)
 }

@@ -1,5 +1,5 @@
 use Rattle.ac_machine.proofs.HeldLaws.{enter_does}
-use Rattle.ac_machine.proofs.engine.Engine.enter.Goals as goal
+use Rattle.ac_machine.proofs.engine.Engine.enter_here.Goals as goal
 
 pub returns : goal.returns
 returns c =

@@ -2,7 +2,7 @@ use Rattle.std.proofs.Common.{refl, ◌∙◌, ap, List, [], ◌∷◌, ◌++◌
 use Rattle.ac_values.specs.declared.node.Node.{Node}
 use Rattle.ac_values.specs.declared.node.Node.TheVariants.{EnvEnd}
 use Rattle.ac_machine.proofs.HeldLaws.{started}
-use Rattle.ac_machine.proofs.engine.Engine.start.Goals as goal
+use Rattle.ac_machine.proofs.engine.Engine.bare.Goals as goal
 
 pub returns : goal.returns
 returns c =
