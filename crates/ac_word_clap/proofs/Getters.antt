@@ -1,9 +1,9 @@
 -- What the getters of the matches answer, by what was given.
 use Rattle.std.proofs.Common.{◌≡◌, ◌∙◌, sym, ap, refl, List, map, Option, Some, None}
-use Rattle.std.specs.Prelude.{find, option_and_then, option_map, slice_get}
+use Rattle.std.specs.Prelude.{find, is_some, option_and_then, option_map, slice_get}
 use Rattle.std.specs.Str.{bytes_eq}
-use Rattle.clap.proofs.WalkLemmas.{find-map, first_value-rows}
-use Rattle.clap.specs.Words.{Row, all_of, first_of, first_value, found_of}
+use Rattle.clap.proofs.WalkLemmas.{find-map, first_value-rows, raw_values-rows}
+use Rattle.clap.specs.Words.{Row, all_of, first_of, first_value, found_of, matched_of, raw_values}
 use Rattle.clap.specs.declared.parser.matches.ArgMatches.{ArgMatches}
 use Rattle.ac_words.specs.Form.{Given, Text}
 use Rattle.ac_words.specs.WordValues.{all_in, first_in}
@@ -39,3 +39,15 @@ pub first_found : (m : ArgMatches) (g : Given) (id : Text) → rows_in m ≡ map
 first_found m g id e =
     first_value-rows (found_of m) id ∙ ap (first_of id) e ∙ first_rows (map row g) id
     ∙ ap (option_and_then (λ values. slice_get values 0)) (all_rows g id)
+
+-- `get_strs` answers all values
+pub all_found : (m : ArgMatches) (g : Given) (id : Text) → rows_in m ≡ map row g → option_map raw_values (matched_of (found_of m) id) ≡ all_in id g
+all_found m g id e = raw_values-rows (found_of m) id ∙ ap (all_of id) e ∙ all_rows g id
+
+some_mapped : {X Y : Type 0} (f : X → Y) (o : Option X) → is_some o ≡ is_some (option_map f o)
+some_mapped f None = refl
+some_mapped f (Some x) = refl
+
+-- `contains_id` answers whether it was given
+pub whether_found : (m : ArgMatches) (g : Given) (id : Text) → rows_in m ≡ map row g → is_some (matched_of (found_of m) id) ≡ is_some (all_in id g)
+whether_found m g id e = some_mapped raw_values (matched_of (found_of m) id) ∙ ap is_some (all_found m g id e)

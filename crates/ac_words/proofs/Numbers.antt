@@ -54,3 +54,16 @@ read_err t e least most plus h fits = go (is_decimal t) (nat_le (digits_value 10
         let below = leb-true (digits_value 10 t) most e in
         let h' = rw plus at h in
         absurd (h' ((ltb-true _ _ parts.0, digits_from t parts.1), omega arith))
+
+-- a number that is read is at most the greatest
+pub read_most : (t : List ℕ) (n least most : ℕ) → Some n ≡ number_in least most t → n ≤ most
+read_most t n least most is = go (is_decimal t) (nat_le least (digits_value 10 t)) (nat_le (digits_value 10 t) most) refl refl refl
+  where
+    go : (d l m : Bool) → is_decimal t ≡ d → nat_le least (digits_value 10 t) ≡ l → nat_le (digits_value 10 t) most ≡ m → n ≤ most
+    go false l m x y z = let none : Some n ≡ None = rw x at is in absurd cc
+    go true false m x y z = let none : Some n ≡ None = rw (x, y) at is in absurd cc
+    go true true false x y z = let none : Some n ≡ None = rw (x, y, z) at is in absurd cc
+    go true true true x y z =
+        let some : Some n ≡ Some (digits_value 10 t) = rw (x, y, z) at is in
+        let same : n ≡ digits_value 10 t = cc in
+        omega (arith, same, leb-true (digits_value 10 t) most z)

@@ -1,15 +1,22 @@
 //! The commands, and the values of their words.
-ghost use Rattle.std.specs.Prelude.{◌≡◌, ◌==◌, option_map, slice_index};
-ghost use Rattle.ac_words.specs.Commands.{are_one, channel_in, channel_named, channel_of, files_of, program_by, request_of, run_by, shelf_in, steps_in};
+ghost use Rattle.std.specs.Prelude.{◌≡◌, ◌==◌, IfOk, map, option_map, slice_index};
+ghost use Rattle.std.specs.List.{list_all};
+ghost use Rattle.ac_words.specs.Commands.{are_one, chain_by, channel_in, channel_named, channel_of, check_by, files_in, files_of, make_by, modules_in, program_by, request_of, run_by, shelf_in, steps_in};
 ghost use Rattle.ac_words.specs.WordValues.{is_file, number_in};
 
-// The steps of a `run` that names none.
+use ac_types::Memory;
+use std::alloc::Global;
+
+// The steps of a command that names none.
 const DEFAULT_STEPS: u64 = 1_000_000;
 
-// The most steps that a `run` may name, and the most digits that it may name them by.
+// The most steps that a command may name, and the most digits that it may name them by.
 const MOST_STEPS: u64 = 1_000_000_000;
 
 const MOST_DIGITS: usize = 10;
+
+// The most modules of a program that is made.
+const MOST_MODULES: u64 = 1000;
 
 /// Where frames are read from, or written to.
 #[derive(Clone, Copy, Debug)]
@@ -42,8 +49,39 @@ pub struct Run<'a> {
     pub output: Option<Channel<'a>>,
 }
 
-/// What the words of a command line ask for.
+/// Makes a program.
 #[derive(Clone, Copy, Debug)]
+pub struct Make {
+    /// The seed of the numbers that are drawn for it.
+    pub seed: u64,
+    /// How many modules it has, from 1 to 1,000.
+    pub modules: u32,
+    /// Whether it is run, in place of printed.
+    pub runs: bool,
+}
+
+/// Loads programs, each by itself, and says whether they are accepted.
+#[derive(Debug, Drop)]
+pub struct Check<'a> {
+    /// The programs' files, of which there is at least one and at most 256.
+    pub files: Vec<&'a str>,
+    /// The file of the list of their shelf, if they have one.
+    pub shelf: Option<&'a str>,
+}
+
+/// Loads programs and runs them one after the other; each reads what the one before it sent.
+#[derive(Debug, Drop)]
+pub struct Chain<'a> {
+    /// The programs' files, of which there is at least one and at most 16.
+    pub files: Vec<&'a str>,
+    /// The file of the list of their shelf, if they have one.
+    pub shelf: Option<&'a str>,
+    /// How many applications each of them may make.
+    pub steps: u64,
+}
+
+/// What the words of a command line ask for.
+#[derive(Debug, Drop)]
 pub enum Command<'a> {
     /// To run a program.
     Run(Run<'a>),
@@ -51,6 +89,12 @@ pub enum Command<'a> {
     Names(Program<'a>),
     /// To print a program's code.
     Code(Program<'a>),
+    /// To make a program, and to print it or to run it.
+    Make(Make),
+    /// To check programs.
+    Check(Check<'a>),
+    /// To run programs in a chain.
+    Chain(Chain<'a>),
 }
 
 // Whether a plus stands first, which `parse` takes.
@@ -193,4 +237,101 @@ pub fn run_from<'a>(
         input,
         output,
     }))
+}
+
+// The number of modules that the text of a MODULES names.
+fn modules_of(text: &str) -> Option<u32>
+    ensures { result ≡ modules_in text.now }
+{
+    match number_of(text, 1, MOST_MODULES) {
+        Some(number) => Some(number as u32),
+        None => None,
+    }
+}
+
+/// A `make`, by the texts of its SEED and its MODULES, and whether its program is to be run.
+pub fn make_from<'a>(seed: Option<&str>, modules: Option<&str>, runs: bool) -> Option<Command<'a>>
+    ensures { option_map request_of result ≡ make_by (option_map (λ s. s.now) seed.entry)
+        (option_map (λ s. s.now) modules.entry) runs }
+{
+    let seed = number_of(seed?, 0, u64::MAX)?;
+    let modules = modules_of(modules?)?;
+    Some(Command::Make(Make {
+        seed,
+        modules,
+        runs,
+    }))
+}
+
+// Whether each text may name a FILE.
+fn are_file_names(texts: &[&str]) -> bool
+    ensures { result ≡ list_all is_file (map (λ s. s.now) texts.now) }
+{
+    for i in 0..texts.len() {
+        if !is_file_name(texts[i]) {
+            return false;
+        }
+    }
+    true
+}
+
+// The files by the texts of FILEs.
+fn files_in<'a>(alloc: Global, texts: Option<&[&'a str]>) -> Result<Option<Vec<&'a str>>, Memory>
+    ensures { IfOk result (λ o. option_map (λ v. map (λ s. s.now) v.items) o
+        ≡ files_in (option_map (λ s. map (λ t. t.now) s.now) texts.entry)) }
+{
+    let Some(texts) = texts else {
+        return Ok(None);
+    };
+    if !are_file_names(texts) {
+        return Ok(None);
+    }
+    Ok(Some(Vec::from_slice(alloc, texts)?))
+}
+
+/// A `check`, by the texts of its FILEs and of the FILE of its shelf. `Err` for want of memory.
+pub fn check_from<'a>(
+    alloc: Global,
+    files: Option<&[&'a str]>,
+    shelf: Option<&'a str>,
+) -> Result<Option<Command<'a>>, Memory>
+    ensures { IfOk result (λ o. option_map request_of o
+        ≡ check_by (option_map (λ s. map (λ t. t.now) s.now) files.entry)
+        (option_map (λ s. s.now) shelf.entry)) }
+{
+    let Some(shelf) = shelf_in(shelf) else {
+        return Ok(None);
+    };
+    match files_in(alloc, files)? {
+        None => Ok(None),
+        Some(files) => Ok(Some(Command::Check(Check { files, shelf }))),
+    }
+}
+
+/// A `chain`, by the texts of its FILEs, of the FILE of its shelf and of its N. `Err` for want of
+/// memory.
+pub fn chain_from<'a>(
+    alloc: Global,
+    files: Option<&[&'a str]>,
+    shelf: Option<&'a str>,
+    steps: Option<&str>,
+) -> Result<Option<Command<'a>>, Memory>
+    ensures { IfOk result (λ o. option_map request_of o
+        ≡ chain_by (option_map (λ s. map (λ t. t.now) s.now) files.entry)
+        (option_map (λ s. s.now) shelf.entry) (option_map (λ s. s.now) steps.entry)) }
+{
+    let Some(shelf) = shelf_in(shelf) else {
+        return Ok(None);
+    };
+    let Some(steps) = steps_of(steps) else {
+        return Ok(None);
+    };
+    match files_in(alloc, files)? {
+        None => Ok(None),
+        Some(files) => Ok(Some(Command::Chain(Chain {
+            files,
+            shelf,
+            steps,
+        }))),
+    }
 }

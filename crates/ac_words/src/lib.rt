@@ -8,8 +8,8 @@ ghost use Rattle.ac_words.specs.Form.{is_fit};
 mod command;
 
 pub use command::{
-    Channel, Command, Program, Run, channel_from, is_file_name, number_of, program_from, run_from,
-    steps_of,
+    Chain, Channel, Check, Command, Make, Program, Run, chain_from, channel_from, check_from,
+    is_file_name, make_from, number_of, program_from, run_from, steps_of,
 };
 
 /// Whether the word may stand after a command's name: it doesn't begin with a hyphen, or is `-`, or

@@ -6,7 +6,7 @@
 
 use ac_command::read_words;
 use ac_types::Memory;
-use ac_words::{Channel, Command, Program, Run};
+use ac_words::{Chain, Channel, Check, Command, Make, Program, Run};
 use std::alloc::Global;
 use std::io;
 
@@ -28,13 +28,15 @@ fn answer_to(alloc: Global, line: &str) -> Result<String, Memory> {
         Some(Command::Run(run)) => run_answer(alloc, run),
         Some(Command::Names(program)) => program_answer(alloc, "names", program),
         Some(Command::Code(program)) => program_answer(alloc, "code", program),
+        Some(Command::Make(make)) => make_answer(alloc, make),
+        Some(Command::Check(check)) => check_answer(alloc, &check),
+        Some(Command::Chain(chain)) => chain_answer(alloc, &chain),
     }
 }
 
 fn run_answer(alloc: Global, run: Run) -> Result<String, Memory> {
-    let steps = run.steps;
     let mut answer = program_answer(alloc, "run", run.program)?;
-    answer.push_str(format!(in alloc; ", {steps} steps")?.as_str())?;
+    add_steps(alloc, &mut answer, run.steps)?;
     add_channel(&mut answer, ", in ", run.input)?;
     add_channel(&mut answer, ", out ", run.output)?;
     Ok(answer)
@@ -42,13 +44,52 @@ fn run_answer(alloc: Global, run: Run) -> Result<String, Memory> {
 
 // A command with the files of its program.
 fn program_answer(alloc: Global, command: &str, program: Program) -> Result<String, Memory> {
-    let file = program.file;
-    let mut answer = format!(in alloc; "{command} {file}")?;
-    if let Some(shelf) = program.shelf {
+    files_answer(alloc, command, &[program.file], program.shelf)
+}
+
+fn make_answer(alloc: Global, make: Make) -> Result<String, Memory> {
+    let seed = make.seed;
+    let modules = make.modules;
+    let mut answer = format!(in alloc; "make {seed}, {modules} modules")?;
+    if make.runs {
+        answer.push_str(", run")?;
+    }
+    Ok(answer)
+}
+
+fn check_answer(alloc: Global, check: &Check) -> Result<String, Memory> {
+    files_answer(alloc, "check", &check.files, check.shelf)
+}
+
+fn chain_answer(alloc: Global, chain: &Chain) -> Result<String, Memory> {
+    let mut answer = files_answer(alloc, "chain", &chain.files, chain.shelf)?;
+    add_steps(alloc, &mut answer, chain.steps)?;
+    Ok(answer)
+}
+
+// A command with its files and the list of its shelf, if it has one.
+fn files_answer(
+    alloc: Global,
+    command: &str,
+    files: &[&str],
+    shelf: Option<&str>,
+) -> Result<String, Memory> {
+    let mut answer = String::from_str(alloc, command)?;
+    for file in files {
+        answer.push_str(" ")?;
+        answer.push_str(file)?;
+    }
+    if let Some(shelf) = shelf {
         answer.push_str(", shelf ")?;
         answer.push_str(shelf)?;
     }
     Ok(answer)
+}
+
+// Adds how many steps there are.
+fn add_steps(alloc: Global, answer: &mut String, steps: u64) -> Result<(), Memory> {
+    answer.push_str(format!(in alloc; ", {steps} steps")?.as_str())?;
+    Ok(())
 }
 
 // Adds what a channel is, if there is one.
