@@ -4,7 +4,7 @@ use Rattle.std.specs.Prelude.{◌&&◌, Result}
 use Rattle.std.specs.List.{list_all}
 use Rattle.ac_types.specs.Types.{Bytes}
 use Rattle.ac_outside.specs.Outside.{Contents}
-use Rattle.ac_shelf.specs.ShelfLists.{Listed, ShelfAnswer, Lists, listed_uris, shelf_answer}
+use Rattle.ac_shelf.specs.ShelfLists.{Listed, ShelfAnswer, Lists, listed_uris}
 use Rattle.ac_rules.specs.Modules.{are_distinct}
 use Rattle.ac_rules.specs.Coherent.{is_uri}
 use Rattle.ac_acceptance.specs.Accepting.{Shelved, IsShelf}

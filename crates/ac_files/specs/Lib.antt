@@ -1,3 +1,4 @@
 pub mod Files
+pub mod ManyTexts
 pub mod ProgramTexts
 pub mod inner

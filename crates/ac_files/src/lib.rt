@@ -4,6 +4,8 @@
 mod program;
 mod shelf;
 mod text;
+mod texts;
 
 pub use program::{ProgramTexts, read_program};
 pub use shelf::TextsFault;
+pub use texts::{ManyTexts, read_texts};

@@ -21,6 +21,14 @@ module _ (files : Bytes → Reading) where
     pub among : xs ≡ before ++ entry ∷ after
     pub rose : ReadRose (files entry.file)
 
+  -- of one of some files
+  pub record OneFails (names : List Bytes) : Type 0 where
+    pub before : List Bytes
+    pub after : List Bytes
+    pub name : Bytes
+    pub among : names ≡ before ++ name ∷ after
+    pub rose : ReadRose (files name)
+
   -- of an entry of a list of this text
   pub record LinesFail (text : Bytes) : Type 0 where
     pub listed : List Listed

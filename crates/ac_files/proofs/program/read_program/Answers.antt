@@ -1,9 +1,7 @@
-use Rattle.std.proofs.Common.{◌≡◌, ◌∙◌, Err, List, ap, sym, subst, refl}
-use Rattle.ac_acceptance.specs.Accepting.{Shelved}
+use Rattle.std.proofs.Common.{◌≡◌, Err, ap}
 use Rattle.ac_load.specs.Loading.{shelf_of}
-use Rattle.ac_load.specs.declared.shelf.Shelf.{Shelf}
-use Rattle.ac_files.specs.Files.{files_seen, files_read}
-use Rattle.ac_files.specs.ProgramTexts.{IsShelfBy, of_program}
+use Rattle.ac_files.specs.Files.{files_seen}
+use Rattle.ac_files.specs.ProgramTexts.{of_program}
 use Rattle.ac_files.specs.declared.shelf.TextsFault.{TextsFault}
 use Rattle.ac_files.specs.declared.shelf.TextsFault.TheVariants.{Failed}
 use Rattle.ac_files.proofs.Wider.{at_once, to_end, wide_shelf, wide_rose, same_shelf, shelf_fails, map_ok}

@@ -1,4 +1,4 @@
-use Rattle.std.proofs.Common.{◌≡◌, ◌∙◌, ◌++◌, ◌∷◌, ◌+◌, List, [], Err, map, take, drop, refl, sym, ap, ap₂, subst, arith, suc, length, length-append, IsTrue}
+use Rattle.std.proofs.Common.{◌≡◌, ◌∙◌, ◌++◌, ◌∷◌, List, [], Err, map, take, drop, sym, ap, subst, arith, suc, length, length-append}
 use Rattle.ac_shelf.specs.ShelfLists.{Listed, listed_of}
 use Rattle.ac_acceptance.specs.Accepting.{Shelved}
 use Rattle.ac_load.specs.Loading.{shelved}
@@ -6,7 +6,7 @@ use Rattle.ac_files.specs.Files.{files_seen, files_read}
 use Rattle.ac_files.specs.ProgramTexts.{AreListed}
 use Rattle.ac_files.specs.declared.text.ReadFault.{ReadFault}
 use Rattle.ac_files.specs.declared.text.ReadFault.TheVariants.{Failed}
-use Rattle.ac_files.proofs.Wider.{Within, at_once, to_end, wide_text, wide_rose, wide_listed, one_more, split_there, take_more, map_more}
+use Rattle.ac_files.proofs.Wider.{at_once, to_end, wide_text, wide_rose, wide_listed, one_more, split_there, take_more, map_more}
 use Rattle.ac_files.proofs.shelf.read_entries.Goals as goal
 
 pub returns-in-Err-clause-failed : goal.returns-in-Err-clause-failed

@@ -1,4 +1,4 @@
-use Rattle.std.proofs.Common.{◌≡◌, ◌∙◌, Err, ap, refl}
+use Rattle.std.proofs.Common.{◌∙◌, Err, ap}
 use Rattle.ac_load.specs.Loading.{shelf_of}
 use Rattle.ac_files.specs.Files.{files_seen, files_read, IsTextOf}
 use Rattle.ac_files.specs.ProgramTexts.{bad_line}
