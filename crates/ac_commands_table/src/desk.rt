@@ -1,28 +1,30 @@
 // Files in memory, and the calls over them.
 
-use ac_outside::{Files, MemoryFiles, Put, SureSink, SureSource};
+use crate::call::{Left, call, put_status, put_stream, words_in};
+use crate::faults::{Fault, Place, numbers_at};
+use crate::fronts::{are_alike, end_alike, has_fronts, is_front_file, is_same_file, put_end};
+use ac_outside::{Files, MemoryFile, MemoryFiles, Put};
 use ac_page::Page;
-use ac_top::{Status, acute};
 use ac_types::{Many, Memory, Text};
 use std::alloc::Global;
+use std::thread::Threads;
 
-/// Files in memory, and the name of the one that is being written.
+// No call makes so many of one kind.
+const MOST: u64 = 10_000;
+
+/// Files in memory, their names, the name of the one that is being written, and what the next call
+/// gets on standard input and with which faults.
 #[derive(Drop)]
 pub struct Desk {
     files: MemoryFiles,
+    names: Vec<String>,
     open: String,
+    input: Text,
+    faults: Vec<Fault>,
 }
 
 fn no_files(alloc: Global) -> MemoryFiles {
     MemoryFiles::new(alloc, Many::new(alloc), Many::new(alloc), Many::new(alloc))
-}
-
-fn words_in(alloc: Global, line: &str) -> Result<Vec<String>, Memory> {
-    let mut words = Vec::new(alloc);
-    for word in line.split(' ') {
-        words.push(String::from_str(alloc, word)?)?;
-    }
-    Ok(words)
 }
 
 impl Desk {
@@ -30,22 +32,29 @@ impl Desk {
     pub fn new(alloc: Global) -> Desk {
         Desk {
             files: no_files(alloc),
+            names: Vec::new(alloc),
             open: String::new(alloc),
+            input: Text::new(alloc),
+            faults: Vec::new(alloc),
         }
     }
 
-    /// Lets all files go.
-    pub fn clear(&mut self, alloc: Global) {
-        self.files = no_files(alloc);
-    }
-
-    /// Begins a file, or makes it empty.
-    pub fn begin(&mut self, alloc: Global, page: &mut Page, name: &str) {
-        self.add(alloc, page, name, b"");
+    /// A file of these bytes, to which lines may be added.
+    pub fn begin(&mut self, alloc: Global, page: &mut Page, name: &str, bytes: &[u8]) {
+        if self.files.bytes(name).is_none() {
+            kept(page, self.add_name(alloc, name).is_ok());
+        }
+        noted(page, self.files.create(name));
+        noted(page, self.files.append(name, bytes));
         match String::from_str(alloc, name) {
             Ok(open) => self.open = open,
             Err(_) => page.lose(),
         }
+    }
+
+    fn add_name(&mut self, alloc: Global, name: &str) -> Result<(), Memory> {
+        self.names.push(String::from_str(alloc, name)?)?;
+        Ok(())
     }
 
     /// Adds a line to the file that was begun last.
@@ -55,10 +64,14 @@ impl Desk {
         noted(page, self.files.append(open, b"\n"));
     }
 
-    /// A file of these bytes.
-    pub fn add(&mut self, _alloc: Global, page: &mut Page, name: &str, bytes: &[u8]) {
-        noted(page, self.files.create(name));
-        noted(page, self.files.append(name, bytes));
+    /// The next call gets this on standard input.
+    pub fn feed(&mut self, page: &mut Page, bytes: &[u8]) {
+        kept(page, self.input.extend(bytes).is_ok());
+    }
+
+    /// In the next call this call fails, too.
+    pub fn fail(&mut self, page: &mut Page, fault: Fault) {
+        kept(page, self.faults.push(fault).is_ok());
     }
 
     /// Prints a file's bytes.
@@ -87,49 +100,135 @@ impl Desk {
     }
 
     /// Calls `acute`, and prints how it ended and what it wrote.
-    pub fn call(&mut self, alloc: Global, page: &mut Page, line: &str) {
-        let Ok(words) = words_in(alloc, line) else {
+    pub fn call<R: Threads + Sync>(&mut self, rt: &R, alloc: Global, page: &mut Page, line: &str) {
+        match self.answer(rt, alloc, line) {
+            Ok(left) => {
+                put_status(page, left.status);
+                put_stream(page, b"output", left.output.as_slice());
+                put_stream(page, b"errors", left.errors.as_slice());
+            }
+            Err(_) => page.lose(),
+        }
+        self.input = Text::new(alloc);
+        self.faults = Vec::new(alloc);
+    }
+
+    // What a call leaves.
+    fn answer<R: Threads + Sync>(
+        &mut self,
+        rt: &R,
+        alloc: Global,
+        line: &str,
+    ) -> Result<Left, Memory> {
+        let words = words_in(alloc, line)?;
+        let input = self.input.as_slice();
+        call(rt, alloc, &words, &mut self.files, input, &self.faults)
+    }
+
+    /// Calls `acute` over copies of the files, with the first call of this place failing, then with
+    /// the second, and so on, up to the end without a fault. Prints each way in which it ended, and
+    /// where something stands that isn't a front of what it writes without a fault.
+    pub fn try_each<R: Threads + Sync>(
+        &mut self,
+        rt: &R,
+        alloc: Global,
+        page: &mut Page,
+        place: Place,
+        line: &str,
+    ) {
+        if self.each(rt, alloc, page, place, line).is_err() {
             page.lose();
-            return;
-        };
-        let mut input = SureSource::new(Text::new(alloc));
-        let mut output = SureSink::new(alloc);
-        let mut errors = SureSink::new(alloc);
-        let Status(status) = acute(
-            alloc,
-            &words,
-            &mut self.files,
-            &mut input,
-            &mut output,
-            &mut errors,
-        );
-        page.put(b"status ");
-        page.number(u64::from(status));
-        page.put(b"\n");
-        put_stream(page, b"output", output.bytes().as_slice());
-        put_stream(page, b"errors", errors.bytes().as_slice());
+        }
+        self.input = Text::new(alloc);
+        self.faults = Vec::new(alloc);
+    }
+
+    fn each<R: Threads + Sync>(
+        &self,
+        rt: &R,
+        alloc: Global,
+        page: &mut Page,
+        place: Place,
+        line: &str,
+    ) -> Result<(), Memory> {
+        let words = words_in(alloc, line)?;
+        let input = self.input.as_slice();
+        let mut after = self.copy(alloc, &[])?;
+        let whole = call(rt, alloc, &words, &mut after, input, &self.faults)?;
+        let mut last: Option<Left> = None;
+        for number in 0..MOST {
+            let faults = self.with_fault(alloc, Fault { place, number })?;
+            let mut files = self.copy(alloc, &faults)?;
+            let left = call(rt, alloc, &words, &mut files, input, &faults)?;
+            if are_alike(&left, &whole) && self.are_same(&files, &after) {
+                return Ok(());
+            }
+            if !has_fronts(&left, &whole) || !self.are_fronts(&files, &after) {
+                page.put(b"no front\n");
+            }
+            if is_new(&last, &left) {
+                put_end(page, &left);
+            }
+            last = Some(left);
+        }
+        Ok(())
+    }
+
+    fn are_same(&self, files: &MemoryFiles, after: &MemoryFiles) -> bool {
+        for name in self.names.as_slice() {
+            if !is_same_file(name.as_str(), files, after) {
+                return false;
+            }
+        }
+        true
+    }
+
+    fn are_fronts(&self, files: &MemoryFiles, after: &MemoryFiles) -> bool {
+        for name in self.names.as_slice() {
+            if !is_front_file(name.as_str(), &self.files, files, after) {
+                return false;
+            }
+        }
+        true
+    }
+
+    fn with_fault(&self, alloc: Global, fault: Fault) -> Result<Vec<Fault>, Memory> {
+        let mut faults = Vec::from_slice(alloc, self.faults.as_slice())?;
+        faults.push(fault)?;
+        Ok(faults)
+    }
+
+    // The files that were begun, with these faults.
+    fn copy(&self, alloc: Global, faults: &[Fault]) -> Result<MemoryFiles, Memory> {
+        let mut files = Many::new(alloc);
+        for name in self.names.as_slice() {
+            if let Some(text) = self.files.bytes(name.as_str()) {
+                let name = String::from_str(alloc, name.as_str())?;
+                let bytes = text.copy(alloc)?;
+                files.push(MemoryFile { name, bytes })?;
+            }
+        }
+        let reads = numbers_at(alloc, faults, Place::Reads)?;
+        let writes = numbers_at(alloc, faults, Place::Writes)?;
+        Ok(MemoryFiles::new(alloc, files, reads, writes))
+    }
+}
+
+// Whether a call ended otherwise than the one before it.
+fn is_new(last: &Option<Left>, left: &Left) -> bool {
+    match last {
+        Some(last) => !end_alike(last, left),
+        None => true,
+    }
+}
+
+fn kept(page: &mut Page, kept: bool) {
+    if !kept {
+        page.lose();
     }
 }
 
 // A write in memory fails for want of it alone.
 fn noted(page: &mut Page, put: Put) {
-    if put != Put::Done {
-        page.lose();
-    }
-}
-
-// What stands on a stream, if anything does.
-fn put_stream(page: &mut Page, name: &[u8], bytes: &[u8]) {
-    if bytes.is_empty() {
-        return;
-    }
-    page.put(name);
-    page.put(b" |");
-    for byte in bytes {
-        page.put(&[*byte]);
-        if *byte == b'\n' {
-            page.put(b"|");
-        }
-    }
-    page.put(b"\n");
+    kept(page, put == Put::Done);
 }

@@ -6,45 +6,58 @@
 //! - `file NAME` begins a file; each line behind it that begins with `|` is a line of it, without
 //!   the `|`.
 //! - `bytes NAME DIGITS` is a file of these bytes, in hexadecimal digits.
+//! - `blanks NAME COUNT` is a file of so many spaces and a `1`.
 //! - `take NAME` is the file of that name that lies beside the program.
 //! - `$ WORDS` calls `acute` with these words, which are parted by single spaces. Behind it stand
 //!   its status, what it wrote on output, a `|` in front and behind each line feed, and on errors.
+//! - `input DIGITS` stands in front of a call that gets these bytes on standard input, and `fail
+//!   PLACE NUMBER` in front of one in which the call of that number, from 0, fails; PLACE is
+//!   `input`, `output` or `errors`.
+//! - `each PLACE WORDS` calls `acute` anew for each number, up to the first call without a fault;
+//!   PLACE may be `reads` or `writes` of files, too. The files stay as they are. Behind it stand
+//!   the statuses and lines of faults of these calls, the same ones once, and `no front` where a
+//!   stream or a file has something that isn't a front of what it gets without a fault.
 //! - `show NAME` prints a file's bytes, in hexadecimal digits; `length NAME` how many they are.
 //! - `new` begins anew, without files. Any other line is a heading.
 #![tactic(auto)]
 
+mod call;
 mod desk;
+mod faults;
+mod fronts;
 
 use ac_page::Page;
+use ac_types::{Memory, Text};
 use desk::Desk;
+use faults::{Fault, place_of};
 use std::alloc::Global;
 use std::fs;
 use std::io::{self, Write};
+use std::thread::Threads;
 
-// Does what a line says, and gives what is printed behind it.
-fn answer(rt: &HostRuntime, desk: &mut Desk, line: &str) -> Page {
-    let alloc = rt.alloc();
-    let mut page = Page::new(alloc);
+// Does what a line says that is no call, and writes what is printed behind it.
+fn prepare(rt: &HostRuntime, desk: &mut Desk, page: &mut Page, line: &str) {
     if let Some(text) = line.strip_prefix("|") {
-        desk.add_line(&mut page, text);
-    } else if let Some(words) = line.strip_prefix("$ ") {
-        desk.call(alloc, &mut page, words);
+        desk.add_line(page, text);
     } else if let Some((word, rest)) = line.split_once(' ') {
-        set_up(rt, desk, &mut page, word, rest);
+        set_up(rt, desk, page, word, rest);
     } else if line == "new" {
-        desk.clear(alloc);
+        *desk = Desk::new(rt.alloc());
     }
-    page
 }
 
-// A line that speaks of one file.
+// A line that speaks of one file, or of the next call.
 fn set_up(rt: &HostRuntime, desk: &mut Desk, page: &mut Page, word: &str, rest: &str) {
+    let alloc = rt.alloc();
     match word {
-        "file" => desk.begin(rt.alloc(), page, rest),
-        "bytes" => add_bytes(rt.alloc(), desk, page, rest),
+        "file" => desk.begin(alloc, page, rest, b""),
+        "bytes" => add_bytes(alloc, desk, page, rest),
+        "blanks" => add_blanks(alloc, desk, page, rest),
         "take" => take(rt, desk, page, rest),
-        "show" => desk.show(rt.alloc(), page, rest),
+        "show" => desk.show(alloc, page, rest),
         "length" => desk.measure(page, rest),
+        "input" => feed(alloc, desk, page, rest),
+        "fail" => fail(desk, page, rest),
         _ => {}
     }
 }
@@ -52,15 +65,66 @@ fn set_up(rt: &HostRuntime, desk: &mut Desk, page: &mut Page, word: &str, rest: 
 fn add_bytes(alloc: Global, desk: &mut Desk, page: &mut Page, rest: &str) {
     let (name, digits) = rest.split_once(' ').unwrap_or((rest, ""));
     match hex::decode(alloc, digits) {
-        Ok(bytes) => desk.add(alloc, page, name, &bytes),
+        Ok(bytes) => desk.begin(alloc, page, name, &bytes),
         Err(_) => page.put(b"no digits\n"),
     }
 }
 
+fn add_blanks(alloc: Global, desk: &mut Desk, page: &mut Page, rest: &str) {
+    let (name, count) = rest.split_once(' ').unwrap_or((rest, ""));
+    match blanks(alloc, count.parse::<u32>().unwrap_or(0)) {
+        Ok(text) => desk.begin(alloc, page, name, text.as_slice()),
+        Err(_) => page.lose(),
+    }
+}
+
+fn blanks(alloc: Global, count: u32) -> Result<Text, Memory> {
+    let mut text = Text::new(alloc);
+    for _ in 0..count {
+        text.extend(b" ")?;
+    }
+    text.extend(b"1")?;
+    Ok(text)
+}
+
 fn take(rt: &HostRuntime, desk: &mut Desk, page: &mut Page, name: &str) {
     match fs::read(rt, name) {
-        Ok(bytes) => desk.add(rt.alloc(), page, name, &bytes),
+        Ok(bytes) => desk.begin(rt.alloc(), page, name, &bytes),
         Err(_) => page.put(b"no such file\n"),
+    }
+}
+
+fn feed(alloc: Global, desk: &mut Desk, page: &mut Page, digits: &str) {
+    match hex::decode(alloc, digits) {
+        Ok(bytes) => desk.feed(page, &bytes),
+        Err(_) => page.put(b"no digits\n"),
+    }
+}
+
+fn fail(desk: &mut Desk, page: &mut Page, rest: &str) {
+    let (word, number) = rest.split_once(' ').unwrap_or((rest, ""));
+    match (place_of(word), number.parse::<u64>()) {
+        (Some(place), Ok(number)) => desk.fail(page, Fault { place, number }),
+        _ => page.put(b"no fault\n"),
+    }
+}
+
+// Makes the calls of a line, if it is one of calls.
+fn make_calls<R: Threads + Sync>(
+    rt: &R,
+    alloc: Global,
+    desk: &mut Desk,
+    page: &mut Page,
+    line: &str,
+) {
+    if let Some(words) = line.strip_prefix("$ ") {
+        desk.call(rt, alloc, page, words);
+    } else if let Some(rest) = line.strip_prefix("each ") {
+        let (word, words) = rest.split_once(' ').unwrap_or((rest, ""));
+        match place_of(word) {
+            Some(place) => desk.try_each(rt, alloc, page, place, words),
+            None => page.put(b"no fault\n"),
+        }
     }
 }
 
@@ -69,7 +133,9 @@ fn main(rt: HostRuntime) -> io::Result<()> {
     for line in rt.lines(rt.alloc()) {
         let line = line?;
         println!(rt; "{line}")?;
-        let page = answer(&rt, &mut desk, line.as_str());
+        let mut page = Page::new(rt.alloc());
+        prepare(&rt, &mut desk, &mut page, line.as_str());
+        make_calls(&rt, rt.alloc(), &mut desk, &mut page, line.as_str());
         rt.stdout()
             .write_all(page.bytes().unwrap_or(b"out of memory\n"))?;
     }

@@ -1,18 +1,24 @@
 -- How the parts of a call come together to its end.
-use Rattle.std.proofs.Common.{◌≡◌, ◌⊎◌, inl, inr, ℕ, Bool, true, IsTrue, List, [], ◌∷◌, ◌++◌, Option, Some, None, is_some, refl, sym, ◌∙◌, ap}
+use Rattle.std.proofs.Common.{◌≡◌, ◌⊎◌, inl, inr, ℕ, Bool, true, IsTrue, List, [], ◌∷◌, Option, Some, None, refl, sym, ◌∙◌}
 use Rattle.std.proofs.lemmas.List.{append-nil}
 use Rattle.ac_types.specs.Types.{Bytes}
-use Rattle.ac_outside.specs.Outside.{Rose}
-use Rattle.ac_words.specs.Commands.{ChannelName, ProgramFiles, Request, run, names, code}
+use Rattle.ac_words.specs.Commands.{ChannelName, ProgramFiles, Request, run, names, code, make, check, chain}
+use Rattle.ac_files.proofs.Turns.{turn_none}
 use Rattle.ac_files.specs.ProgramTexts.{HasBadLine, ReadsFail}
+use Rattle.ac_files.specs.declared.shelf.TextsFault.{TextsFault}
+use Rattle.ac_files.specs.declared.shelf.TextsFault.TheVariants as fault
 use Rattle.ac_meaning.specs.Writes.{Write}
 use Rattle.ac_run.specs.Sessions.{Streams, with_writes, StopsBehind}
-use Rattle.ac_top.specs.declared.status.Status.{Status}
-use Rattle.ac_top.specs.declared.status.TheConstants.Status.{READ_FAULT, OUT_OF_MEMORY, WORDS_REFUSED, SHELF_REFUSED}
-use Rattle.ac_top.specs.Streams.{Writing, Whole, memory_line, read_line, words_line, shelf_line}
+use Rattle.ac_answers.specs.declared.status.Status.{Status}
+use Rattle.ac_answers.specs.declared.status.TheConstants.Status.{OUT_OF_MEMORY, WORDS_REFUSED}
+use Rattle.ac_answers.specs.Meaning.{CommandAnswer}
+use Rattle.ac_top.specs.Streams.{Writing, Whole, memory_line, words_line}
+use Rattle.ac_top.specs.Saying.{Said, SaidIfAny}
 use Rattle.ac_top.specs.Handed.{Handed, is_told, before_run, after_run, behind_run, Untouched}
-use Rattle.ac_top.specs.Meaning.{CommandAnswer}
-use Rattle.ac_top.specs.Endings.{Ended, NoCommand, refused_words, no_memory_for_words, HasRead, GivesStatus, RunEnded, is_refused, has_run, bad_list, unread_file, no_memory_yet, no_memory_to_show, no_memory_left, Said, SaidIfAny}
+use Rattle.ac_top.specs.RunEndings.{HasRead, GivesStatus, RunEnded, has_run, bad_list, unread_file, no_memory_yet, no_memory_left}
+use Rattle.ac_top.specs.Requests.{files_loaded, Touches}
+use Rattle.ac_top.specs.Endings.{Ended, NoCommand, refused_words, no_memory_for_words, no_memory_to_find}
+use Rattle.ac_top.specs.inner.Delivered.{SaysUnread}
 
 -- nothing was written
 pub record Still (s : Writing) : Type 0 where
@@ -33,8 +39,11 @@ words_refused o still end s = refused_words (still_whole o.output still) s
 pub end_at_words : (request : Option Request) (o : Handed) → Still o.output → ((to : Option ChannelName) → Untouched to o) → (end : Status) → Said o.errors memory_line OUT_OF_MEMORY end → Ended request o end
 end_at_words None o still same end s = no_memory_for_words (still_whole o.output still) s
 end_at_words (Some (run prog steps from to)) o still same end s = no_memory_yet (still_whole o.output still) (same to) s
-end_at_words (Some (names prog)) o still same end s = no_memory_to_show (still_whole o.output still) s
-end_at_words (Some (code prog)) o still same end s = no_memory_to_show (still_whole o.output still) s
+end_at_words (Some (names prog)) o still same end s = no_memory_to_find (still_whole o.output still) s
+end_at_words (Some (code prog)) o still same end s = no_memory_to_find (still_whole o.output still) s
+end_at_words (Some (make seed modules runs)) o still same end s = no_memory_to_find (still_whole o.output still) s
+end_at_words (Some (check files list)) o still same end s = no_memory_to_find (still_whole o.output still) s
+end_at_words (Some (chain files list steps)) o still same end s = no_memory_for_words (still_whole o.output still) s
 
 -- all that was to be written was, so some of it was and then none
 behind_all : (told : Bool) (writes : List Write) (old new : Streams) → (IsTrue told → new ≡ with_writes writes old) → StopsBehind told writes old new
@@ -47,14 +56,18 @@ module _ (prog : ProgramFiles) (steps : ℕ) (from to : Option ChannelName) (o :
   end_told r a mid g runs whole c rest is end (inl s) = has_run r a mid g runs whole (said_if_any (behind_run to o mid) a.line rest c a.status end is s)
   end_told r a mid g runs whole c rest is end (inr s) = no_memory_left r a mid g runs (inr (behind_all (is_told from to o) a.writes (before_run to o) (after_run to o mid) whole)) s
 
-  pub end_unread : ReadsFail o.files prog.file prog.shelf → Still o.output → Untouched to o → (end : Status) → Said o.errors read_line READ_FAULT end → RunEnded prog steps from to o end
-  end_unread f still same end s = unread_file f (still_whole o.output still) same s
-
-  -- the list of the shelf has a bad line, or the line of want of memory stands in its place
-  pub end_bad_list : (n : ℕ) → HasBadLine o.files prog.shelf n → Still o.output → Untouched to o → (end : Status) → Said o.errors (shelf_line n) SHELF_REFUSED end ⊎ Said o.errors memory_line OUT_OF_MEMORY end → RunEnded prog steps from to o end
-  end_bad_list n bad still same end (inl s) = bad_list n bad (still_whole o.output still) same s
-  end_bad_list n bad still same end (inr s) = no_memory_yet (still_whole o.output still) same s
-
   -- want of memory before anything was written on output
   pub end_early : Still o.output → Untouched to o → (end : Status) → Said o.errors memory_line OUT_OF_MEMORY end → RunEnded prog steps from to o end
   end_early still same end s = no_memory_yet (still_whole o.output still) same s
+
+  -- the texts weren't read
+  pub end_unread : Still o.output → Untouched to o → (f : TextsFault) → ((n : ℕ) → f ≡ fault.Line n → HasBadLine o.files prog.shelf n) → (f ≡ fault.Failed → ReadsFail o.files prog.file prog.shelf) → (end : Status) → SaysUnread f o.errors end → RunEnded prog steps from to o end
+  end_unread still same (fault.Line n) bad failed end (inl s) = bad_list n (bad n refl) (still_whole o.output still) same s
+  end_unread still same (fault.Line n) bad failed end (inr s) = end_early still same end s
+  end_unread still same fault.Failed bad failed end s = unread_file (failed refl) (still_whole o.output still) same s
+  end_unread still same fault.Memory bad failed end s = end_early still same end s
+
+-- where nothing is touched
+pub touches_none : {Files : Type 0} (reads : Bytes → Files → Files → Type 0) (none : (name : Bytes) (a : Files) → reads name a a) (request : Option Request) (a : Files) → Touches reads request a a
+touches_none reads none None a = refl
+touches_none reads none (Some r) a = λ list apart. turn_none reads none (files_loaded r) a

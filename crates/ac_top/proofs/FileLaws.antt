@@ -1,11 +1,14 @@
 -- Files that are told have one text, one shelf, or one bad line.
 use mathlib.Core.Bool.{true≢false}
-use Rattle.std.proofs.Common.{◌≡◌, ℕ, true, false, IsTrue, List, [], ◌∷◌, Option, Some, None, refl, sym, ◌∙◌, ap, ap₂, subst, take}
+use Rattle.std.proofs.Common.{◌≡◌, ℕ, true, false, IsTrue, List, [], ◌∷◌, Option, length, map, refl, sym, ◌∙◌, ap, ap₂, subst, arith, take}
+use Rattle.std.specs.Borrow.{Bor}
 use Rattle.ac_types.specs.Types.{Bytes}
+use Rattle.ac_types.specs.declared.text.Text.{Text}
 use Rattle.ac_types.proofs.FirstLaws.{some_eq}
 use Rattle.ac_shelf.specs.ShelfLists.{Listed, ShelfAnswer, Lists, BadLine, shelf_answer}
 use Rattle.ac_acceptance.specs.Accepting.{Shelved}
 use Rattle.ac_files.specs.Files.{Reading, IsTextOf}
+use Rattle.ac_files.specs.ManyTexts.{AreTexts}
 use Rattle.ac_files.specs.ProgramTexts.{AreListed, ListSays, IsShelfBy, no_list, listed, HasBadLine, bad_line}
 
 pub one_text : (file : Reading) → IsTrue file.told → (s t : Bytes) → IsTextOf file s → IsTextOf file t → s ≡ t
@@ -19,6 +22,10 @@ lists_eq {xs} {ys} e = ap (λ (a : ShelfAnswer). elim a [ Lists zs ↦ zs | BadL
 
 not_lists : {xs : List Listed} {n : ℕ} → Lists xs ≡ BadLine n → ⊥
 not_lists e = true≢false (ap (λ (a : ShelfAnswer). elim a [ Lists zs ↦ true | BadLine k ↦ false ]) e)
+
+-- a text of these bytes
+abbrev text_with : Bytes → Text
+text_with bytes = record { 0 = bytes }
 
 module _ (files : Bytes → Reading) (told : (name : Bytes) → IsTrue (files name).told) where
   one_answer : {list : Bytes} {a b : ShelfAnswer} → ListSays files list a → ListSays files list b → a ≡ b
@@ -42,3 +49,28 @@ module _ (files : Bytes → Reading) (told : (name : Bytes) → IsTrue (files na
   pub shelf_or_bad : {list : Option Bytes} {s : List Shelved} {n : ℕ} → IsShelfBy files list s → HasBadLine files list n → ⊥
   shelf_or_bad {n = n} no_list bad = elim bad [ ]
   shelf_or_bad (listed xs says are) (bad_line others) = not_lists (one_answer says others)
+
+  -- and one list of texts
+  pub one_list : (names : List Bytes) (s t : List Text) → AreTexts files names s → AreTexts files names t → s ≡ t
+  one_list [] [] [] a b = refl
+  one_list [] [] (y ∷ t) a b = absurd b
+  one_list [] (x ∷ s) t a b = absurd a
+  one_list (name ∷ names) [] t a b = absurd a
+  one_list (name ∷ names) (x ∷ s) [] a b = absurd b
+  one_list (name ∷ names) (x ∷ s) (y ∷ t) a b =
+      let same : x ≡ y = ap text_with (one_text (files name) (told name) x.0 y.0 a.0 b.0) in
+      ap₂ (λ (w : Text) (ws : List Text). w ∷ ws) same (one_list names s t a.1 b.1)
+
+-- as many texts as files
+texts_counted : (files : Bytes → Reading) (names : List Bytes) (texts : List Text) → AreTexts files names texts → length names ≡ length texts
+texts_counted files [] [] are = refl
+texts_counted files [] (t ∷ texts) are = absurd are
+texts_counted files (name ∷ names) [] are = absurd are
+texts_counted files (name ∷ names) (t ∷ texts) are = let rest = texts_counted files names texts are.1 in omega (arith, rest)
+
+named_counted : (names : List (Bor Bytes)) → length names ≡ length (map (λ (s : Bor Bytes). s.now) names)
+named_counted [] = refl
+named_counted (x ∷ names) = let rest = named_counted names in omega (arith, rest)
+
+pub texts_count : (files : Bytes → Reading) (names : List (Bor Bytes)) (texts : List Text) → AreTexts files (map (λ (s : Bor Bytes). s.now) names) texts → length names ≡ length texts
+texts_count files names texts are = named_counted names ∙ texts_counted files (map (λ (s : Bor Bytes). s.now) names) texts are

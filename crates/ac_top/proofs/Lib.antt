@@ -1,13 +1,10 @@
+pub mod AnswerLaws
 pub mod ChannelLaws
 pub mod EndingLaws
-pub mod KindLaws
-pub mod LineExamples
+pub mod FileLaws
 pub mod PlaceLaws
+pub mod RefusedLaws
 pub mod RunLaws
-pub mod LoadedLaws
-pub mod TextLaws
+pub mod SaidLaws
 pub mod TakenLaws
 pub mod WordLaws
-pub mod ShowLaws
-pub mod FileLaws
-pub mod SaidLaws

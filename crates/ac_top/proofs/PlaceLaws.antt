@@ -12,17 +12,18 @@ use Rattle.ac_outside.specs.declared.traits.Put.TheVariants as put
 use Rattle.ac_words.specs.Form.{Text}
 use Rattle.ac_words.specs.Commands.{ChannelName, ProgramFiles, standard, file, are_one}
 use Rattle.ac_meaning.specs.Writes.{Write}
-use Rattle.ac_run.specs.Sessions.{Session, Streams, streams, with_writes, Begun, StopsIn, StopsBehind, Leaves, AtReceive, RunsTo}
+use Rattle.ac_run.specs.Sessions.{Session, Streams, streams, with_writes, Begun, StopsIn, StopsBehind, Leaves, RunsTo}
 use Rattle.ac_run.specs.declared.end.RunEnd.{RunEnd}
 use Rattle.ac_run.specs.declared.end.RunEnd.TheVariants as end
-use Rattle.ac_top.specs.declared.status.Status.{Status}
+use Rattle.ac_answers.specs.declared.status.Status.{Status}
 use Rattle.ac_top.specs.Channels.{of_channel, of_console, tells, left_in, sent_in, GetsInput}
 use Rattle.ac_acceptance.specs.Accepting.{Shelved}
 use Rattle.ac_files.specs.Files.{FilesSeen, Reading, IsTextOf, Since}
 use Rattle.ac_files.specs.ProgramTexts.{IsShelfBy}
 use Rattle.ac_top.specs.Streams.{Writing, Whole, writing}
-use Rattle.ac_top.specs.Handed.{Handed, what_is_handed, is_told, input_of, behind_run, Untouched, MadeAtMost, MakingFailed}
-use Rattle.ac_top.specs.Endings.{HasRead, Said, said, failed, no_memory}
+use Rattle.ac_top.specs.Handed.{Handed, what_is_handed, is_told, input_of, Untouched, MadeAtMost, MakingFailed}
+use Rattle.ac_top.specs.Saying.{Said, said, failed, no_memory}
+use Rattle.ac_top.specs.RunEndings.{HasRead}
 use Rattle.ac_top.specs.inner.Runs.{ErrorsApart, Prepared, Makes}
 use Rattle.ac_top.proofs.ChannelLaws.{third}
 

@@ -1,5 +1,5 @@
 -- What a run leaves is what its program means.
-use Rattle.std.proofs.Common.{◌≡◌, ◌≤◌, ◌⊎◌, inl, inr, ℕ, Bool, true, IsTrue, List, [], Option, Some, None, is_some, subst, sym, ap, ◌∙◌, refl}
+use Rattle.std.proofs.Common.{◌≡◌, ◌≤◌, ◌⊎◌, ℕ, true, IsTrue, List, [], Option, is_some, subst, ap, ◌∙◌, refl}
 use Rattle.ac_types.specs.Types.{Bytes}
 use Rattle.ac_types.specs.ReadTypes.{typ_of}
 use Rattle.ac_terms.specs.Terms.{Value}
@@ -25,18 +25,19 @@ use Rattle.ac_load.specs.Loading.{Loads}
 use Rattle.ac_files.specs.Files.{IsTextOf}
 use Rattle.ac_files.specs.ProgramTexts.{IsShelfBy}
 use Rattle.ac_words.specs.Commands.{ChannelName, ProgramFiles}
-use Rattle.ac_top.specs.declared.status.Status.{Status}
-use Rattle.ac_top.specs.declared.status.TheConstants.Status.{FINISHED, UNCAUGHT, SPENT, OUT_OF_MEMORY, READ_FAULT, WRITE_FAULT}
+use Rattle.ac_answers.specs.declared.status.Status.{Status}
+use Rattle.ac_answers.specs.declared.status.TheConstants.Status.{FINISHED, UNCAUGHT, SPENT, OUT_OF_MEMORY, READ_FAULT, WRITE_FAULT}
 use Rattle.ac_words.specs.Form.{Text}
 use Rattle.ac_outside.specs.Outside.{Rose}
 use Rattle.ac_top.specs.Channels.{of_channel, of_console}
 use Rattle.ac_top.specs.Streams.{Whole, read_line, write_line, memory_line}
 use Rattle.ac_top.specs.Handed.{Handed, is_told, input_of, InputFailed, OutputFailed, MakingFailed, MadeAtMost, before_run, after_run, behind_run}
-use Rattle.ac_top.specs.Lines.{uncaught_line, spent_line}
-use Rattle.ac_top.specs.Meaning.{CommandAnswer, run_answer, Means, finished, uncaught, spent}
-use Rattle.ac_top.specs.Endings.{HasRead, GivesStatus, RunEnded, has_run, unmade_file, unread_input, unwritten, no_memory_making, no_memory_left, Said}
+use Rattle.ac_answers.specs.Lines.{uncaught_line, spent_line}
+use Rattle.ac_answers.specs.Meaning.{CommandAnswer, run_answer, Means, finished, uncaught, spent}
+use Rattle.ac_top.specs.Saying.{Said}
+use Rattle.ac_top.specs.RunEndings.{HasRead, GivesStatus, RunEnded, has_run, unmade_file, unread_input, unwritten, no_memory_making, no_memory_left}
 use Rattle.ac_top.specs.inner.Runs.{RanIn}
-use Rattle.ac_top.proofs.TextLaws.{given_by, one_answer}
+use Rattle.ac_answers.proofs.TextLaws.{given_by, one_answer}
 use Rattle.ac_top.proofs.PlaceLaws.{read_all, gets_moved, runs_moved, input_earlier, output_failed}
 use Rattle.ac_top.proofs.EndingLaws.{end_told}
 

@@ -1,10 +1,10 @@
 -- A line that is written whole.
 use Rattle.std.proofs.Common.{◌≡◌, List, ℕ, [], ◌∷◌, refl, sym}
 use Rattle.ac_outside.specs.Outside.{Rose}
-use Rattle.ac_top.specs.declared.status.Status.{Status}
-use Rattle.ac_top.specs.declared.status.TheConstants.Status.{OUT_OF_MEMORY}
+use Rattle.ac_answers.specs.declared.status.Status.{Status}
+use Rattle.ac_answers.specs.declared.status.TheConstants.Status.{OUT_OF_MEMORY}
 use Rattle.ac_top.specs.Streams.{Writing}
-use Rattle.ac_top.specs.Endings.{Said, said, failed, no_memory, SaidIfAny}
+use Rattle.ac_top.specs.Saying.{Said, said, failed, no_memory, SaidIfAny}
 
 module _ {end : Status} (m : end ≡ OUT_OF_MEMORY → ⊥) where
   pub said_wholly : (errors : Writing) → (Rose errors.before errors.after → ⊥) → {line : List ℕ} {status end' : Status} → end' ≡ end → Said errors line status end' → end ≡ status

@@ -1,10 +1,10 @@
 -- The channels that words give aren't one file.
 use Rattle.std.proofs.Common.{◌≡◌, ℕ, Bool, true, false, List, [], ◌∷◌, Option, Some, None, codes, refl, subst}
-use Rattle.std.specs.Prelude.{option_and_then, option_map, if◌then◌else◌}
+use Rattle.std.specs.Prelude.{is_some, option_and_then, option_map, if◌then◌else◌}
 use Rattle.std.specs.Str.{bytes_eq}
 use Rattle.ac_words.specs.Form.{Text, Given, given_of}
-use Rattle.ac_words.specs.WordValues.{first_in}
-use Rattle.ac_words.specs.Commands.{ChannelName, ProgramFiles, Request, run, names, code, are_one, run_with, run_of, names_of, code_of, program_of, run_form, program_form, steps_in, channel_in, command_of}
+use Rattle.ac_words.specs.WordValues.{all_in, first_in}
+use Rattle.ac_words.specs.Commands.{ChannelName, ProgramFiles, Request, run, names, code, are_one, run_with, run_of, names_of, code_of, make_with, make_of, check_with, check_of, chain_with, chain_of, program_of, run_form, program_form, make_form, check_form, chain_form, steps_in, channel_in, seed_in, modules_in, shelf_in, files_in, command_of}
 use Rattle.ac_top.specs.inner.Apart.{IsApart}
 
 abbrev AreApart : Option Request → Type 0
@@ -46,12 +46,43 @@ given_code : (g : Option Given) → AreApart (option_and_then code_of g)
 given_code None = tt
 given_code (Some g) = a_code (program_of g)
 
+a_make : (runs : Bool) (seed modules : Option ℕ) → AreApart (make_with runs seed modules)
+a_make runs None modules = tt
+a_make runs (Some s) None = tt
+a_make runs (Some s) (Some m) = tt
+
+a_check : (files : Option (List Text)) (shelf : Option (Option Text)) → AreApart (check_with files shelf)
+a_check None shelf = tt
+a_check (Some files) None = tt
+a_check (Some files) (Some s) = tt
+
+a_chain : (files : Option (List Text)) (shelf : Option (Option Text)) (steps : Option ℕ) → AreApart (chain_with files shelf steps)
+a_chain None shelf steps = tt
+a_chain (Some files) None steps = tt
+a_chain (Some files) (Some s) None = tt
+a_chain (Some files) (Some s) (Some n) = tt
+
+given_make : (g : Option Given) → AreApart (option_and_then make_of g)
+given_make None = tt
+given_make (Some g) = a_make (is_some (all_in (codes "run") g)) (option_and_then seed_in (first_in (codes "SEED") g)) (option_and_then modules_in (first_in (codes "MODULES") g))
+
+given_check : (g : Option Given) → AreApart (option_and_then check_of g)
+given_check None = tt
+given_check (Some g) = a_check (files_in (all_in (codes "FILE") g)) (shelf_in (first_in (codes "shelf") g))
+
+given_chain : (g : Option Given) → AreApart (option_and_then chain_of g)
+given_chain None = tt
+given_chain (Some g) = a_chain (files_in (all_in (codes "FILE") g)) (shelf_in (first_in (codes "shelf") g)) (steps_in (first_in (codes "steps") g))
+
 all_apart : (ws : List Text) → AreApart (command_of ws)
 all_apart [] = tt
 all_apart (w ∷ ws) =
     if_so (bytes_eq w (codes "run")) _ _ (given_run (given_of run_form ws))
     (if_so (bytes_eq w (codes "names")) _ _ (given_names (given_of program_form ws))
-    (if_so (bytes_eq w (codes "code")) _ None (given_code (given_of program_form ws)) tt))
+    (if_so (bytes_eq w (codes "code")) _ _ (given_code (given_of program_form ws))
+    (if_so (bytes_eq w (codes "make")) _ _ (given_make (given_of make_form ws))
+    (if_so (bytes_eq w (codes "check")) _ _ (given_check (given_of check_form ws))
+    (if_so (bytes_eq w (codes "chain")) _ None (given_chain (given_of chain_form ws)) tt)))))
 
 moved : (o : Option Request) (r : Request) → o ≡ Some r → AreApart o → IsApart r
 moved o r is h = subst AreApart is h

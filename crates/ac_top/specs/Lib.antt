@@ -1,9 +1,9 @@
 pub mod Channels
 pub mod Endings
+pub mod Giving
 pub mod Handed
-pub mod Lines
-pub mod Meaning
-pub mod Refusals
-pub mod Showing
+pub mod Requests
+pub mod RunEndings
+pub mod Saying
 pub mod Streams
 pub mod inner

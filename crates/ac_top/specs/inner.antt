@@ -1,4 +1,5 @@
 pub mod Counts
 pub mod Runs
 pub mod Apart
-pub mod Shown
+pub mod Asked
+pub mod Delivered

@@ -8,19 +8,20 @@ ghost use Rattle.ac_rules.specs.Packets.{Cause, Accepts, Refuses};
 ghost use Rattle.ac_meaning.specs.Packing.{Lands, Sinks, landing, of_cause, unmarshal_failure_exn};
 ghost use Rattle.ac_outside.specs.Outside.{Rose};
 ghost use Rattle.ac_rules.specs.Views.{Mode};
-ghost use Rattle.ac_words.specs.Commands.{ChannelName, ProgramFiles, Request, run};
+ghost use Rattle.ac_words.specs.Commands.{ChannelName, ProgramFiles, Request, run, check};
 ghost use Rattle.ac_acceptance.specs.Accepting.{Shelved, IsShelf};
 ghost use Rattle.ac_load.specs.Loading.{Loads};
 ghost use Rattle.ac_files.specs.Files.{Reading, IsTextOf};
 ghost use Rattle.ac_files.specs.ProgramTexts.{IsShelfBy, HasBadLine, ReadsFail};
-ghost use Rattle.ac_top.specs.declared.status.Status.{Status};
-ghost use Rattle.ac_top.specs.declared.status.TheConstants.Status.{OUT_OF_MEMORY, SHELF_REFUSED};
-ghost use Rattle.ac_top.specs.declared.show.Showing.{Showing};
-ghost use Rattle.ac_top.specs.Streams.{Writing, Whole};
+ghost use Rattle.ac_answers.specs.declared.status.Status.{Status};
+ghost use Rattle.ac_answers.specs.declared.status.TheConstants.Status.{OUT_OF_MEMORY, SHELF_REFUSED};
+ghost use Rattle.ac_answers.specs.Answers.{ShownAnswer};
+ghost use Rattle.ac_answers.specs.Meaning.{CommandAnswer, Means};
+ghost use Rattle.ac_top.specs.Streams.{Whole};
 ghost use Rattle.ac_top.specs.Handed.{Handed, is_told, input_of, InputFailed, OutputFailed, MakingFailed};
-ghost use Rattle.ac_top.specs.Meaning.{CommandAnswer, Means};
-ghost use Rattle.ac_top.specs.Showing.{ShownAnswer, Shows};
-ghost use Rattle.ac_top.specs.Endings.{Ended, ShownEnded, files_asked};
+ghost use Rattle.ac_top.specs.Requests.{list_named, IsUnread};
+ghost use Rattle.ac_top.specs.Giving.{Gives};
+ghost use Rattle.ac_top.specs.Endings.{AnswerEnded, Ended};
 
 /// Beside a shelf, within a budget, with an input, and with or without a channel to send to, a text
 /// has one meaning, which is the same in both modes: it is refused or not, and ends in one way, with
@@ -71,23 +72,31 @@ pub fn nothing_failed()
         Means mode text shelf steps (input_of from o) (is_some to) a → status ≡ a.status }
 {}
 
-/// In the same way a command that shows something of a program ends with what its text gives, and
-/// has printed that.
-pub fn nothing_failed_showing()
-    ensures { (p : ProgramFiles) (files : Bytes → Reading) (output errors : Writing)
-        (what : Showing) (status : Status) → ShownEnded p files output errors what status →
-        ((name : Bytes) → IsTrue (files name).told) → (ReadsFail files p.file p.shelf → ⊥) →
-        (Rose output.before output.after → ⊥) → (Rose errors.before errors.after → ⊥) →
-        (status ≡ OUT_OF_MEMORY → ⊥) → (shelf : List Shelved) (text : Bytes) →
-        IsShelfBy files p.shelf shelf → IsTextOf (files p.file) text → (a : ShownAnswer) →
-        Shows what text shelf a → (status ≡ a.status) × Whole output a.printed }
+/// In the same way a request that prints what it finds ends with an answer that it gives, and has
+/// printed that.
+pub fn nothing_failed_printing()
+    ensures { (r : Request) (o : Handed) (status : Status) →
+        AnswerEnded r o.files o.output o.errors status →
+        ((n : ℕ) → HasBadLine o.files (list_named r) n → ⊥) → (IsUnread o.files r → ⊥) →
+        (Rose o.output.before o.output.after → ⊥) → (Rose o.errors.before o.errors.after → ⊥) →
+        (status ≡ OUT_OF_MEMORY → ⊥) → (a : ShownAnswer) ×
+        (Gives o.files r a × ((status ≡ a.status) × Whole o.output a.printed)) }
 {}
 
-/// Where the list of a shelf has a bad line, each command ends so.
+/// Where the files are told, a request gives one status, and one print: only the lines of `check`
+/// may have other places in `syntax`.
+pub fn one_answer()
+    ensures { (r : Request) (files : Bytes → Reading) →
+        ((name : Bytes) → IsTrue (files name).told) → (a b : ShownAnswer) →
+        Gives files r a → Gives files r b → (a.status ≡ b.status) ×
+        (((checked : List Bytes) (list : Option Bytes) → r ≡ check checked list → ⊥) →
+        a.printed ≡ b.printed) }
+{}
+
+/// Where the list of a shelf has a bad line, each request that names it ends so.
 pub fn bad_line_refused()
     ensures { (r : Request) (o : Handed) (status : Status) → Ended (Some r) o status →
-        ((name : Bytes) → IsTrue (o.files name).told) →
-        (ReadsFail o.files (files_asked r).file (files_asked r).shelf → ⊥) →
+        ((name : Bytes) → IsTrue (o.files name).told) → (IsUnread o.files r → ⊥) →
         (Rose o.errors.before o.errors.after → ⊥) → (status ≡ OUT_OF_MEMORY → ⊥) →
-        (n : ℕ) → HasBadLine o.files (files_asked r).shelf n → status ≡ SHELF_REFUSED }
+        (n : ℕ) → HasBadLine o.files (list_named r) n → status ≡ SHELF_REFUSED }
 {}

@@ -1,16 +1,17 @@
 //! The top call: what the words of a command line ask for, over files and streams.
 #![tactic(auto)]
 
+mod answering;
+mod delivery;
 mod laws;
 mod no_files;
-mod refusal;
+mod run;
 mod saying;
-mod show;
-mod status;
 mod top;
-mod uncaught;
 mod world;
 
-pub use laws::{bad_line_refused, nothing_failed, nothing_failed_showing, one_meaning};
-pub use status::Status;
+pub use ac_answers::Status;
+pub use laws::{
+    bad_line_refused, nothing_failed, nothing_failed_printing, one_answer, one_meaning,
+};
 pub use top::acute;

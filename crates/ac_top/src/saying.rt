@@ -1,15 +1,15 @@
 // The lines on errors, and the statuses that go with them.
 ghost use Rattle.std.specs.Prelude.{◌≡◌, ◌≤◌, ◌⊎◌, IfOk, string_bytes};
 ghost use Rattle.ac_meaning.specs.ReadExn.{exn_of};
-ghost use Rattle.ac_top.specs.declared.status.TheConstants.Status.{UNCAUGHT, SPENT, OUT_OF_MEMORY, SHELF_REFUSED};
-ghost use Rattle.ac_top.specs.Streams.{writing, memory_line, shelf_line};
-ghost use Rattle.ac_top.specs.Refusals.{refusal_line, kind_status};
-ghost use Rattle.ac_top.specs.Lines.{uncaught_line, spent_line};
-ghost use Rattle.ac_top.specs.Endings.{Said};
+ghost use Rattle.ac_answers.specs.declared.status.TheConstants.Status.{REFUSED, UNCAUGHT, SPENT, OUT_OF_MEMORY, WORDS_REFUSED, SHELF_REFUSED};
+ghost use Rattle.ac_answers.specs.Lines.{refusal_line, uncaught_line, spent_line};
+ghost use Rattle.ac_top.specs.Streams.{writing, words_line, memory_line, shelf_line};
+ghost use Rattle.ac_top.specs.Saying.{Said};
+ghost use Rattle.ac_top.specs.inner.Delivered.{SaysUnread};
 
-use crate::status::Status;
-use crate::{refusal, uncaught};
-use ac_load::Refusal;
+use ac_answers::{Status, refusal_line, spent_line, uncaught_line};
+use ac_files::TextsFault;
+use ac_load::{Kind, Refusal};
 use ac_outside::{Put, Sink};
 use ac_terms::Exn;
 use std::alloc::{AllocError, Global};
@@ -17,17 +17,28 @@ use std::alloc::{AllocError, Global};
 /// Writes the line of a refusal.
 pub fn refuse<E: Sink>(alloc: Global, refusal: Refusal, errors: &mut E) -> Status
     ensures { let stream = writing E.told E.written E.faults errors.old errors.new
-        in Said stream (refusal_line refusal.part refusal.kind) (kind_status refusal.kind) result ⊎
-        Said stream memory_line OUT_OF_MEMORY result }
+        in (Said stream (refusal_line refusal.part refusal.kind) REFUSED result ×
+        (refusal.kind ≡ Kind.Memory → ⊥)) ⊎ Said stream memory_line OUT_OF_MEMORY result }
 {
-    match refusal::line(alloc, refusal) {
-        Ok(line) => say(errors, line.as_slice(), refusal::status(refusal.kind)),
+    match refusal_line(alloc, refusal) {
+        Ok(line) => say(errors, line.as_slice(), Status::REFUSED),
         Err(_) => no_memory(errors),
     }
 }
 
-/// Writes the line of a shelf's list that has a bad line.
-pub fn tell_bad_line<E: Sink>(alloc: Global, number: u32, errors: &mut E) -> Status
+/// Says why texts weren't read.
+pub fn tell_unread<E: Sink>(alloc: Global, fault: TextsFault, errors: &mut E) -> Status
+    ensures { SaysUnread fault (writing E.told E.written E.faults errors.old errors.new) result }
+{
+    match fault {
+        TextsFault::Line(number) => tell_bad_line(alloc, number, errors),
+        TextsFault::Failed => say(errors, b"acute: read fault\n", Status::READ_FAULT),
+        TextsFault::Memory => no_memory(errors),
+    }
+}
+
+// Writes the line of a shelf's list that has a bad line.
+fn tell_bad_line<E: Sink>(alloc: Global, number: u32, errors: &mut E) -> Status
     ensures { let stream = writing E.told E.written E.faults errors.old errors.new
         in Said stream (shelf_line number) SHELF_REFUSED result ⊎
         Said stream memory_line OUT_OF_MEMORY result }
@@ -50,7 +61,7 @@ pub fn tell_uncaught<E: Sink>(alloc: Global, exn: &Exn, errors: &mut E) -> Statu
         in Said stream (uncaught_line (exn_of exn.now)) UNCAUGHT result ⊎
         Said stream memory_line OUT_OF_MEMORY result }
 {
-    match uncaught::line(alloc, exn) {
+    match uncaught_line(alloc, exn) {
         Ok(line) => say(errors, line.as_slice(), Status::UNCAUGHT),
         Err(_) => no_memory(errors),
     }
@@ -63,15 +74,17 @@ pub fn tell_spent<E: Sink>(alloc: Global, budget: u64, errors: &mut E) -> Status
         Said stream memory_line OUT_OF_MEMORY result }
 {
     match spent_line(alloc, budget) {
-        Ok(line) => say(errors, line.as_bytes(), Status::SPENT),
+        Ok(line) => say(errors, line.as_slice(), Status::SPENT),
         Err(_) => no_memory(errors),
     }
 }
 
-fn spent_line(alloc: Global, budget: u64) -> Result<String, AllocError>
-    ensures { IfOk result (λ line. string_bytes line ≡ spent_line budget) }
+/// Writes the line of words that give no command.
+pub fn refuse_words<E: Sink>(errors: &mut E) -> Status
+    ensures { Said (writing E.told E.written E.faults errors.old errors.new) words_line
+        WORDS_REFUSED result }
 {
-    format!(in alloc; "acute: spent {budget}\n")
+    say(errors, b"acute: words refused\n", Status::WORDS_REFUSED)
 }
 
 /// Writes the line of want of memory.

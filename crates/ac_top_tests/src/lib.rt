@@ -1,7 +1,7 @@
-//! Tests of the top call, over files and streams in memory.
+//! Tests of the top call that no row of a table is.
 #![tactic(auto)]
 
 #[cfg(test)]
-mod channel_tests;
+mod calls;
 #[cfg(test)]
-mod words_tests;
+mod slow_tests;

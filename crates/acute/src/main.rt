@@ -1,7 +1,7 @@
 //! The program `acute`: the top call over the real files and streams.
 #![tactic(auto)]
 
-use ac_outside::{RealFiles, RealSink, RealSource};
+use ac_outside::{OpenGate, RealFiles, RealSink, RealSource};
 use ac_top::{Status, acute};
 use ac_types::Memory;
 use std::alloc::Global;
@@ -20,12 +20,14 @@ fn main(rt: HostRuntime) -> ExitCode {
     };
     let mut files = RealFiles::new(rt);
     let Status(status) = acute(
+        &rt,
         alloc,
         &words,
         &mut files,
         &mut input,
         &mut output,
         &mut errors,
+        &OpenGate,
     );
     ExitCode::from(status)
 }

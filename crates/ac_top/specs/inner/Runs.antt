@@ -1,5 +1,5 @@
 -- A run in its world, and the files in front of it.
-use Rattle.std.specs.Prelude.{◌≡◌, ◌⊎◌, ℕ, Bool, IsTrue, List, [], Option, Some, None}
+use Rattle.std.specs.Prelude.{◌≡◌, Bool, IsTrue, [], Option, Some, None}
 use Rattle.ac_types.specs.Types.{Bytes}
 use Rattle.ac_outside.specs.Outside.{Contents, NeverFall, Created, OthersSame, Rose}
 use Rattle.ac_outside.specs.declared.traits.Put.{Put}

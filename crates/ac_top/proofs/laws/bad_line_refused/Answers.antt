@@ -1,40 +1,58 @@
-use Rattle.std.proofs.Common.{◌≡◌, ℕ, IsTrue, Some, refl}
+use Rattle.std.proofs.Common.{◌≡◌, ℕ, IsTrue, Option, Some, refl}
 use Rattle.ac_types.specs.Types.{Bytes}
 use Rattle.ac_outside.specs.Outside.{Rose}
-use Rattle.ac_words.specs.Commands.{ProgramFiles, Request, run, names, code}
+use Rattle.ac_words.specs.Commands.{ChannelName, ProgramFiles, Request, run, names, code, make, check, chain}
 use Rattle.ac_files.specs.ProgramTexts.{HasBadLine, ReadsFail}
-use Rattle.ac_top.specs.declared.status.Status.{Status}
-use Rattle.ac_top.specs.declared.status.TheConstants.Status.{OUT_OF_MEMORY, SHELF_REFUSED}
-use Rattle.ac_top.specs.declared.show.Showing.{Showing}
-use Rattle.ac_top.specs.declared.show.Showing.TheVariants.{Names, Code}
+use Rattle.ac_answers.specs.declared.status.Status.{Status}
+use Rattle.ac_answers.specs.declared.status.TheConstants.Status.{OUT_OF_MEMORY, SHELF_REFUSED}
+use Rattle.ac_answers.specs.Answers.{ShownAnswer}
 use Rattle.ac_top.specs.Handed.{Handed}
-use Rattle.ac_top.specs.Endings.{RunEnded, is_refused, has_run, bad_list, unread_file, unmade_file, unread_input, unwritten, no_memory_yet, no_memory_making, no_memory_left, ShownEnded, has_shown, no_shelf, unread_texts, unprinted, no_memory_to_show, no_memory_to_print, Ended, files_asked}
+use Rattle.ac_top.specs.Requests.{list_named, IsUnread}
+use Rattle.ac_top.specs.Giving.{Gives}
+use Rattle.ac_top.specs.RunEndings.{RunEnded, is_refused, has_run, bad_list, unread_file, unmade_file, unread_input, unwritten, no_memory_yet, no_memory_making, no_memory_left}
+use Rattle.ac_top.specs.Endings.{AnswerEnded, has_printed, no_shelf, unread, unprinted, no_memory_to_find, no_memory_to_print, Ended}
+use Rattle.ac_top.proofs.AnswerLaws.{one_fails}
 use Rattle.ac_top.proofs.FileLaws.{shelf_or_bad}
 use Rattle.ac_top.proofs.SaidLaws.{said_wholly}
 use Rattle.ac_top.proofs.laws.bad_line_refused.Goals as goal
 
 module _ (o : Handed) {end : Status} (told : (name : Bytes) → IsTrue (o.files name).told) (e : Rose o.errors.before o.errors.after → ⊥) (m : end ≡ OUT_OF_MEMORY → ⊥) (n : ℕ) where
-  showing : (prog : ProgramFiles) (what : Showing) → (ReadsFail o.files prog.file prog.shelf → ⊥) → HasBadLine o.files prog.shelf n → ShownEnded prog o.files o.output o.errors what end → end ≡ SHELF_REFUSED
-  showing prog what f bad (has_shown r b g x s) = absurd (shelf_or_bad o.files told r.is_shelf bad)
-  showing prog what f bad (no_shelf k other x s) = said_wholly m o.errors e refl s
-  showing prog what f bad (unread_texts fails x s) = absurd (f fails)
-  showing prog what f bad (unprinted r b g rose x s) = absurd (shelf_or_bad o.files told r.is_shelf bad)
-  showing prog what f bad (no_memory_to_show x s) = absurd (m (said_wholly m o.errors e refl s))
-  showing prog what f bad (no_memory_to_print r b g x s) = absurd (shelf_or_bad o.files told r.is_shelf bad)
+  -- nothing is given then
+  not_given : (r : Request) (a : ShownAnswer) → HasBadLine o.files (list_named r) n → Gives o.files r a → ⊥
+  not_given (run prog steps from to) a bad g = g
+  not_given (names prog) a bad g = shelf_or_bad o.files told g.is_shelf bad
+  not_given (code prog) a bad g = shelf_or_bad o.files told g.is_shelf bad
+  not_given (make seed modules runs) a bad g = elim bad [ ]
+  not_given (check files list) a bad g = shelf_or_bad o.files told g.is_shelf bad
+  not_given (chain files list steps) a bad g = g
 
-  complete : (r : Request) → (ReadsFail o.files (files_asked r).file (files_asked r).shelf → ⊥) → HasBadLine o.files (files_asked r).shelf n → Ended (Some r) o end → end ≡ SHELF_REFUSED
-  complete (run prog steps from to) f bad (is_refused r b g runs x u s) = absurd (shelf_or_bad o.files told r.is_shelf bad)
-  complete (run prog steps from to) f bad (has_run r b mid g runs x s) = absurd (shelf_or_bad o.files told r.is_shelf bad)
-  complete (run prog steps from to) f bad (bad_list k other x u s) = said_wholly m o.errors e refl s
-  complete (run prog steps from to) f bad (unread_file fails x u s) = absurd (f fails)
-  complete (run prog steps from to) f bad (unmade_file r b g runs rose x u s) = absurd (shelf_or_bad o.files told r.is_shelf bad)
-  complete (run prog steps from to) f bad (unread_input r b mid g runs rose x y s) = absurd (shelf_or_bad o.files told r.is_shelf bad)
-  complete (run prog steps from to) f bad (unwritten r b mid g runs rose x s) = absurd (shelf_or_bad o.files told r.is_shelf bad)
-  complete (run prog steps from to) f bad (no_memory_yet x u s) = absurd (m (said_wholly m o.errors e refl s))
-  complete (run prog steps from to) f bad (no_memory_making r b g runs x u s) = absurd (shelf_or_bad o.files told r.is_shelf bad)
-  complete (run prog steps from to) f bad (no_memory_left r b mid g runs x s) = absurd (shelf_or_bad o.files told r.is_shelf bad)
-  complete (names prog) f bad ended = showing prog Names f bad ended
-  complete (code prog) f bad ended = showing prog Code f bad ended
+  answering : (r : Request) → (IsUnread o.files r → ⊥) → HasBadLine o.files (list_named r) n → AnswerEnded r o.files o.output o.errors end → end ≡ SHELF_REFUSED
+  answering r f bad (has_printed a g x s) = absurd (not_given r a bad g)
+  answering r f bad (no_shelf k other x s) = said_wholly m o.errors e refl s
+  answering r f bad (unread fails x s) = absurd (f fails)
+  answering r f bad (unprinted a g rose x s) = absurd (not_given r a bad g)
+  answering r f bad (no_memory_to_find x s) = absurd (m (said_wholly m o.errors e refl s))
+  answering r f bad (no_memory_to_print a g x s) = absurd (not_given r a bad g)
+
+  running : (prog : ProgramFiles) (steps : ℕ) (from to : Option ChannelName) → (ReadsFail o.files prog.file prog.shelf → ⊥) → HasBadLine o.files prog.shelf n → RunEnded prog steps from to o end → end ≡ SHELF_REFUSED
+  running prog steps from to f bad (is_refused r b g runs x u s) = absurd (shelf_or_bad o.files told r.is_shelf bad)
+  running prog steps from to f bad (has_run r b mid g runs x s) = absurd (shelf_or_bad o.files told r.is_shelf bad)
+  running prog steps from to f bad (bad_list k other x u s) = said_wholly m o.errors e refl s
+  running prog steps from to f bad (unread_file fails x u s) = absurd (f fails)
+  running prog steps from to f bad (unmade_file r b g runs rose x u s) = absurd (shelf_or_bad o.files told r.is_shelf bad)
+  running prog steps from to f bad (unread_input r b mid g runs rose x y s) = absurd (shelf_or_bad o.files told r.is_shelf bad)
+  running prog steps from to f bad (unwritten r b mid g runs rose x s) = absurd (shelf_or_bad o.files told r.is_shelf bad)
+  running prog steps from to f bad (no_memory_yet x u s) = absurd (m (said_wholly m o.errors e refl s))
+  running prog steps from to f bad (no_memory_making r b g runs x u s) = absurd (shelf_or_bad o.files told r.is_shelf bad)
+  running prog steps from to f bad (no_memory_left r b mid g runs x s) = absurd (shelf_or_bad o.files told r.is_shelf bad)
+
+  complete : (r : Request) → (IsUnread o.files r → ⊥) → HasBadLine o.files (list_named r) n → Ended (Some r) o end → end ≡ SHELF_REFUSED
+  complete (run prog steps from to) f bad ended = running prog steps from to (λ fails. f (one_fails o.files prog.file fails)) bad ended
+  complete (names prog) f bad ended = answering (names prog) f bad ended
+  complete (code prog) f bad ended = answering (code prog) f bad ended
+  complete (make seed modules runs) f bad ended = elim bad [ ]
+  complete (check files list) f bad ended = answering (check files list) f bad ended
+  complete (chain files list steps) f bad ended = elim bad [ ]
 
 pub returns : goal.returns
 returns c = λ r o status ended told f e m n bad. complete o told e m n r f bad ended

@@ -1,4 +1,4 @@
-use Rattle.std.proofs.Common.{◌≡◌, ◌⊎◌, inl, inr, List, ℕ, [], ◌∷◌, IsTrue, Option, None, Some, is_some, refl, sym, ◌∙◌, ap, subst, take}
+use Rattle.std.proofs.Common.{◌≡◌, ◌⊎◌, inl, inr, List, ℕ, IsTrue, Option, None, Some, is_some, refl, sym, ◌∙◌, subst}
 use Rattle.ac_types.specs.Types.{Bytes}
 use Rattle.ac_types.proofs.FirstLaws.{none≢some}
 use Rattle.ac_outside.specs.Outside.{Rose}
@@ -7,16 +7,15 @@ use Rattle.ac_acceptance.specs.Accepting.{Shelved}
 use Rattle.ac_files.specs.Files.{IsTextOf}
 use Rattle.ac_files.specs.ProgramTexts.{IsShelfBy, ReadsFail}
 use Rattle.ac_rules.specs.Views.{Mode}
-use Rattle.ac_top.specs.declared.status.Status.{Status}
-use Rattle.ac_top.specs.declared.status.TheConstants.Status.{OUT_OF_MEMORY}
+use Rattle.ac_answers.specs.declared.status.Status.{Status}
+use Rattle.ac_answers.specs.declared.status.TheConstants.Status.{OUT_OF_MEMORY}
 use Rattle.ac_top.specs.Channels.{GetsInput}
-use Rattle.ac_top.specs.Streams.{Writing}
 use Rattle.ac_top.specs.Handed.{Handed, is_told, input_of, InputFailed, OutputFailed, MakingFailed, behind_run}
-use Rattle.ac_top.specs.Meaning.{CommandAnswer, Means}
-use Rattle.ac_top.specs.Endings.{HasRead, GivesStatus, RunEnded, is_refused, has_run, bad_list, unread_file, unmade_file, unread_input, unwritten, no_memory_yet, no_memory_making, no_memory_left, Said, said, failed, no_memory, SaidIfAny}
+use Rattle.ac_answers.specs.Meaning.{CommandAnswer, Means}
+use Rattle.ac_top.specs.RunEndings.{HasRead, GivesStatus, RunEnded, is_refused, has_run, bad_list, unread_file, unmade_file, unread_input, unwritten, no_memory_yet, no_memory_making, no_memory_left}
 use Rattle.ac_top.proofs.FileLaws.{one_text, one_shelf, shelf_or_bad}
 use Rattle.ac_top.proofs.SaidLaws.{said_wholly, said_if_any_wholly}
-use Rattle.ac_top.proofs.TextLaws.{one_in}
+use Rattle.ac_answers.proofs.TextLaws.{one_in}
 use Rattle.ac_top.proofs.laws.nothing_failed.Goals as goal
 
 -- the counts of errors are the same behind a run

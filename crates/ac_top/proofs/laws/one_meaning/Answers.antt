@@ -1,4 +1,4 @@
-use Rattle.ac_top.proofs.TextLaws.{one}
+use Rattle.ac_answers.proofs.TextLaws.{one}
 use Rattle.ac_top.proofs.laws.one_meaning.Goals as goal
 
 pub returns : goal.returns

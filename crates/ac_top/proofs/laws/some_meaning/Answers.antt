@@ -1,4 +1,4 @@
-use Rattle.ac_top.proofs.TextLaws.{some_meaning}
+use Rattle.ac_answers.proofs.TextLaws.{some_meaning}
 use Rattle.ac_top.proofs.laws.some_meaning.Goals as goal
 
 pub returns : goal.returns

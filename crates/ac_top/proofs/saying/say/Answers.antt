@@ -1,5 +1,5 @@
 use Rattle.std.proofs.Common.{refl}
-use Rattle.ac_top.specs.Endings.{said, failed, no_memory}
+use Rattle.ac_top.specs.Saying.{said, failed, no_memory}
 use Rattle.ac_top.proofs.saying.say.Goals as goal
 
 pub returns-in-Done-clause-said : goal.returns-in-Done-clause-said

@@ -2,4 +2,4 @@ use Rattle.std.proofs.Common.{inl, ◌∙◌}
 use Rattle.ac_top.proofs.saying.tell_spent.Goals as goal
 
 pub returns-in-Ok : goal.returns-in-Ok
-returns-in-Ok g c = inl (rw (c.as_bytes.ensures.value ∙ c.in-Ok.ensures) at c.say.ensures.said)
+returns-in-Ok g c = inl (rw (c.as_slice.ensures ∙ c.in-Ok.ensures) at c.say.ensures.said)

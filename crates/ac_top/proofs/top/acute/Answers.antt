@@ -1,19 +1,19 @@
-use Rattle.std.proofs.Common.{◌∙◌, sym, refl, ap, Some, None}
+use Rattle.std.proofs.Common.{sym, refl}
 use Rattle.ac_top.specs.Endings.{texts}
-use Rattle.ac_top.proofs.EndingLaws.{words_refused, end_at_words}
+use Rattle.ac_top.proofs.EndingLaws.{words_refused, end_at_words, touches_none}
 use Rattle.ac_top.proofs.PlaceLaws.{untouched_by}
 use Rattle.ac_top.proofs.WordLaws.{words_apart}
 use Rattle.ac_top.proofs.top.acute.Goals as goal
 
-pub obey-requires : goal.obey-requires
-obey-requires g c =
+pub obey-requires-after_bounds : goal.obey-requires-after_bounds
+obey-requires-after_bounds g c κs within =
     let some = rw c.in-Ok-Some.field-0-is at c.in-Ok-Some.ensures in
     words_apart (texts c.args.words.now) _ (sym some)
 
 pub returns-in-Ok-None-clause-ends : goal.returns-in-Ok-None-clause-ends
 returns-in-Ok-None-clause-ends g c =
     let none = rw c.in-Ok-None.field-0-is at c.in-Ok-None.ensures in
-    rw (sym none) (words_refused _ (record { same = refl }) _ c.say.ensures.said)
+    rw (sym none) (words_refused _ (record { same = refl }) _ c.refuse_words.ensures)
 
 pub returns-in-Ok-Some-clause-ends : goal.returns-in-Ok-Some-clause-ends
 returns-in-Ok-Some-clause-ends g c =
@@ -34,13 +34,15 @@ returns-in-Ok-Some-clause-kept g c =
 pub returns-in-Err-clause-kept : goal.returns-in-Err-clause-kept
 returns-in-Err-clause-kept g c = λ told name h. refl
 
-pub returns-in-Ok-None-clause-only : goal.returns-in-Ok-None-clause-only
-returns-in-Ok-None-clause-only g c = λ name only. g.F.Files.reads_none name _
+pub returns-in-Ok-None-clause-touched : goal.returns-in-Ok-None-clause-touched
+returns-in-Ok-None-clause-touched g c =
+    let none = rw c.in-Ok-None.field-0-is at c.in-Ok-None.ensures in
+    rw (sym none) refl
 
-pub returns-in-Ok-Some-clause-only : goal.returns-in-Ok-Some-clause-only
-returns-in-Ok-Some-clause-only g c =
+pub returns-in-Ok-Some-clause-touched : goal.returns-in-Ok-Some-clause-touched
+returns-in-Ok-Some-clause-touched g c =
     let some = rw c.in-Ok-Some.field-0-is at c.in-Ok-Some.ensures in
-    rw (sym some) c.obey.ensures.only
+    rw (sym some) c.obey.ensures.touched
 
-pub returns-in-Err-clause-only : goal.returns-in-Err-clause-only
-returns-in-Err-clause-only g c = λ name only. g.F.Files.reads_none name _
+pub returns-in-Err-clause-touched : goal.returns-in-Err-clause-touched
+returns-in-Err-clause-touched g c = touches_none g.F.Files.reads g.F.Files.reads_none _ _

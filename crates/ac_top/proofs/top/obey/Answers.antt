@@ -1,6 +1,6 @@
-use Rattle.std.proofs.Common.{◌≡◌, refl, sym, ap}
+use Rattle.std.proofs.Common.{refl, sym, ap}
 use Rattle.ac_outside.specs.Outside.{Contents}
-use Rattle.ac_words.specs.Commands.{ProgramFiles}
+use Rattle.ac_top.proofs.EndingLaws.{words_refused}
 use Rattle.ac_top.proofs.top.obey.Goals as goal
 
 pub returns-in-Run-clause-ends : goal.returns-in-Run-clause-ends
@@ -9,26 +9,50 @@ returns-in-Run-clause-ends g c = rw c.in-Run.is c.run_file.ensures.ends
 pub returns-in-Run-clause-kept : goal.returns-in-Run-clause-kept
 returns-in-Run-clause-kept g c = rw c.in-Run.is c.run_file.ensures.kept
 
-pub returns-in-Run-clause-only : goal.returns-in-Run-clause-only
-returns-in-Run-clause-only g c =
-    rw c.in-Run.is (λ name only. rw (sym (ap (λ (p : ProgramFiles). p.file) only.0)) (c.run_file.ensures.only only.1.0 only.1.1 (ap (λ (p : ProgramFiles). p.shelf) only.0)))
+pub returns-in-Run-clause-touched : goal.returns-in-Run-clause-touched
+returns-in-Run-clause-touched g c = rw c.in-Run.is (λ none apart. (_, (c.run_file.ensures.only apart.0 apart.1 none, refl)))
 
 pub returns-in-Names-clause-ends : goal.returns-in-Names-clause-ends
-returns-in-Names-clause-ends g c = rw c.in-Names.is c.show.ensures.ends
+returns-in-Names-clause-ends g c = rw c.in-Names.is c.show_file.ensures.ends
 
 pub returns-in-Names-clause-kept : goal.returns-in-Names-clause-kept
-returns-in-Names-clause-kept g c = rw c.in-Names.is (λ told name h. ap (λ (k : Contents). k name) (c.show.ensures.same told))
+returns-in-Names-clause-kept g c = rw c.in-Names.is (λ told name h. ap (λ (k : Contents). k name) (c.show_file.ensures.same told))
 
-pub returns-in-Names-clause-only : goal.returns-in-Names-clause-only
-returns-in-Names-clause-only g c =
-    rw c.in-Names.is (λ name only. rw (sym (ap (λ (p : ProgramFiles). p.file) only)) (c.show.ensures.only (ap (λ (p : ProgramFiles). p.shelf) only)))
+pub returns-in-Names-clause-touched : goal.returns-in-Names-clause-touched
+returns-in-Names-clause-touched g c = rw c.in-Names.is (λ none apart. (_, (c.show_file.ensures.only none, refl)))
 
 pub returns-in-Code-clause-ends : goal.returns-in-Code-clause-ends
-returns-in-Code-clause-ends g c = rw c.in-Code.is c.show-in-Code.ensures.ends
+returns-in-Code-clause-ends g c = rw c.in-Code.is c.show_file-in-Code.ensures.ends
 
 pub returns-in-Code-clause-kept : goal.returns-in-Code-clause-kept
-returns-in-Code-clause-kept g c = rw c.in-Code.is (λ told name h. ap (λ (k : Contents). k name) (c.show-in-Code.ensures.same told))
+returns-in-Code-clause-kept g c = rw c.in-Code.is (λ told name h. ap (λ (k : Contents). k name) (c.show_file-in-Code.ensures.same told))
 
-pub returns-in-Code-clause-only : goal.returns-in-Code-clause-only
-returns-in-Code-clause-only g c =
-    rw c.in-Code.is (λ name only. rw (sym (ap (λ (p : ProgramFiles). p.file) only)) (c.show-in-Code.ensures.only (ap (λ (p : ProgramFiles). p.shelf) only)))
+pub returns-in-Code-clause-touched : goal.returns-in-Code-clause-touched
+returns-in-Code-clause-touched g c = rw c.in-Code.is (λ none apart. (_, (c.show_file-in-Code.ensures.only none, refl)))
+
+pub returns-in-Make-clause-ends : goal.returns-in-Make-clause-ends
+returns-in-Make-clause-ends g c = rw c.in-Make.is (c.make_program.ensures _)
+
+pub returns-in-Make-clause-kept : goal.returns-in-Make-clause-kept
+returns-in-Make-clause-kept g c = rw c.in-Make.is (λ told name h. refl)
+
+pub returns-in-Make-clause-touched : goal.returns-in-Make-clause-touched
+returns-in-Make-clause-touched g c = rw c.in-Make.is (λ none apart. refl)
+
+pub returns-in-Check-clause-ends : goal.returns-in-Check-clause-ends
+returns-in-Check-clause-ends g c = rw (c.in-Check.is, sym c.as_slice-names.ensures.value) c.check_files.ensures.ends
+
+pub returns-in-Check-clause-kept : goal.returns-in-Check-clause-kept
+returns-in-Check-clause-kept g c = rw c.in-Check.is (λ told name h. ap (λ (k : Contents). k name) (c.check_files.ensures.same told))
+
+pub returns-in-Check-clause-touched : goal.returns-in-Check-clause-touched
+returns-in-Check-clause-touched g c = rw (c.in-Check.is, sym c.as_slice-names.ensures.value) (λ none apart. c.check_files.ensures.only none)
+
+pub returns-clause-ends : goal.returns-clause-ends
+returns-clause-ends g c = rw c.in-Chain.is (words_refused _ (record { same = refl }) _ c.refuse_words.ensures)
+
+pub returns-clause-kept : goal.returns-clause-kept
+returns-clause-kept g c = rw c.in-Chain.is (λ told name h. refl)
+
+pub returns-clause-touched : goal.returns-clause-touched
+returns-clause-touched g c = rw c.in-Chain.is (λ none apart. refl)

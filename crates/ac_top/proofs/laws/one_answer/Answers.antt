@@ -1,0 +1,46 @@
+use Rattle.std.proofs.Common.{◌≡◌, IsTrue, List, Option, refl, subst}
+use Rattle.ac_types.specs.Types.{Bytes}
+use Rattle.ac_types.specs.declared.text.Text.{Text}
+use Rattle.ac_words.specs.Commands.{ProgramFiles, Request, run, names, code, make, check, chain}
+use Rattle.ac_acceptance.specs.Accepting.{Shelved}
+use Rattle.ac_files.specs.Files.{Reading}
+use Rattle.ac_answers.specs.declared.showing.Showing.{Showing}
+use Rattle.ac_answers.specs.declared.showing.Showing.TheVariants.{Names, Code}
+use Rattle.ac_answers.specs.Answers.{ShownAnswer}
+use Rattle.ac_answers.specs.Checking.{Checks}
+use Rattle.ac_answers.specs.Showing.{Shows}
+use Rattle.ac_answers.proofs.OneAnswer.{Alike, one_shown, one_made, one_checked}
+use Rattle.ac_top.specs.Giving.{Gives, ShowsFile, ChecksFiles}
+use Rattle.ac_top.proofs.FileLaws.{one_text, one_shelf, one_list}
+use Rattle.ac_top.proofs.laws.one_answer.Goals as goal
+
+-- one status, and but for `check` one print
+abbrev OneAnswer : Request → ShownAnswer → ShownAnswer → Type 0
+OneAnswer r a b = (a.status ≡ b.status) × (((files : List Bytes) (list : Option Bytes) → r ≡ check files list → ⊥) → a.printed ≡ b.printed)
+
+alike : (r : Request) (a b : ShownAnswer) → Alike a b → OneAnswer r a b
+alike r a b is = (is.0, λ other. is.1)
+
+module _ (files : Bytes → Reading) (told : (name : Bytes) → IsTrue (files name).told) (a b : ShownAnswer) where
+  showing : (what : Showing) (p : ProgramFiles) → ShowsFile what files p a → ShowsFile what files p b → Alike a b
+  showing what p x y =
+      let text = one_text (files p.file) (told p.file) x.text y.text x.is_text y.is_text in
+      let shelf = one_shelf files told x.is_shelf y.is_shelf in
+      one_shown what y.text y.shelf a b (subst (λ (s : List Shelved). Shows what y.text s a) shelf (subst (λ (t : Bytes). Shows what t x.shelf a) text x.shows)) y.shows
+
+  checking : (checked : List Bytes) (list : Option Bytes) → ChecksFiles files checked list a → ChecksFiles files checked list b → a.status ≡ b.status
+  checking checked list x y =
+      let texts = one_list files told checked x.texts y.texts x.are_texts y.are_texts in
+      let shelf = one_shelf files told x.is_shelf y.is_shelf in
+      one_checked checked y.texts y.shelf a b (subst (λ (s : List Shelved). Checks checked y.texts s a) shelf (subst (λ (t : List Text). Checks checked t x.shelf a) texts x.checks)) y.checks
+
+  one : (r : Request) → Gives files r a → Gives files r b → OneAnswer r a b
+  one (run p steps from to) x y = absurd x
+  one (names p) x y = alike (names p) a b (showing Names p x y)
+  one (code p) x y = alike (code p) a b (showing Code p x y)
+  one (make seed modules runs) x y = alike (make seed modules runs) a b (one_made seed modules runs a b x y)
+  one (check checked list) x y = (checking checked list x y, λ other. absurd (other checked list refl))
+  one (chain programs list steps) x y = absurd x
+
+pub returns : goal.returns
+returns c = λ r files told a b x y. one files told a b r x y

@@ -1,0 +1,91 @@
+// The commands that print what they find.
+ghost use Rattle.std.specs.Prelude.{◌≡◌, None, IsTrue, map, option_map};
+ghost use Rattle.ac_types.specs.Types.{Bytes};
+ghost use Rattle.ac_files.specs.Files.{Reading, files_seen, files_read};
+ghost use Rattle.ac_files.specs.ManyTexts.{ReadInTurn};
+ghost use Rattle.ac_words.specs.Commands.{check, files_of, make};
+ghost use Rattle.ac_top.specs.Streams.{writing};
+ghost use Rattle.ac_top.specs.Endings.{AnswerEnded};
+ghost use Rattle.ac_top.specs.inner.Asked.{showing};
+
+use crate::delivery::deliver;
+use crate::saying::tell_unread;
+use ac_answers::{Showing, Status, check, make, show};
+use ac_files::{read_program, read_texts};
+use ac_outside::{Files, Gate, Sink};
+use ac_words::{Check, Make, Program};
+use std::alloc::Global;
+use std::thread::Threads;
+
+/// Shows that of the program of a file.
+pub fn show_file<F: Files, O: Sink, E: Sink>(
+    alloc: Global,
+    what: Showing,
+    program: Program,
+    files: &mut F,
+    output: &mut O,
+    errors: &mut E,
+) -> Status
+    ensures ends { AnswerEnded (showing what (files_of program.entry)) (files_read F.told
+        (files_seen F.contents F.read_faults F.write_faults files.old)
+        (files_seen F.contents F.read_faults F.write_faults files.new))
+        (writing O.told O.written O.faults output.old output.new)
+        (writing E.told E.written E.faults errors.old errors.new) result }
+    ensures same { IsTrue F.told → F.contents files.new ≡ F.contents files.old }
+    ensures only { (files_of program.entry).shelf ≡ None →
+        F.reads (files_of program.entry).file files.old files.new }
+{
+    match read_program(alloc, files, program.file, program.shelf) {
+        Ok(texts) => {
+            let found = show(alloc, what, texts.program.as_slice(), &texts.shelf);
+            deliver(found, output, errors)
+        }
+        Err(fault) => tell_unread(alloc, fault, errors),
+    }
+}
+
+/// Checks the texts of files.
+pub fn check_files<R: Threads + Sync, F: Files, O: Sink, E: Sink, G: Gate + Sync>(
+    rt: &R,
+    alloc: Global,
+    names: &[&str],
+    list: Option<&str>,
+    files: &mut F,
+    output: &mut O,
+    errors: &mut E,
+    gate: &G,
+) -> Status
+    ensures ends { AnswerEnded (check (map (λ s. s.now) names.now)
+        (option_map (λ s. s.now) list.entry)) (files_read F.told
+        (files_seen F.contents F.read_faults F.write_faults files.old)
+        (files_seen F.contents F.read_faults F.write_faults files.new))
+        (writing O.told O.written O.faults output.old output.new)
+        (writing E.told E.written E.faults errors.old errors.new) result }
+    ensures same { IsTrue F.told → F.contents files.new ≡ F.contents files.old }
+    ensures only { option_map (λ s. s.now) list.entry ≡ None →
+        ReadInTurn F.reads (map (λ s. s.now) names.now) files.old files.new }
+{
+    match read_texts(alloc, files, names, list) {
+        Ok(texts) => {
+            let found = check(rt, alloc, names, &texts.texts, &texts.shelf, gate);
+            deliver(found, output, errors)
+        }
+        Err(fault) => tell_unread(alloc, fault, errors),
+    }
+}
+
+/// Makes a program, and prints it or runs it.
+pub fn make_program<O: Sink, E: Sink>(
+    alloc: Global,
+    program: Make,
+    output: &mut O,
+    errors: &mut E,
+) -> Status
+    ensures { (files : Bytes → Reading) → AnswerEnded
+        (make program.seed program.modules program.runs) files
+        (writing O.told O.written O.faults output.old output.new)
+        (writing E.told E.written E.faults errors.old errors.new) result }
+{
+    let found = make(alloc, program.seed, program.modules, program.runs);
+    deliver(found, output, errors)
+}

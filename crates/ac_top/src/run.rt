@@ -1,0 +1,224 @@
+// The command that runs the program of a file.
+ghost use Rattle.std.specs.Prelude.{◌≡◌, ◌≤◌, List, None, false, IsTrue, length, is_some, option_map};
+ghost use Rattle.ac_types.specs.Types.{Bytes};
+ghost use Rattle.ac_types.specs.ReadTypes.{typ_of};
+ghost use Rattle.ac_terms.specs.Read.{environment_of, expr_of};
+ghost use Rattle.ac_meaning.specs.Loads.{IsLoaded};
+ghost use Rattle.ac_acceptance.specs.Accepting.{IsShelf, Shelved};
+ghost use Rattle.ac_load.specs.Loading.{Loads, shelf_of};
+ghost use Rattle.ac_files.specs.Files.{FilesSeen, files_seen, IsTextOf, Since};
+ghost use Rattle.ac_files.specs.ProgramTexts.{IsShelfBy};
+ghost use Rattle.ac_run.specs.Course.{begun};
+ghost use Rattle.ac_words.specs.Commands.{are_one, channel_of, files_of};
+ghost use Rattle.ac_top.specs.Channels.{KeptBut, NoFile};
+ghost use Rattle.ac_top.specs.Streams.{feeding, writing};
+ghost use Rattle.ac_top.specs.Handed.{what_is_handed};
+ghost use Rattle.ac_top.specs.RunEndings.{RunEnded};
+ghost use Rattle.ac_top.specs.inner.Runs.{Prepared, Makes};
+
+use crate::saying::{no_memory, refuse, say, tell_spent, tell_uncaught, tell_unread};
+use crate::world::run_among;
+use ac_answers::Status;
+use ac_files::{ProgramTexts, read_program};
+use ac_load::load;
+use ac_outside::{Files, Put, Sink, Source};
+use ac_rules::Loaded;
+use ac_run::{RunEnd, Session};
+use ac_words::{Channel, Run};
+use std::alloc::Global;
+
+/// Runs the program of a file.
+pub fn run_file<F: Files, I: Source, O: Sink, E: Sink>(
+    alloc: Global,
+    run: Run,
+    files: &mut F,
+    input: &mut I,
+    output: &mut O,
+    errors: &mut E,
+) -> Status
+    requires { are_one (option_map channel_of run.input) (option_map channel_of run.output) ≡ false }
+    ensures ends { RunEnded (files_of run.entry.program) run.entry.steps (option_map channel_of run.entry.input)
+        (option_map channel_of run.entry.output) (what_is_handed F.told
+        (files_seen F.contents F.read_faults F.write_faults files.old)
+        (files_seen F.contents F.read_faults F.write_faults files.new)
+        (feeding I.told I.left I.read_faults input.old input.new)
+        (writing O.told O.written O.faults output.old output.new)
+        (writing E.told E.written E.faults errors.old errors.new)) result }
+    ensures kept { IsTrue F.told → KeptBut (option_map channel_of run.entry.output)
+        (F.contents files.old) (F.contents files.new) }
+    ensures only { NoFile (option_map channel_of run.entry.input) →
+        NoFile (option_map channel_of run.entry.output) →
+        (files_of run.entry.program).shelf ≡ None →
+        F.reads (files_of run.entry.program).file files.old files.new }
+{
+    match read_program(alloc, files, run.program.file, run.program.shelf) {
+        Ok(texts) => run_texts(alloc, texts, run, files, input, output, errors),
+        Err(fault) => tell_unread(alloc, fault, errors),
+    }
+}
+
+// Runs the text of a program beside its shelf.
+fn run_texts<F: Files, I: Source, O: Sink, E: Sink>(
+    alloc: Global,
+    texts: ProgramTexts,
+    run: Run,
+    files: &mut F,
+    input: &mut I,
+    output: &mut O,
+    errors: &mut E,
+) -> Status
+    requires apart { are_one (option_map channel_of run.input) (option_map channel_of run.output)
+        ≡ false }
+    requires few { length texts.shelf.0 ≤ 256 }
+    requires shelved { IsShelf (shelf_of texts.shelf) }
+    ensures ends { (start : FilesSeen) →
+        Since F.told start (files_seen F.contents F.read_faults F.write_faults files.old) →
+        let o = what_is_handed F.told start (files_seen F.contents F.read_faults F.write_faults files.new)
+        (feeding I.told I.left I.read_faults input.old input.new)
+        (writing O.told O.written O.faults output.old output.new)
+        (writing E.told E.written E.faults errors.old errors.new) in
+        IsShelfBy o.files (files_of run.entry.program).shelf (shelf_of texts.shelf) →
+        IsTextOf (o.files (files_of run.entry.program).file) texts.program.0 →
+        RunEnded (files_of run.entry.program) run.entry.steps (option_map channel_of run.entry.input)
+        (option_map channel_of run.entry.output) o result }
+    ensures kept { IsTrue F.told → KeptBut (option_map channel_of run.entry.output)
+        (F.contents files.old) (F.contents files.new) }
+    ensures only { NoFile (option_map channel_of run.entry.input) →
+        NoFile (option_map channel_of run.entry.output) → files.new ≡ files.old }
+{
+    match load(alloc, texts.program.as_slice(), &texts.shelf) {
+        Ok(loaded) => run_program(alloc, loaded, run, files, input, output, errors),
+        Err(refusal) => refuse(alloc, refusal, errors),
+    }
+}
+
+// Runs the program of a text.
+fn run_program<F: Files, I: Source, O: Sink, E: Sink>(
+    alloc: Global,
+    loaded: Loaded,
+    run: Run,
+    files: &mut F,
+    input: &mut I,
+    output: &mut O,
+    errors: &mut E,
+) -> Status
+    requires apart { are_one (option_map channel_of run.input) (option_map channel_of run.output)
+        ≡ false }
+    requires loaded { IsLoaded (environment_of loaded.env) (expr_of loaded.main)
+        (typ_of loaded.ty) }
+    ensures ends { (start : FilesSeen) →
+        Since F.told start (files_seen F.contents F.read_faults F.write_faults files.old) →
+        let o = what_is_handed F.told start (files_seen F.contents F.read_faults F.write_faults files.new)
+        (feeding I.told I.left I.read_faults input.old input.new)
+        (writing O.told O.written O.faults output.old output.new)
+        (writing E.told E.written E.faults errors.old errors.new) in
+        (shelf : List Shelved) → IsShelfBy o.files (files_of run.entry.program).shelf shelf →
+        (text : Bytes) → IsTextOf (o.files (files_of run.entry.program).file) text →
+        Loads text shelf (environment_of loaded.env) (expr_of loaded.main) (typ_of loaded.ty) →
+        RunEnded (files_of run.entry.program) run.entry.steps (option_map channel_of run.entry.input)
+        (option_map channel_of run.entry.output) o result }
+    ensures kept { IsTrue F.told → KeptBut (option_map channel_of run.entry.output)
+        (F.contents files.old) (F.contents files.new) }
+    ensures only { NoFile (option_map channel_of run.entry.input) →
+        NoFile (option_map channel_of run.entry.output) → files.new ≡ files.old }
+{
+    match Session::new(alloc, loaded, run.steps, run.output.is_some()) {
+        Ok(mut session) => { make_and_run(alloc, &mut session, run, files, input, output, errors) }
+        Err(_) => no_memory(errors),
+    }
+}
+
+// Makes the file of the channel, if that is one, and runs a session.
+fn make_and_run<F: Files, I: Source, O: Sink, E: Sink>(
+    alloc: Global,
+    session: &mut Session,
+    run: Run,
+    files: &mut F,
+    input: &mut I,
+    output: &mut O,
+    errors: &mut E,
+) -> Status
+    requires apart { are_one (option_map channel_of run.input) (option_map channel_of run.output)
+        ≡ false }
+    ensures ends { (start : FilesSeen) →
+        Since F.told start (files_seen F.contents F.read_faults F.write_faults files.old) →
+        let o = what_is_handed F.told start (files_seen F.contents F.read_faults F.write_faults files.new)
+        (feeding I.told I.left I.read_faults input.old input.new)
+        (writing O.told O.written O.faults output.old output.new)
+        (writing E.told E.written E.faults errors.old errors.new) in
+        (shelf : List Shelved) → IsShelfBy o.files (files_of run.entry.program).shelf shelf →
+        (text : Bytes) → IsTextOf (o.files (files_of run.entry.program).file) text →
+        (loaded : Loaded) →
+        IsLoaded (environment_of loaded.env) (expr_of loaded.main) (typ_of loaded.ty) →
+        Loads text shelf (environment_of loaded.env) (expr_of loaded.main) (typ_of loaded.ty) →
+        session.old ≡ begun loaded run.entry.steps
+        (is_some (option_map channel_of run.entry.output)) session.old.machine →
+        RunEnded (files_of run.entry.program) run.entry.steps (option_map channel_of run.entry.input)
+        (option_map channel_of run.entry.output) o result }
+    ensures kept { IsTrue F.told → KeptBut (option_map channel_of run.entry.output)
+        (F.contents files.old) (F.contents files.new) }
+    ensures only { NoFile (option_map channel_of run.entry.input) →
+        NoFile (option_map channel_of run.entry.output) → files.new ≡ files.old }
+{
+    match make_channel(run.output, files) {
+        Put::Done => run_session(alloc, session, run, files, input, output, errors),
+        Put::Failed => say(errors, b"acute: write fault\n", Status::WRITE_FAULT),
+        Put::Memory => no_memory(errors),
+    }
+}
+
+// Makes the file of a channel empty, if the channel is one.
+fn make_channel<F: Files>(to: Option<Channel>, files: &mut F) -> Put
+    ensures makes { Makes (option_map channel_of to.entry) F.told result
+        (files_seen F.contents F.read_faults F.write_faults files.old)
+        (files_seen F.contents F.read_faults F.write_faults files.new) }
+    ensures only { NoFile (option_map channel_of to.entry) → files.new ≡ files.old }
+{
+    match to {
+        Some(Channel::File(name)) => files.create(name),
+        Some(Channel::Standard) | None => Put::Done,
+    }
+}
+
+// Runs a session, and says how it has ended.
+fn run_session<F: Files, I: Source, O: Sink, E: Sink>(
+    alloc: Global,
+    session: &mut Session,
+    run: Run,
+    files: &mut F,
+    input: &mut I,
+    output: &mut O,
+    errors: &mut E,
+) -> Status
+    requires apart { are_one (option_map channel_of run.input) (option_map channel_of run.output)
+        ≡ false }
+    ensures ends { (start : FilesSeen) → Prepared F.told (option_map channel_of run.entry.output) start
+        (files_seen F.contents F.read_faults F.write_faults files.old) →
+        let o = what_is_handed F.told start (files_seen F.contents F.read_faults F.write_faults files.new)
+        (feeding I.told I.left I.read_faults input.old input.new)
+        (writing O.told O.written O.faults output.old output.new)
+        (writing E.told E.written E.faults errors.old errors.new) in
+        (shelf : List Shelved) → IsShelfBy o.files (files_of run.entry.program).shelf shelf →
+        (text : Bytes) → IsTextOf (o.files (files_of run.entry.program).file) text →
+        (loaded : Loaded) →
+        IsLoaded (environment_of loaded.env) (expr_of loaded.main) (typ_of loaded.ty) →
+        Loads text shelf (environment_of loaded.env) (expr_of loaded.main) (typ_of loaded.ty) →
+        session.old ≡ begun loaded run.entry.steps
+        (is_some (option_map channel_of run.entry.output)) session.old.machine →
+        RunEnded (files_of run.entry.program) run.entry.steps (option_map channel_of run.entry.input)
+        (option_map channel_of run.entry.output) o result }
+    ensures kept { IsTrue F.told → KeptBut (option_map channel_of run.entry.output)
+        (F.contents files.old) (F.contents files.new) }
+    ensures only { NoFile (option_map channel_of run.entry.input) →
+        NoFile (option_map channel_of run.entry.output) → files.new ≡ files.old }
+{
+    let (from, to) = (run.input, run.output);
+    match run_among(alloc, session, from, to, files, input, output, errors) {
+        RunEnd::Finished => Status::FINISHED,
+        RunEnd::Uncaught(exn) => tell_uncaught(alloc, &exn, errors),
+        RunEnd::Spent { steps } => tell_spent(alloc, steps, errors),
+        RunEnd::ReadFault => say(errors, b"acute: read fault\n", Status::READ_FAULT),
+        RunEnd::WriteFault => say(errors, b"acute: write fault\n", Status::WRITE_FAULT),
+        RunEnd::Memory => no_memory(errors),
+    }
+}
