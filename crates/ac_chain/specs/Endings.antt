@@ -1,0 +1,59 @@
+-- How a call ends: what a chain gives where nothing fails, and the cause of each fault with what it leaves.
+use Rattle.std.specs.Prelude.{◌≡◌, ◌⊎◌, ℕ, Bool, IsTrue, List, [], ◌∷◌, ◌++◌, Some}
+use Rattle.std.specs.List.{list_all}
+use Rattle.ac_types.specs.Types.{Bytes}
+use Rattle.ac_rules.specs.Views.{Mode}
+use Rattle.ac_outside.specs.Outside.{Extends, Rose}
+use Rattle.ac_acceptance.specs.Accepting.{Shelved}
+use Rattle.ac_colours.specs.Chains.{Programs}
+use Rattle.ac_chain.specs.declared.chained.ChainPart.{ChainPart}
+use Rattle.ac_chain.specs.declared.chained.ChainFault.{ChainFault}
+use Rattle.ac_chain.specs.declared.chained.ChainFault.TheVariants as fault
+use Rattle.ac_chain.specs.Clashes.{first_clash}
+use Rattle.ac_chain.specs.Texts.{LoadAs, RejectsFirst}
+use Rattle.ac_chain.specs.Chains.{Runs, AreParts, console_of}
+
+-- a console that is written to: whether it tells its bytes, those before and after the call, and its counts of failed writes
+pub record Printed : Type 0 where
+  pub told : Bool
+  pub old : Bytes
+  pub new : Bytes
+  pub before : ℕ
+  pub after : ℕ
+
+module _ (texts : List Bytes) (shelf : List Shelved) (N : ℕ) (c : Printed) where
+  -- the chain has run: it has these parts, and all that it prints stands there
+  pub record HasRun (mode : Mode) (given : List ChainPart) : Type 0 where
+    pub runs : Runs mode texts shelf N c.told
+    pub parts : AreParts N c.told [] runs.ends given
+    pub printed : IsTrue c.told → c.new ≡ c.old ++ console_of runs.ends
+
+  -- the chain was begun: a prefix of what it prints stands there
+  pub record HasBegun (mode : Mode) : Type 0 where
+    pub runs : Runs mode texts shelf N c.told
+    pub printed : IsTrue c.told → Extends c.old c.new (console_of runs.ends)
+
+  -- two entries of its programs clash, and this is the first clash
+  pub record ClashesFirst (clash : ChainFault) : Type 0 where
+    pub programs : Programs
+    pub load : LoadAs texts shelf programs
+    pub is_first : first_clash 0 programs ≡ Some clash
+
+  -- the cause of a fault, and what it leaves. Want of memory may come in front of the runs too, and then nothing is printed
+  abbrev pub IsFault : ChainFault → Type 0
+  IsFault (fault.Refused program refusal) = RejectsFirst texts shelf program refusal.part refusal.kind
+  IsFault (fault.Clash program1 entry1 program2 entry2) = ClashesFirst (fault.Clash program1 entry1 program2 entry2)
+  IsFault fault.WriteFault = Rose c.before c.after × ((mode : Mode) → HasBegun mode)
+  IsFault fault.Memory = (c.new ≡ c.old) ⊎ ((mode : Mode) → HasBegun mode)
+
+-- the faults in front of the runs, at which nothing is written
+abbrev pub IsBeforeRuns : ChainFault → Type 0
+IsBeforeRuns (fault.Refused program refusal) = Unit {0}
+IsBeforeRuns (fault.Clash program1 entry1 program2 entry2) = Unit {0}
+IsBeforeRuns fault.WriteFault = ⊥
+IsBeforeRuns fault.Memory = ⊥
+
+-- each string that was read is native
+abbrev pub AreAllNative : List ChainPart → Type 0
+AreAllNative [] = Unit {0}
+AreAllNative (part ∷ parts) = IsTrue (list_all (λ (b : Bool). b) part.native) × AreAllNative parts
