@@ -23,7 +23,11 @@ fn code_of(alloc: Global, loaded: &Loaded) -> Result<Text, Memory> {
 
 fn answer_to(alloc: Global, text: &str) -> Result<Text, Memory> {
     match load(alloc, text.as_bytes(), &Shelf::empty(alloc)) {
-        Ok(loaded) => code_of(alloc, &loaded),
+        Ok(loaded) => {
+            let text = code_of(alloc, &loaded);
+            drop(loaded);
+            text
+        }
         Err(_) => Text::from_slice(alloc, b"refused\n"),
     }
 }

@@ -26,6 +26,7 @@ fn explain(alloc: Global, page: &mut Page, file: &str, text: &[u8]) -> u8 {
             page.put(b": accepted, of type ");
             write_type(page, &loaded.ty);
             page.put(b"\n");
+            drop(loaded);
             0
         }
         Err(refusal) => {

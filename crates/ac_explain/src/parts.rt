@@ -3,7 +3,7 @@
 
 use ac_syntax::{SArm, SExpr, SExprKind};
 use ac_terms::{Arm, Pat, Term};
-use ac_types::{Many, Memory, Ty};
+use ac_types::{Box, Many, Memory, Ty, both};
 use std::alloc::Global;
 
 /// An expression, the term that it elaborates to, and the types of the variables in scope, the
@@ -13,6 +13,18 @@ pub struct Part<'a> {
     pub tree: &'a SExpr,
     pub term: &'a Term,
     pub vars: Many<Ty>,
+}
+
+impl<'a> Part<'a> {
+    /// The same part.
+    pub fn copy(&self, alloc: Global) -> Result<Part<'a>, Memory> {
+        let vars = self.vars.copy(alloc)?;
+        Ok(Part {
+            tree: self.tree,
+            term: self.term,
+            vars,
+        })
+    }
 }
 
 // Adds a part that sees the same variables.
@@ -70,6 +82,17 @@ fn add_under<'a>(
     parts.push(Part { tree, term, vars })
 }
 
+// A copy of a type in a box.
+fn boxed(alloc: Global, ty: &Ty) -> Result<Box<Ty>, Memory> {
+    Box::new(alloc, ty.copy(alloc)?)
+}
+
+// The type of the functions between two types.
+fn function_type(alloc: Global, from: &Ty, to: &Ty) -> Result<Ty, Memory> {
+    let (from, to) = both(boxed(alloc, from), boxed(alloc, to))?;
+    Ok(Ty::Fun(from, to))
+}
+
 // Adds the body of a recursive function, which sees the function and its argument.
 fn add_recursive<'a>(
     alloc: Global,
@@ -81,10 +104,10 @@ fn add_recursive<'a>(
     let Term::Rec(from, to, body) = term else {
         return Ok(());
     };
-    let from_box = ac_types::Box::new(alloc, from.copy(alloc)?)?;
-    let own = Ty::Fun(from_box, ac_types::Box::new(alloc, to.copy(alloc)?)?);
-    let outer = under_one(alloc, &own, vars)?;
-    add_under(alloc, parts, tree, body, from, &outer)
+    let own = function_type(alloc, from, to)?;
+    let outer = under_one(alloc, &own, vars);
+    drop(own);
+    add_under(alloc, parts, tree, body, from, &outer?)
 }
 
 // Puts the types of a pattern's variables in front of these, the last variable first.
@@ -170,29 +193,36 @@ fn add_plain<'a>(
     }
 }
 
-/// The parts of an expression. Those of a `let` see the type that it writes.
-pub fn parts_of<'a>(alloc: Global, whole: &Part<'a>) -> Result<Many<Part<'a>>, Memory> {
-    let mut parts = Many::new(alloc);
+// Adds the parts of an expression.
+fn add_parts<'a>(
+    alloc: Global,
+    parts: &mut Many<Part<'a>>,
+    whole: &Part<'a>,
+) -> Result<(), Memory> {
     let vars = &whole.vars;
     match (&whole.tree.kind, whole.term) {
-        (SExprKind::Fun(_, _, a), Term::Lam(ty, x)) => {
-            add_under(alloc, &mut parts, a, x, ty, vars)?;
-        }
-        (SExprKind::Rec(fun), rec) => add_recursive(alloc, &mut parts, &fun.body, rec, vars)?,
+        (SExprKind::Fun(_, _, a), Term::Lam(ty, x)) => add_under(alloc, parts, a, x, ty, vars),
+        (SExprKind::Rec(fun), rec) => add_recursive(alloc, parts, &fun.body, rec, vars),
         (SExprKind::Let(_, _, a, b), Term::Let(ty, x, y)) => {
-            add(alloc, &mut parts, a, x, vars)?;
-            add_under(alloc, &mut parts, b, y, ty, vars)?;
+            add(alloc, parts, a, x, vars)?;
+            add_under(alloc, parts, b, y, ty, vars)
         }
         (SExprKind::LetRec(fun, b), Term::Let(ty, rec, y)) => {
-            add_recursive(alloc, &mut parts, &fun.body, rec, vars)?;
-            add_under(alloc, &mut parts, b, y, ty, vars)?;
+            add_recursive(alloc, parts, &fun.body, rec, vars)?;
+            add_under(alloc, parts, b, y, ty, vars)
         }
         (SExprKind::Match(a, cases), Term::Match(x, arms))
         | (SExprKind::Try(a, cases), Term::Try(x, arms)) => {
-            add(alloc, &mut parts, a, x, vars)?;
-            add_arms(alloc, &mut parts, cases.as_slice(), arms.as_slice(), vars)?;
+            add(alloc, parts, a, x, vars)?;
+            add_arms(alloc, parts, cases.as_slice(), arms.as_slice(), vars)
         }
-        (kind, term) => add_plain(alloc, &mut parts, kind, term, vars)?,
+        (kind, term) => add_plain(alloc, parts, kind, term, vars),
     }
+}
+
+/// The parts of an expression. Those of a `let` see the type that it writes.
+pub fn parts_of<'a>(alloc: Global, whole: &Part<'a>) -> Result<Many<Part<'a>>, Memory> {
+    let mut parts = Many::new(alloc);
+    add_parts(alloc, &mut parts, whole)?;
     Ok(parts)
 }

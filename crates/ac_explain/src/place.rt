@@ -1,39 +1,11 @@
-// Places of a text: lines and columns.
+// Lines of a text, shown with a caret.
 
-ghost use Rattle.std.specs.Prelude.{◌≡◌, ◌≤◌, length};
-ghost use Rattle.ac_explain.specs.Places.{line_of, column_of};
+ghost use Rattle.std.specs.Prelude.{◌≤◌, length};
 
 use ac_page::Page;
 
 /// The most bytes of a line that are shown in front of a place, and as many from it on.
 const SHOWN: usize = 100;
-
-/// A line and a column, both from 1. A column counts bytes.
-#[derive(Clone, Copy, Debug, PartialEq, Eq)]
-pub struct Place {
-    pub line: usize,
-    pub column: usize,
-}
-
-/// The place of the byte behind these.
-pub fn place_behind(bytes: &[u8]) -> Place
-    ensures line { result.line ≡ line_of bytes.now }
-    ensures column { result.column ≡ column_of bytes.now }
-{
-    let (mut feeds, mut since) = (0, 0);
-    for byte in bytes {
-        if *byte == b'\n' {
-            feeds += 1;
-            since = 0;
-        } else {
-            since += 1;
-        }
-    }
-    Place {
-        line: feeds + 1,
-        column: since + 1,
-    }
-}
 
 // A byte that a terminal may take for a command is shown as `?`.
 fn write_shown(page: &mut Page, byte: u8) {

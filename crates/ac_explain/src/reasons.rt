@@ -2,11 +2,12 @@
 
 ghost use Rattle.std.specs.Prelude.{◌<◌, ◌^◌, length, IfSome};
 
-use crate::place::{name_at, place_behind, write_line};
+use crate::place::{name_at, write_line};
 use crate::types::write_type;
 use crate::untyped::{Standing, Untyped, first_untyped};
 use crate::wants::wants;
 use ac_elaborate::{RawProgram, elaborate};
+use ac_lines::place_behind;
 use ac_load::Kind;
 use ac_outer::named;
 use ac_page::Page;
@@ -152,7 +153,10 @@ fn write_untyped(alloc: Global, page: &mut Page, file: &str, text: &[u8], found:
         write_fact(page, b"written", ty);
     }
     match wanted(alloc, found.tree) {
-        Ok(Some(ty)) => write_fact(page, b"wanted", &ty),
+        Ok(Some(ty)) => {
+            write_fact(page, b"wanted", &ty);
+            drop(ty);
+        }
         Ok(None) => {}
         Err(_) => page.lose(),
     }
@@ -263,17 +267,18 @@ fn explain_fields(
 }
 
 // Looks for the part of definition `def`, or of the expression behind all, that has no type.
-fn explain_type(
+fn explain_part(
     alloc: Global,
     page: &mut Page,
     file: &str,
     text: &[u8],
     surface: &Surface,
+    raw: &RawProgram,
     def: u32,
-) {
-    let Some(RawProgram { env, main }) = elaborated(alloc, surface) else {
-        return;
-    };
+)
+    requires { length raw.now.env.entries < 2 ^ 32 }
+{
+    let env = &raw.env;
     if let Some(tree) = surface.defs.get(def as usize)
         && let Some(entry) = env.entries.get(def as usize)
     {
@@ -281,17 +286,29 @@ fn explain_type(
             && let Def::Module(module) = &entry.def
         {
             let fields = module.fields.as_slice();
-            explain_fields(alloc, page, file, text, &env, def, trees.as_slice(), fields);
+            explain_fields(alloc, page, file, text, env, def, trees.as_slice(), fields);
         }
     } else if let Some(tree) = &surface.expr {
         let standing = Standing {
-            env: &env,
+            env,
             home: Home::Main,
             own: 0,
             refs: env.entries.len() as u32,
         };
-        explain_term(alloc, page, file, text, &standing, tree, &main);
+        explain_term(alloc, page, file, text, &standing, tree, &raw.main);
     }
+}
+
+// The same of a text.
+fn explain_type(alloc: Global, page: &mut Page, file: &str, text: &[u8], def: u32) {
+    let Ok(surface) = parse_program(alloc, text) else {
+        return;
+    };
+    if let Some(raw) = elaborated(alloc, &surface) {
+        explain_part(alloc, page, file, text, &surface, &raw, def);
+        drop(raw);
+    }
+    drop(surface);
 }
 
 /// Adds the line of a refusal as `acute` writes it, its place in the text, and the reason.
@@ -310,9 +327,7 @@ pub fn write_refusal(alloc: Global, page: &mut Page, file: &str, text: &[u8], ki
         write_place(page, file, text, at);
     }
     write_reason(page, text, kind);
-    if let Kind::IllTyped { def } = kind
-        && let Ok(surface) = parse_program(alloc, text)
-    {
-        explain_type(alloc, page, file, text, &surface, def);
+    if let Kind::IllTyped { def } = kind {
+        explain_type(alloc, page, file, text, def);
     }
 }

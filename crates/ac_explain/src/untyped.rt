@@ -64,28 +64,25 @@ pub struct Untyped<'a> {
     pub parts: Many<Typed>,
 }
 
-// Where the search goes from an expression without a type.
-#[derive(Drop)]
-enum Way<'a> {
-    Into(Part<'a>),
-    Here(Many<Typed>),
-}
-
-// The first part that has no type, or the types of all parts.
-fn way_on<'a>(alloc: Global, standing: &Standing<'_>, whole: &Part<'a>) -> Result<Way<'a>, Memory>
+// The types of the first parts, up to one that has none.
+fn types_of(
+    alloc: Global,
+    standing: &Standing<'_>,
+    parts: &[Part<'_>],
+) -> Result<Many<Typed>, Memory>
     requires { length standing.now.env.now.entries < 2 ^ 32 }
 {
     let mut found = Many::new(alloc);
-    for part in parts_of(alloc, whole)?.into_vec() {
-        match standing.type_of(alloc, part.term, &part.vars)? {
-            Some(ty) => found.push(Typed {
-                at: part.tree.at,
-                ty,
-            })?,
-            None => return Ok(Way::Into(part)),
-        }
+    for part in parts {
+        let Some(ty) = standing.type_of(alloc, part.term, &part.vars)? else {
+            return Ok(found);
+        };
+        found.push(Typed {
+            at: part.tree.at,
+            ty,
+        })?;
     }
-    Ok(Way::Here(found))
+    Ok(found)
 }
 
 /// The first part, in the order of evaluation, that has no type though all its parts have, of an
@@ -98,19 +95,21 @@ pub fn first_untyped<'a>(
 ) -> Result<Option<Untyped<'a>>, Memory>
     requires { length standing.now.env.now.entries < 2 ^ 32 }
 {
-    let mut part = Part {
+    let mut whole = Part {
         tree,
         term,
         vars: Many::new(alloc),
     };
     for _ in 0..STEPS {
-        match way_on(alloc, standing, &part)? {
-            Way::Into(inner) => part = inner,
-            Way::Here(parts) => {
+        let parts = parts_of(alloc, &whole)?;
+        let found = types_of(alloc, standing, parts.as_slice())?;
+        match parts.get(found.len()) {
+            Some(part) => whole = part.copy(alloc)?,
+            None => {
                 return Ok(Some(Untyped {
-                    tree: part.tree,
-                    term: part.term,
-                    parts,
+                    tree: whole.tree,
+                    term: whole.term,
+                    parts: found,
                 }));
             }
         }

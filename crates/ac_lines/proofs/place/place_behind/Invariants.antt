@@ -1,6 +1,6 @@
 use Rattle.std.proofs.Common.{◌≡◌, ◌≤◌, ◌+◌, drop}
-use Rattle.ac_explain.specs.Places.{feeds, since_feed}
-use Rattle.ac_explain.proofs.place.place_behind.Given as goal
+use Rattle.ac_lines.specs.Places.{feeds, since_feed}
+use Rattle.ac_lines.proofs.place.place_behind.Given as goal
 
 abbrev pub invariant-loop-byte : goal.invariant-loop-byte
 invariant-loop-byte l = record {
