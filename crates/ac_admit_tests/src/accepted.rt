@@ -1,15 +1,12 @@
 // Packets that are accepted.
 
-use crate::make::{BRINGS_M1, NOTHING, OWN_M1, PAIR, entries, fault, own, type_of};
+use crate::make::{BRINGS_M1, FIVE, NOTHING, OWN_M1, PAIR, entries, fault, own, type_of};
 use crate::spelled::{imports_by_name, name_of_first};
 use ac_admit::AdmitFault;
 use ac_types::Ty;
 use std::test::Fail;
 
 const NO_ENTRIES: [u32; 0] = [];
-
-/// The packet of the int 5.
-const FIVE: &[u8] = b"ACUP\x01\x00\x00\x01\x01\x00\x00\x00\x00\x00\x00\x00\x05";
 
 #[test]
 fn an_int_brings_nothing(rt: HostRuntime) -> Result<(), Fail> {

@@ -8,4 +8,6 @@ mod make;
 #[cfg(test)]
 mod refused;
 #[cfg(test)]
+mod room;
+#[cfg(test)]
 mod spelled;

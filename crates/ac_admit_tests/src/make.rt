@@ -28,6 +28,9 @@ pub const PAIR: &[u8] =
 pub const BRINGS_M1: &[u8] =
     b"ACUP\x01\x00\x01\x01\x02M1\x01\x01\x00\x00\x00\x03\x00\x00\x00\x01\x01y\x01\x00\x00\x00\x01\x01y\x01\x01\x00\x00\x00\x00\x00\x00\x00\x09\x01\x01\x00\x00\x00\x00\x00\x00\x00\x05";
 
+/// The packet of the int 5.
+pub const FIVE: &[u8] = b"ACUP\x01\x00\x00\x01\x01\x00\x00\x00\x00\x00\x00\x00\x05";
+
 /// The packet that the bytes spell.
 pub fn packet(alloc: Global, bytes: &[u8]) -> Result<Packet, Memory>
     ensures { IfOk result (λ p. IsTrue (fits_packet (packet_of p))) }

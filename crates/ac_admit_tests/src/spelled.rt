@@ -5,6 +5,25 @@ use ac_terms::Env;
 use ac_types::{Memory, Name, Text};
 use std::alloc::Global;
 
+/// Of what names are made behind their first letter.
+const LETTERS: &[u8; 64] = b"ABCDEFGHIJKLMNOPQRSTUVWXYZabcdefghijklmnopqrstuvwxyz0123456789_'";
+
+/// The packet of unit with so many modules without fields, under the names `AAA`, `AAB` and so on.
+pub fn modules(alloc: Global, many: u16) -> Result<Text, Memory> {
+    let mut out = Out::new(alloc);
+    out.put_bytes(b"ACUP\x01")?;
+    out.put_u16(many)?;
+    for i in 0..many {
+        out.put_bytes(b"\x01\x03")?;
+        out.put_u8(LETTERS[usize::from(i / 4096)])?;
+        out.put_u8(LETTERS[usize::from(i / 64 % 64)])?;
+        out.put_u8(LETTERS[usize::from(i % 64)])?;
+        out.put_bytes(b"\x01\x02\x00\x00\x00\x00\x00\x00\x00\x00")?;
+    }
+    out.put_bytes(b"\x04\x04")?;
+    Ok(out.into_text())
+}
+
 /// The packet of unit with an import of `M1` by exact name.
 pub fn imports_by_name(alloc: Global, name: Name) -> Result<Text, Memory> {
     let mut out = Out::new(alloc);
