@@ -1,5 +1,5 @@
 -- Worked examples of chains.
-use Rattle.std.proofs.Common.{◌≡◌, refl, Bool, true, false, List, [], ◌∷◌, ◌++◌, Some, None}
+use Rattle.std.proofs.Common.{◌≡◌, refl, true, false, List, [], ◌∷◌, ◌++◌, Some, None}
 use Rattle.std.specs.Prelude.{codes}
 use Rattle.std.specs.Fmt.{digits}
 use Rattle.ac_types.specs.Types.{Bytes}
@@ -8,7 +8,7 @@ use Rattle.ac_terms.specs.Terms.{Expr, Str, Unit', Prim, no_exprs, expr, Value, 
 use Rattle.ac_terms.specs.Defs.{Environment, Entry, AModule, AMark, Own'}
 use Rattle.ac_rules.specs.Views.{Mode}
 use Rattle.ac_outside.specs.Frames.{frame_of}
-use Rattle.ac_meaning.specs.Worlds.{Crossing, Made, Read, World, fresh}
+use Rattle.ac_meaning.specs.Worlds.{Made, Read, fresh}
 use Rattle.ac_meaning.specs.Writes.{Print, Send}
 use Rattle.ac_meaning.specs.Acts.{Outcome, Returned}
 use Rattle.ac_colours.specs.Chains.{Programs}
