@@ -1,40 +1,33 @@
-// Counts, words and strings, and what stands behind a tag. A count that its width cannot hold
-// is answered as want of memory; none is within the bounds.
+// Counts, words and strings, and what stands behind a tag. A count is put by the last digits that
+// its width holds; within the bounds that is the count.
 
 ghost use Rattle.std.specs.Prelude.{◌≡◌, ◌++◌, ◌∷◌, [], OnOk};
-ghost use Rattle.ac_terms.specs.Spelling.{byte, two_written, four_written, eight_written, truth, word, str};
+ghost use Rattle.ac_terms.specs.Spelling.{one_written, two_written, four_written, eight_written, truth, word, str};
 
 use ac_bytes::Out;
 use ac_types::{Memory, Text, Word};
 
 /// A count in one byte.
 pub fn put_count_u8(out: &mut Out, n: usize) -> Result<(), Memory>
-    ensures { OnOk result (out.new ≡ out.old ++ byte n) }
+    ensures { OnOk result (out.new ≡ out.old ++ one_written n) }
 {
-    let Ok(n) = u8::try_from(n) else {
-        return Err(Memory);
-    };
-    out.put_u8(n)
+    out.put_u8((n % 256) as u8)
 }
 
 /// A count in two bytes.
+#[tactic(auto, using(ac_terms::proofs::Digits::digits))]
 pub fn put_count_u16(out: &mut Out, n: usize) -> Result<(), Memory>
     ensures { OnOk result (out.new ≡ out.old ++ two_written n) }
 {
-    let Ok(n) = u16::try_from(n) else {
-        return Err(Memory);
-    };
-    out.put_u16(n)
+    out.put_u16((n % 65_536) as u16)
 }
 
 /// A count in four bytes.
+#[tactic(auto, using(ac_terms::proofs::Digits::digits))]
 pub fn put_count_u32(out: &mut Out, n: usize) -> Result<(), Memory>
     ensures { OnOk result (out.new ≡ out.old ++ four_written n) }
 {
-    let Ok(n) = u32::try_from(n) else {
-        return Err(Memory);
-    };
-    out.put_u32(n)
+    out.put_u32((n % 4_294_967_296) as u32)
 }
 
 /// 1 for true, 0 for false.
@@ -49,7 +42,7 @@ pub fn put_word(out: &mut Out, w: &Word) -> Result<(), Memory>
     ensures { OnOk result (out.new ≡ out.old ++ word w.now) }
 {
     let bytes = w.text().as_slice();
-    put_count_u8(out, bytes.len())?;
+    out.put_u8(bytes.len() as u8)?;
     out.put_bytes(bytes)
 }
 

@@ -40,8 +40,7 @@ fn is_spelled(def: &Def) -> bool
     }
 }
 
-/// The canonical text of entry `i`. `Err` also where a count does not fit its width, which is past
-/// the bounds.
+/// The canonical text of entry `i`.
 #[tactic(auto, using(crate::proofs::EntryForms::entry_forms))]
 pub fn def_text(alloc: Global, env: &Env, i: u32) -> Result<Text, Memory>
     requires { IsSome (text_of_entry (environment_of env.now) i) }

@@ -14,6 +14,7 @@ mod terms;
 mod types;
 mod values;
 
+pub use counts::{put_count_u8, put_count_u16, put_count_u32};
 pub use defs::{def_text, has_text, put_import, put_module};
 pub use spelling::{ByName, Spelling};
 pub use terms::{put_term, put_value, term_bytes};

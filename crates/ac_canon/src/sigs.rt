@@ -2,7 +2,7 @@
 
 ghost use Rattle.std.specs.Prelude.{◌≡◌, ◌++◌, map, option_map, OnOk};
 ghost use Rattle.ac_types.specs.ReadTypes.{typ_of, typed_of, sig_type_of, sig_of, atom_of, range_of, constraint_of};
-ghost use Rattle.ac_terms.specs.Spelling.{byte, two_written, listed, atom_bytes, range_bytes, constraint_bytes};
+ghost use Rattle.ac_terms.specs.Spelling.{one_written, two_written, listed, atom_bytes, range_bytes, constraint_bytes};
 ghost use Rattle.ac_terms.specs.SpelledBy.{manifest_bytes, sig_type_bytes, typed_bytes, sig_bytes};
 
 use crate::counts::{put_count_u8, put_count_u16, put_truth, put_word};
@@ -27,7 +27,7 @@ fn put_atom(out: &mut Out, atom: Atom) -> Result<(), Memory>
 /// Puts how many parts a version has, and each.
 #[tactic(auto, using(crate::proofs::Lists::lists))]
 pub fn put_version(out: &mut Out, atoms: &[Atom]) -> Result<(), Memory>
-    ensures { OnOk result (out.new ≡ out.old ++ listed byte atom_bytes (map atom_of atoms.now)) }
+    ensures { OnOk result (out.new ≡ out.old ++ listed one_written atom_bytes (map atom_of atoms.now)) }
 {
     put_count_u8(out, atoms.len())?;
     for atom in atoms {
@@ -66,7 +66,7 @@ fn put_range(out: &mut Out, range: Range) -> Result<(), Memory>
 #[tactic(auto, using(crate::proofs::Lists::lists))]
 fn put_ranges(out: &mut Out, ranges: &[Range]) -> Result<(), Memory>
     ensures { OnOk result (out.new ≡ out.old ++
-        listed byte range_bytes (map range_of ranges.now)) }
+        listed one_written range_bytes (map range_of ranges.now)) }
 {
     put_count_u8(out, ranges.len())?;
     for range in ranges {

@@ -4,7 +4,7 @@ ghost use Rattle.std.specs.Prelude.{◌≡◌, ◌++◌, ◌∷◌, map, length,
 ghost use Rattle.ac_types.specs.ReadTypes.{typ_of};
 ghost use Rattle.ac_terms.specs.Terms.{exprs, arms, pvalues};
 ghost use Rattle.ac_terms.specs.Read.{environment_of, bytes_of, expr_of, value_of};
-ghost use Rattle.ac_terms.specs.Spelling.{four_written, two_written, word, term_bytes};
+ghost use Rattle.ac_terms.specs.Spelling.{one_written, two_written, four_written, word, term_bytes};
 ghost use Rattle.ac_terms.specs.SpelledBy.{pattern_bytes, term_bytes as term_by, all_term_bytes, arm_bytes, value_bytes, all_value_bytes};
 ghost use Rattle.ac_canon.specs.Canon.{kept};
 ghost use Rattle.ac_canon.specs.inner.Arms.{arm_of};
@@ -21,8 +21,7 @@ use ac_terms::{Arm, Env, PVal, Term};
 use ac_types::{Memory, Text, Ty, Word};
 use std::alloc::Global;
 
-/// The bytes of a term, its references spelled by the names that their entries keep. `Err` also
-/// where a count does not fit its width, which is past the bounds.
+/// The bytes of a term, its references spelled by the names that their entries keep.
 pub fn term_bytes(alloc: Global, env: &Env, t: &Term) -> Result<Text, Memory>
     ensures { IfOk result (λ x. bytes_of x ≡
         term_bytes (kept (environment_of env.now)) (expr_of t.now)) }
@@ -180,7 +179,7 @@ fn put_recursive<S: Spelling>(
 #[cycle(term)]
 #[tactic(auto, using(crate::proofs::Joins::joins))]
 fn put_tuple<S: Spelling>(out: &mut Out, spelling: &S, parts: &[Term]) -> Result<(), Memory>
-    ensures { OnOk result (out.new ≡ out.old ++ 0x06 ∷ length parts.now ∷
+    ensures { OnOk result (out.new ≡ out.old ++ 0x06 ∷ one_written (length parts.now) ++
         all_term_bytes (S.spelled_type spelling.now) (S.spelled_reference spelling.now)
         (exprs (map expr_of parts.now))) }
 {
@@ -322,7 +321,7 @@ pub fn put_value<S: Spelling>(out: &mut Out, spelling: &S, value: &PVal) -> Resu
 #[cycle(term)]
 #[tactic(auto, using(crate::proofs::Joins::joins))]
 fn put_value_tuple<S: Spelling>(out: &mut Out, spelling: &S, parts: &[PVal]) -> Result<(), Memory>
-    ensures { OnOk result (out.new ≡ out.old ++ 0x06 ∷ length parts.now ∷
+    ensures { OnOk result (out.new ≡ out.old ++ 0x06 ∷ one_written (length parts.now) ++
         all_value_bytes (S.spelled_type spelling.now) (S.spelled_reference spelling.now)
         (pvalues (map value_of parts.now))) }
 {

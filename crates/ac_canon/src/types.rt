@@ -11,7 +11,7 @@ use ac_bytes::Out;
 use ac_types::{Memory, Text, Ty};
 use std::alloc::Global;
 
-/// The bytes of a type. `Err` also where a count does not fit its width, which is past the bounds.
+/// The bytes of a type.
 pub fn type_bytes(alloc: Global, t: &Ty) -> Result<Text, Memory>
     ensures { IfOk result (λ x. bytes_of x ≡ type_bytes (typ_of t.now)) }
 {

@@ -11,7 +11,7 @@ use Rattle.ac_terms.specs.Terms.{PValue}
 use Rattle.ac_terms.specs.Defs.{Field, Module, Import, Def, AModule, AnImport, AMark, Packet}
 use Rattle.ac_terms.specs.Nesting.{value_nesting}
 use Rattle.ac_terms.specs.Parts.{OfType, sig_types, def_parts}
-use Rattle.ac_terms.specs.Spelling.{byte, two_written, four_written, word, listed, atom_bytes, constraint_bytes, resolve_bytes, type_bytes, value_bytes, def_bytes, packet_bytes}
+use Rattle.ac_terms.specs.Spelling.{byte, one_written, two_written, four_written, word, listed, atom_bytes, constraint_bytes, resolve_bytes, type_bytes, value_bytes, def_bytes, packet_bytes}
 use Rattle.ac_terms.specs.SpelledBy.{typed_bytes, sig_bytes, field_bytes}
 use Rattle.ac_terms.specs.Bounds.{is_two, is_four, is_upper, fits_atom, fits_constraint, fits_resolve, fits_typed, fits_sig, fits_def, is_module_or_import, nests_little, has_small_types, fits_packet}
 use Rattle.ac_terms.specs.PacketReading.{ReadsPart, one, pair, nothing, a_module, an_import, a_packet}
@@ -146,7 +146,7 @@ abbrev module_parts : ReadsPart ((((Bytes × List Atom) × Signature) × List Ty
 module_parts = pair (pair (pair (pair exact_upper exact_version) (exact_sig read_type)) (exact_all_typed read_type false)) (exact_fields read_type)
 
 module_parts_are_exact : IsExact module_parts (λ p. ((((is_upper p.0.0.0.0 ≡ true) × AtomsFit p.0.0.0.1) × SmallSig p.0.0.1) × SmallAll false p.0.1) × FieldsFit p.1)
-    (λ p. (((word p.0.0.0.0 ++ listed byte atom_bytes p.0.0.0.1) ++ sig_bytes type_bytes p.0.0.1) ++ listed two_written (typed_bytes type_bytes) p.0.1) ++ listed two_written (field_bytes type_bytes two_written) p.1)
+    (λ p. (((word p.0.0.0.0 ++ listed one_written atom_bytes p.0.0.0.1) ++ sig_bytes type_bytes p.0.0.1) ++ listed two_written (typed_bytes type_bytes) p.0.1) ++ listed two_written (field_bytes type_bytes two_written) p.1)
 module_parts_are_exact =
     exact_pair (exact_pair (exact_pair (exact_pair upper_is_exact version_is_exact) (sig_is_exact type_bytes exact_type type_is_exact)) (all_typed_is_exact type_bytes exact_type type_is_exact false)) fields_are_exact
 
@@ -154,7 +154,7 @@ abbrev import_parts : ReadsPart ((((Bytes × Signature) × Constraint) × List T
 import_parts = pair (pair (pair (pair exact_upper (exact_sig read_type)) exact_constraint) (exact_all_typed read_type false)) exact_resolves
 
 import_parts_are_exact : IsExact import_parts (λ p. ((((is_upper p.0.0.0.0 ≡ true) × SmallSig p.0.0.0.1) × (fits_constraint p.0.0.1 ≡ true)) × SmallAll false p.0.1) × PlacesFit p.1)
-    (λ p. (((word p.0.0.0.0 ++ sig_bytes type_bytes p.0.0.0.1) ++ constraint_bytes p.0.0.1) ++ listed two_written (typed_bytes type_bytes) p.0.1) ++ listed byte resolve_bytes p.1)
+    (λ p. (((word p.0.0.0.0 ++ sig_bytes type_bytes p.0.0.0.1) ++ constraint_bytes p.0.0.1) ++ listed two_written (typed_bytes type_bytes) p.0.1) ++ listed one_written resolve_bytes p.1)
 import_parts_are_exact =
     exact_pair (exact_pair (exact_pair (exact_pair upper_is_exact (sig_is_exact type_bytes exact_type type_is_exact)) constraint_is_exact) (all_typed_is_exact type_bytes exact_type type_is_exact false)) resolves_is_exact
 

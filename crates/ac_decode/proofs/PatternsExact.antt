@@ -12,7 +12,7 @@ use Rattle.ac_terms.specs.Terms.{Pattern, PWild, PVar, PInt, PBool, PStr, PUnit,
 use Rattle.ac_terms.specs.PrimitiveTypes.{has_text}
 use Rattle.ac_terms.specs.Nesting.{pattern_nesting, pattern_depth}
 use Rattle.ac_terms.specs.Parts.{pattern_types, all_pattern_types}
-use Rattle.ac_terms.specs.Spelling.{byte, pattern_count}
+use Rattle.ac_terms.specs.Spelling.{one_written, pattern_count}
 use Rattle.ac_terms.specs.SpelledBy.{pattern_bytes, all_pattern_bytes}
 use Rattle.ac_terms.specs.Bounds.{is_width, fits_pattern, fit_patterns}
 use Rattle.ac_terms.specs.PacketReading.{ReadsPart, one, then_read, times}
@@ -62,7 +62,7 @@ module _ (type_bytes : Typ → Bytes) (read_type : Bool → ReadsPart Typ) (x : 
         (y.back p (record { fits = b.0; low = let l = a.low in omega arith; small = all_left is_small (pattern_types p) (all_pattern_types ps) s }))
         (back_one (pattern' p) (all_back ps (record { fits = b.1; low = let l = a.low in omega arith; small = all_right is_small (pattern_types p) (all_pattern_types ps) s })))
 
-    patterns_are_exact : IsExact (then_read exact_width (times no_patterns pattern' (exact_pattern read_type k))) (λ ps. (is_width (pattern_count ps) ≡ true) × AllProper k ps) (λ ps. byte (pattern_count ps) ++ all_pattern_bytes type_bytes ps)
+    patterns_are_exact : IsExact (then_read exact_width (times no_patterns pattern' (exact_pattern read_type k))) (λ ps. (is_width (pattern_count ps) ≡ true) × AllProper k ps) (λ ps. one_written (pattern_count ps) ++ all_pattern_bytes type_bytes ps)
     patterns_are_exact =
         exact_counted no_patterns pattern' y (all_pattern_bytes type_bytes) pattern_count (AllProper k) refl (λ p ps. refl) refl (λ p ps. refl)
         (record { fits = refl; low = omega arith; small = refl })

@@ -11,7 +11,7 @@ use Rattle.ac_terms.specs.Terms.{Pattern, Expr, Int, Boolean, Str, Unit', Exn, E
 use Rattle.ac_terms.specs.PrimitiveTypes.{has_text, Rule, primitives}
 use Rattle.ac_terms.specs.Nesting.{nesting, depth, arm_depth, value_nesting, value_depth}
 use Rattle.ac_terms.specs.Parts.{OfType, pattern_types, term_parts, all_term_parts, arm_parts, value_parts, all_value_parts}
-use Rattle.ac_terms.specs.Spelling.{byte, two_written, four_written, type_count, term_count, arm_count, value_count}
+use Rattle.ac_terms.specs.Spelling.{one_written, two_written, four_written, type_count, term_count, arm_count, value_count}
 use Rattle.ac_terms.specs.SpelledBy.{pattern_bytes, term_bytes, all_term_bytes, arm_bytes, value_bytes, all_value_bytes}
 use Rattle.ac_terms.specs.Bounds.{is_width, is_four, takes, is_lambda, fits_term, fit_terms, fit_arms, fits_value, fit_values, has_small_types}
 use Rattle.ac_terms.specs.PacketReading.{ReadsPart, one, then_read, pair, times, argument_count}
@@ -136,7 +136,7 @@ module _ (type_bytes : Typ → Bytes) (read_type : Bool → ReadsPart Typ) (x : 
     none : ProperTerms i k no_exprs
     none = record { fits = refl; low = omega arith; small = refl }
 
-    tuple_is_exact : IsExact (then_read exact_width (times no_exprs expr f)) (λ es. (is_width (term_count es) ≡ true) × ProperTerms i k es) (λ es. byte (term_count es) ++ terms es)
+    tuple_is_exact : IsExact (then_read exact_width (times no_exprs expr f)) (λ es. (is_width (term_count es) ≡ true) × ProperTerms i k es) (λ es. one_written (term_count es) ++ terms es)
     tuple_is_exact = exact_counted no_exprs expr y terms term_count (ProperTerms i k) refl (λ e es. refl) refl (λ e es. refl) none all_cons all_back width_is_exact
 
     sequence_is_exact : IsExact (then_read exact_several (times no_exprs expr f)) (λ es. ((is_four (term_count es) ≡ true) × (several (term_count es) ≡ true)) × ProperTerms i k es) (λ es. four_written (term_count es) ++ terms es)
@@ -390,7 +390,7 @@ module _ (type_bytes : Typ → Bytes) (read_type : Bool → ReadsPart Typ) (x : 
     no_values : ProperValues k no_pvalues
     no_values = record { fits = refl; low = omega arith; small = refl }
 
-    value_tuple_is_exact : IsExact (then_read exact_width (times no_pvalues pvalue (exact_value read_type k))) (λ vs. (is_width (value_count vs) ≡ true) × ProperValues k vs) (λ vs. byte (value_count vs) ++ vals vs)
+    value_tuple_is_exact : IsExact (then_read exact_width (times no_pvalues pvalue (exact_value read_type k))) (λ vs. (is_width (value_count vs) ≡ true) × ProperValues k vs) (λ vs. one_written (value_count vs) ++ vals vs)
     value_tuple_is_exact = exact_counted no_pvalues pvalue g vals value_count (ProperValues k) refl (λ v vs. refl) refl (λ v vs. refl) no_values values_cons values_back width_is_exact
 
     value_list_is_exact : IsExact (then_read exact_four (times no_pvalues pvalue (exact_value read_type k))) (λ vs. (is_four (value_count vs) ≡ true) × ProperValues k vs) (λ vs. four_written (value_count vs) ++ vals vs)

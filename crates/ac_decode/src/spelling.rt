@@ -4,11 +4,14 @@ ghost use Rattle.std.specs.Prelude.{◌≡◌, ◌++◌, map, IfOk, OnOk};
 ghost use Rattle.ac_terms.specs.Read.{pdef_of, packet_of, bytes_of};
 ghost use Rattle.ac_types.specs.Types.{Bytes};
 ghost use Rattle.ac_types.specs.ReadTypes.{resolve_of};
-ghost use Rattle.ac_terms.specs.Spelling.{byte, two_written, str, listed, type_bytes, def_bytes, resolve_bytes, packet_bytes};
+ghost use Rattle.ac_terms.specs.Spelling.{one_written, two_written, str, listed, type_bytes, def_bytes, resolve_bytes, packet_bytes};
 ghost use Rattle.ac_terms.specs.Bounds.{Spells};
 
 use ac_bytes::Out;
-use ac_canon::{Spelling, put_import, put_module, put_type, put_value};
+use ac_canon::{
+    Spelling, put_count_u8, put_count_u16, put_count_u32, put_import, put_module, put_type,
+    put_value,
+};
 use ac_terms::{PDef, Packet};
 use ac_types::{Memory, Resolve, Text, Ty};
 use std::alloc::Global;
@@ -27,10 +30,7 @@ impl Spelling for ByNumber {
     }
 
     fn put_reference(&self, out: &mut Out, entry: u32) -> Result<(), Memory> {
-        let Ok(entry) = u16::try_from(entry) else {
-            return Err(Memory);
-        };
-        out.put_u16(entry)
+        put_count_u16(out, entry as usize)
     }
 }
 
@@ -55,23 +55,17 @@ fn put_text(out: &mut Out, text: &Text) -> Result<(), Memory>
     ensures { OnOk result (out.new ≡ out.old ++ str (bytes_of text.now)) }
 {
     let bytes = text.as_slice();
-    let Ok(n) = u32::try_from(bytes.len()) else {
-        return Err(Memory);
-    };
-    out.put_u32(n)?;
+    put_count_u32(out, bytes.len())?;
     out.put_bytes(bytes)
 }
 
-/// Puts a resolvespec: how many places it has, and each. `Err` also where it has more than 255.
+/// Puts a resolvespec: how many places it has, and each.
 #[tactic(auto, using(ac_canon::proofs::Lists::lists))]
 pub fn put_resolves(out: &mut Out, places: &[Resolve]) -> Result<(), Memory>
     ensures { OnOk result (out.new ≡ out.old ++
-        listed byte resolve_bytes (map resolve_of places.now)) }
+        listed one_written resolve_bytes (map resolve_of places.now)) }
 {
-    let Ok(n) = u8::try_from(places.len()) else {
-        return Err(Memory);
-    };
-    out.put_u8(n)?;
+    put_count_u8(out, places.len())?;
     for by in places {
         put_resolve(out, by)?;
     }
@@ -98,10 +92,7 @@ fn put_defs(out: &mut Out, defs: &[PDef]) -> Result<(), Memory>
     ensures { OnOk result (out.new ≡ out.old ++
         listed two_written def_bytes (map pdef_of defs.now)) }
 {
-    let Ok(n) = u16::try_from(defs.len()) else {
-        return Err(Memory);
-    };
-    out.put_u16(n)?;
+    put_count_u16(out, defs.len())?;
     for def in defs {
         put_def(out, def)?;
     }

@@ -13,6 +13,7 @@ ghost use Rattle.ac_forms.specs.inner.Passing.{nests_at};
 use crate::forms::{form_bytes, form_nests};
 use crate::numbers::wide;
 use ac_bytes::Out;
+use ac_canon::put_count_u16;
 use ac_heads::Stop;
 use ac_terms::Env;
 use ac_types::{Memory, Text};
@@ -76,10 +77,7 @@ fn begun(alloc: Global, count: usize) -> Result<Text, Memory>
 {
     let mut out = Out::new(alloc);
     out.put_bytes(&[0x41, 0x43, 0x55, 0x50, 0x01])?;
-    let Ok(count) = u16::try_from(count) else {
-        return Err(Memory);
-    };
-    out.put_u16(count)?;
+    put_count_u16(&mut out, count)?;
     Ok(out.into_text())
 }
 

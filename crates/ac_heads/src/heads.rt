@@ -1,12 +1,12 @@
 // Heads that travel.
 
 ghost use Rattle.std.specs.Prelude.{◌++◌, ◌∷◌, []};
-ghost use Rattle.ac_terms.specs.Spelling.{truth, str, word, two_written, four_written, eight_written};
+ghost use Rattle.ac_terms.specs.Spelling.{truth, str, word, one_written, two_written, four_written, eight_written};
 ghost use Rattle.ac_terms.specs.Heads.{next_head};
 ghost use Rattle.ac_heads.specs.Outcomes.{Puts};
 
 use crate::stop::Stop;
-use ac_types::Text;
+use ac_types::{Text, Word};
 
 /// The greatest nesting of a part.
 pub const DEEPEST: u32 = 500;
@@ -64,21 +64,17 @@ pub fn truth(text: &mut Text, nesting: u32, tag: u8, b: bool) -> Result<(), Stop
 
 /// A head that holds a count of one byte.
 pub fn few(text: &mut Text, nesting: u32, tag: u8, count: usize) -> Result<(), Stop>
-    ensures { Puts result (next_head nesting (tag ∷ count ∷ [])) text.old.0 text.new.0 }
+    ensures { Puts result (next_head nesting (tag ∷ one_written count)) text.old.0 text.new.0 }
 {
-    let Ok(count) = u8::try_from(count) else {
-        return Err(Stop::Memory);
-    };
-    head(text, nesting, &[tag, count])
+    head(text, nesting, &[tag, (count % 256) as u8])
 }
 
 /// A head that holds a count of four bytes.
+#[tactic(auto, using(ac_terms::proofs::Digits::digits))]
 pub fn count(text: &mut Text, nesting: u32, tag: u8, count: usize) -> Result<(), Stop>
     ensures { Puts result (next_head nesting (tag ∷ four_written count)) text.old.0 text.new.0 }
 {
-    let Ok(count) = u32::try_from(count) else {
-        return Err(Stop::Memory);
-    };
+    let count = (count % 4_294_967_296) as u32;
     long_head(text, nesting, &[tag], &count.to_be_bytes())
 }
 
@@ -91,17 +87,16 @@ pub fn string(text: &mut Text, nesting: u32, front: &[u8], inner: &[u8]) -> Resu
 }
 
 // A head that holds a string.
+#[tactic(auto, using(ac_terms::proofs::Digits::digits))]
 fn plain_string(text: &mut Text, nesting: u32, inner: &[u8]) -> Result<(), Stop>
     ensures { Puts result (next_head nesting (str inner.now)) text.old.0 text.new.0 }
 {
-    let Ok(len) = u32::try_from(inner.len()) else {
-        return Err(Stop::Memory);
-    };
+    let len = (inner.len() % 4_294_967_296) as u32;
     long_head(text, nesting, &len.to_be_bytes(), inner)
 }
 
 /// A head that holds a number of two bytes and a word.
-pub fn named(text: &mut Text, nesting: u32, tag: u8, n: u16, name: &[u8]) -> Result<(), Stop>
+pub fn named(text: &mut Text, nesting: u32, tag: u8, n: u16, name: &Word) -> Result<(), Stop>
     ensures { Puts result (next_head nesting (tag ∷ two_written n ++ word name.now)) text.old.0
         text.new.0 }
 {
@@ -110,7 +105,7 @@ pub fn named(text: &mut Text, nesting: u32, tag: u8, n: u16, name: &[u8]) -> Res
 }
 
 // A head that holds a number of two bytes and a word, and nothing in front of them.
-fn numbered(text: &mut Text, nesting: u32, n: u16, name: &[u8]) -> Result<(), Stop>
+fn numbered(text: &mut Text, nesting: u32, n: u16, name: &Word) -> Result<(), Stop>
     ensures { Puts result (next_head nesting (two_written n ++ word name.now)) text.old.0
         text.new.0 }
 {
@@ -119,11 +114,9 @@ fn numbered(text: &mut Text, nesting: u32, n: u16, name: &[u8]) -> Result<(), St
 }
 
 // A head that holds a word.
-fn plain_word(text: &mut Text, nesting: u32, name: &[u8]) -> Result<(), Stop>
+fn plain_word(text: &mut Text, nesting: u32, name: &Word) -> Result<(), Stop>
     ensures { Puts result (next_head nesting (word name.now)) text.old.0 text.new.0 }
 {
-    let Ok(len) = u8::try_from(name.len()) else {
-        return Err(Stop::Memory);
-    };
-    long_head(text, nesting, &[len], name)
+    let bytes = name.text().as_slice();
+    long_head(text, nesting, &[bytes.len() as u8], bytes)
 }

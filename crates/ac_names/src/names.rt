@@ -29,8 +29,7 @@ pub fn has_name(env: &Env, i: u32) -> bool
 }
 
 /// The name of entry `i`: an import by exact name has the name that it demands, a module or an
-/// import by version the SHA-256 of its canonical text. `Err` also where a count does not fit its
-/// width, which is past the bounds.
+/// import by version the SHA-256 of its canonical text.
 pub fn name_of(alloc: Global, env: &Env, i: u32) -> Result<Name, Memory>
     requires { IsSome (name_of_entry (environment_of env.now) i) }
     ensures { IfOk result (λ n. name_of_entry (environment_of env.now) i ≡ Some n.0) }

@@ -1,5 +1,5 @@
 -- Loops over lists: the next element of what is left, and a list that is built.
-use Rattle.std.proofs.Common.{◌≡◌, ◌∙◌, ap, refl, sym, arith, ℕ, suc, ◌+◌, ◌<◌, List, [], ◌∷◌, ◌++◌, map, length, take, drop, get_or, add-one, drop-cons, append_assoc, append-nil}
+use Rattle.std.proofs.Common.{◌≡◌, ◌∙◌, ap, refl, sym, arith, ℕ, suc, ◌+◌, ◌<◌, List, [], ◌∷◌, ◌++◌, map, length, take, drop, get_or, add-one, drop-cons}
 use Rattle.std.proofs.Math.Seq.{take-suc, take-length, drop-length}
 use Rattle.std.proofs.lemmas.List.{map-append}
 
@@ -24,12 +24,3 @@ take_end i xs e = ap (λ n. take n xs) e ∙ take-length xs
 
 pub built_all : {A B C : Type 0} (g : A → C) (f : B → C) (made : List A) (i : ℕ) (xs : List B) → i ≡ length xs → map g made ≡ map f (take i xs) → map g made ≡ map f xs
 built_all g f made i xs e so = so ∙ ap (map f) (take_end i xs e)
-
--- a list that is lengthened by what is made of each part
-pub lengthened : {A B : Type 0} (F : List A → List B) (h : A → List B) (law : (x : A) (xs : List A) → F (x ∷ xs) ≡ h x ++ F xs) (all old new : List B) (i : ℕ) (xs : List A) (x : A)
-    → i < length xs → x ≡ get_or xs i x → all ≡ old ++ F (drop i xs) → new ≡ old ++ h x → all ≡ new ++ F (drop (i + 1) xs)
-lengthened F h law all old new i xs x lt is so n =
-    so ∙ ap (λ l. old ++ l) (ap F (drop_next i xs x lt is) ∙ law x (drop (i + 1) xs)) ∙ sym (append_assoc old (h x) (F (drop (i + 1) xs))) ∙ ap (λ l. l ++ F (drop (i + 1) xs)) (sym n)
-
-pub lengthened_all : {A B : Type 0} (F : List A → List B) (all old : List B) (i : ℕ) (xs : List A) → F [] ≡ [] → i ≡ length xs → all ≡ old ++ F (drop i xs) → old ≡ all
-lengthened_all F all old i xs none e so = sym (so ∙ ap (λ l. old ++ l) (ap F (drop_end i xs e) ∙ none) ∙ append-nil old)

@@ -69,10 +69,6 @@ pub found_meaning : {A : Type 0} (xs L : List (Bytes × A)) (x : Bytes) (i : ℕ
 found_meaning xs L x i o v h e =
     ap (beside_name x) (sym v) ∙ meaning_of x xs ∙ ap (meaning_at xs) (ap (λ l. own_number x (map word_of l)) v ∙ h) ∙ ap (option_map (λ p. p.1)) (sym e)
 
--- an empty map is that of no names
-pub no_places : {Z : Type 0} (A : Type 0) (m : BTreeMap (Vec ℕ Z) ℕ) → m.entries ≡ [] → Places {A = A} m []
-no_places {Z = Z} A m e name = ap (lookup (λ (k : Vec ℕ Z). is_eq (slice_cmp nat_cmp name k.items))) e
-
 -- what a change at one key leaves at others
 apart_in_order : (bs cs ks : Bytes) → bytes_eq bs cs ≡ false → is_eq (slice_cmp nat_cmp bs ks) ≡ true → is_eq (slice_cmp nat_cmp cs ks) ≡ false
 apart_in_order bs cs ks n y = is_eq-slice_cmp cs ks ∙ nat_list_eq_equiv.symm cs ks ∙ sym (nat_list_eq_equiv.congr bs ks cs (sym (is_eq-slice_cmp bs ks) ∙ y)) ∙ n

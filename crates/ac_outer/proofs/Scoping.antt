@@ -1,7 +1,7 @@
 -- Scopes: how many names they hold, and what stands before a name.
 use Rattle.std.proofs.Common.{◌≡◌, ◌∙◌, ap, refl, sym, arith, ℕ, suc, ◌+◌, ◌-◌, ◌<◌, ◌≤◌, min, Bool, true, false, List, [], ◌∷◌, ◌++◌, map, length, take, get_or, Option, Some, None}
 use Rattle.std.specs.Prelude.{option_map}
-use Rattle.std.proofs.Math.Seq.{take-suc, take-length}
+use Rattle.std.proofs.Math.Seq.{take-suc}
 use Rattle.std.proofs.lemmas.List.{map-append}
 use Rattle.std.proofs.lemmas.Bool.Decides.{nat_tests}
 use Rattle.ac_types.specs.Types.{Bytes, same_bytes}
@@ -25,15 +25,6 @@ bind_take names left d outer h =
 -- how many of the last names aren't this one
 abbrev pub Behind : Bytes → List SName → ℕ → Type 0
 Behind w names left = (outer : List Bytes) → binders_to w (scope_with (map name_of names) outer) ≡ passed None (length names - left) (binders_to w (scope_with (map name_of (take left names)) outer))
-
-passed_none : (n : ℕ) (o : Option ℕ) → n ≡ 0 → o ≡ passed None n o
-passed_none n None e = refl
-passed_none n (Some i) e = ap Some (omega arith)
-
-pub behind_none : (w : Bytes) (names : List SName) (left : ℕ) → left ≡ length names → Behind w names left
-behind_none w names left e outer =
-    passed_none (length names - left) (binders_to w (scope_with (map name_of names) outer)) (omega arith)
-    ∙ ap (λ ns. passed None (length names - left) (binders_to w (scope_with (map name_of ns) outer))) (sym (ap (λ n. take n names) e ∙ take-length names))
 
 passed_suc : (n m : ℕ) (o : Option ℕ) → m ≡ suc n → passed None n (option_map suc o) ≡ passed None m o
 passed_suc n m None e = refl

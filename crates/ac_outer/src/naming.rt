@@ -14,7 +14,6 @@ use std::alloc::Global;
 
 /// The name of a definition behind these entries, `None` for a mark: an import by exact name has
 /// the name that it demands, a module or an import by version the SHA-256 of its canonical text.
-/// `Err` also where a count does not fit its width, which is past the bounds.
 pub fn name_of_def(alloc: Global, env: &Env, def: &Def) -> Result<Option<Name>, Memory>
     ensures { IfOk result (λ n. option_map name_of_code n ≡
         name_by sha256 (environment_of env.now) (def_of_code def.now)) }

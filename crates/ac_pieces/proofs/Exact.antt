@@ -99,6 +99,13 @@ exact_as Q to from x = record {
   back = λ a q. x.back a (from a q);
 }
 
+-- another spelling that is the same within the bounds
+pub exact_spelled : {A : Type 0} {f : ReadsPart A} {P : A → Type 0} {spell t : A → Bytes} → ((a : A) → P a → spell a ≡ t a) → IsExact f P spell → IsExact f P t
+exact_spelled {f = f} {P} same x = record {
+  sound = λ bs a rest e. let u = x.sound bs a rest e in record { fits = u.fits; parts = u.parts ∙ ap (λ s. s ++ rest) (same a u.fits) };
+  back = λ a p. subst (λ (s : Bytes). Back f s a) (same a p) (x.back a p);
+}
+
 -- two things that a third is made of
 module _ {A B C : Type 0} (c : A → B → C) (l : C → A) (r : C → B) (whole : (x : C) → c (l x) (r x) ≡ x) (left : (a : A) (b : B) → l (c a b) ≡ a) (right : (a : A) (b : B) → r (c a b) ≡ b) where
   pub exact_two_parts : {f : ReadsPart A} {g : ReadsPart B} {P : A → Type 0} {Q : B → Type 0} {s : A → Bytes} {t : B → Bytes} → IsExact f P s → IsExact g Q t →

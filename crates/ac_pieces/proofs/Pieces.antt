@@ -1,5 +1,5 @@
 -- The pieces that have no type in them are read exactly.
-use Rattle.std.proofs.Common.{◌≡◌, refl, ap, ℕ, ◌≤◌, Bool, true, List, [], ◌∷◌, ◌++◌, length, Some}
+use Rattle.std.proofs.Common.{◌≡◌, refl, sym, ap, ℕ, ◌≤◌, Bool, true, List, [], ◌∷◌, ◌++◌, length, Some}
 use Rattle.std.specs.Prelude.{nat_le}
 use Rattle.std.proofs.lemmas.Bool.Decides.{nat_tests}
 use native.Mathlib.Omega.{arith}
@@ -9,13 +9,14 @@ use Rattle.ac_types.specs.Limits.{longest_string}
 use Rattle.ac_types.specs.Words.{is_word}
 use Rattle.ac_types.specs.Types.{Bytes}
 use Rattle.ac_types.specs.Sigs.{Atom, Number, MyName, Range, One, Between, UpTo, From, Constraint, Ranges, Exact, Resolve, StaticLink, HereAlready, Uri}
-use Rattle.ac_terms.specs.Spelling.{byte, two_written, four_written, eight_written, truth, word, str, listed, atom_bytes, range_bytes, constraint_bytes, resolve_bytes}
+use Rattle.ac_terms.specs.Spelling.{byte, one_written, two_written, four_written, eight_written, truth, word, str, listed, atom_bytes, range_bytes, constraint_bytes, resolve_bytes}
 use Rattle.ac_terms.specs.Bounds.{is_lower, is_upper, is_name, is_two, is_four, is_integer, is_width, fits_atom, fits_range, fits_constraint, fits_resolve}
 use Rattle.ac_terms.specs.PacketReading.{give, one, two_parts_read, nothing, read_byte, read_two, read_four, read_eight, read_truth, read_word, read_str, read_name, bytes_read}
 use Rattle.ac_terms.proofs.Back.{Back, back_one, back_two, back_byte, back_two_bytes, back_four_bytes, back_eight_bytes, back_truth, back_word, back_name, back_after, back_cut}
-use Rattle.ac_terms.proofs.TestLaws.{le_is}
+use Rattle.ac_terms.proofs.TestLaws.{le_true, le_is}
+use Rattle.ac_terms.proofs.Digits.{one_is}
 use Rattle.ac_pieces.specs.ExactReading.{in_limits, begins_low, begins_high, has_ranges, a_ranges, exact_two, exact_four, exact_eight, exact_truth, exact_name, exact_word, exact_lower, exact_upper, exact_text, exact_width, exact_count, exact_long_count, exact_atom, exact_version, exact_range, exact_ranges, exact_constraint, exact_resolve, exact_resolves}
-use Rattle.ac_pieces.proofs.Exact.{Took, IsExact, exact_exactly, exact_passing, exact_as, AllOf, each_passes, of_all, exact_list, exact_two_parts}
+use Rattle.ac_pieces.proofs.Exact.{Took, IsExact, exact_exactly, exact_passing, exact_as, exact_spelled, AllOf, each_passes, of_all, exact_list, exact_two_parts}
 use Rattle.ac_pieces.proofs.Tables.{table_sound, sound_nothing, sound_give, sound_one, sound_two}
 
 abbrev pub Is : {A : Type 0} → (A → Bool) → A → Type 0
@@ -72,13 +73,21 @@ byte_is_exact = record { sound = taken; back = λ b u. back_byte b }
         let q = some_eq e in
         record { fits = tt; parts = ap (λ (x : ℕ × Bytes). x.0 ∷ x.1) q }
 
-pub width_is_exact : IsExact exact_width (Is is_width) byte
-unfolding exact_width
-width_is_exact = exact_as (Is is_width) (λ n p. p.1) (λ n e. (tt, e)) (exact_passing is_width byte_is_exact)
+-- a count that a byte holds is that byte
+width_byte : (n : ℕ) → is_width n ≡ true → byte n ≡ one_written n
+width_byte n e = let h = le_true n 16 (both_true _ _ e).1 in sym (one_is n (omega arith))
 
-pub count_is_exact : (least most : ℕ) → IsExact (exact_count least most) (Is (in_limits least most)) byte
+pub width_is_exact : IsExact exact_width (Is is_width) one_written
+unfolding exact_width
+width_is_exact = exact_spelled width_byte (exact_as (Is is_width) (λ n p. p.1) (λ n e. (tt, e)) (exact_passing is_width byte_is_exact))
+
+count_byte : (least most n : ℕ) → most ≤ 255 → in_limits least most n ≡ true → byte n ≡ one_written n
+count_byte least most n low e = let h = le_true n most (both_true _ _ e).1 in sym (one_is n (omega arith))
+
+pub count_is_exact : (least most : ℕ) → most ≤ 255 → IsExact (exact_count least most) (Is (in_limits least most)) one_written
 unfolding exact_count
-count_is_exact least most = exact_as (Is (in_limits least most)) (λ n p. p.1) (λ n e. (tt, e)) (exact_passing (in_limits least most) byte_is_exact)
+count_is_exact least most low =
+    exact_spelled (λ n e. count_byte least most n low e) (exact_as (Is (in_limits least most)) (λ n p. p.1) (λ n e. (tt, e)) (exact_passing (in_limits least most) byte_is_exact))
 
 pub count_two : (least most n : ℕ) → most ≤ 65535 → in_limits least most n ≡ true → is_two n ≡ true
 count_two least most n low e = grind (arith, nat_tests)
@@ -101,9 +110,9 @@ atom_is_exact = record {
     again (Number n) w = record { reads = (back_one Number (four_is_exact.back n w)).reads }
     again MyName w = record { reads = λ r. refl }
 
-pub version_is_exact : IsExact exact_version (λ xs. (in_limits 1 8 (length xs) ≡ true) × AllOf (Is fits_atom) xs) (listed byte atom_bytes)
+pub version_is_exact : IsExact exact_version (λ xs. (in_limits 1 8 (length xs) ≡ true) × AllOf (Is fits_atom) xs) (listed one_written atom_bytes)
 unfolding exact_version
-version_is_exact = exact_list atom_is_exact (count_is_exact 1 8)
+version_is_exact = exact_list atom_is_exact (count_is_exact 1 8 (omega arith))
 
 pub range_is_exact : IsExact exact_range (Is fits_range) range_bytes
 unfolding exact_range
@@ -127,11 +136,11 @@ range_is_exact = record {
     again (UpTo n) w = record { reads = (back_one UpTo (four_is_exact.back n w)).reads }
     again (From n) w = record { reads = (back_one From (four_is_exact.back n w)).reads }
 
-ranges_is_exact : IsExact exact_ranges (λ p. (((in_limits 0 8 (length p.0) ≡ true) × AllOf (Is fits_range) p.0) × Unit {0}) × (has_ranges p ≡ true)) (λ p. listed byte range_bytes p.0 ++ truth p.1)
+ranges_is_exact : IsExact exact_ranges (λ p. (((in_limits 0 8 (length p.0) ≡ true) × AllOf (Is fits_range) p.0) × Unit {0}) × (has_ranges p ≡ true)) (λ p. listed one_written range_bytes p.0 ++ truth p.1)
 unfolding exact_ranges
 ranges_is_exact =
     exact_passing has_ranges
-    (exact_two_parts (λ (rs : List Range) (star : Bool). (rs, star)) (λ p. p.0) (λ p. p.1) (λ p. refl) (λ rs star. refl) (λ rs star. refl) (exact_list range_is_exact (count_is_exact 0 8)) truth_is_exact)
+    (exact_two_parts (λ (rs : List Range) (star : Bool). (rs, star)) (λ p. p.0) (λ p. p.1) (λ p. refl) (λ rs star. refl) (λ rs star. refl) (exact_list range_is_exact (count_is_exact 0 8 (omega arith))) truth_is_exact)
 
 constraint_fits : (p : List Range × Bool) → (((in_limits 0 8 (length p.0) ≡ true) × AllOf (Is fits_range) p.0) × Unit {0}) × (has_ranges p ≡ true) → fits_constraint (Ranges p.0 p.1) ≡ true
 constraint_fits p a = and_true (and_true (of_all fits_range p.0 a.0.0.1) (both_true _ _ a.0.0.0).1) a.1
@@ -167,6 +176,6 @@ resolve_is_exact = record {
     again HereAlready w = record { reads = λ r. refl }
     again (Uri u) w = record { reads = (back_one Uri ((text_is_exact 1024 (omega arith)).back u w)).reads }
 
-pub resolves_is_exact : IsExact exact_resolves (λ xs. (in_limits 1 16 (length xs) ≡ true) × AllOf (Is fits_resolve) xs) (listed byte resolve_bytes)
+pub resolves_is_exact : IsExact exact_resolves (λ xs. (in_limits 1 16 (length xs) ≡ true) × AllOf (Is fits_resolve) xs) (listed one_written resolve_bytes)
 unfolding exact_resolves
-resolves_is_exact = exact_list resolve_is_exact (count_is_exact 1 16)
+resolves_is_exact = exact_list resolve_is_exact (count_is_exact 1 16 (omega arith))

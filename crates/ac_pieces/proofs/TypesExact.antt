@@ -7,7 +7,7 @@ use Rattle.ac_types.proofs.Same.{both_true, and_true}
 use Rattle.ac_types.proofs.SizeLaws.{height-pos}
 use Rattle.ac_types.specs.Types.{Bytes, Typ, TInt, TBool, TStr, TUnit, TExn, TTuple, TList, TOpt, TFun, TAbs, TMine, Typs, no_types, typ, is_small, height, height_of_all}
 use Rattle.ac_types.specs.Sigs.{Typed_name, Sig_type, Signature}
-use Rattle.ac_terms.specs.Spelling.{byte, two_written, word, listed, type_bytes, all_type_bytes, type_count}
+use Rattle.ac_terms.specs.Spelling.{one_written, two_written, word, listed, type_bytes, all_type_bytes, type_count}
 use Rattle.ac_terms.specs.SpelledBy.{manifest_bytes, sig_type_bytes, typed_bytes, sig_bytes}
 use Rattle.ac_terms.specs.Bounds.{is_lower, is_width, fits_type, fit_types}
 use Rattle.ac_terms.specs.PacketReading.{ReadsPart, give, one, then_read, times, a_sig_type, a_typed, a_signature}
@@ -61,7 +61,7 @@ module _ (own : Bool) (k : ℕ) (x : IsExactType own k) where
       back_after (λ a. one (typ a) (times no_types typ (exact_type_of own k) (type_count Ts))) (x.back T (record { fits = b.0; low = let l = p.low in omega arith }))
       (back_one (typ T) (parts_back Ts (record { fits = b.1; low = let l = p.low in omega arith })))
 
-  types_are_exact : IsExact (then_read exact_width (times no_types typ (exact_type_of own k))) (λ Ts. (is_width (type_count Ts) ≡ true) × LowTypes own k Ts) (λ Ts. byte (type_count Ts) ++ all_type_bytes Ts)
+  types_are_exact : IsExact (then_read exact_width (times no_types typ (exact_type_of own k))) (λ Ts. (is_width (type_count Ts) ≡ true) × LowTypes own k Ts) (λ Ts. one_written (type_count Ts) ++ all_type_bytes Ts)
   types_are_exact =
       exact_counted no_types typ x all_type_bytes type_count (LowTypes own k) refl (λ T Ts. refl) refl (λ T Ts. refl)
       (record { fits = refl; low = omega arith })

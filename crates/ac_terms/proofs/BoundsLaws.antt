@@ -14,6 +14,7 @@ fits_field f = is_lower f.name && fits_type false f.ty && fits_term false f.term
 
 pub record ModuleBounds (m : Module) : Type 0 where
   pub upper : is_upper m.name ≡ true
+  pub few_atoms : nat_le (length m.version) 8 ≡ true
   pub atoms : list_all fits_atom m.version ≡ true
   pub sig : fits_sig m.sig ≡ true
   pub few_types : nat_le (length m.types) 1024 ≡ true
@@ -30,7 +31,7 @@ module_bounds m w =
     let s = both_true _ _ d.0 in
     let v = both_true _ _ s.0 in
     let l = both_true _ _ v.0 in
-    record { upper = (both_true _ _ l.0).0; atoms = v.1; sig = s.1; few_types = d.1; types = c.1; few_fields = b.1; fields = a.1 }
+    record { upper = (both_true _ _ l.0).0; few_atoms = l.1; atoms = v.1; sig = s.1; few_types = d.1; types = c.1; few_fields = b.1; fields = a.1 }
 
 pub record ImportBounds (i : Import) : Type 0 where
   pub upper : is_upper i.name ≡ true
@@ -38,6 +39,7 @@ pub record ImportBounds (i : Import) : Type 0 where
   pub constraint : fits_constraint i.constraint ≡ true
   pub few_likes : nat_le (length i.like) 1024 ≡ true
   pub likes : list_all (fits_typed false) i.like ≡ true
+  pub few_resolves : nat_le (length i.by) 16 ≡ true
   pub resolves : list_all fits_resolve i.by ≡ true
 
 pub import_bounds : (i : Import) → fits_def (AnImport i) ≡ true → ImportBounds i
@@ -49,7 +51,7 @@ import_bounds i w =
     let l = both_true _ _ d.0 in
     let n = both_true _ _ l.0 in
     let s = both_true _ _ n.0 in
-    record { upper = s.0; sig = s.1; constraint = n.1; few_likes = l.1; likes = d.1; resolves = a.1 }
+    record { upper = s.0; sig = s.1; constraint = n.1; few_likes = l.1; likes = d.1; few_resolves = b.1; resolves = a.1 }
 
 pub record PacketBounds (p : Packet) : Type 0 where
   pub few : is_two (length p.defs) ≡ true

@@ -2,7 +2,7 @@
 use Rattle.std.specs.Prelude.{ℕ, suc, Bool, true, false, List, [], ◌∷◌, ◌++◌}
 use Rattle.ac_types.specs.Types.{Bytes, Typ}
 use Rattle.ac_terms.specs.Terms.{Pattern, PWild, PVar, PInt, PBool, PStr, PUnit, PTuple, PNil, PCons, PAbsent, PPresent, PExn, PExnOf, Patterns, no_patterns, pattern', Expr, Int, Boolean, Str, Unit', Exn, ExnOf, Tuple, Nil, Empty, Present, Cons, Var, Own, Ref, Lam, Rec, App, Let, If, Seq, Match, Try, Raise, Prim, Marshal, Unmarshal, Val, Evaluated, Bracket, Exprs, no_exprs, expr, Arms, no_arms, arm, PValue, KInt, KBool, KStr, KUnit, KExn, KTuple, KList, KAbsent, KPresent, KFun, PValues, no_pvalues, pvalue}
-use Rattle.ac_terms.specs.Pieces.{two_written, four_written, pattern_count, home_bytes, term_count, arm_count, value_count}
+use Rattle.ac_terms.specs.Pieces.{one_written, two_written, four_written, pattern_count, home_bytes, term_count, arm_count, value_count}
 use Rattle.ac_terms.specs.SpelledBy.{pattern_bytes, term_bytes, value_bytes}
 use Rattle.ac_terms.specs.Bounds.{is_lambda}
 
@@ -37,7 +37,7 @@ module _ (type_bytes : Typ → Bytes) where
     pattern_heads d (PBool b) = next_head d (pattern_bytes type_bytes (PBool b)) ∷ []
     pattern_heads d (PStr s) = next_head d (pattern_bytes type_bytes (PStr s)) ∷ []
     pattern_heads d PUnit = next_head d (pattern_bytes type_bytes PUnit) ∷ []
-    pattern_heads d (PTuple ps) = next_head d (0x07 ∷ pattern_count ps ∷ []) ∷ all_pattern_heads (suc d) ps
+    pattern_heads d (PTuple ps) = next_head d (0x07 ∷ one_written (pattern_count ps)) ∷ all_pattern_heads (suc d) ps
     pattern_heads d PNil = next_head d (pattern_bytes type_bytes PNil) ∷ []
     pattern_heads d (PCons p q) = next_head d (0x09 ∷ []) ∷ pattern_heads (suc d) p ++ pattern_heads (suc d) q
     pattern_heads d PAbsent = next_head d (pattern_bytes type_bytes PAbsent) ∷ []
@@ -59,7 +59,7 @@ module _ (type_bytes : Typ → Bytes) (ref : ℕ → Bytes) where
     term_heads d Unit' = next_head d (term_bytes type_bytes ref Unit') ∷ []
     term_heads d (Exn k) = next_head d (term_bytes type_bytes ref (Exn k)) ∷ []
     term_heads d (ExnOf k e) = next_head d (0x05 ∷ k ∷ []) ∷ term_heads (suc d) e
-    term_heads d (Tuple es) = next_head d (0x06 ∷ term_count es ∷ []) ∷ all_term_heads (suc d) es
+    term_heads d (Tuple es) = next_head d (0x06 ∷ one_written (term_count es)) ∷ all_term_heads (suc d) es
     term_heads d (Nil T) = next_head d (0x07 ∷ []) ∷ type_heads type_bytes T
     term_heads d (Empty T) = next_head d (0x08 ∷ []) ∷ type_heads type_bytes T
     term_heads d (Present e) = next_head d (0x09 ∷ []) ∷ term_heads (suc d) e
@@ -97,7 +97,7 @@ module _ (type_bytes : Typ → Bytes) (ref : ℕ → Bytes) where
     value_heads d (KStr s) = next_head d (value_bytes type_bytes ref (KStr s)) ∷ []
     value_heads d KUnit = next_head d (value_bytes type_bytes ref KUnit) ∷ []
     value_heads d (KExn k s) = next_head d (value_bytes type_bytes ref (KExn k s)) ∷ []
-    value_heads d (KTuple vs) = next_head d (0x06 ∷ value_count vs ∷ []) ∷ all_value_heads (suc d) vs
+    value_heads d (KTuple vs) = next_head d (0x06 ∷ one_written (value_count vs)) ∷ all_value_heads (suc d) vs
     value_heads d (KList vs) = next_head d (0x07 ∷ four_written (value_count vs)) ∷ all_value_heads (suc d) vs
     value_heads d KAbsent = next_head d (value_bytes type_bytes ref KAbsent) ∷ []
     value_heads d (KPresent v) = next_head d (0x09 ∷ []) ∷ value_heads (suc d) v

@@ -1,11 +1,14 @@
 -- The pieces of spellings that have no type in them: numbers, words, strings, lists, homes, versions, constraints and resolvespecs.
 use Rattle.std.specs.Prelude.{ℕ, suc, ℤ, ◌+◌, Bool, true, false, List, [], ◌∷◌, ◌++◌, length, flat_map, Option, Some, None}
-use Rattle.std.specs.Int.{w16, w32, w64, to_be_bytes, cast_unsigned}
+use Rattle.std.specs.Int.{w8, w16, w32, w64, to_be_bytes, cast_unsigned}
 use Rattle.ac_types.specs.Types.{Bytes}
 use Rattle.ac_types.specs.Sigs.{Atom, Number, MyName, Range, One, Between, UpTo, From, Constraint, Ranges, Exact, Resolve, StaticLink, HereAlready, Uri}
 use Rattle.ac_terms.specs.Terms.{Home, Main, In, Patterns, no_patterns, pattern', Exprs, no_exprs, expr, Arms, no_arms, arm, PValues, no_pvalues, pvalue}
 
--- numbers are big-endian; a word has a byte for its length, a string four
+-- numbers are big-endian; a word has a byte for its length, a string four. A count is written by the last digits that its width holds; within the bounds that is the count
+abbrev pub one_written : ℕ → Bytes
+one_written n = to_be_bytes w8 n
+
 abbrev pub two_written : ℕ → Bytes
 two_written n = to_be_bytes w16 n
 
@@ -29,6 +32,7 @@ str s = four_written (length s) ++ s
 abbrev pub listed : {A : Type 0} → (ℕ → Bytes) → (A → Bytes) → List A → Bytes
 listed count item xs = count (length xs) ++ flat_map item xs
 
+-- what is a byte already
 abbrev pub byte : ℕ → Bytes
 byte n = n ∷ []
 
@@ -68,7 +72,7 @@ range_bytes (UpTo n) = 0x03 ∷ four_written n
 range_bytes (From n) = 0x04 ∷ four_written n
 
 abbrev pub constraint_bytes : Constraint → Bytes
-constraint_bytes (Ranges rs star) = 0x01 ∷ listed byte range_bytes rs ++ truth star
+constraint_bytes (Ranges rs star) = 0x01 ∷ listed one_written range_bytes rs ++ truth star
 constraint_bytes (Exact n) = 0x02 ∷ n
 
 abbrev pub resolve_bytes : Resolve → Bytes

@@ -4,7 +4,7 @@ use Rattle.ac_types.specs.Types.{Bytes, Typ}
 use Rattle.ac_types.specs.Sigs.{Typed_name, Sig_type, Signature}
 use Rattle.ac_terms.specs.Terms.{Pattern, PWild, PVar, PInt, PBool, PStr, PUnit, PTuple, PNil, PCons, PAbsent, PPresent, PExn, PExnOf, Patterns, no_patterns, pattern', Expr, Int, Boolean, Str, Unit', Exn, ExnOf, Tuple, Nil, Empty, Present, Cons, Var, Own, Ref, Lam, Rec, App, Let, If, Seq, Match, Try, Raise, Prim, Marshal, Unmarshal, Val, Evaluated, Bracket, Exprs, no_exprs, expr, Arms, no_arms, arm, PValue, KInt, KBool, KStr, KUnit, KExn, KTuple, KList, KAbsent, KPresent, KFun, PValues, no_pvalues, pvalue}
 use Rattle.ac_terms.specs.Defs.{Field, Module, Import}
-use Rattle.ac_terms.specs.Pieces.{two_written, four_written, eight_written, truth, word, str, listed, byte, home_bytes, exn_bytes, pattern_count, term_count, arm_count, value_count, atom_bytes, constraint_bytes}
+use Rattle.ac_terms.specs.Pieces.{one_written, two_written, four_written, eight_written, truth, word, str, listed, home_bytes, exn_bytes, pattern_count, term_count, arm_count, value_count, atom_bytes, constraint_bytes}
 
 -- patterns, signatures and imports
 module _ (type_bytes : Typ → Bytes) where
@@ -16,7 +16,7 @@ module _ (type_bytes : Typ → Bytes) where
     pattern_bytes (PBool b) = 0x04 ∷ truth b
     pattern_bytes (PStr s) = 0x05 ∷ str s
     pattern_bytes PUnit = 0x06 ∷ []
-    pattern_bytes (PTuple ps) = 0x07 ∷ pattern_count ps ∷ all_pattern_bytes ps
+    pattern_bytes (PTuple ps) = 0x07 ∷ one_written (pattern_count ps) ++ all_pattern_bytes ps
     pattern_bytes PNil = 0x08 ∷ []
     pattern_bytes (PCons p q) = 0x09 ∷ pattern_bytes p ++ pattern_bytes q
     pattern_bytes PAbsent = 0x0A ∷ []
@@ -55,7 +55,7 @@ module _ (type_bytes : Typ → Bytes) (ref : ℕ → Bytes) where
     term_bytes Unit' = 0x04 ∷ []
     term_bytes (Exn k) = 0x05 ∷ k ∷ []
     term_bytes (ExnOf k e) = 0x05 ∷ k ∷ term_bytes e
-    term_bytes (Tuple es) = 0x06 ∷ term_count es ∷ all_term_bytes es
+    term_bytes (Tuple es) = 0x06 ∷ one_written (term_count es) ++ all_term_bytes es
     term_bytes (Nil T) = 0x07 ∷ type_bytes T
     term_bytes (Empty T) = 0x08 ∷ type_bytes T
     term_bytes (Present e) = 0x09 ∷ term_bytes e
@@ -93,7 +93,7 @@ module _ (type_bytes : Typ → Bytes) (ref : ℕ → Bytes) where
     value_bytes (KStr s) = 0x03 ∷ str s
     value_bytes KUnit = 0x04 ∷ []
     value_bytes (KExn k s) = 0x05 ∷ exn_bytes k s
-    value_bytes (KTuple vs) = 0x06 ∷ value_count vs ∷ all_value_bytes vs
+    value_bytes (KTuple vs) = 0x06 ∷ one_written (value_count vs) ++ all_value_bytes vs
     value_bytes (KList vs) = 0x07 ∷ four_written (value_count vs) ++ all_value_bytes vs
     value_bytes KAbsent = 0x08 ∷ []
     value_bytes (KPresent v) = 0x09 ∷ value_bytes v
@@ -108,4 +108,4 @@ module _ (type_bytes : Typ → Bytes) (ref : ℕ → Bytes) where
 
   abbrev pub module_bytes : Module → Bytes
   module_bytes m =
-      0x01 ∷ word m.name ++ listed byte atom_bytes m.version ++ sig_bytes type_bytes m.sig ++ listed two_written (typed_bytes type_bytes) m.types ++ listed two_written field_bytes m.fields
+      0x01 ∷ word m.name ++ listed one_written atom_bytes m.version ++ sig_bytes type_bytes m.sig ++ listed two_written (typed_bytes type_bytes) m.types ++ listed two_written field_bytes m.fields

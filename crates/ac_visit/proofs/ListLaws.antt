@@ -7,7 +7,7 @@ use Rattle.ac_types.specs.declared.ty.Ty.{Ty}
 use Rattle.ac_terms.specs.Terms.{Home, Main, Expr, Int, App, Lam, Rec, PValue, KList, KTuple, KPresent, KFun, PValues, no_pvalues, pvalue, pvalues}
 use Rattle.ac_terms.specs.Defs.{Environment}
 use Rattle.ac_terms.specs.Parts.{all_value_parts}
-use Rattle.ac_terms.specs.Spelling.{two_written, four_written, value_count}
+use Rattle.ac_terms.specs.Spelling.{one_written, two_written, four_written, value_count}
 use Rattle.ac_terms.specs.Heads.{Head, next_head, value_heads, all_value_heads}
 use Rattle.ac_terms.specs.Renumbered.{value_renumbered, values_renumbered}
 use Rattle.ac_terms.specs.Read.{value_of}
@@ -195,10 +195,10 @@ pub visits_deeper : (r : Result Unit Stop) (d e : ℕ) (v w : PValue) (old new :
 visits_deeper r d e v w old new q p h = subst (λ (n : ℕ). VisitsValue r n w old new) q (visits_value r d v w old new p h)
 
 pub visits_tuple : (r : Result Unit Stop) (d n : ℕ) (vs : PValues) (w : PValue) (old new : Walk) → KTuple vs ≡ w → n ≡ value_count (values_renumbered (number_at old.site) vs) →
-    Visits r (next_head d (0x06 ∷ n ∷ []) ∷ values_written old.site (suc d) vs) (spoken_at old.site (all_value_parts vs)) old new → VisitsValue r d w old new
+    Visits r (next_head d (0x06 ∷ one_written n) ∷ values_written old.site (suc d) vs) (spoken_at old.site (all_value_parts vs)) old new → VisitsValue r d w old new
 visits_tuple r d n vs w old new e c h =
     visits_value r d (KTuple vs) w old new e
-    (visits_same r _ _ _ _ old new (ap (λ (k : ℕ). next_head d (0x06 ∷ k ∷ []) ∷ values_written old.site (suc d) vs) c) refl h)
+    (visits_same r _ _ _ _ old new (ap (λ (k : ℕ). next_head d (0x06 ∷ one_written k) ∷ values_written old.site (suc d) vs) c) refl h)
 
 pub visits_list : (r : Result Unit Stop) (d n : ℕ) (vs : PValues) (w : PValue) (old new : Walk) → KList vs ≡ w → n ≡ value_count (values_renumbered (number_at old.site) vs) →
     Visits r (next_head d (0x07 ∷ four_written n) ∷ values_written old.site (suc d) vs) (spoken_at old.site (all_value_parts vs)) old new → VisitsValue r d w old new

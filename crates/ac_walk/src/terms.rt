@@ -51,7 +51,7 @@ impl<'a> Walk<'a> {
             Term::Own(field) => self.short(d, 0x0C, *field),
             Term::Ref(entry, field) => {
                 let number = site.number(*entry);
-                self.reference(d, *entry, number, field.text().as_slice())
+                self.reference(d, *entry, number, field)
             },
             Term::Lam(ty, body) => {
                 let body = Piece::Term(body, around.under(1)?, d);

@@ -1,7 +1,7 @@
 // A walk: what it has written, which definitions that speaks of, and what is still to be visited.
 
 ghost use Rattle.std.specs.Prelude.{suc, ◌≡◌, ◌++◌, ◌∷◌, [], ℕ, List, OnOk, MatchOption};
-ghost use Rattle.ac_terms.specs.Spelling.{truth, str, word, two_written, four_written, eight_written, home_bytes};
+ghost use Rattle.ac_terms.specs.Spelling.{truth, str, word, one_written, two_written, four_written, eight_written, home_bytes};
 ghost use Rattle.ac_terms.specs.Read.{home_of};
 ghost use Rattle.ac_terms.specs.Renumbered.{home_by};
 ghost use Rattle.ac_terms.specs.Heads.{Head, next_head, before, value_heads};
@@ -15,7 +15,7 @@ use crate::piece::{Piece, Site};
 use ac_heads as heads;
 use ac_heads::Stop;
 use ac_terms::Home;
-use ac_types::{Many, Memory, Text};
+use ac_types::{Many, Memory, Text, Word};
 use std::alloc::Global;
 
 /// A walk on its way.
@@ -105,7 +105,7 @@ impl<'a> Walk<'a> {
 
     /// A reference to a value of a definition, which is written by this number.
     #[tactic(auto, using(crate::proofs::WalkLaws::stop_laws), unfolding(crate::specs::inner::Goes::Visits))]
-    pub fn reference(&mut self, d: u32, entry: u32, number: u16, name: &[u8]) -> Result<(), Stop>
+    pub fn reference(&mut self, d: u32, entry: u32, number: u16, name: &Word) -> Result<(), Stop>
         ensures { Visits result (next_head d (0x0D ∷ two_written number ++ word name.now) ∷ [])
             (entry ∷ []) self.old self.new }
     {
@@ -169,7 +169,8 @@ impl<'a> Walk<'a> {
     /// A head that holds a count of one byte, and then the piece that is counted.
     #[tactic(auto, using(crate::proofs::WalkLaws::stop_laws), unfolding(crate::specs::inner::Goes::Visits))]
     pub fn few(&mut self, d: u32, tag: u8, count: usize, all: Piece<'a>) -> Result<(), Stop>
-        ensures { Visits result (next_head d (tag ∷ count ∷ []) ∷ heads_at self.old.site all.entry)
+        ensures { Visits result (next_head d (tag ∷ one_written count) ∷
+            heads_at self.old.site all.entry)
             (roots_at self.old.site all.entry) self.old self.new }
     {
         heads::few(&mut self.text, d, tag, count)?;
