@@ -1,8 +1,8 @@
 -- Which block gives the value of a field.
-use Rattle.std.specs.Prelude.{ℕ, List, Option, Some, None, option_and_then, position, slice_get}
-use Rattle.ac_types.specs.Types.{Bytes, same_bytes}
+use Rattle.std.specs.Prelude.{ℕ, Option, None, option_and_then, slice_get}
+use Rattle.ac_types.specs.Types.{Bytes}
 use Rattle.ac_terms.specs.Terms.{Home, Main, In}
-use Rattle.ac_terms.specs.Defs.{Field, AModule, AnImport, AMark, Entry, Environment, module_behind, field_number}
+use Rattle.ac_terms.specs.Defs.{Environment, module_behind, field_number}
 use Rattle.ac_code.specs.Code.{Code, field_code, fields_in}
 
 -- the main program has no fields

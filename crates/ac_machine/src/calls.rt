@@ -31,7 +31,7 @@ impl Engine {
             return Ok(Step::Wrong);
         };
         if self.at.made >= self.budget {
-            return Ok(Step::Pausing(Pause::Spent));
+            return self.pausing(Pause::Spent);
         }
         let own = self.own_env(function, recursive, env)?;
         let full = self.add(Node::EnvCons(argument, own))?;
@@ -60,6 +60,7 @@ impl Engine {
     }
 
     /// Starts a block with an environment, and keeps where the one that runs goes on.
+    #[inline]
     pub fn enter(&mut self, block: CodeId, env: Value, keeps: bool) -> Result<Step, Memory>
         requires sound { Sound self.old }
         requires env { env.0 < length self.old.store }
@@ -71,6 +72,7 @@ impl Engine {
         Ok(step)
     }
 
+    #[inline]
     fn enter_here(&mut self, block: CodeId, env: Value, keeps: bool) -> Result<Step, Memory>
         requires sound { Sound self.old }
         requires env { env.0 < length self.old.store }
@@ -101,6 +103,7 @@ impl Engine {
         Ok(step)
     }
 
+    #[inline]
     fn return_here(&mut self) -> Result<Step, Memory>
         requires sound { Sound self.old }
         ensures { IfOk result (λ s. Does self.new s

@@ -7,11 +7,11 @@ ghost use Rattle.ac_machine.specs.States.{Run, push_value, beginning};
 ghost use Rattle.ac_machine.specs.Machine.{newest};
 ghost use Rattle.ac_machine.specs.Held.{core, Sound};
 ghost use Rattle.ac_machine.specs.inner.Steps.{stack_at, Does, Grown};
-ghost use Rattle.ac_machine.specs.declared.engine.Step.TheVariants.{On};
+ghost use Rattle.ac_machine.specs.declared.engine.Step.TheVariants.{On, Pausing};
 
 use crate::pause::Pause;
 use ac_code::CodeId;
-use ac_types::Memory;
+use ac_types::{Box, Memory};
 use ac_values::{Chain, Node, Store, Value};
 use std::alloc::Global;
 
@@ -24,7 +24,15 @@ pub struct Frame {
     pub keeps: bool,
 }
 
-/// Where a raised exception is handled. The stack and the frames are numbers of lists.
+/// So many of the first stacks and frames the handlers that stand may keep.
+#[derive(Clone, Copy)]
+pub struct Floor {
+    pub stacks: usize,
+    pub frames: usize,
+}
+
+/// Where a raised exception is handled. The stack and the frames are numbers of lists, and `below`
+/// is the floor of the handlers below it.
 #[derive(Clone, Copy)]
 pub struct Handler {
     pub block: CodeId,
@@ -32,6 +40,7 @@ pub struct Handler {
     pub env: Value,
     pub stack: usize,
     pub frames: usize,
+    pub below: Floor,
 }
 
 /// Where the machine stands. The stack, the frames and the handlers are numbers of lists.
@@ -52,7 +61,7 @@ pub enum Step {
     /// The machine goes on.
     On,
     /// It has come to a pause.
-    Pausing(Pause),
+    Pausing(Box<Pause>),
     /// An operand is missing or of the wrong kind.
     Wrong,
 }
@@ -65,6 +74,7 @@ pub struct Engine {
     pub stacks: Chain<Value>,
     pub frames: Chain<Frame>,
     pub handlers: Chain<Handler>,
+    pub floor: Floor,
     pub kept: Vec<Option<Value>>,
     pub at: Position,
     pub budget: u64,
@@ -95,6 +105,10 @@ impl Engine {
             stacks: Chain::new(alloc),
             frames: Chain::new(alloc),
             handlers: Chain::new(alloc),
+            floor: Floor {
+                stacks: 0,
+                frames: 0,
+            },
             kept: Vec::new(alloc),
             at: Position {
                 block: main,
@@ -110,7 +124,16 @@ impl Engine {
         })
     }
 
+    /// A pause, in a box so that a step is small.
+    #[cold]
+    pub fn pausing(&self, pause: Pause) -> Result<Step, Memory>
+        ensures { IfOk result (λ s. s ≡ Pausing pause) }
+    {
+        Ok(Step::Pausing(Box::new(self.alloc, pause)?))
+    }
+
     /// One more node.
+    #[inline]
     pub fn add(&mut self, node: Node) -> Result<Value, Memory>
         requires sound { Sound self.old }
         requires parts { Below (length self.old.store) node }
@@ -121,8 +144,22 @@ impl Engine {
         Ok(v)
     }
 
-    /// Pushes a value on the stack.
+    /// Pushes a value on the stack, in the place of lists that nothing can reach.
+    #[inline]
     pub fn push(&mut self, v: Value) -> Result<Step, Memory>
+        requires sound { Sound self.old }
+        requires within { v.0 < length self.old.store }
+        ensures does { IfOk result (λ s. Does self.new s
+            (Run (push_value (stands_as self.old.store v.0) (core self.old)))) }
+        ensures on { IfOk result (λ s. s ≡ On) }
+    {
+        self.cut_stacks();
+        let step = self.push_here(v)?;
+        Ok(step)
+    }
+
+    #[inline]
+    fn push_here(&mut self, v: Value) -> Result<Step, Memory>
         requires sound { Sound self.old }
         requires within { v.0 < length self.old.store }
         ensures does { IfOk result (λ s. Does self.new s
@@ -134,6 +171,7 @@ impl Engine {
     }
 
     /// Pushes the value of a new node on the stack.
+    #[inline]
     pub fn push_node(&mut self, node: Node) -> Result<Step, Memory>
         requires sound { Sound self.old }
         requires parts { Below (length self.old.store) node }
@@ -146,6 +184,7 @@ impl Engine {
     }
 
     /// The newest value of a stack, and the number of the rest.
+    #[inline]
     pub fn newest(&self, stack: usize) -> Option<(Value, usize)>
         requires sound { Sound self.now }
         requires within { stack < length self.now.stacks }

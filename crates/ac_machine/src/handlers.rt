@@ -1,12 +1,12 @@
 // Handlers and raised exceptions.
 
-ghost use Rattle.std.specs.Prelude.{◌≡◌, ◌<◌, length, IfOk, MatchOption, option_map};
+ghost use Rattle.std.specs.Prelude.{◌≡◌, ◌∷◌, [], ◌<◌, length, get_or, IfOk, MatchOption, option_map};
 ghost use Rattle.std.specs.Option.{option_copied};
 ghost use Rattle.ac_terms.specs.Read.{bytes_of};
 ghost use Rattle.ac_values.specs.Values.{stands_as};
 ghost use Rattle.ac_machine.specs.States.{Run};
 ghost use Rattle.ac_machine.specs.Machine.{tries, ends_try, raises, raising, exn_value, exn_in};
-ghost use Rattle.ac_machine.specs.Held.{core, Sound, IsHandler};
+ghost use Rattle.ac_machine.specs.Held.{core, Sound, AreHandlers};
 ghost use Rattle.ac_machine.specs.inner.Steps.{Does, Grown, handling};
 
 use crate::engine::{Engine, Handler, Step};
@@ -29,8 +29,11 @@ impl Engine {
             env: self.at.env,
             stack: self.at.stack,
             frames: self.at.frames,
+            below: self.floor,
         };
+        let floor = self.floor_here();
         self.at.handlers = self.handlers.push(handler, self.at.handlers)?;
+        self.floor = floor;
         Ok(Step::On)
     }
 
@@ -39,10 +42,11 @@ impl Engine {
         requires sound { Sound self.old }
         ensures { Does self.new result (ends_try (core self.old).handlers (core self.old)) }
     {
-        let Some((_, rest)) = self.handlers.top(self.at.handlers) else {
+        let Some((handler, rest)) = self.handlers.top(self.at.handlers) else {
             return Step::Wrong;
         };
         self.at.handlers = rest;
+        self.floor = handler.below;
         Step::On
     }
 
@@ -61,7 +65,7 @@ impl Engine {
             None => {
                 let exn = exn_of(self.alloc, number, text)?;
                 self.at.stack = rest;
-                Ok(Step::Pausing(Pause::Raised(exn)))
+                self.pausing(Pause::Raised(exn))
             }
             Some((handler, older)) => self.handle(handler, older, v),
         }
@@ -75,7 +79,7 @@ impl Engine {
             (core self.old).handlers)) }
     {
         match self.handlers.top(self.at.handlers) {
-            None => Ok(Step::Pausing(Pause::Raised(exn))),
+            None => self.pausing(Pause::Raised(exn)),
             Some((handler, older)) => {
                 let v = self.add_exn(exn)?;
                 self.handle(handler, older, v)
@@ -102,8 +106,8 @@ impl Engine {
     // Goes on at a handler, with an exception.
     fn handle(&mut self, handler: Handler, older: usize, v: Value) -> Result<Step, Memory>
         requires sound { Sound self.old }
-        requires handler { IsHandler (length self.old.store) (length self.old.stacks)
-            (length self.old.frames) handler }
+        requires handlers { AreHandlers (length self.old.store) self.old.floor
+            (handler ∷ get_or self.old.handlers older []) }
         requires older { older < length self.old.handlers }
         requires within { v.0 < length self.old.store }
         ensures { IfOk result (λ s. Does self.new s
@@ -115,6 +119,7 @@ impl Engine {
         self.at.stack = handler.stack;
         self.at.frames = handler.frames;
         self.at.handlers = older;
+        self.floor = handler.below;
         self.push(v)
     }
 }

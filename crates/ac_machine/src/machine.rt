@@ -244,7 +244,10 @@ fn raised(engine: &mut Engine, e: Exn) -> Result<Stand, Memory>
 {
     match engine.raise_exn(e) {
         Ok(Step::On) => Ok(Stand::Running),
-        Ok(Step::Pausing(Pause::Raised(exn))) => Ok(Stand::Raised(exn)),
+        Ok(Step::Pausing(pause)) => match pause.into_inner() {
+            Pause::Raised(exn) => Ok(Stand::Raised(exn)),
+            _ => unreachable!(),
+        },
         Ok(_) => unreachable!(),
         Err(e) => Err(e),
     }

@@ -79,9 +79,9 @@ impl Engine {
             Answer::Int(n) => self.push_int(n),
             Answer::Bool(b) => self.push_bool(b),
             Answer::Str(text) => self.push_node(Node::Str(text)),
-            Answer::Print(text) => Ok(Step::Pausing(Pause::Print(text))),
-            Answer::Send(text) => Ok(Step::Pausing(Pause::Send(text))),
-            Answer::Receive => Ok(Step::Pausing(Pause::Receive)),
+            Answer::Print(text) => self.pausing(Pause::Print(text)),
+            Answer::Send(text) => self.pausing(Pause::Send(text)),
+            Answer::Receive => self.pausing(Pause::Receive),
             Answer::Invalid(text) => self.raise_exn(Exn {
                 number: INVALID_ARGUMENT,
                 text: Some(text),

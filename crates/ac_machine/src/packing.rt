@@ -32,12 +32,12 @@ impl Engine {
         let mark = mark.copy(self.alloc)?;
         let ty = ty.copy(self.alloc)?;
         self.at.stack = rest;
-        Ok(Step::Pausing(Pause::Marshal {
+        self.pausing(Pause::Marshal {
             mark,
             value,
             ty,
             home,
-        }))
+        })
     }
 
     /// Takes a string, and pauses.
@@ -54,6 +54,6 @@ impl Engine {
         let text = text.copy(self.alloc)?;
         let ty = ty.copy(self.alloc)?;
         self.at.stack = rest;
-        Ok(Step::Pausing(Pause::Unmarshal { text, ty }))
+        self.pausing(Pause::Unmarshal { text, ty })
     }
 }

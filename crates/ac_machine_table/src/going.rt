@@ -142,7 +142,10 @@ fn by_raise(alloc: Global, machine: &mut Machine, engine: &mut Engine) -> Result
     machine.resume_raise(refusal(alloc)?)?;
     match engine.raise_exn(refusal(alloc)?) {
         Ok(Step::On) => Ok(true),
-        Ok(Step::Pausing(Pause::Raised(_))) => Ok(false),
+        Ok(Step::Pausing(pause)) => match pause.into_inner() {
+            Pause::Raised(_) => Ok(false),
+            _ => Err(Memory),
+        },
         Ok(_) => Err(Memory),
         Err(e) => Err(e),
     }

@@ -13,7 +13,7 @@ loop-init c = record { sound = c.requires; reaches = reaches_none (environment_o
 pub returns-in-Ok-Pausing-clause-pauses : goal.returns-in-Ok-Pausing-clause-pauses
 returns-in-Ok-Pausing-clause-pauses c =
     on_ok_weaker c.there.result
-    (λ h. ends_there (environment_of c.args.env.now) (code_of c.args.table.now) c.args.engine.now c.loop.engine c.step.new.self c.in-Ok-Pausing.pause c.loop.invariant.reaches (rw c.in-Ok-Pausing.field-0-is at c.in-Ok-Pausing.ensures) h)
+    (λ h. ends_there (environment_of c.args.env.now) (code_of c.args.table.now) c.args.engine.now c.loop.engine c.step.new.self c.deref.result.now c.loop.invariant.reaches (rw c.deref.ensures (rw c.in-Ok-Pausing.field-0-is at c.in-Ok-Pausing.ensures)) h)
     c.there.ensures
 
 pub loop-preserved : goal.loop-preserved

@@ -7,5 +7,5 @@ use Rattle.ac_machine.proofs.engine.Engine.bare.Goals as goal
 pub returns : goal.returns
 returns c =
     started _ c.args.main.0 c.args.budget
-    (c.in_ok-empty.ensures.ok ∙ ap (λ (ns : List Node). ns ++ EnvEnd ∷ []) c.new-store.ensures) c.new.ensures c.new-2.ensures c.new-3.ensures c.new-4.ensures.items
+    (c.in_ok-empty.ensures.ok ∙ ap (λ (ns : List Node). ns ++ EnvEnd ∷ []) c.new-store.ensures) c.new.ensures c.new-2.ensures c.new-3.ensures refl refl c.new-4.ensures.items
     (c.in_ok-empty.ensures.number ∙ ap length c.new-store.ensures) refl refl refl refl refl refl refl
