@@ -1,11 +1,14 @@
--- How a call ends: what a chain gives where nothing fails, and the cause of each fault with what it leaves.
+-- How a call ends: what a chain gives where nothing fails, with where what its strings bring comes from, and the cause of each fault with what it leaves.
 use Rattle.std.specs.Prelude.{◌≡◌, ◌⊎◌, ℕ, Bool, IsTrue, List, [], ◌∷◌, ◌++◌, Some}
 use Rattle.std.specs.List.{list_all}
 use Rattle.ac_types.specs.Types.{Bytes}
+use Rattle.ac_terms.specs.Terms.{Value}
 use Rattle.ac_rules.specs.Views.{Mode}
 use Rattle.ac_outside.specs.Outside.{Extends, Rose}
+use Rattle.ac_meaning.specs.Acts.{Outcome}
 use Rattle.ac_acceptance.specs.Accepting.{Shelved}
-use Rattle.ac_colours.specs.Chains.{Programs}
+use Rattle.ac_colours.specs.Births.{Event}
+use Rattle.ac_colours.specs.Chains.{Programs, Run, HappensIn, EndAs, AreRunsOf, IsChain, HaveBirths}
 use Rattle.ac_chain.specs.declared.chained.ChainPart.{ChainPart}
 use Rattle.ac_chain.specs.declared.chained.ChainFault.{ChainFault}
 use Rattle.ac_chain.specs.declared.chained.ChainFault.TheVariants as fault
@@ -57,3 +60,15 @@ IsBeforeRuns fault.Memory = ⊥
 abbrev pub AreAllNative : List ChainPart → Type 0
 AreAllNative [] = Unit {0}
 AreAllNative (part ∷ parts) = IsTrue (list_all (λ (b : Bool). b) part.native) × AreAllNative parts
+
+-- runs of these programs that end as these parts say, and all that happens in them, a chain where what is sent is told: each seal that unmarshal writes has its birth before
+pub record HasProvenance (N : ℕ) (told : Bool) (ps : Programs) (parts : List ChainPart) : Type 0 where
+  pub runs : List Run
+  pub are_runs : AreRunsOf N ps runs
+  pub ends : List (Outcome Value)
+  pub they_end : EndAs runs ends
+  pub are_parts : AreParts N told [] ends parts
+  pub all : List Event
+  pub happens : HappensIn runs all
+  pub chained : IsTrue told → IsChain N ps [] all
+  pub births : HaveBirths all

@@ -1,14 +1,13 @@
 // Chains of programs.
 
-ghost use Rattle.std.specs.Prelude.{◌≡◌, ◌<◌, ◌≤◌, ◌^◌, [], List, IsTrue, IfOk, IfErr, OnErr, IsErrOf, length};
+ghost use Rattle.std.specs.Prelude.{◌≡◌, ◌<◌, ◌≤◌, ◌^◌, [], IfOk, IfErr, OnErr, IsErrOf, length};
 ghost use Rattle.ac_rules.specs.Views.{Mode};
 ghost use Rattle.ac_outside.specs.Outside.{Rose};
 ghost use Rattle.ac_acceptance.specs.Accepting.{IsShelf};
 ghost use Rattle.ac_load.specs.Loading.{shelf_of};
-ghost use Rattle.ac_colours.specs.Births.{Event};
-ghost use Rattle.ac_colours.specs.Chains.{Programs, IsChain, HaveBirths};
+ghost use Rattle.ac_colours.specs.Chains.{Programs};
 ghost use Rattle.ac_chain.specs.Texts.{texts_of, programs_of, LoadAs};
-ghost use Rattle.ac_chain.specs.Endings.{HasRun, IsFault, IsBeforeRuns, AreAllNative};
+ghost use Rattle.ac_chain.specs.Endings.{HasRun, IsFault, IsBeforeRuns, AreAllNative, HasProvenance};
 ghost use Rattle.ac_chain.specs.inner.Running.{AreLoaded, AllRun, AllStopped, IsRunFault, last_sent, printed};
 
 use crate::chained::{ChainFault, ChainPart, Chained};
@@ -40,11 +39,11 @@ pub fn chain<C: Sink>(
     ensures ran { IfOk result (λ c. (mode : Mode) → HasRun (texts_of programs.now)
         (shelf_of shelf.now) steps (printed C.told C.written C.faults console.old console.new) mode
         c.parts) }
-    // Where each string that was read is native: what each seal says that unmarshal writes, at a
-    // first-order type, was sealed before in the chain.
-    ensures provenance { IfOk result (λ c. IsTrue C.told → AreAllNative c.parts →
-        (ps : Programs) → LoadAs (texts_of programs.now) (shelf_of shelf.now) ps →
-        (all : List Event) × IsChain steps ps [] all × HaveBirths all) }
+    // Where each string that was read is native: what stands inside each seal that unmarshal
+    // writes, at a first-order type, was sealed before in the runs.
+    ensures provenance { IfOk result (λ c. AreAllNative c.parts → (ps : Programs) →
+        LoadAs (texts_of programs.now) (shelf_of shelf.now) ps →
+        HasProvenance steps C.told ps c.parts) }
     // The cause of a fault, and what it leaves.
     ensures fault { IfErr result (IsFault (texts_of programs.now) (shelf_of shelf.now) steps
         (printed C.told C.written C.faults console.old console.new)) }

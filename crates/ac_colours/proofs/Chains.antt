@@ -1,5 +1,5 @@
--- Over a chain of programs in which each string that is taken was given earlier, what each seal says that unmarshal writes is among the births before.
-use Rattle.std.proofs.Common.{◌≡◌, refl, sym, ap, ◌∙◌, subst, ℕ, zero, suc, Bool, true, false, ◌&&◌, not, cond, List, [], ◌∷◌, ◌++◌, append_assoc, append-nil, ◌⊎◌, inl, inr, Option, Some, None}
+-- Over runs of programs in which each string that is taken was given earlier, what stands inside the seals that unmarshal writes is among the births before; and a chain is such runs.
+use Rattle.std.proofs.Common.{◌≡◌, refl, sym, ap, ap₂, ◌∙◌, subst, ℕ, zero, suc, Bool, true, false, ◌&&◌, not, cond, List, [], ◌∷◌, ◌++◌, append_assoc, append-nil, ◌⊎◌, inl, inr, Option, Some, None}
 use Rattle.std.specs.Option.{option_map_or}
 use Rattle.std.specs.Prelude.{IsTrue}
 use Rattle.ac_types.specs.Types.{Bytes, Typ, TAbs}
@@ -16,18 +16,19 @@ use Rattle.ac_meaning.specs.Redexes.{Redex, redex}
 use Rattle.ac_meaning.specs.Writes.{Channel, written}
 use Rattle.ac_meaning.proofs.Homes.{lower}
 use Rattle.ac_meaning.proofs.MarshalledRead.{starts_bounded}
-use Rattle.ac_colours.specs.Births.{Seal, seal, Event, Born, Gave, Took, sealing, giving, taken, taking, happening, happening_in, events, IsAmong, Birth, told, births}
-use Rattle.ac_colours.specs.Chains.{Programs, IsChain, AreNative, HaveBirths, AreLoadable, HaveOneText}
+use Rattle.ac_colours.specs.Births.{Seal, seal, Event, Born, Gave, Took, sealing, giving, taken, taking, happening, happening_in, events, IsAmong}
+use Rattle.ac_colours.specs.Chains.{Programs, Run, begun, programs_run, HappensIn, AreRunsOf, IsChain, AreNative, HasBirth, HaveBirths, AreLoadable, HaveOneText}
 use Rattle.ac_colours.proofs.Collected.{among_cases}
 use Rattle.ac_colours.proofs.Conserved.{source_sealed}
 use Rattle.ac_colours.proofs.OneText.{Texts, AreOne, Keeps}
-use Rattle.ac_colours.proofs.Origins.{not_among, among_left}
+use Rattle.ac_colours.proofs.Origins.{not_among}
 use Rattle.ac_colours.proofs.OwnedKept.{loosen}
 use Rattle.ac_colours.proofs.OwnText.{speaks, program_owned}
 use Rattle.ac_colours.proofs.Provenance.{StateRuns, Given, given_more}
 use Rattle.ac_colours.proofs.Says.{Told}
+use Rattle.ac_colours.proofs.SealTypes.{birth_stays}
 use Rattle.ac_colours.proofs.Steps.{took, gave, next_runs}
-use Rattle.ac_colours.proofs.ToldGrows.{BornIn, births_both}
+use Rattle.ac_colours.proofs.ToldGrows.{BornIn}
 
 -- where one of two lists has it
 pub split_at : {A : Type 0} (xs ys front : List A) (x : A) (back : List A) → xs ++ ys ≡ front ++ x ∷ back → ((rest : List A) × (xs ≡ front ++ x ∷ rest)) ⊎ ((mid : List A) × (front ≡ xs ++ mid) × (ys ≡ mid ++ x ∷ back))
@@ -110,7 +111,7 @@ abbrev NativeFrom : List Event → List Event → Type 0
 NativeFrom before all = (front back : List Event) (D : Environment) (s : Bytes) (xs : List Seal) → all ≡ front ++ Took D s xs ∷ back → IsAmong (Gave s) (before ++ front)
 
 abbrev BirthsFrom : List Event → List Event → Type 0
-BirthsFrom before all = (front back : List Event) (D : Environment) (s : Bytes) (xs : List Seal) → all ≡ front ++ Took D s xs ∷ back → (x : Seal) → IsAmong x xs → (b : Birth) → IsAmong b (told D x) → IsAmong b (births (before ++ front))
+BirthsFrom before all = (front back : List Event) (D : Environment) (s : Bytes) (xs : List Seal) → all ≡ front ++ Took D s xs ∷ back → (x : Seal) → IsAmong x xs → HasBirth D x (before ++ front)
 
 none_from : (before : List Event) → BirthsFrom before []
 none_from before front back D s xs e = absurd (not_among (Took D s xs) front back e)
@@ -126,9 +127,9 @@ native_then before xs ys n front back D s us e =
 births_joined : (before xs ys : List Event) → BirthsFrom before xs → BirthsFrom (before ++ xs) ys → BirthsFrom before (xs ++ ys)
 births_joined before xs ys h k front back D s us e = by (split_at xs ys front (Took D s us) back e)
   where
-    by : ((rest : List Event) × (xs ≡ front ++ Took D s us ∷ rest)) ⊎ ((mid : List Event) × (front ≡ xs ++ mid) × (ys ≡ mid ++ Took D s us ∷ back)) → (x : Seal) → IsAmong x us → (b : Birth) → IsAmong b (told D x) → IsAmong b (births (before ++ front))
-    by (inl p) x i b j = h front p.0 D s us p.1 x i b j
-    by (inr p) x i b j = subst (λ l. IsAmong b (births l)) (append_assoc before xs p.0 ∙ ap (λ l. before ++ l) (sym p.1)) (k p.0 back D s us p.2 x i b j)
+    by : ((rest : List Event) × (xs ≡ front ++ Took D s us ∷ rest)) ⊎ ((mid : List Event) × (front ≡ xs ++ mid) × (ys ≡ mid ++ Took D s us ∷ back)) → (x : Seal) → IsAmong x us → HasBirth D x (before ++ front)
+    by (inl p) x i = h front p.0 D s us p.1 x i
+    by (inr p) x i = subst (HasBirth D x) (append_assoc before xs p.0 ∙ ap (λ l. before ++ l) (sym p.1)) (k p.0 back D s us p.2 x i)
 
 abbrev AllGiven : Texts → List Event → Type 0
 AllGiven S all = (s : Bytes) → IsAmong (Gave s) all → Given S all s
@@ -144,7 +145,7 @@ module _ (S : Texts) (one : AreOne S) (T : Typ) (N : ℕ) where
       let first = native_first before new later n in
       let native : (D : Environment) (s : Bytes) (xs : List Seal) → IsAmong (Took D s xs) new → IsAmong (Gave s) before =
       λ D s xs i. subst (IsAmong (Gave s)) (ap (λ l. before ++ l) (first_of_few new i.0 (Took D s xs) i.1 (few_in z (redex Main e)) i.2) ∙ append-nil before) (first i.0 i.1 D s xs i.2) in
-      let here : BirthsFrom before new = λ front back D s xs q x i b j. subst (IsAmong b) (sym (births_both before front)) (among_left b (births before) (births front) (took S one before g T N e z r native D s xs (front, back, q) x i b j)) in
+      let here : BirthsFrom before new = λ front back D s xs q x i. birth_stays D x before front (took S one before g T N e z r native D s xs (front, back, q) x i) in
       let given : AllGiven S (before ++ new) = λ s i. both s (among_cases (Gave s) before new i) (λ j. gave S one before g T N e z r native s j) in
       let rest = run k (step Coloured N (At e z)) (before ++ new) (next_runs S one before g T N e z r native) given (native_then before new later n) in
       (births_joined before new later here rest.0, subst (AllGiven S) (append_assoc before new later) rest.1)
@@ -158,24 +159,23 @@ abbrev AllKeep : Texts → Programs → Type 0
 AllKeep S [] = Unit {0}
 AllKeep S (p ∷ ps) = Keeps S p.0 × AllKeep S ps
 
-starts : (S : Texts) (before : List Event) (E : Environment) (e : Expr) (T : Typ) → IsTypedProgram E e T → IsTrue (fits_term false e) → Keeps S E → (input : Bytes) → StateRuns S (BornIn before) (lower E Coloured T) (At e (fresh E input true))
-starts S before E e T p fits keeps input = record {
-  bounded = starts_bounded E e T p fits Coloured input true;
+starts : (S : Texts) (before : List Event) (E : Environment) (e : Expr) (T : Typ) → IsTypedProgram E e T → IsTrue (fits_term false e) → Keeps S E → (input : Bytes) (sends : Bool) → StateRuns S (BornIn before) (lower E Coloured T) (At e (fresh E input sends))
+starts S before E e T p fits keeps input sends = record {
+  bounded = starts_bounded E e T p fits Coloured input sends;
   keeps = keeps;
   owned = loosen (speaks E) e Main (program_owned E e p.source);
   sealed = source_sealed (Told E (BornIn before)) e p.source;
 }
 
--- over the programs
-chained : (S : Texts) → AreOne S → (N : ℕ) (parts : Programs) (input : Bytes) (all before : List Event) → AreLoadable parts → AllKeep S parts → AllGiven S before → IsChain N parts input all → NativeFrom before all → BirthsFrom before all
-chained S one N [] input all before l k g c n = subst (BirthsFrom before) (sym c) (none_from before)
-chained S one N (p ∷ ps) input all before l k g c n =
-    let start : State Expr Value = At p.1 (fresh p.0 input true) in
-    let mine : List Event = events N c.0 start in
+-- over the runs
+over_runs : (S : Texts) → AreOne S → (runs : List Run) (all before : List Event) → AreLoadable (programs_run runs) → AllKeep S (programs_run runs) → AllGiven S before → HappensIn runs all → NativeFrom before all → BirthsFrom before all
+over_runs S one [] all before l k g c n = subst (BirthsFrom before) (sym c) (none_from before)
+over_runs S one (x ∷ runs) all before l k g c n =
+    let E : Environment = x.program.0 in
+    let mine : List Event = events x.steps c.0 (begun x) in
     let n' : NativeFrom before (mine ++ c.2) = subst (NativeFrom before) c.4 n in
-    let r = run S one (lower p.0 Coloured l.0) N c.0 start before (starts S before p.0 p.1 l.0 l.1 l.2 k.0 input) g (native_first before mine c.2 n') in
-    subst (BirthsFrom before) (sym c.4)
-    (births_joined before mine c.2 r.0 (chained S one N ps (written Channel (writes_of c.1)) c.2 (before ++ mine) l.3 k.1 r.1 c.5 (native_then before mine c.2 n')))
+    let r = run S one (lower E Coloured l.0) x.steps c.0 (begun x) before (starts S before E x.program.1 l.0 l.1 l.2 k.0 x.input x.sends) g (native_first before mine c.2 n') in
+    subst (BirthsFrom before) (sym c.4) (births_joined before mine c.2 r.0 (over_runs S one runs c.2 (before ++ mine) l.3 k.1 r.1 c.5 (native_then before mine c.2 n')))
 
 module _ (parts : Programs) where
   -- the texts of the programs' definitions
@@ -186,7 +186,30 @@ module _ (parts : Programs) where
   all_keep done [] e = tt
   all_keep done (p ∷ rest) e = (λ i n t a b. (p, i, (done, rest, e), a, b), all_keep (done ++ p ∷ []) rest (e ∙ sym (append_assoc done (p ∷ []) rest)))
 
-  pub made_before : (N : ℕ) (input : Bytes) (all : List Event) → AreLoadable parts → HaveOneText parts → IsChain N parts input all → AreNative all → HaveBirths all
-  made_before N input all l h c n =
-      chained OfParts (λ n s t a b. h a.0 b.0 a.2 b.2 a.1 b.1 n s t a.3 b.3 a.4 b.4) N parts input all [] l (all_keep [] parts refl) (λ s i. absurd (not_among (Gave s) i.0 i.1 i.2)) c
-      (λ front back D s xs e. n front back D s xs e)
+  one_text : HaveOneText parts → AreOne OfParts
+  one_text h n s t a b = h a.0 b.0 a.2 b.2 a.1 b.1 n s t a.3 b.3 a.4 b.4
+
+pub made_before : (runs : List Run) (all : List Event) → AreLoadable (programs_run runs) → HaveOneText (programs_run runs) → HappensIn runs all → AreNative all → HaveBirths all
+made_before runs all l h c n =
+    let ps = programs_run runs in
+    over_runs (OfParts ps) (one_text ps h) runs all [] l (all_keep ps [] ps refl) (λ s i. absurd (not_among (Gave s) i.0 i.1 i.2)) c n
+
+-- a chain is runs of its programs
+pub chain_runs : (N : ℕ) (parts : Programs) (input : Bytes) (all : List Event) → IsChain N parts input all → (runs : List Run) × AreRunsOf N parts runs × HappensIn runs all
+chain_runs N [] input all c = ([], refl, c)
+chain_runs N (p ∷ ps) input all c =
+    let r : Run = record { program = p; steps = N; input = input; sends = true } in
+    let rest = chain_runs N ps (written Channel (writes_of c.1)) c.2 c.5 in
+    (r ∷ rest.0, (r, rest.0, refl, refl, refl, refl, rest.1), (c.0, c.1, c.2, c.3, c.4, rest.2))
+
+pub same_programs : (N : ℕ) (parts : Programs) (runs : List Run) → AreRunsOf N parts runs → programs_run runs ≡ parts
+same_programs N [] runs h = ap programs_run h
+same_programs N (p ∷ ps) runs h = ap programs_run h.2 ∙ ap₂ (λ q qs. q ∷ qs) h.3 (same_programs N ps h.1 h.6)
+
+pub made_before_of : (N : ℕ) (parts : Programs) (runs : List Run) (all : List Event) → AreLoadable parts → HaveOneText parts → AreRunsOf N parts runs → HappensIn runs all → AreNative all → HaveBirths all
+made_before_of N parts runs all l h are c n =
+    let same : parts ≡ programs_run runs = sym (same_programs N parts runs are) in
+    made_before runs all (subst AreLoadable same l) (subst HaveOneText same h) c n
+
+pub made_before_in_chain : (N : ℕ) (parts : Programs) (input : Bytes) (all : List Event) → AreLoadable parts → HaveOneText parts → IsChain N parts input all → AreNative all → HaveBirths all
+made_before_in_chain N parts input all l h c n = let r = chain_runs N parts input all c in made_before_of N parts r.0 all l h r.1 r.2 n

@@ -1,16 +1,34 @@
--- A chain of programs whose journals are known: what happens in it, and that each string that is taken was given earlier where the journals say so.
+-- Runs of programs, and chains, whose journals are known: what happens in them, and that each string that is taken was given earlier where the journals say so.
 use Rattle.std.proofs.Common.{◌≡◌, ◌⊎◌, inl, inr, refl, sym, ap, ap₂, ◌∙◌, subst, ℕ, List, [], ◌∷◌, ◌++◌, append_assoc}
 use Rattle.std.specs.Prelude.{true}
 use Rattle.ac_types.specs.Types.{Bytes}
+use Rattle.ac_terms.specs.Terms.{Value}
 use Rattle.ac_meaning.specs.Worlds.{Crossing, Made, Read, fresh}
-use Rattle.ac_meaning.specs.Acts.{At}
+use Rattle.ac_meaning.specs.Acts.{Outcome, At}
 use Rattle.ac_meaning.specs.Writes.{Channel, written}
-use Rattle.ac_meaning.specs.Laws.{writes_of}
+use Rattle.ac_meaning.specs.Laws.{writes_of, crossings_of}
 use Rattle.ac_colours.specs.Births.{Event, Born, Gave, Took, events, crossed, crossings_in, IsAmong}
-use Rattle.ac_colours.specs.Chains.{Programs, IsChain, IsJournalled, joined, AreReadNatively, AreNative, HaveBirths, AreLoadable, HaveOneText}
-use Rattle.ac_colours.proofs.Chains.{split_at, made_before}
+use Rattle.ac_colours.specs.Chains.{Programs, Run, begun, programs_run, HappensIn, EndAs, journals_of, AreRunsOf, IsChain, IsJournalled, joined, AreReadNatively, AreNative, HaveBirths, AreLoadable, HaveOneText}
+use Rattle.ac_colours.proofs.Chains.{split_at, made_before, made_before_in_chain}
 use Rattle.ac_colours.proofs.Crossed.{crossed_both, program_tells}
 use Rattle.ac_colours.proofs.Origins.{not_among}
+
+-- what happens in runs that end so: it tells the strings of their journals
+pub runs_tell : (runs : List Run) (ends : List (Outcome Value)) → AreLoadable (programs_run runs) → EndAs runs ends → (all : List Event) × HappensIn runs all × (crossed all ≡ joined (journals_of ends))
+runs_tell [] ends l e = ([], refl, sym (ap (λ os. joined (journals_of os)) e))
+runs_tell (r ∷ runs) ends l e =
+    let mine = events r.steps e.2.0 (begun r) in
+    let rest = runs_tell runs e.1 l.3 e.4 in
+    let here = sym (program_tells r.program.0 r.program.1 l.0 l.1 r.input r.sends r.steps e.2.0) ∙ ap crossings_in e.2.1 in
+    (mine ++ rest.0, (e.2.0, e.0, rest.0, e.2.1, refl, rest.1), crossed_both mine rest.0 ∙ ap₂ (λ a b. a ++ b) here rest.2 ∙ sym (ap (λ os. joined (journals_of os)) e.3))
+
+-- the journals of a chain are those of runs of its programs
+pub chain_ends : (N : ℕ) (parts : Programs) (input : Bytes) (journals : List (List Crossing)) → IsJournalled N parts input journals → (runs : List Run) × (ends : List (Outcome Value)) × AreRunsOf N parts runs × EndAs runs ends × (journals ≡ journals_of ends)
+chain_ends N [] input journals j = ([], [], refl, refl, j)
+chain_ends N (p ∷ ps) input journals j =
+    let r : Run = record { program = p; steps = N; input = input; sends = true } in
+    let rest = chain_ends N ps (written Channel (writes_of j.0)) j.1 j.4 in
+    (r ∷ rest.0, j.0 ∷ rest.1, (r, rest.0, refl, refl, refl, refl, rest.2), (j.0, rest.1, j.2, refl, rest.3), j.3 ∙ ap (λ js. crossings_of j.0 ∷ js) rest.4)
 
 -- what happens in a chain with these journals: they tell the strings
 pub chain_tells : (N : ℕ) (parts : Programs) (input : Bytes) (journals : List (List Crossing)) → AreLoadable parts → IsJournalled N parts input journals → (all : List Event) × IsChain N parts input all × (crossed all ≡ joined journals)
@@ -50,10 +68,17 @@ native all journals is h before after E s xs e =
     let i = natively [] journals h (crossed before) (crossed after) s strings in
     made_given before s i.0 i.1 i.2
 
--- so provenance holds of a chain whose journals say so
+-- so provenance holds of runs whose journals say so, and of a chain
+pub made_before_by_ends : (runs : List Run) (ends : List (Outcome Value)) → AreLoadable (programs_run runs) → HaveOneText (programs_run runs) → EndAs runs ends → AreReadNatively [] (journals_of ends) →
+    (all : List Event) × HappensIn runs all × (crossed all ≡ joined (journals_of ends)) × AreNative all × HaveBirths all
+made_before_by_ends runs ends l one e h =
+    let c = runs_tell runs ends l e in
+    let n = native c.0 (journals_of ends) c.2 h in
+    (c.0, c.1, c.2, n, made_before runs c.0 l one c.1 n)
+
 pub made_before_by_journals : (N : ℕ) (parts : Programs) (input : Bytes) (journals : List (List Crossing)) → AreLoadable parts → HaveOneText parts → IsJournalled N parts input journals → AreReadNatively [] journals →
     (all : List Event) × IsChain N parts input all × (crossed all ≡ joined journals) × AreNative all × HaveBirths all
 made_before_by_journals N parts input journals l one j h =
     let c = chain_tells N parts input journals l j in
     let n = native c.0 journals c.2 h in
-    (c.0, c.1, c.2, n, made_before parts N input c.0 l one c.1 n)
+    (c.0, c.1, c.2, n, made_before_in_chain N parts input c.0 l one c.1 n)

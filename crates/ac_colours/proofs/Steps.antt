@@ -23,7 +23,8 @@ use Rattle.ac_meaning.proofs.Shapes.{shape}
 use Rattle.ac_meaning.proofs.Within.{Within, ValueWithin, ActWithin}
 use Rattle.ac_meaning.proofs.WithinComes.{comes_within}
 use Rattle.ac_meaning.proofs.WithinSteps.{kept_within}
-use Rattle.ac_colours.specs.Births.{Seal, seal, seals, value_seals, Event, Born, Gave, Took, sealing, taken, taking, happening, happening_in, IsAmong, Birth, birth, told, births}
+use Rattle.ac_colours.specs.Births.{Seal, seal, seals, value_seals, Event, Born, Gave, Took, sealing, taken, taking, happening, happening_in, IsAmong, birth, told, births}
+use Rattle.ac_colours.specs.Chains.{HasBirth}
 use Rattle.ac_colours.specs.Sealed.{Sealed, ValueSealed, StateSealed, Sealing, Brought, Arriving, News}
 use Rattle.ac_colours.proofs.Collected.{among_one, each_among, value_collected}
 use Rattle.ac_colours.proofs.Conserved.{seals_come, value_conserved}
@@ -40,7 +41,8 @@ use Rattle.ac_colours.proofs.Provenance.{Runs, StateRuns, Given, Taken, told_wea
 use Rattle.ac_colours.proofs.RedexSound.{Sound, sound}
 use Rattle.ac_colours.proofs.SameDefinitions.{UnmarshalsNext, Stays, definitions_stay, stays}
 use Rattle.ac_colours.proofs.Says.{OfBirth, Told}
-use Rattle.ac_colours.proofs.ToldGrows.{BornIn, born_more, born_later, told_is, tells, told_grows}
+use Rattle.ac_colours.proofs.SealTypes.{IsTypedSeal, value_seals_typed, has_birth}
+use Rattle.ac_colours.proofs.ToldGrows.{BornIn, born_more, born_later, told_is, told_grows}
 use Rattle.ac_colours.proofs.Telling.{told_same}
 use Rattle.ac_colours.proofs.Vouching.{Vouched}
 
@@ -119,12 +121,18 @@ module _ (S : Texts) (one : AreOne S) (before : List Event) (given : (s : Bytes)
 
   -- what it takes tells births of before
   abbrev Tells : Environment → List Seal → Type 0
-  Tells D xs = (x : Seal) → IsAmong x xs → (b : Birth) → IsAmong b (told D x) → IsAmong b (births before)
+  Tells D xs = (x : Seal) → IsAmong x xs → HasBirth D x before
 
-  told_before : (F : Environment) (v : Value) → ValueSealed (Told F K) v → Tells F (value_seals v)
-  told_before F v k x i b j =
-      let y = tells F x.of_home x.of_name x.of_type x.value_inside b j in
-      subst (λ d. IsAmong d (births before)) (sym y.3) (each_among (Told F K) x (value_seals v) (value_collected (Told F K) v k) i y.0 y.1 y.2)
+  told_before : (F : Environment) → IsCoherent F → (v : Value) (c : Home) (U : Typ) → ValueTyped Coloured F v c U → ValueSealed (Told F K) v → Tells F (value_seals v)
+  told_before F i v c U t k x j =
+      has_birth F i before x (each_among (IsTypedSeal F) x (value_seals v) (value_collected (IsTypedSeal F) v (value_seals_typed F v c U t)) j) (each_among (Told F K) x (value_seals v) (value_collected (Told F K) v k) j)
+
+  -- what it takes is typed over the definitions then
+  its_type : (c : Home) (U : Typ) (d : Expr) → (n : Next c (Unmarshal U d)) → (s : Bytes) (F : Environment) (v : PValue) → look Coloured z c d ≡ Is (VStr s) → landing E U s ≡ Lands F v → IsCoherent F × ValueTyped Coloured F (rebuilt Coloured F c U v) c n.is_sound.0
+  its_type c U d n s F v q r =
+      let t = n.is_sound in
+      let k = subst (ActOk E (λ G x. Typed Coloured G x c [] t.0) (λ G x. ValueTyped Coloured G x c t.0)) (unmarshals c U d s (Lands F v) q r) (kept arrives Coloured z coherent (Unmarshal U d) c t.0 t.1 t.2) in
+      (k.0.after, k.1.1)
 
   took_landing : (c : Home) (U : Typ) (d : Expr) → Next c (Unmarshal U d) → (s : Bytes) → look Coloured z c d ≡ Is (VStr s) → (l : Landing) → landing E U s ≡ l → (D : Environment) (r : Bytes) (xs : List Seal) → IsAmong (Took D r xs) (taken s (brings Coloured (read s) U (brought c U l))) → Tells D xs
   took_landing c U d n s q (Sinks x) r D u xs i = λ y j. let e = among_one (Took D u xs) (Took E s []) i in let none : xs ≡ [] = cc in absurd (not_among y j.0 j.1 (sym none ∙ j.2))
@@ -134,7 +142,8 @@ module _ (S : Texts) (one : AreOne S) (before : List Event) (given : (s : Bytes)
       let a : F ≡ D = cc in
       let b : value_seals w ≡ xs = cc in
       let t = its_string c U d n s F v q r in
-      subst (λ X. Tells X xs) a (subst (λ ys. Tells F ys) b (told_before F w t.told))
+      let y = its_type c U d n s F v q r in
+      subst (λ X. Tells X xs) a (subst (λ ys. Tells F ys) b (told_before F y.0 w c n.is_sound.0 y.1 t.told))
 
   took_next : (c : Home) (t : Expr) → Next c t → (D : Environment) (r : Bytes) (xs : List Seal) → IsAmong (Took D r xs) (happening z c t) → Tells D xs
   took_next c (Bracket b U d) n D r xs i = absurd (bracket_births (Took D r xs) z c b U d i)

@@ -1,17 +1,18 @@
--- Chains of programs: each reads what the one before it sent; and which strings and births they have.
-use Rattle.std.specs.Prelude.{◌≡◌, ℕ, false, true, Some, IsTrue, List, [], ◌∷◌, ◌++◌}
+-- Runs of programs, one after the other, and chains, in which each reads what the one before it sent; and which strings and births they have.
+use Rattle.std.specs.Prelude.{◌≡◌, ℕ, Bool, false, true, Some, IsTrue, List, [], ◌∷◌, ◌++◌, map}
 use Rattle.ac_types.specs.Types.{Bytes, Typ}
-use Rattle.ac_terms.specs.Terms.{Expr, Value}
+use Rattle.ac_terms.specs.Terms.{Expr, PValue, Value}
 use Rattle.ac_terms.specs.Defs.{Environment, name_at}
 use Rattle.ac_terms.specs.Bounds.{fits_term}
 use Rattle.ac_terms.specs.Names.{text_of_entry}
-use Rattle.ac_rules.specs.Views.{Coloured}
+use Rattle.ac_rules.specs.Views.{Coloured, opened, IsFirstOrder}
+use Rattle.ac_rules.specs.Plain.{PlainValue}
 use Rattle.ac_meaning.specs.Writes.{Channel, written}
 use Rattle.ac_meaning.specs.Worlds.{Crossing, Made, Read, fresh}
-use Rattle.ac_meaning.specs.Acts.{Outcome, At, Over, iter}
+use Rattle.ac_meaning.specs.Acts.{Outcome, State, At, Over, iter}
 use Rattle.ac_meaning.specs.Reduction.{step, Ends}
 use Rattle.ac_meaning.specs.Laws.{IsTypedProgram, writes_of, crossings_of}
-use Rattle.ac_colours.specs.Births.{Seal, Event, Gave, Took, events, IsAmong, Birth, told, births}
+use Rattle.ac_colours.specs.Births.{Seal, Event, Gave, Took, events, IsAmong, birth, births}
 
 -- programs, each with its definitions
 abbrev pub Programs : Type 0
@@ -26,6 +27,40 @@ AreLoadable (p ∷ ps) = (T : Typ) × IsTypedProgram p.0 p.1 T × IsTrue (fits_t
 abbrev pub HaveOneText : Programs → Type 0
 HaveOneText parts =
     (p q : Environment × Expr) → IsAmong p parts → IsAmong q parts → (i j : ℕ) (n s t : Bytes) → name_at p.0 i ≡ Some n → name_at q.0 j ≡ Some n → text_of_entry p.0 i ≡ Some s → text_of_entry q.0 j ≡ Some t → s ≡ t
+
+-- a run: its program, how many applications it may make, its input, and whether it has a channel to send on
+pub record Run : Type 0 where
+  pub program : Environment × Expr
+  pub steps : ℕ
+  pub input : Bytes
+  pub sends : Bool
+
+abbrev pub begun : Run → State Expr Value
+begun r = At r.program.1 (fresh r.program.0 r.input r.sends)
+
+-- what they run
+abbrev pub programs_run : List Run → Programs
+programs_run runs = map (λ (r : Run). r.program) runs
+
+-- runs one after the other, each to its end. All that happens in them, in order
+abbrev pub HappensIn : List Run → List Event → Type 0
+HappensIn [] all = all ≡ []
+HappensIn (r ∷ runs) all =
+    (k : ℕ) × (o : Outcome Value) × (later : List Event) × (iter (step Coloured r.steps) k (begun r) ≡ Over o) × (all ≡ events r.steps k (begun r) ++ later) × HappensIn runs later
+
+-- how they end, in order
+abbrev pub EndAs : List Run → List (Outcome Value) → Type 0
+EndAs [] ends = ends ≡ []
+EndAs (r ∷ runs) ends = (o : Outcome Value) × (later : List (Outcome Value)) × Ends Coloured r.program.0 r.program.1 r.input r.sends r.steps o × (ends ≡ o ∷ later) × EndAs runs later
+
+-- the strings that crossed in each, in order
+abbrev pub journals_of : List (Outcome Value) → List (List Crossing)
+journals_of ends = map crossings_of ends
+
+-- runs of these programs, in order, each within N applications and with a channel to send on
+abbrev pub AreRunsOf : ℕ → Programs → List Run → Type 0
+AreRunsOf N [] runs = runs ≡ []
+AreRunsOf N (p ∷ ps) runs = (r : Run) × (later : List Run) × (runs ≡ r ∷ later) × (r.program ≡ p) × (r.steps ≡ N) × (r.sends ≡ true) × AreRunsOf N ps later
 
 -- programs run one after the other, each within N applications and to its end: each reads what the one before it sent. All that happens, in order
 abbrev pub IsChain : ℕ → Programs → Bytes → List Event → Type 0
@@ -53,6 +88,13 @@ AreReadNatively earlier (j ∷ js) = ((front back : List Crossing) (s : Bytes) �
 abbrev pub AreNative : List Event → Type 0
 AreNative all = (before after : List Event) (E : Environment) (s : Bytes) (xs : List Seal) → all ≡ before ++ Took E s xs ∷ after → IsAmong (Gave s) before
 
--- what each seal says that unmarshal writes is among the births before
+-- where a seal's type is first-order, what stands inside it is a plain value, and that was sealed in these events
+abbrev pub HasBirth : Environment → Seal → List Event → Type 0
+HasBirth E x before =
+    let n = x.of_name in
+    let t = x.of_type in
+    IsFirstOrder E n t → (p : PValue) × PlainValue E x.of_home x.value_inside (opened E n t) p × IsAmong (birth n t p) (births before)
+
+-- each seal that unmarshal writes has its birth before
 abbrev pub HaveBirths : List Event → Type 0
-HaveBirths all = (before after : List Event) (E : Environment) (s : Bytes) (xs : List Seal) → all ≡ before ++ Took E s xs ∷ after → (x : Seal) → IsAmong x xs → (b : Birth) → IsAmong b (told E x) → IsAmong b (births before)
+HaveBirths all = (before after : List Event) (E : Environment) (s : Bytes) (xs : List Seal) → all ≡ before ++ Took E s xs ∷ after → (x : Seal) → IsAmong x xs → HasBirth E x before
