@@ -21,6 +21,8 @@ impl Status {
     pub const WRITE_FAULT: Status = Status(6);
     /// The words are refused.
     pub const WORDS_REFUSED: Status = Status(7);
+    /// Two definitions of a chain have one name and two texts.
+    pub const CLASH: Status = Status(8);
     /// The list of the shelf has a bad line.
     pub const SHELF_REFUSED: Status = Status(10);
 }

@@ -17,6 +17,7 @@ use Rattle.ac_top.specs.Saying.{Said, SaidIfAny}
 use Rattle.ac_top.specs.Handed.{Handed, is_told, before_run, after_run, behind_run, Untouched}
 use Rattle.ac_top.specs.RunEndings.{HasRead, GivesStatus, RunEnded, has_run, bad_list, unread_file, no_memory_yet, no_memory_left}
 use Rattle.ac_top.specs.Requests.{files_loaded, Touches}
+use Rattle.ac_top.specs.ChainEndings.{no_memory_to_chain}
 use Rattle.ac_top.specs.Endings.{Ended, NoCommand, refused_words, no_memory_for_words, no_memory_to_find}
 use Rattle.ac_top.specs.inner.Delivered.{SaysUnread}
 
@@ -43,7 +44,7 @@ end_at_words (Some (names prog)) o still same end s = no_memory_to_find (still_w
 end_at_words (Some (code prog)) o still same end s = no_memory_to_find (still_whole o.output still) s
 end_at_words (Some (make seed modules runs)) o still same end s = no_memory_to_find (still_whole o.output still) s
 end_at_words (Some (check files list)) o still same end s = no_memory_to_find (still_whole o.output still) s
-end_at_words (Some (chain files list steps)) o still same end s = no_memory_for_words (still_whole o.output still) s
+end_at_words (Some (chain programs list steps)) o still same end s = no_memory_to_chain (still_whole o.output still) s
 
 -- all that was to be written was, so some of it was and then none
 behind_all : (told : Bool) (writes : List Write) (old new : Streams) → (IsTrue told → new ≡ with_writes writes old) → StopsBehind told writes old new

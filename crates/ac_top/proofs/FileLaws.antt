@@ -68,7 +68,7 @@ texts_counted files [] (t ∷ texts) are = absurd are
 texts_counted files (name ∷ names) [] are = absurd are
 texts_counted files (name ∷ names) (t ∷ texts) are = let rest = texts_counted files names texts are.1 in omega (arith, rest)
 
-named_counted : (names : List (Bor Bytes)) → length names ≡ length (map (λ (s : Bor Bytes). s.now) names)
+pub named_counted : (names : List (Bor Bytes)) → length names ≡ length (map (λ (s : Bor Bytes). s.now) names)
 named_counted [] = refl
 named_counted (x ∷ names) = let rest = named_counted names in omega (arith, rest)
 

@@ -1,7 +1,10 @@
 pub mod AnswerLaws
+pub mod ChainedLaws
 pub mod ChannelLaws
 pub mod EndingLaws
+pub mod FewFiles
 pub mod FileLaws
+pub mod OneChain
 pub mod PlaceLaws
 pub mod RefusedLaws
 pub mod RunLaws

@@ -14,6 +14,7 @@ use Rattle.ac_top.specs.Saying.{Said, SaidIfAny}
 use Rattle.ac_top.specs.Handed.{Handed}
 use Rattle.ac_top.specs.Requests.{list_named, IsUnread}
 use Rattle.ac_top.specs.Giving.{Gives}
+use Rattle.ac_top.specs.ChainEndings.{ChainEnded}
 use Rattle.ac_top.specs.RunEndings.{RunEnded}
 
 -- the words as bytes
@@ -43,5 +44,5 @@ pub data AnswerEnded (r : Request) (files : Bytes → Reading) (output errors : 
 abbrev pub Ended : Option Request → Handed → Status → Type 0
 Ended None o end = NoCommand o end
 Ended (Some (run p steps from to)) o end = RunEnded p steps from to o end
-Ended (Some (chain files list steps)) o end = NoCommand o end
+Ended (Some (chain programs list steps)) o end = ChainEnded programs list steps o.files o.output o.errors end
 Ended (Some r) o end = AnswerEnded r o.files o.output o.errors end

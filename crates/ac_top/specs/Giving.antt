@@ -30,7 +30,7 @@ pub record ChecksFiles (files : Bytes → Reading) (checked : List Bytes) (list 
   pub are_texts : AreTexts files checked texts
   pub checks : Checks checked texts shelf a
 
--- what each request gives; `run` prints as it goes, and chains aren't built
+-- what each request gives; `run` and `chain` print as they go, and end in their own ways
 abbrev pub Gives : (Bytes → Reading) → Request → ShownAnswer → Type 0
 Gives files (run p steps from to) a = ⊥
 Gives files (names p) a = ShowsFile Names files p a

@@ -1,4 +1,5 @@
 pub mod Channels
+pub mod ChainEndings
 pub mod Endings
 pub mod Giving
 pub mod Handed

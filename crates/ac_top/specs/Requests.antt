@@ -6,14 +6,14 @@ use Rattle.ac_files.specs.Files.{Reading}
 use Rattle.ac_files.specs.ManyTexts.{TextsFail, ReadInTurn}
 use Rattle.ac_top.specs.Channels.{NoFile}
 
--- the files whose texts are loaded, in their order; chains aren't built
+-- the files whose texts are loaded, in their order
 abbrev pub files_loaded : Request → List Bytes
 files_loaded (run p steps from to) = p.file ∷ []
 files_loaded (names p) = p.file ∷ []
 files_loaded (code p) = p.file ∷ []
 files_loaded (make seed modules runs) = []
 files_loaded (check files list) = files
-files_loaded (chain files list steps) = []
+files_loaded (chain programs list steps) = programs
 
 -- the file of the list of the shelf beside them
 abbrev pub list_named : Request → Option Bytes
@@ -22,7 +22,7 @@ list_named (names p) = p.shelf
 list_named (code p) = p.shelf
 list_named (make seed modules runs) = None
 list_named (check files list) = list
-list_named (chain files list steps) = None
+list_named (chain programs list steps) = list
 
 -- a read failed, of the list, of a file that it names, or of one of these files
 abbrev pub IsUnread : (Bytes → Reading) → Request → Type 0

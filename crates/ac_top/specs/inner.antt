@@ -1,5 +1,6 @@
 pub mod Counts
 pub mod Runs
 pub mod Apart
+pub mod ChainDelivered
 pub mod Asked
 pub mod Delivered

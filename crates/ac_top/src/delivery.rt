@@ -25,8 +25,8 @@ pub fn deliver<O: Sink, E: Sink>(
     }
 }
 
-// Prints what an answer prints, and then writes its line.
-fn deliver_answer<O: Sink, E: Sink>(answer: &Answer, output: &mut O, errors: &mut E) -> Status
+/// Prints what an answer prints, and then writes its line.
+pub fn deliver_answer<O: Sink, E: Sink>(answer: &Answer, output: &mut O, errors: &mut E) -> Status
     ensures { Delivered answer.now (writing O.told O.written O.faults output.old output.new)
         (writing E.told E.written E.faults errors.old errors.new) result }
 {

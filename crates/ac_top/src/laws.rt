@@ -8,19 +8,21 @@ ghost use Rattle.ac_rules.specs.Packets.{Cause, Accepts, Refuses};
 ghost use Rattle.ac_meaning.specs.Packing.{Lands, Sinks, landing, of_cause, unmarshal_failure_exn};
 ghost use Rattle.ac_outside.specs.Outside.{Rose};
 ghost use Rattle.ac_rules.specs.Views.{Mode};
-ghost use Rattle.ac_words.specs.Commands.{ChannelName, ProgramFiles, Request, run, check};
+ghost use Rattle.ac_words.specs.Commands.{ChannelName, ProgramFiles, Request, run, check, chain};
 ghost use Rattle.ac_acceptance.specs.Accepting.{Shelved, IsShelf};
 ghost use Rattle.ac_load.specs.Loading.{Loads};
 ghost use Rattle.ac_files.specs.Files.{Reading, IsTextOf};
+ghost use Rattle.ac_files.specs.ManyTexts.{TextsFail};
 ghost use Rattle.ac_files.specs.ProgramTexts.{IsShelfBy, HasBadLine, ReadsFail};
 ghost use Rattle.ac_answers.specs.declared.status.Status.{Status};
-ghost use Rattle.ac_answers.specs.declared.status.TheConstants.Status.{OUT_OF_MEMORY, SHELF_REFUSED};
+ghost use Rattle.ac_answers.specs.declared.status.TheConstants.Status.{REFUSED, OUT_OF_MEMORY, SHELF_REFUSED};
 ghost use Rattle.ac_answers.specs.Answers.{ShownAnswer};
 ghost use Rattle.ac_answers.specs.Meaning.{CommandAnswer, Means};
 ghost use Rattle.ac_top.specs.Streams.{Whole};
 ghost use Rattle.ac_top.specs.Handed.{Handed, is_told, input_of, InputFailed, OutputFailed, MakingFailed};
 ghost use Rattle.ac_top.specs.Requests.{list_named, IsUnread};
 ghost use Rattle.ac_top.specs.Giving.{Gives};
+ghost use Rattle.ac_top.specs.ChainEndings.{ChainsFiles};
 ghost use Rattle.ac_top.specs.Endings.{AnswerEnded, Ended};
 
 /// Beside a shelf, within a budget, with an input, and with or without a channel to send to, a text
@@ -73,24 +75,37 @@ pub fn nothing_failed()
 {}
 
 /// In the same way a request that prints what it finds ends with an answer that it gives, and has
-/// printed that.
+/// printed that and written its line; and so does a chain.
 pub fn nothing_failed_printing()
-    ensures { (r : Request) (o : Handed) (status : Status) →
+    ensures found { (r : Request) (o : Handed) (status : Status) →
         AnswerEnded r o.files o.output o.errors status →
         ((n : ℕ) → HasBadLine o.files (list_named r) n → ⊥) → (IsUnread o.files r → ⊥) →
         (Rose o.output.before o.output.after → ⊥) → (Rose o.errors.before o.errors.after → ⊥) →
+        (status ≡ OUT_OF_MEMORY → ⊥) → (a : ShownAnswer) × (Gives o.files r a ×
+        ((status ≡ a.status) × (Whole o.output a.printed × Whole o.errors a.line))) }
+    ensures chained { (programs : List Bytes) (list : Option Bytes) (steps : ℕ) (o : Handed)
+        (status : Status) → Ended (Some (chain programs list steps)) o status →
+        ((n : ℕ) → HasBadLine o.files list n → ⊥) → (TextsFail o.files programs list → ⊥) →
+        (Rose o.output.before o.output.after → ⊥) → (Rose o.errors.before o.errors.after → ⊥) →
         (status ≡ OUT_OF_MEMORY → ⊥) → (a : ShownAnswer) ×
-        (Gives o.files r a × ((status ≡ a.status) × Whole o.output a.printed)) }
+        (ChainsFiles o.files programs list steps o.output.told a ×
+        ((status ≡ a.status) × (Whole o.output a.printed × Whole o.errors a.line))) }
 {}
 
 /// Where the files are told, a request gives one status, and one print: only the lines of `check`
-/// may have other places in `syntax`.
+/// may have other places in `syntax`. A chain gives one status, one print where output tells what
+/// it has, and one line where none of its texts is refused.
 pub fn one_answer()
-    ensures { (r : Request) (files : Bytes → Reading) →
+    ensures found { (r : Request) (files : Bytes → Reading) →
         ((name : Bytes) → IsTrue (files name).told) → (a b : ShownAnswer) →
         Gives files r a → Gives files r b → (a.status ≡ b.status) ×
         (((checked : List Bytes) (list : Option Bytes) → r ≡ check checked list → ⊥) →
         a.printed ≡ b.printed) }
+    ensures chained { (programs : List Bytes) (list : Option Bytes) (steps : ℕ) (told : Bool)
+        (files : Bytes → Reading) → ((name : Bytes) → IsTrue (files name).told) →
+        (a b : ShownAnswer) → ChainsFiles files programs list steps told a →
+        ChainsFiles files programs list steps told b → (a.status ≡ b.status) ×
+        ((IsTrue told → a.printed ≡ b.printed) × ((a.status ≡ REFUSED → ⊥) → a.line ≡ b.line)) }
 {}
 
 /// Where the list of a shelf has a bad line, each request that names it ends so.

@@ -2,6 +2,7 @@
 #![tactic(auto)]
 
 mod answering;
+mod chaining;
 mod delivery;
 mod laws;
 mod no_files;

@@ -7,9 +7,10 @@ ghost use Rattle.ac_top.specs.Streams.{feeding, writing};
 ghost use Rattle.ac_top.specs.Handed.{what_is_handed};
 ghost use Rattle.ac_top.specs.Requests.{Touches, channel_written};
 ghost use Rattle.ac_top.specs.Endings.{texts, Ended};
-ghost use Rattle.ac_top.specs.inner.Apart.{IsApart};
+ghost use Rattle.ac_top.specs.inner.Apart.{IsApart, IsShort};
 
 use crate::answering::{check_files, make_program, show_file};
+use crate::chaining::chain_files;
 use crate::run::run_file;
 use crate::saying::{no_memory, refuse_words};
 use ac_answers::{Showing, Status};
@@ -63,7 +64,8 @@ fn obey<R: Threads + Sync, F: Files, I: Source, O: Sink, E: Sink, G: Gate + Sync
     errors: &mut E,
     gate: &G,
 ) -> Status
-    requires { IsApart (request_of command) }
+    requires apart { IsApart (request_of command) }
+    requires short { IsShort (request_of command) }
     ensures ends { Ended (Some (request_of command.entry)) (what_is_handed F.told
         (files_seen F.contents F.read_faults F.write_faults files.old)
         (files_seen F.contents F.read_faults F.write_faults files.new)
@@ -85,6 +87,17 @@ fn obey<R: Threads + Sync, F: Files, I: Source, O: Sink, E: Sink, G: Gate + Sync
             let names = texts.files.as_slice();
             check_files(rt, alloc, names, texts.shelf, files, output, errors, gate)
         }
-        Command::Chain(_) => refuse_words(errors),
+        Command::Chain(chain) => {
+            let programs = chain.files.as_slice();
+            chain_files(
+                alloc,
+                programs,
+                chain.shelf,
+                chain.steps,
+                files,
+                output,
+                errors,
+            )
+        }
     }
 }

@@ -1,7 +1,11 @@
--- Requests whose channels aren't one file.
-use Rattle.std.specs.Prelude.{◌≡◌, false}
-use Rattle.ac_words.specs.Commands.{Request, run, are_one}
+-- What the words of a request ensure: the channels of a run aren't one file, and a chain has few files.
+use Rattle.std.specs.Prelude.{◌≡◌, ◌≤◌, false, length}
+use Rattle.ac_words.specs.Commands.{Request, run, chain, are_one}
 
 abbrev pub IsApart : Request → Type 0
 IsApart (run p steps from to) = are_one from to ≡ false
 IsApart r = Unit {0}
+
+abbrev pub IsShort : Request → Type 0
+IsShort (chain programs list steps) = length programs ≤ 16
+IsShort r = Unit {0}

@@ -1,17 +1,22 @@
-use Rattle.std.proofs.Common.{◌≡◌, IsTrue, List, Option, refl, subst}
+use Rattle.std.proofs.Common.{◌≡◌, ℕ, Bool, IsTrue, List, Option, refl, subst}
 use Rattle.ac_types.specs.Types.{Bytes}
 use Rattle.ac_types.specs.declared.text.Text.{Text}
+use Rattle.ac_rules.specs.Views.{Plain}
 use Rattle.ac_words.specs.Commands.{ProgramFiles, Request, run, names, code, make, check, chain}
 use Rattle.ac_acceptance.specs.Accepting.{Shelved}
 use Rattle.ac_files.specs.Files.{Reading}
+use Rattle.ac_chain.specs.Texts.{texts_of}
 use Rattle.ac_answers.specs.declared.showing.Showing.{Showing}
 use Rattle.ac_answers.specs.declared.showing.Showing.TheVariants.{Names, Code}
 use Rattle.ac_answers.specs.Answers.{ShownAnswer}
 use Rattle.ac_answers.specs.Checking.{Checks}
 use Rattle.ac_answers.specs.Showing.{Shows}
 use Rattle.ac_answers.proofs.OneAnswer.{Alike, one_shown, one_made, one_checked}
+use Rattle.ac_chained.specs.Chaining.{Chains}
+use Rattle.ac_top.specs.ChainEndings.{ChainsFiles}
 use Rattle.ac_top.specs.Giving.{Gives, ShowsFile, ChecksFiles}
 use Rattle.ac_top.proofs.FileLaws.{one_text, one_shelf, one_list}
+use Rattle.ac_top.proofs.OneChain.{AlikeWhere, one_chain}
 use Rattle.ac_top.proofs.laws.one_answer.Goals as goal
 
 -- one status, and but for `check` one print
@@ -42,5 +47,15 @@ module _ (files : Bytes → Reading) (told : (name : Bytes) → IsTrue (files na
   one (check checked list) x y = (checking checked list x y, λ other. absurd (other checked list refl))
   one (chain programs list steps) x y = absurd x
 
-pub returns : goal.returns
-returns c = λ r files told a b x y. one files told a b r x y
+  chaining : (programs : List Bytes) (list : Option Bytes) (steps : ℕ) (shown : Bool) → ChainsFiles files programs list steps shown a → ChainsFiles files programs list steps shown b → AlikeWhere shown a b
+  chaining programs list steps shown x y =
+      let texts = one_list files told programs x.texts y.texts x.are_texts y.are_texts in
+      let shelf = one_shelf files told x.is_shelf y.is_shelf in
+      let first = subst (λ (t : List Text). Chains Plain (texts_of t) x.shelf steps shown a) texts (x.chains Plain) in
+      one_chain (texts_of y.texts) y.shelf Plain steps shown a b (subst (λ (s : List Shelved). Chains Plain (texts_of y.texts) s steps shown a) shelf first) (y.chains Plain)
+
+pub returns-clause-found : goal.returns-clause-found
+returns-clause-found c = λ r files told a b x y. one files told a b r x y
+
+pub returns-clause-chained : goal.returns-clause-chained
+returns-clause-chained c = λ programs list steps shown files told a b x y. chaining files told a b programs list steps shown x y

@@ -1,14 +1,20 @@
 use Rattle.std.proofs.Common.{sym, refl}
 use Rattle.ac_top.specs.Endings.{texts}
 use Rattle.ac_top.proofs.EndingLaws.{words_refused, end_at_words, touches_none}
+use Rattle.ac_top.proofs.FewFiles.{words_short}
 use Rattle.ac_top.proofs.PlaceLaws.{untouched_by}
 use Rattle.ac_top.proofs.WordLaws.{words_apart}
 use Rattle.ac_top.proofs.top.acute.Goals as goal
 
-pub obey-requires-after_bounds : goal.obey-requires-after_bounds
-obey-requires-after_bounds g c κs within =
+pub obey-requires-clause-apart : goal.obey-requires-clause-apart
+obey-requires-clause-apart g c κs within =
     let some = rw c.in-Ok-Some.field-0-is at c.in-Ok-Some.ensures in
     words_apart (texts c.args.words.now) _ (sym some)
+
+pub obey-requires-clause-short : goal.obey-requires-clause-short
+obey-requires-clause-short g c κs within =
+    let some = rw c.in-Ok-Some.field-0-is at c.in-Ok-Some.ensures in
+    words_short (texts c.args.words.now) _ (sym some)
 
 pub returns-in-Ok-None-clause-ends : goal.returns-in-Ok-None-clause-ends
 returns-in-Ok-None-clause-ends g c =

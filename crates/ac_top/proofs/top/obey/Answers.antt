@@ -1,6 +1,6 @@
-use Rattle.std.proofs.Common.{refl, sym, ap}
+use Rattle.std.proofs.Common.{refl, sym, ap, arith}
 use Rattle.ac_outside.specs.Outside.{Contents}
-use Rattle.ac_top.proofs.EndingLaws.{words_refused}
+use Rattle.ac_top.proofs.FileLaws.{named_counted}
 use Rattle.ac_top.proofs.top.obey.Goals as goal
 
 pub returns-in-Run-clause-ends : goal.returns-in-Run-clause-ends
@@ -48,11 +48,17 @@ returns-in-Check-clause-kept g c = rw c.in-Check.is (λ told name h. ap (λ (k :
 pub returns-in-Check-clause-touched : goal.returns-in-Check-clause-touched
 returns-in-Check-clause-touched g c = rw (c.in-Check.is, sym c.as_slice-names.ensures.value) (λ none apart. c.check_files.ensures.only none)
 
-pub returns-clause-ends : goal.returns-clause-ends
-returns-clause-ends g c = rw c.in-Chain.is (words_refused _ (record { same = refl }) _ c.refuse_words.ensures)
+pub chain_files-requires : goal.chain_files-requires
+chain_files-requires g c =
+    let short = rw c.in-Chain.is at c.requires.short in
+    let named = named_counted c.in-Chain.chain.files.items in
+    rw c.as_slice-programs.ensures.value (omega (arith, short, named))
 
-pub returns-clause-kept : goal.returns-clause-kept
-returns-clause-kept g c = rw c.in-Chain.is (λ told name h. refl)
+pub returns-in-Chain-clause-ends : goal.returns-in-Chain-clause-ends
+returns-in-Chain-clause-ends g c = rw (c.in-Chain.is, sym c.as_slice-programs.ensures.value) c.chain_files.ensures.ends
 
-pub returns-clause-touched : goal.returns-clause-touched
-returns-clause-touched g c = rw c.in-Chain.is (λ none apart. refl)
+pub returns-in-Chain-clause-kept : goal.returns-in-Chain-clause-kept
+returns-in-Chain-clause-kept g c = rw c.in-Chain.is (λ told name h. ap (λ (k : Contents). k name) (c.chain_files.ensures.same told))
+
+pub returns-in-Chain-clause-touched : goal.returns-in-Chain-clause-touched
+returns-in-Chain-clause-touched g c = rw (c.in-Chain.is, sym c.as_slice-programs.ensures.value) (λ none apart. c.chain_files.ensures.only none)

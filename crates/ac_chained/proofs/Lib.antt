@@ -1,0 +1,3 @@
+pub mod ModesAlike
+pub mod PartLines
+pub mod GivenLaws

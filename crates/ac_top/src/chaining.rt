@@ -1,0 +1,70 @@
+// Chains of programs.
+ghost use Rattle.std.specs.Prelude.{◌≡◌, ◌<◌, ◌≤◌, ◌^◌, None, IsTrue, length, map, option_map};
+ghost use Rattle.ac_acceptance.specs.Accepting.{IsShelf};
+ghost use Rattle.ac_load.specs.Loading.{shelf_of};
+ghost use Rattle.ac_files.specs.Files.{files_seen, files_read};
+ghost use Rattle.ac_files.specs.ManyTexts.{ReadInTurn};
+ghost use Rattle.ac_chain.specs.Texts.{texts_of};
+ghost use Rattle.ac_top.specs.Streams.{writing};
+ghost use Rattle.ac_top.specs.ChainEndings.{ChainEnded};
+ghost use Rattle.ac_top.specs.inner.ChainDelivered.{ChainDelivered};
+
+use crate::delivery::deliver_answer;
+use crate::saying::{no_memory, say, tell_unread};
+use ac_answers::Status;
+use ac_chained::{Halt, run_chain};
+use ac_files::read_texts;
+use ac_load::Shelf;
+use ac_outside::{Files, Sink};
+use ac_types::{Many, Text};
+use std::alloc::Global;
+
+/// Runs the programs of files in a chain.
+pub fn chain_files<F: Files, O: Sink, E: Sink>(
+    alloc: Global,
+    programs: &[&str],
+    list: Option<&str>,
+    steps: u64,
+    files: &mut F,
+    output: &mut O,
+    errors: &mut E,
+) -> Status
+    requires { length programs.now ≤ 16 }
+    ensures ends { ChainEnded (map (λ s. s.now) programs.now) (option_map (λ s. s.now) list.entry)
+        steps (files_read F.told
+        (files_seen F.contents F.read_faults F.write_faults files.old)
+        (files_seen F.contents F.read_faults F.write_faults files.new))
+        (writing O.told O.written O.faults output.old output.new)
+        (writing E.told E.written E.faults errors.old errors.new) result }
+    ensures same { IsTrue F.told → F.contents files.new ≡ F.contents files.old }
+    ensures only { option_map (λ s. s.now) list.entry ≡ None →
+        ReadInTurn F.reads (map (λ s. s.now) programs.now) files.old files.new }
+{
+    match read_texts(alloc, files, programs, list) {
+        Ok(texts) => chain_texts(alloc, &texts.texts, &texts.shelf, steps, output, errors),
+        Err(fault) => tell_unread(alloc, fault, errors),
+    }
+}
+
+// Runs the programs of texts in a chain.
+fn chain_texts<O: Sink, E: Sink>(
+    alloc: Global,
+    texts: &Many<Text>,
+    shelf: &Shelf,
+    steps: u64,
+    output: &mut O,
+    errors: &mut E,
+) -> Status
+    requires many { length texts.now < 2 ^ 32 }
+    requires few { length shelf.now.0 ≤ 256 }
+    requires shelved { IsShelf (shelf_of shelf.now) }
+    ensures { ChainDelivered (texts_of texts.now) (shelf_of shelf.now) steps
+        (writing O.told O.written O.faults output.old output.new)
+        (writing E.told E.written E.faults errors.old errors.new) result }
+{
+    match run_chain(alloc, texts, shelf, steps, output) {
+        Ok(answer) => deliver_answer(&answer, output, errors),
+        Err(Halt::WriteFault) => say(errors, b"acute: write fault\n", Status::WRITE_FAULT),
+        Err(Halt::Memory) => no_memory(errors),
+    }
+}
