@@ -4,4 +4,6 @@
 #[cfg(test)]
 mod calls;
 #[cfg(test)]
+mod packing_tests;
+#[cfg(test)]
 mod slow_tests;
