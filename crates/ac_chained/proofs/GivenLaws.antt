@@ -1,5 +1,5 @@
 -- What the call of a chain gives, by what the chain has come to.
-use Rattle.std.proofs.Common.{◌≡◌, ◌∙◌, ◌≤◌, inl, inr, refl, sym, ap, subst, append-nil, append_assoc, ℕ, Bool, IsTrue, List, [], ◌++◌, length}
+use Rattle.std.proofs.Common.{◌≡◌, ◌∙◌, ◌≤◌, inl, inr, refl, sym, ap, subst, append-nil, append_assoc, ℕ, List, [], ◌++◌, length}
 use Rattle.std.specs.Prelude.{Result, Ok, Err, IfOk}
 use Rattle.ac_types.specs.Types.{Bytes}
 use Rattle.ac_types.specs.declared.memory.Memory.{Memory}
@@ -11,14 +11,14 @@ use Rattle.ac_chain.specs.declared.chained.ChainPart.{ChainPart}
 use Rattle.ac_chain.specs.declared.chained.ChainFault.{ChainFault}
 use Rattle.ac_chain.specs.declared.chained.ChainFault.TheVariants as fault
 use Rattle.ac_chain.specs.Texts.{RejectsFirst}
-use Rattle.ac_chain.specs.Chains.{Runs, console_of}
+use Rattle.ac_chain.specs.Chains.{console_of}
 use Rattle.ac_chain.specs.Lines.{chain_lines}
 use Rattle.ac_chain.specs.Endings.{Printed, HasRun, HasBegun, ClashesFirst, IsFault, IsBeforeRuns}
 use Rattle.ac_answers.specs.declared.answer.Answer.{Answer}
 use Rattle.ac_answers.specs.declared.status.Status.{Status}
 use Rattle.ac_answers.specs.declared.status.TheConstants.Status.{FINISHED, REFUSED, CLASH}
 use Rattle.ac_answers.specs.Answers.{ShownAnswer, answer_of, printing, telling}
-use Rattle.ac_chained.specs.Chaining.{ChainsInEach, refused_program, clashing, program_line, clash_line, lines_behind}
+use Rattle.ac_chained.specs.Chaining.{refused_program, clashing, program_line, clash_line, lines_behind}
 use Rattle.ac_chained.specs.declared.chaining.Halt.{Halt}
 use Rattle.ac_chained.specs.declared.chaining.Halt.TheVariants as halt
 use Rattle.ac_chained.specs.inner.Given.{GivesRest, GivesPart, GivesChain, AnswersFault, Tells}

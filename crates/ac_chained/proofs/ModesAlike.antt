@@ -7,7 +7,7 @@ use Rattle.ac_terms.specs.Terms.{Expr, Value}
 use Rattle.ac_terms.specs.Defs.{Environment}
 use Rattle.ac_rules.specs.Views.{Mode, Plain}
 use Rattle.ac_meaning.specs.Worlds.{Crossing}
-use Rattle.ac_meaning.specs.Writes.{Write, Console, Channel, written}
+use Rattle.ac_meaning.specs.Writes.{Console, Channel, written}
 use Rattle.ac_meaning.specs.Acts.{Outcome, Returned, Raised, Spent, Stuck}
 use Rattle.ac_meaning.specs.Reduction.{Ends}
 use Rattle.ac_meaning.specs.Laws.{IsTypedProgram, bare_end, writes_of, crossings_of}

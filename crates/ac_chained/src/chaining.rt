@@ -5,7 +5,6 @@ ghost use Rattle.ac_load.specs.Loading.{shelf_of};
 ghost use Rattle.ac_chain.specs.Texts.{texts_of};
 ghost use Rattle.ac_chain.specs.Lines.{chain_lines};
 ghost use Rattle.ac_chain.specs.inner.Running.{printed};
-ghost use Rattle.ac_answers.specs.Answers.{answer_of};
 ghost use Rattle.ac_chained.specs.inner.Given.{AnswersFault, GivesChain, Tells};
 
 use crate::line::{clash_line, program_line};

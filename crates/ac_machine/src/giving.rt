@@ -31,6 +31,7 @@ impl Engine {
         }
     }
 
+    /// Gives back the stacks above those that stand and those that handlers keep.
     #[tactic(auto, using(crate::proofs::GivingLaws::giving_laws))]
     pub fn cut_stacks(&mut self)
         requires sound { Sound self.old }
