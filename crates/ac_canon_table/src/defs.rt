@@ -1,20 +1,21 @@
 // Signatures, versions, constraints and definitions.
 
-use crate::pile::{Pile, several};
+use crate::parts::Parts;
+use ac_pile::several;
 use ac_terms::{Def, Field, Import, Module};
 use ac_types::{Atom, Constraint, Many, Range, Resolve, Sig, SigType, TyField, Version};
 
-impl Pile {
+impl Parts {
     /// The type of a signature of that form, whose parts are on top.
     pub fn sig_type(&mut self, form: &str) -> Option<SigType> {
         match form {
             "abstract" => Some(SigType {
-                name: self.words.pop()?,
+                name: self.pile.words.pop()?,
                 manifest: None,
             }),
             "manifest" => {
-                let name = self.words.pop()?;
-                let manifest = Some(self.types.pop()?);
+                let name = self.pile.words.pop()?;
+                let manifest = Some(self.pile.types.pop()?);
                 Some(SigType { name, manifest })
             }
             _ => None,
@@ -26,14 +27,14 @@ impl Pile {
         if form != "of" {
             return None;
         }
-        let name = self.words.pop()?;
-        let ty = self.types.pop()?;
+        let name = self.pile.words.pop()?;
+        let ty = self.pile.types.pop()?;
         Some(TyField { name, ty })
     }
 
     fn all_typed(&mut self) -> Option<Many<TyField>> {
-        let count = self.long()?;
-        several(self.alloc, &mut self.typed, count)
+        let count = self.pile.long()?;
+        several(self.pile.alloc, &mut self.typed, count)
     }
 
     /// The signature whose parts are on top: its types, and then its values.
@@ -41,8 +42,8 @@ impl Pile {
         if form != "sig" {
             return None;
         }
-        let count = self.long()?;
-        let types = several(self.alloc, &mut self.sig_types, count)?;
+        let count = self.pile.long()?;
+        let types = several(self.pile.alloc, &mut self.sig_types, count)?;
         let vals = self.all_typed()?;
         Some(Sig { types, vals })
     }
@@ -50,7 +51,7 @@ impl Pile {
     /// The part of a version of that form.
     pub fn atom(&mut self, form: &str) -> Option<Atom> {
         match form {
-            "number" => self.long().map(Atom::Number),
+            "number" => self.pile.long().map(Atom::Number),
             "myname" => Some(Atom::MyName),
             _ => None,
         }
@@ -61,20 +62,20 @@ impl Pile {
         if form != "version" {
             return None;
         }
-        let count = self.long()?;
-        several(self.alloc, &mut self.atoms, count).map(|atoms| Version { atoms })
+        let count = self.pile.long()?;
+        several(self.pile.alloc, &mut self.atoms, count).map(|atoms| Version { atoms })
     }
 
     /// The part of a constraint of that form, whose numbers are on top.
     pub fn range(&mut self, form: &str) -> Option<Range> {
         match form {
-            "one" => self.long().map(Range::One),
+            "one" => self.pile.long().map(Range::One),
             "between" => {
-                let low = self.long()?;
-                Some(Range::Between(low, self.long()?))
+                let low = self.pile.long()?;
+                Some(Range::Between(low, self.pile.long()?))
             }
-            "upto" => self.long().map(Range::UpTo),
-            "from" => self.long().map(Range::From),
+            "upto" => self.pile.long().map(Range::UpTo),
+            "from" => self.pile.long().map(Range::From),
             _ => None,
         }
     }
@@ -84,16 +85,16 @@ impl Pile {
     pub fn constraint(&mut self, form: &str) -> Option<Constraint> {
         match form {
             "ranges" => {
-                let count = self.long()?;
-                let atoms = several(self.alloc, &mut self.ranges, count)?;
+                let count = self.pile.long()?;
+                let atoms = several(self.pile.alloc, &mut self.ranges, count)?;
                 Some(Constraint::Ranges { atoms, star: false })
             }
             "starred" => {
-                let count = self.long()?;
-                let atoms = several(self.alloc, &mut self.ranges, count)?;
+                let count = self.pile.long()?;
+                let atoms = several(self.pile.alloc, &mut self.ranges, count)?;
                 Some(Constraint::Ranges { atoms, star: true })
             }
-            "exact" => self.names.pop().map(Constraint::Exact),
+            "exact" => self.pile.names.pop().map(Constraint::Exact),
             _ => None,
         }
     }
@@ -103,7 +104,7 @@ impl Pile {
         match form {
             "static" => Some(Resolve::StaticLink),
             "here" => Some(Resolve::HereAlready),
-            "uri" => self.texts.pop().map(Resolve::Uri),
+            "uri" => self.pile.texts.pop().map(Resolve::Uri),
             _ => None,
         }
     }
@@ -113,19 +114,19 @@ impl Pile {
         if form != "field" {
             return None;
         }
-        let name = self.words.pop()?;
-        let ty = self.types.pop()?;
-        let term = self.terms.pop()?;
+        let name = self.pile.words.pop()?;
+        let ty = self.pile.types.pop()?;
+        let term = self.pile.terms.pop()?;
         Some(Field { name, ty, term })
     }
 
     fn module(&mut self) -> Option<Module> {
-        let name = self.words.pop()?;
+        let name = self.pile.words.pop()?;
         let version = self.versions.pop()?;
         let sig = self.sigs.pop()?;
         let types = self.all_typed()?;
-        let count = self.long()?;
-        let fields = several(self.alloc, &mut self.fields, count)?;
+        let count = self.pile.long()?;
+        let fields = several(self.pile.alloc, &mut self.fields, count)?;
         Some(Module {
             name,
             version,
@@ -136,12 +137,12 @@ impl Pile {
     }
 
     fn import(&mut self) -> Option<Import> {
-        let name = self.words.pop()?;
+        let name = self.pile.words.pop()?;
         let sig = self.sigs.pop()?;
         let constraint = self.constraints.pop()?;
         let like = self.all_typed()?;
-        let count = self.long()?;
-        let by = several(self.alloc, &mut self.resolves, count)?;
+        let count = self.pile.long()?;
+        let by = several(self.pile.alloc, &mut self.resolves, count)?;
         Some(Import {
             name,
             sig,
@@ -156,7 +157,7 @@ impl Pile {
         match form {
             "module" => self.module().map(Def::Module),
             "import" => self.import().map(Def::Import),
-            "mark" => self.texts.pop().map(Def::Mark),
+            "mark" => self.pile.texts.pop().map(Def::Mark),
             _ => None,
         }
     }

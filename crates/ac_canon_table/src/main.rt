@@ -10,12 +10,8 @@
 #![tactic(auto)]
 
 mod defs;
-mod patterns;
-mod pile;
+mod parts;
 mod reading;
-mod terms;
-mod types;
-mod values;
 
 use ac_canon::{def_text, has_text};
 use ac_names::{has_name, name_hex, name_of};

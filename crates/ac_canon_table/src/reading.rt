@@ -1,6 +1,6 @@
 // A line as a definition.
 
-use crate::pile::Pile;
+use crate::parts::Parts;
 use ac_terms::{Def, Env};
 use ac_types::{Name, Text, Word};
 use std::alloc::Global;
@@ -8,64 +8,49 @@ use std::alloc::Global;
 /// The definition that a line writes: its forms are taken from the end on, each with its parts on
 /// the pile.
 pub fn read(alloc: Global, env: &Env, line: &str) -> Option<Def> {
-    let mut pile = Pile::new(alloc);
+    let mut parts = Parts::new(alloc);
     let mut found = None;
     for piece in line.rsplit(|c: char| c == ' ' || c == '(' || c == ')') {
         if piece.is_empty() {
             continue;
         }
-        found = pile.def(piece);
+        found = parts.def(piece);
         if found.is_none() {
-            pile.take(env, piece)?;
+            parts.take(env, piece)?;
         }
     }
     found
 }
 
-impl Pile {
-    // A piece that is no definition goes onto the pile.
+impl Parts {
+    // A piece that is no definition goes to the parts.
     fn take(&mut self, env: &Env, piece: &str) -> Option<()> {
         if let Some(rest) = piece.strip_prefix('\'') {
-            let text = Text::from_slice(self.alloc, rest.as_bytes()).ok()?;
-            return self.words.push(Word::new(text)?).ok();
+            let text = Text::from_slice(self.pile.alloc, rest.as_bytes()).ok()?;
+            return self.pile.words.push(Word::new(text)?).ok();
         }
         if let Some(rest) = piece.strip_prefix('@') {
-            return self.names.push(kept(env, rest)?).ok();
+            return self.pile.names.push(kept(env, rest)?).ok();
         }
         if let Ok(number) = piece.parse::<i64>() {
-            return self.numbers.push(number).ok();
+            return self.pile.numbers.push(number).ok();
         }
         self.string(piece)
     }
 
     fn string(&mut self, piece: &str) -> Option<()> {
         if let Some(digits) = piece.strip_prefix('x') {
-            let bytes = hex::decode(self.alloc, digits).ok()?;
+            let bytes = hex::decode(self.pile.alloc, digits).ok()?;
             return self
+                .pile
                 .texts
-                .push(Text::from_slice(self.alloc, bytes.as_slice()).ok()?)
+                .push(Text::from_slice(self.pile.alloc, bytes.as_slice()).ok()?)
                 .ok();
         }
-        self.form(piece)
-    }
-
-    fn form(&mut self, form: &str) -> Option<()> {
-        if let Some(ty) = self.ty(form) {
-            return self.types.push(ty).ok();
+        if self.pile.take(piece).is_some() {
+            return Some(());
         }
-        if let Some(pat) = self.pat(form) {
-            return self.pats.push(pat).ok();
-        }
-        if let Some(term) = self.term(form) {
-            return self.terms.push(term).ok();
-        }
-        if let Some(arm) = self.arm(form) {
-            return self.arms.push(arm).ok();
-        }
-        if let Some(value) = self.value(form) {
-            return self.values.push(value).ok();
-        }
-        self.piece(form)
+        self.piece(piece)
     }
 
     // Of a signature, a version, a constraint, a resolvespec or a struct.

@@ -17,17 +17,13 @@
 
 mod alike;
 mod defs;
-mod patterns;
-mod sheet;
-mod terms;
-mod types;
 
 use ac_decode::DecodeFault;
 use ac_page::Page;
 use ac_types::{Memory, Text};
+use ac_written::{Leaves, Sheet};
 use alike::{read_again, write_changes, write_prefixes};
 use defs::write_packet;
-use sheet::Sheet;
 use std::alloc::Global;
 use std::io::{self, Write};
 
@@ -61,7 +57,7 @@ fn write_read(alloc: Global, page: &mut Page, bytes: &[u8]) {
             if !same {
                 page.put(b" otherwise");
             }
-            write_packet(&mut Sheet(page), &packet);
+            write_packet(&mut Sheet::on(page, Leaves::Digits), &packet);
         }
     }
 }

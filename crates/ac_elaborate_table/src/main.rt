@@ -13,10 +13,6 @@ ghost use Rattle.ac_terms.specs.Read.{environment_of};
 ghost use Rattle.ac_outer.specs.Entries.{keeps_name};
 
 mod definitions;
-mod patterns;
-mod sheet;
-mod terms;
-mod types;
 
 use ac_elaborate::{RawProgram, ScopeFault, elaborate};
 use ac_page::Page;
@@ -24,13 +20,12 @@ use ac_parser::{parse_module, parse_program};
 use ac_syntax::{ParseFault, Surface};
 use ac_terms::Env;
 use ac_types::Many;
+use ac_written::{Leaves, Sheet, write_term};
 use definitions::write_added;
-use sheet::Sheet;
 use std::alloc::Global;
 use std::io::{self, Write};
-use terms::write_term;
 
-/// Where the entries in front of a text come from.
+// Where the entries in front of a text come from.
 const BETWEEN: &str = " %% ";
 
 fn message(alloc: Global, cause: &[u8]) -> Page {
@@ -53,13 +48,14 @@ fn fault(alloc: Global, fault: ScopeFault) -> Page {
 
 // The term of a program, or the definitions behind the first `front` entries.
 fn written(alloc: Global, word: &str, raw: &RawProgram, front: usize) -> Page {
-    let mut sheet = Sheet::new(alloc, &raw.env);
+    let mut page = Page::new(alloc);
+    let mut sheet = Sheet::on(&mut page, Leaves::Entries(&raw.env));
     if word == "main" {
         write_term(&mut sheet, &raw.main);
     } else {
         write_added(&mut sheet, raw.env.entries.as_slice(), front);
     }
-    sheet.into_page()
+    page
 }
 
 fn parsed(alloc: Global, word: &str, text: &str) -> Result<Surface, ParseFault> {

@@ -16,10 +16,8 @@
 #![tactic(auto)]
 
 mod loads;
-mod patterns;
-mod pile;
+mod reading;
 mod site;
-mod terms;
 mod types;
 
 use ac_check::CheckFault;
@@ -28,7 +26,7 @@ use ac_page::Page;
 use ac_terms::{Home, Term};
 use ac_types::{Memory, Ty};
 use loads::write_program;
-use pile::read;
+use reading::read;
 use site::Site;
 use std::alloc::Global;
 use std::io::{self, Write};

@@ -1,7 +1,5 @@
-// Types, read and written.
+// Types, written.
 
-use crate::pile::{Pile, several};
-use crate::site::word;
 use ac_page::Page;
 use ac_types::{Many, Name, Ty};
 
@@ -10,32 +8,6 @@ pub const NAME: Name = Name([7; 32]);
 
 /// The name that the import by version keeps.
 pub const OTHER: Name = Name([8; 32]);
-
-impl Pile {
-    /// The type of that form, whose parts are on top.
-    pub fn ty(&mut self, form: &str) -> Option<Ty> {
-        match form {
-            "int" => Some(Ty::Int),
-            "bool" => Some(Ty::Bool),
-            "string" => Some(Ty::Str),
-            "unit" => Some(Ty::Unit),
-            "exn" => Some(Ty::Exn),
-            "tuple" => {
-                let count = self.small()?;
-                several(self.alloc, &mut self.types, count).map(Ty::Tuple)
-            }
-            "list" => self.boxed_type().map(Ty::List),
-            "option" => self.boxed_type().map(Ty::Opt),
-            "fun" => {
-                let from = self.boxed_type()?;
-                Some(Ty::Fun(from, self.boxed_type()?))
-            }
-            "abstract" => word(self.alloc).ok().map(|word| Ty::Abs(NAME, word)),
-            "imported" => word(self.alloc).ok().map(|word| Ty::Abs(OTHER, word)),
-            _ => None,
-        }
-    }
-}
 
 /// Adds the words of a type.
 #[cycle(write_type)]

@@ -1,4 +1,4 @@
-// Types.
+// Types, made of the parts that were read.
 
 use crate::pile::{Pile, several};
 use ac_types::Ty;

@@ -1,4 +1,4 @@
-// Types.
+// Types, written on the sheet.
 
 use crate::sheet::Sheet;
 use ac_types::{Ty, Word};

@@ -1,34 +1,32 @@
 // The parts that were read, from the end of a line on: of each kind the leftmost on top.
 
-use ac_terms::{Arm, Field, PVal, Pat, Term};
-use ac_types::{
-    Atom, Box, Constraint, Many, Name, Range, Resolve, Sig, SigType, Text, Ty, TyField, Version,
-    Word,
-};
+use ac_terms::{Arm, PVal, Pat, Term};
+use ac_types::{Box, Many, Name, Text, Ty, Word};
 use std::alloc::Global;
 
 /// What is still to be taken by a form to the left.
 #[derive(Drop)]
 pub struct Pile {
+    /// What memory is taken from.
     pub alloc: Global,
+    /// Numbers.
     pub numbers: Vec<i64>,
+    /// Identifiers.
     pub words: Vec<Word>,
+    /// Strings.
     pub texts: Vec<Text>,
+    /// Names of definitions.
     pub names: Vec<Name>,
+    /// Types.
     pub types: Vec<Ty>,
+    /// Patterns.
     pub pats: Vec<Pat>,
+    /// Terms.
     pub terms: Vec<Term>,
+    /// Arms.
     pub arms: Vec<Arm>,
+    /// Packed values.
     pub values: Vec<PVal>,
-    pub sig_types: Vec<SigType>,
-    pub typed: Vec<TyField>,
-    pub sigs: Vec<Sig>,
-    pub atoms: Vec<Atom>,
-    pub versions: Vec<Version>,
-    pub ranges: Vec<Range>,
-    pub constraints: Vec<Constraint>,
-    pub resolves: Vec<Resolve>,
-    pub fields: Vec<Field>,
 }
 
 impl Pile {
@@ -45,16 +43,26 @@ impl Pile {
             terms: Vec::new(alloc),
             arms: Vec::new(alloc),
             values: Vec::new(alloc),
-            sig_types: Vec::new(alloc),
-            typed: Vec::new(alloc),
-            sigs: Vec::new(alloc),
-            atoms: Vec::new(alloc),
-            versions: Vec::new(alloc),
-            ranges: Vec::new(alloc),
-            constraints: Vec::new(alloc),
-            resolves: Vec::new(alloc),
-            fields: Vec::new(alloc),
         }
+    }
+
+    /// Puts the type, pattern, term, arm or value of that form onto the pile, made of the parts that
+    /// are on top; `None` where there is no such form, or a part is missing.
+    pub fn take(&mut self, form: &str) -> Option<()> {
+        if let Some(ty) = self.ty(form) {
+            return self.types.push(ty).ok();
+        }
+        if let Some(pat) = self.pat(form) {
+            return self.pats.push(pat).ok();
+        }
+        if let Some(term) = self.term(form) {
+            return self.terms.push(term).ok();
+        }
+        if let Some(arm) = self.arm(form) {
+            return self.arms.push(arm).ok();
+        }
+        let value = self.value(form)?;
+        self.values.push(value).ok()
     }
 
     /// The top number, in one byte.

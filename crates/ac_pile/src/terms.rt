@@ -1,8 +1,7 @@
-// Terms.
+// Terms, made of the parts that were read.
 
 use crate::pile::{Pile, several};
-use crate::site::{text, word};
-use ac_terms::{Arm, Home, PVal, Term};
+use ac_terms::{Arm, Term};
 use ac_types::{Box, Many, Ty};
 
 impl Pile {
@@ -17,14 +16,24 @@ impl Pile {
     }
 
     fn parts(&mut self) -> Option<Many<Term>> {
-        let count = self.small()?;
+        let count = self.long()?;
         several(self.alloc, &mut self.terms, count)
     }
 
     fn term_and_arms(&mut self) -> Option<(Box<Term>, Many<Arm>)> {
         let of = self.boxed_term()?;
-        let count = self.small()?;
+        let count = self.long()?;
         Some((of, several(self.alloc, &mut self.arms, count)?))
+    }
+
+    /// The arm whose parts are on top.
+    pub fn arm(&mut self, form: &str) -> Option<Arm> {
+        if form != "arm" {
+            return None;
+        }
+        let pat = self.pats.pop()?;
+        let body = self.terms.pop()?;
+        Some(Arm { pat, body })
     }
 
     /// The term of that form, whose parts are on top.
@@ -32,7 +41,7 @@ impl Pile {
         match form {
             "Int" => self.numbers.pop().map(Term::Int),
             "Bool" => self.truth().map(Term::Bool),
-            "Str" => text(self.alloc).ok().map(Term::Str),
+            "Str" => self.texts.pop().map(Term::Str),
             "Unit" => Some(Term::Unit),
             "Exn" => Some(Term::ExnVal(self.small()?, None)),
             "ExnOf" => {
@@ -46,10 +55,8 @@ impl Pile {
             "Var" => self.short().map(Term::Var),
             "Own" => self.short().map(Term::Own),
             "Ref" => {
-                let number = self.small()?;
-                word(self.alloc)
-                    .ok()
-                    .map(|word| Term::Ref(u32::from(number), word))
+                let entry = self.long()?;
+                Some(Term::Ref(entry, self.words.pop()?))
             }
             "Seq" => self.parts().map(Term::Seq),
             "Prim" => {
@@ -92,14 +99,8 @@ impl Pile {
                 .map(|(ty, inner)| Term::Unmarshal(ty, inner)),
             "Val" => {
                 let ty = self.types.pop()?;
-                Some(Term::Val(ty, PVal::Int(self.numbers.pop()?)))
+                Some(Term::Val(ty, self.values.pop()?))
             }
-            "Carried" => self
-                .type_and_term()
-                .map(|(ty, l)| Term::Val(ty, PVal::Fun(Home::In(0), l))),
-            "Foreign" => self
-                .type_and_term()
-                .map(|(ty, l)| Term::Val(ty, PVal::Fun(Home::In(1), l))),
             _ => None,
         }
     }

@@ -1,4 +1,4 @@
-// Patterns.
+// Patterns, written on the sheet.
 
 use crate::sheet::Sheet;
 use crate::types::write_type;

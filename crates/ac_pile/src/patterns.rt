@@ -1,4 +1,4 @@
-// Patterns.
+// Patterns, made of the parts that were read.
 
 use crate::pile::{Pile, several};
 use ac_terms::Pat;
