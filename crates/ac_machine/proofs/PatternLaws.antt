@@ -14,7 +14,8 @@ use Rattle.ac_values.specs.declared.node.Node.{Node}
 use Rattle.ac_values.specs.declared.node.Value.{Value}
 use Rattle.ac_values.specs.Values.{MValue, MInt, MBool, MStr, MExn, MExnOf, MTuple, MUnit, MNil, MAbsent, MCons, MPresent, MMore, stands_as, values_at, values}
 use Rattle.ac_values.specs.ValueReaders.{int_in, bool_in, text_in, cons_in, present_in, tuple_in, exn_with, exn_without, is_unit, is_nil, is_absent}
-use Rattle.ac_values.specs.Fits.{where_true, bound, all_bound, environment_with, Fitted, Tested}
+use Rattle.ac_values.specs.inner.Fitting.{environment_with, Fitted, Tested}
+use Rattle.ac_values.specs.Fits.{where_true, bound, all_bound}
 use Rattle.ac_values.proofs.ReadLaws.{all_one}
 use Rattle.ac_machine.proofs.EachLaws.{next_at}
 

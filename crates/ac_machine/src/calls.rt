@@ -17,6 +17,7 @@ use ac_values::{Node, Store, Value};
 impl Engine {
     /// Calls the closure below the argument on the stack, or stops in front of an application past
     /// the budget.
+    #[inline(always)]
     pub fn apply(&mut self) -> Result<Step, Memory>
         requires sound { Sound self.old }
         ensures { IfOk result (λ s. Does self.new s (applies (core self.old))) }
@@ -42,12 +43,14 @@ impl Engine {
     }
 
     // The environment of a closure, in which a recursive one stands itself.
+    #[inline(always)]
     fn own_env(&mut self, function: Value, recursive: bool, env: Value) -> Result<Value, Memory>
         requires sound { Sound self.old }
         requires function { function.0 < length self.old.store }
         requires env { env.0 < length self.old.store }
         ensures { IfOk result (λ v. Grown self.old self.new v
-            (cond recursive (MMore (stands_as self.old.store function.0) (stands_as self.old.store env.0))
+            (cond recursive (MMore (stands_as self.old.store function.0)
+            (stands_as self.old.store env.0))
             (stands_as self.old.store env.0))) }
     {
         if !recursive {
@@ -60,7 +63,7 @@ impl Engine {
     }
 
     /// Starts a block with an environment, and keeps where the one that runs goes on.
-    #[inline]
+    #[inline(always)]
     pub fn enter(&mut self, block: CodeId, env: Value, keeps: bool) -> Result<Step, Memory>
         requires sound { Sound self.old }
         requires env { env.0 < length self.old.store }
@@ -72,16 +75,17 @@ impl Engine {
         Ok(step)
     }
 
-    #[inline]
+    #[inline(always)]
     fn enter_here(&mut self, block: CodeId, env: Value, keeps: bool) -> Result<Step, Memory>
         requires sound { Sound self.old }
         requires env { env.0 < length self.old.store }
         ensures { IfOk result (λ s. Does self.new s
             (Run (entering keeps block.0 (stands_as self.old.store env.0) (core self.old)))) }
     {
+        let address = narrow(self.at.address)?;
         let frame = Frame {
             block: self.at.block,
-            address: self.at.address,
+            address,
             env: self.at.env,
             keeps,
         };
@@ -93,6 +97,7 @@ impl Engine {
     }
 
     /// Goes back to the newest frame; the value of a field is kept.
+    #[inline(always)]
     pub fn return_back(&mut self) -> Result<Step, Memory>
         requires sound { Sound self.old }
         ensures { IfOk result (λ s. Does self.new s
@@ -103,7 +108,7 @@ impl Engine {
         Ok(step)
     }
 
-    #[inline]
+    #[inline(always)]
     fn return_here(&mut self) -> Result<Step, Memory>
         requires sound { Sound self.old }
         ensures { IfOk result (λ s. Does self.new s
@@ -123,6 +128,7 @@ impl Engine {
     }
 
     // Goes on at the newest frame.
+    #[inline(always)]
     fn go_back(&mut self, frame: Frame, rest: usize) -> Step
         requires sound { Sound self.old }
         requires older { rest < self.old.at.frames }
@@ -133,14 +139,26 @@ impl Engine {
             (frames_of (values self.old.store) (get_or self.old.frames rest [])) (core self.old))) }
     {
         self.at.block = frame.block;
-        self.at.address = frame.address;
+        self.at.address = frame.address as usize;
         self.at.env = frame.env;
         self.at.frames = rest;
         Step::On
     }
 }
 
+// An address in 32 bits; a larger one counts as out of memory.
+#[inline(always)]
+fn narrow(address: usize) -> Result<u32, Memory>
+    ensures { IfOk result (λ a. a ≡ address) }
+{
+    match u32::try_from(address) {
+        Ok(a) => Ok(a),
+        Err(_) => Err(Memory),
+    }
+}
+
 // The environment of a recursive closure, where it stands behind the closure's own node.
+#[inline(always)]
 fn env_behind(store: &Store, function: Value, env: Value) -> Option<Value>
     requires { function.0 < length store.now }
     ensures { IfSome result (λ v. (v.0 < length store.now) ×

@@ -19,8 +19,8 @@ use std::alloc::Global;
 #[derive(Clone, Copy)]
 pub struct Frame {
     pub block: CodeId,
-    pub address: usize,
     pub env: Value,
+    pub address: u32,
     pub keeps: bool,
 }
 
@@ -125,15 +125,22 @@ impl Engine {
     }
 
     /// A pause, in a box so that a step is small.
-    #[cold]
+    #[inline(always)]
     pub fn pausing(&self, pause: Pause) -> Result<Step, Memory>
         ensures { IfOk result (λ s. s ≡ Pausing pause) }
     {
-        Ok(Step::Pausing(Box::new(self.alloc, pause)?))
+        Ok(Step::Pausing(self.boxed(pause)?))
+    }
+
+    #[cold]
+    fn boxed(&self, pause: Pause) -> Result<Box<Pause>, Memory>
+        ensures { IfOk result (λ b. b ≡ pause) }
+    {
+        Ok(Box::new(self.alloc, pause)?)
     }
 
     /// One more node.
-    #[inline]
+    #[inline(always)]
     pub fn add(&mut self, node: Node) -> Result<Value, Memory>
         requires sound { Sound self.old }
         requires parts { Below (length self.old.store) node }
@@ -145,7 +152,7 @@ impl Engine {
     }
 
     /// Pushes a value on the stack, in the place of lists that nothing can reach.
-    #[inline]
+    #[inline(always)]
     pub fn push(&mut self, v: Value) -> Result<Step, Memory>
         requires sound { Sound self.old }
         requires within { v.0 < length self.old.store }
@@ -158,7 +165,7 @@ impl Engine {
         Ok(step)
     }
 
-    #[inline]
+    #[inline(always)]
     fn push_here(&mut self, v: Value) -> Result<Step, Memory>
         requires sound { Sound self.old }
         requires within { v.0 < length self.old.store }
@@ -171,7 +178,7 @@ impl Engine {
     }
 
     /// Pushes the value of a new node on the stack.
-    #[inline]
+    #[inline(always)]
     pub fn push_node(&mut self, node: Node) -> Result<Step, Memory>
         requires sound { Sound self.old }
         requires parts { Below (length self.old.store) node }
@@ -184,7 +191,7 @@ impl Engine {
     }
 
     /// The newest value of a stack, and the number of the rest.
-    #[inline]
+    #[inline(always)]
     pub fn newest(&self, stack: usize) -> Option<(Value, usize)>
         requires sound { Sound self.now }
         requires within { stack < length self.now.stacks }

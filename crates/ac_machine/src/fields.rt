@@ -21,6 +21,7 @@ use ac_values::Value;
 
 impl Engine {
     /// Pushes the value of the field of that block, where it is kept; else it runs the block.
+    #[inline(always)]
     pub fn field(&mut self, block: Option<CodeId>) -> Result<Step, Memory>
         requires sound { Sound self.old }
         ensures { IfOk result (λ s. Does self.new s
@@ -36,6 +37,7 @@ impl Engine {
     }
 
     // The value that is kept of a block.
+    #[inline(always)]
     fn kept_at(&self, block: CodeId) -> Option<Value>
         requires sound { Sound self.now }
         ensures { MatchOption result ((core self.now).kept block.0 ≡ None)
@@ -127,14 +129,5 @@ fn field_number(entry: &Entry, x: &Word) -> Option<usize>
 fn index_of(fields: &Many<Field>, x: &Word) -> Option<usize>
     ensures { result ≡ position (λ f. same_bytes f.name x.now) fields.now }
 {
-    fields
-        .as_slice()
-        .iter()
-        .position(|field| has_name(field, x))
-}
-
-fn has_name(field: &Field, x: &Word) -> bool
-    ensures { result ≡ same_bytes field.now.name x.now }
-{
-    field.name.text().as_slice() == x.text().as_slice()
+    fields.as_slice().iter().position(|field| field.name.is(x))
 }

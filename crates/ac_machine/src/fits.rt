@@ -5,7 +5,8 @@ ghost use Rattle.std.specs.List.{All};
 ghost use Rattle.ac_terms.specs.Terms.{PInt, PBool, PStr, PExn, patterns};
 ghost use Rattle.ac_terms.specs.Read.{pattern_of};
 ghost use Rattle.ac_values.specs.Values.{stands_as, values, values_at};
-ghost use Rattle.ac_values.specs.Fits.{bound, all_bound, Fitted, Tested};
+ghost use Rattle.ac_values.specs.inner.Fitting.{Fitted, Tested};
+ghost use Rattle.ac_values.specs.Fits.{bound, all_bound};
 
 use ac_terms::Pat;
 use ac_types::{Memory, Text};
@@ -15,7 +16,8 @@ use ac_values::read::{
 };
 use ac_values::{Store, Value};
 
-fn is_int(store: &Store, v: Value, n: &i64) -> bool
+#[inline(always)]
+pub fn is_int(store: &Store, v: Value, n: &i64) -> bool
     ensures { Tested (bound (PInt n.now) (stands_as store.now v.0)) result }
 {
     match int_in(store, v) {
@@ -24,7 +26,8 @@ fn is_int(store: &Store, v: Value, n: &i64) -> bool
     }
 }
 
-fn is_bool(store: &Store, v: Value, b: bool) -> bool
+#[inline(always)]
+pub fn is_bool(store: &Store, v: Value, b: bool) -> bool
     ensures { Tested (bound (PBool b) (stands_as store.now v.0)) result }
 {
     match bool_in(store, v) {

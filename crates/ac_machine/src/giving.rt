@@ -9,7 +9,7 @@ use crate::engine::{Engine, Floor};
 impl Engine {
     /// Gives back the handlers, the stacks and the frames above those that stand and those that
     /// handlers keep.
-    #[inline]
+    #[inline(always)]
     #[tactic(auto, using(crate::proofs::GivingLaws::giving_laws))]
     pub fn give_back(&mut self)
         requires sound { Sound self.old }
@@ -20,6 +20,7 @@ impl Engine {
         self.cut_frames();
     }
 
+    #[inline(always)]
     #[tactic(auto, using(crate::proofs::GivingLaws::giving_laws))]
     fn cut_handlers(&mut self)
         requires sound { Sound self.old }
@@ -32,6 +33,7 @@ impl Engine {
     }
 
     /// Gives back the stacks above those that stand and those that handlers keep.
+    #[inline(always)]
     #[tactic(auto, using(crate::proofs::GivingLaws::giving_laws))]
     pub fn cut_stacks(&mut self)
         requires sound { Sound self.old }
@@ -43,6 +45,7 @@ impl Engine {
         }
     }
 
+    #[inline(always)]
     #[tactic(auto, using(crate::proofs::GivingLaws::giving_laws))]
     fn cut_frames(&mut self)
         requires sound { Sound self.old }
@@ -55,7 +58,7 @@ impl Engine {
     }
 
     /// So many of the first stacks and frames the handlers keep, or stand now.
-    #[inline]
+    #[inline(always)]
     pub fn floor_here(&self) -> Floor
         requires sound { Sound self.now }
         ensures stacks { (self.now.at.stack + 1 ≤ result.stacks) ×
@@ -73,6 +76,7 @@ impl Engine {
     }
 }
 
+#[inline(always)]
 fn larger(a: usize, b: usize) -> usize
     ensures least { (a ≤ result) × (b ≤ result) }
     ensures within { (n : ℕ) → a ≤ n → b ≤ n → result ≤ n }

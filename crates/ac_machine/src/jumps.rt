@@ -2,7 +2,7 @@
 
 ghost use Rattle.std.specs.Prelude.{◌<◌, length, IfOk, OnOk};
 ghost use Rattle.std.specs.List.{All};
-ghost use Rattle.ac_values.specs.Fits.{environment_with};
+ghost use Rattle.ac_values.specs.inner.Fitting.{environment_with};
 ghost use Rattle.ac_machine.specs.States.{Run};
 ghost use Rattle.ac_terms.specs.Read.{pattern_of};
 ghost use Rattle.ac_machine.specs.Machine.{jumps, jumps_if_not, tests};
@@ -18,6 +18,7 @@ use ac_values::{Node, Value};
 
 impl Engine {
     /// Goes on at address `a`.
+    #[inline(always)]
     pub fn jump(&mut self, a: usize) -> Step
         requires sound { Sound self.old }
         ensures { Does self.new result (jumps a (core self.old)) }
@@ -27,6 +28,7 @@ impl Engine {
     }
 
     /// Takes a truth value from the stack, and goes on at address `a` where it is false.
+    #[inline(always)]
     pub fn jump_if_not(&mut self, a: usize) -> Step
         requires sound { Sound self.old }
         ensures { Does self.new result (jumps_if_not a (core self.old)) }

@@ -15,6 +15,7 @@ mod operate;
 mod packing;
 mod pause;
 mod primitive;
+mod quick;
 mod step;
 mod variables;
 

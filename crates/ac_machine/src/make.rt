@@ -1,7 +1,7 @@
 // Instructions that push constants and make values.
 
 ghost use Rattle.std.specs.Prelude.{◌≡◌, ◌<◌, length, IfOk, None, Some};
-ghost use Rattle.ac_terms.specs.PrimitiveTypes.{has_text};
+ghost use Rattle.ac_types.specs.Exceptions.{has_text};
 ghost use Rattle.ac_values.specs.Values.{MStr, MClosure, MEnd, stands_as};
 ghost use Rattle.ac_machine.specs.States.{Run, push_value};
 ghost use Rattle.ac_machine.specs.Machine.{makes_exn, makes_some, makes_cons, makes_tuple};
@@ -10,17 +10,10 @@ ghost use Rattle.ac_machine.specs.inner.Steps.{Does, Grown};
 
 use crate::engine::{EMPTY, Engine, Step};
 use ac_code::CodeId;
-use ac_types::exceptions::{INVALID_ARGUMENT, RESOLVE_FAILURE, SYS_ERROR};
+use ac_types::exceptions::has_text;
 use ac_types::{Many, Memory, Text};
 use ac_values::read::text_in;
 use ac_values::{Node, Value};
-
-/// Whether the exception of that number has a text.
-pub fn has_text(number: u8) -> bool
-    ensures { result ≡ has_text number }
-{
-    number <= INVALID_ARGUMENT || (SYS_ERROR <= number && number <= RESOLVE_FAILURE)
-}
 
 impl Engine {
     /// Pushes a string.

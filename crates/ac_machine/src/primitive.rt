@@ -77,6 +77,7 @@ pub enum Primitive {
 }
 
 /// The primitive of that number.
+#[inline(always)]
 pub fn primitive_of(number: u8) -> Option<Primitive>
     ensures { MatchOption result (meaning number ≡ None) (λ p. meaning number ≡ Some (meant p)) }
 {
@@ -153,8 +154,9 @@ pub fn combined(
     }
 }
 
+#[inline(always)]
 #[tactic(auto, using(crate::proofs::PrimitiveLaws::operator_laws))]
-fn of_ints(operator: Binary, x: i64, y: i64) -> Answer
+pub fn of_ints(operator: Binary, x: i64, y: i64) -> Answer
     ensures { answer_of result ≡ of_binary operator (CInt x) (CInt y) }
 {
     match operator {
@@ -169,6 +171,7 @@ fn of_ints(operator: Binary, x: i64, y: i64) -> Answer
     }
 }
 
+#[inline(always)]
 fn quotient(x: i64, y: i64) -> Answer
     ensures { answer_of result ≡ quotient (CInt x) (CInt y) }
 {
@@ -181,6 +184,7 @@ fn quotient(x: i64, y: i64) -> Answer
     Answer::Int(x / y)
 }
 
+#[inline(always)]
 fn remainder(x: i64, y: i64) -> Answer
     ensures { answer_of result ≡ remainder (CInt x) (CInt y) }
 {
@@ -213,7 +217,7 @@ fn of_texts(alloc: Global, operator: Binary, x: &Text, y: &Text) -> Result<Answe
     }
 }
 
-/// Whether the first string comes before the second.
+// Whether the first string comes before the second.
 fn comes_before(first: &[u8], second: &[u8]) -> bool
     ensures { result ≡ comes_before first.now second.now }
 {

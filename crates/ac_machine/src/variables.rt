@@ -12,6 +12,7 @@ use ac_values::read::{entry, without};
 
 impl Engine {
     /// Pushes entry `i` of the environment, counted from the newest.
+    #[inline(always)]
     pub fn load(&mut self, i: u16) -> Result<Step, Memory>
         requires sound { Sound self.old }
         ensures { IfOk result (λ s. Does self.new s (loads i (core self.old))) }
@@ -23,6 +24,7 @@ impl Engine {
     }
 
     /// Takes a value into the environment.
+    #[inline(always)]
     pub fn bind(&mut self) -> Result<Step, Memory>
         requires sound { Sound self.old }
         ensures { IfOk result (λ s. Does self.new s (binds (core self.old))) }
@@ -36,6 +38,7 @@ impl Engine {
     }
 
     /// Drops the `n` newest of the environment.
+    #[inline(always)]
     pub fn unbind(&mut self, n: usize) -> Step
         requires sound { Sound self.old }
         ensures { Does self.new result (unbinds n (core self.old)) }
@@ -50,6 +53,7 @@ impl Engine {
     }
 
     /// Drops the newest value of the stack.
+    #[inline(always)]
     pub fn drop_newest(&mut self) -> Step
         requires sound { Sound self.old }
         ensures { Does self.new result (drops (core self.old)) }
