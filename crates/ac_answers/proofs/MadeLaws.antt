@@ -6,8 +6,8 @@ use Rattle.ac_terms.specs.Defs.{Environment}
 use Rattle.ac_terms.specs.declared.term.Exn.{Exn}
 use Rattle.ac_rules.specs.Views.{Mode}
 use Rattle.ac_meaning.specs.Worlds.{Exception}
-use Rattle.ac_meaning.specs.Acts.{Outcome, Returned, Raised, Spent, Stuck}
-use Rattle.ac_meaning.specs.Laws.{IsTypedProgram, writes_of}
+use Rattle.ac_meaning.specs.Acts.{Outcome, Returned, Raised, Spent, Stuck, writes_of}
+use Rattle.ac_meaning.specs.Laws.{IsTypedProgram}
 use Rattle.ac_meaning.specs.ReadExn.{exn_of}
 use Rattle.ac_meaning.specs.Reduction.{Ends}
 use Rattle.ac_meaning.proofs.Endings.{some_end}
@@ -51,7 +51,7 @@ module _ (modules bytes : ℕ) (s t : Session) (old new : Streams) (sends : s.se
   abbrev pub GivesSo : Type 0
   GivesSo = GivesInEach (environment s) (main s) modules bytes s.steps a
 
-  ends_so : (r : RunEnd) → RunsTo true s t [] r old new → (mode : Mode) (o : Outcome Value) → Ends mode (environment s) (main s) [] false s.steps o → IsEnd r o t × Leaves r true (writes_of o) old new
+  ends_so : (r : RunEnd) → RunsTo true s t [] r old new → (mode : Mode) (o : Outcome Value) → Ends mode (environment s) (main s) [] false s.steps o → IsEnd r o t × Leaves r true o t old new
   ends_so r runs mode o h = runs.ends mode o (subst (λ (b : Bool). Ends mode (environment s) (main s) [] b s.steps o) (sym sends) h)
 
   pub finished_each : RunsTo true s t [] end.Finished old new → a ≡ printing FINISHED (run_lines modules bytes (length new.console)) → GivesSo

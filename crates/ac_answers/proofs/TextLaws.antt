@@ -4,8 +4,8 @@ use Rattle.ac_types.specs.Types.{Bytes, Typ}
 use Rattle.ac_terms.specs.Terms.{Expr, Value}
 use Rattle.ac_terms.specs.Defs.{Environment}
 use Rattle.ac_rules.specs.Views.{Mode}
-use Rattle.ac_meaning.specs.Acts.{Outcome, Returned, Raised, Spent, Stuck}
-use Rattle.ac_meaning.specs.Laws.{IsTypedProgram, bare_end, writes_of}
+use Rattle.ac_meaning.specs.Acts.{Outcome, Returned, Raised, Spent, Stuck, writes_of}
+use Rattle.ac_meaning.specs.Laws.{IsTypedProgram, bare_end}
 use Rattle.ac_meaning.specs.Reduction.{Ends}
 use Rattle.ac_meaning.proofs.Admitted.{arrives, grow}
 use Rattle.ac_meaning.proofs.BareEndings.{ends_alike, one_bare_end}

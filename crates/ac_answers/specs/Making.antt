@@ -4,7 +4,7 @@ use Rattle.std.specs.Fmt.{decimal}
 use Rattle.ac_types.specs.Types.{Bytes}
 use Rattle.ac_rules.specs.Views.{Mode}
 use Rattle.ac_meaning.specs.Writes.{Console, written}
-use Rattle.ac_make.specs.Programs.{program_text}
+use Rattle.ac_make.specs.ProgramText.{program_text}
 use Rattle.ac_answers.specs.declared.status.TheConstants.Status.{FINISHED}
 use Rattle.ac_answers.specs.Answers.{ShownAnswer, printing, telling}
 use Rattle.ac_answers.specs.Meaning.{CommandAnswer, Means}

@@ -13,7 +13,7 @@ use Rattle.ac_terms.specs.Terms.{Expr}
 use Rattle.ac_terms.specs.Defs.{Environment, Entry, name_at, names}
 use Rattle.ac_terms.specs.Names.{text_of_entry}
 use Rattle.ac_acceptance.specs.Causes.{differ, first_below}
-use Rattle.ac_chain.proofs.Firsts.{below_all, below_none}
+use Rattle.ac_acceptance.proofs.Firsts.{below_all, below_none}
 use Rattle.ac_colours.specs.Births.{IsAmong}
 use Rattle.ac_colours.specs.Chains.{Programs, HaveOneText}
 use Rattle.ac_chain.specs.declared.chained.ChainFault.{ChainFault}

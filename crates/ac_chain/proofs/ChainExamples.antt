@@ -8,7 +8,7 @@ use Rattle.ac_terms.specs.Terms.{Expr, Str, Unit', Prim, no_exprs, expr, Value, 
 use Rattle.ac_terms.specs.Defs.{Environment, Entry, AModule, AMark, Own'}
 use Rattle.ac_rules.specs.Views.{Mode}
 use Rattle.ac_outside.specs.Frames.{frame_of}
-use Rattle.ac_meaning.specs.Worlds.{Made, Read, fresh}
+use Rattle.ac_meaning.specs.Worlds.{Made, Read, fresh, done_by}
 use Rattle.ac_meaning.specs.Writes.{Print, Send}
 use Rattle.ac_meaning.specs.Acts.{Outcome, Returned}
 use Rattle.ac_colours.specs.Chains.{Programs}
@@ -16,8 +16,8 @@ use Rattle.ac_run.specs.declared.end.RunEnd.TheVariants as end
 use Rattle.ac_chain.specs.declared.chained.ChainFault.TheVariants.{Clash}
 use Rattle.ac_chain.specs.Natives.{natives}
 use Rattle.ac_chain.specs.Clashes.{first_clash}
-use Rattle.ac_chain.specs.Chains.{RunInTurn, console_of}
-use Rattle.ac_chain.specs.Lines.{end_line, native_line}
+use Rattle.ac_chain.specs.ChainMeaning.{RunInTurn, console_of}
+use Rattle.ac_chain.specs.StringLines.{end_line, native_line}
 
 -- a string is native where it was made before it is read, in front of the journal or in it
 in_order : natives [] (Made (codes "a") ∷ Read (codes "a") ∷ Read (codes "b") ∷ Made (codes "b") ∷ Read (codes "b") ∷ []) ≡ true ∷ false ∷ true ∷ []
@@ -59,7 +59,7 @@ sent : Outcome Value
 sent = Returned VUnit (record (fresh [] [] true) { writes = Send (codes "A") ∷ [] })
 
 shown : Outcome Value
-shown = Returned VUnit (record (fresh [] [] true) { writes = Print (codes "A") ∷ [] })
+shown = Returned VUnit (record (fresh [] [] true) { writes = Print (codes "A") ∷ []; receives = done_by (fresh [] [] true) ∷ [] })
 
 received : (mode : Mode) → RunInTurn mode 0 true (([], sender) ∷ ([], receiver) ∷ []) [] (sent ∷ shown ∷ [])
 unfolding sender receiver sent shown

@@ -13,13 +13,12 @@ use Rattle.ac_rules.specs.declared.loaded.Loaded.{Loaded}
 use Rattle.ac_outside.specs.Outside.{Extends}
 use Rattle.ac_meaning.specs.Loads.{IsLoaded}
 use Rattle.ac_meaning.specs.Writes.{Console, Channel, written}
-use Rattle.ac_meaning.specs.Acts.{Outcome}
-use Rattle.ac_meaning.specs.Laws.{writes_of, crossings_of}
+use Rattle.ac_meaning.specs.Acts.{Outcome, writes_of, crossings_of}
 use Rattle.ac_colours.specs.Chains.{Programs}
 use Rattle.ac_chain.specs.declared.chained.ChainPart.{ChainPart}
 use Rattle.ac_chain.specs.Natives.{made_by}
-use Rattle.ac_chain.specs.Texts.{programs_of}
-use Rattle.ac_chain.specs.Chains.{RunsOn, RunInTurn, IsPart, AreParts, console_of}
+use Rattle.ac_chain.specs.ChainTexts.{programs_of}
+use Rattle.ac_chain.specs.ChainMeaning.{RunsOn, RunInTurn, IsChainPart, AreParts, console_of}
 use Rattle.ac_chain.specs.inner.Made.{Strings, Has}
 use Rattle.ac_chain.specs.inner.Running.{AreLoaded, HasRunOn, HasStoppedOn, AllRun, AllStopped, last_sent}
 use Rattle.ac_chain.proofs.RunLaws.{comes_to_end}
@@ -50,7 +49,7 @@ module _ (mode : Mode) (N : ℕ) (told : Bool) where
   run_behind (p ∷ ps) qs left [] us r s = absurd r
   run_behind (p ∷ ps) qs left (o ∷ os) us r s = (r.0, run_behind ps qs (written Channel (writes_of o)) os us r.1 s)
 
-  parts_behind : (made : List Bytes) (os : List (Outcome Value)) (parts : List ChainPart) (o : Outcome Value) (part : ChainPart) → AreParts N told made os parts → IsPart N told (made_in made os) o part → AreParts N told made (os ++ o ∷ []) (parts ++ part ∷ [])
+  parts_behind : (made : List Bytes) (os : List (Outcome Value)) (parts : List ChainPart) (o : Outcome Value) (part : ChainPart) → AreParts N told made os parts → IsChainPart N told (made_in made os) o part → AreParts N told made (os ++ o ∷ []) (parts ++ part ∷ [])
   parts_behind made [] [] o part r s = (s, tt)
   parts_behind made [] (x ∷ parts) o part r s = absurd r
   parts_behind made (u ∷ os) [] o part r s = absurd r

@@ -1,5 +1,5 @@
 -- How a call ends, from what its steps give.
-use Rattle.std.proofs.Common.{◌≡◌, inl, inr, refl, sym, ap, subst, ℕ, zero, suc, List, [], ◌∷◌, length, Option, Some, None}
+use Rattle.std.proofs.Common.{◌≡◌, inr, refl, sym, ap, subst, ℕ, zero, suc, List, [], ◌∷◌, length, Option, Some, None}
 use Rattle.std.specs.Prelude.{option_map, IfOk, IfErr, OnErr, IsErrOf, Result, Ok, Err}
 use Rattle.ac_types.specs.First.{or_else}
 use Rattle.ac_types.specs.Types.{Bytes}
@@ -15,9 +15,9 @@ use Rattle.ac_chain.specs.declared.chained.ChainPart.{ChainPart}
 use Rattle.ac_chain.specs.declared.chained.ChainFault.{ChainFault}
 use Rattle.ac_chain.specs.declared.chained.ChainFault.TheVariants as fault
 use Rattle.ac_chain.specs.Clashes.{clash_in, clash_behind, first_clash}
-use Rattle.ac_chain.specs.Texts.{programs_of, LoadAs}
-use Rattle.ac_chain.specs.Endings.{Printed, HasRun, HasBegun, IsFault}
-use Rattle.ac_chain.specs.inner.Running.{IsRefusal, IsRunFault, AllRun, AllStopped}
+use Rattle.ac_chain.specs.ChainTexts.{programs_of, LoadAs}
+use Rattle.ac_chain.specs.Endings.{Printed, HasRun, HasBegun, IsChainFault}
+use Rattle.ac_chain.specs.inner.Running.{IsRunFault, AllRun, AllStopped}
 
 -- what is found is a clash
 abbrev IsClash : ChainFault → Type 0
@@ -50,22 +50,15 @@ of_all a (p ∷ ps) =
     either (first_below (length p.0) (λ i. clash_behind a p.0 i (suc a) ps)) (first_clash (suc a) ps) (of_below (length p.0) (λ i. clash_behind a p.0 i (suc a) ps) (λ i. of_behind a p.0 i (suc a) ps)) (of_all (suc a) ps)
 
 module _ (texts : List Bytes) (shelf : List Shelved) (N : ℕ) (c : Printed) where
-  -- a text is refused
-  pub refused_fault : (f : ChainFault) → c.new ≡ c.old → IsRefusal texts shelf f → IsFault texts shelf N c f
-  refused_fault (fault.Refused program refusal) same r = r
-  refused_fault (fault.Clash a i b j) same r = absurd r
-  refused_fault fault.WriteFault same r = absurd r
-  refused_fault fault.Memory same r = inl same
-
   module _ (ls : List Loaded) (load : LoadAs texts shelf (programs_of ls)) where
     -- two entries clash
-    clash_fault_of : (f : ChainFault) → IsClash f → first_clash 0 (programs_of ls) ≡ Some f → IsFault texts shelf N c f
+    clash_fault_of : (f : ChainFault) → IsClash f → first_clash 0 (programs_of ls) ≡ Some f → IsChainFault texts shelf N c f
     clash_fault_of (fault.Refused program refusal) is h = absurd is
     clash_fault_of (fault.Clash a i b j) is h = record { programs = programs_of ls; load = load; is_first = h }
     clash_fault_of fault.WriteFault is h = absurd is
     clash_fault_of fault.Memory is h = absurd is
 
-    pub clash_fault : (f : ChainFault) → Some f ≡ first_clash 0 (programs_of ls) → IsFault texts shelf N c f
+    pub clash_fault : (f : ChainFault) → Some f ≡ first_clash 0 (programs_of ls) → IsChainFault texts shelf N c f
     clash_fault f h = clash_fault_of f (subst AreClash (sym h) (of_all 0 (programs_of ls))) (sym h)
 
     module _ (apart : None ≡ first_clash 0 (programs_of ls)) where
@@ -82,7 +75,7 @@ module _ (texts : List Bytes) (shelf : List Shelved) (N : ℕ) (c : Printed) whe
         printed = s.printed;
       }
 
-      pub run_fault : (f : ChainFault) → IsRunFault f → (f ≡ fault.WriteFault → Rose c.before c.after) → ((mode : Mode) → AllStopped mode N c.told (programs_of ls) c.old c.new) → IsFault texts shelf N c f
+      pub run_fault : (f : ChainFault) → IsRunFault f → (f ≡ fault.WriteFault → Rose c.before c.after) → ((mode : Mode) → AllStopped mode N c.told (programs_of ls) c.old c.new) → IsChainFault texts shelf N c f
       run_fault (fault.Refused program refusal) is rose s = absurd is
       run_fault (fault.Clash a i b j) is rose s = absurd is
       run_fault fault.WriteFault is rose s = (rose refl, λ mode. has_begun mode (s mode))
@@ -93,6 +86,6 @@ module _ (texts : List Bytes) (shelf : List Shelved) (N : ℕ) (c : Printed) whe
       all_have_run (Ok x) h = λ mode. has_run mode x.parts (h mode)
       all_have_run (Err f) h = tt
 
-      pub all_faults : (r : Result Chained ChainFault) → IfErr r IsRunFault → (IsErrOf r fault.WriteFault → Rose c.before c.after) → OnErr r ((mode : Mode) → AllStopped mode N c.told (programs_of ls) c.old c.new) → IfErr r (IsFault texts shelf N c)
+      pub all_faults : (r : Result Chained ChainFault) → IfErr r IsRunFault → (IsErrOf r fault.WriteFault → Rose c.before c.after) → OnErr r ((mode : Mode) → AllStopped mode N c.told (programs_of ls) c.old c.new) → IfErr r (IsChainFault texts shelf N c)
       all_faults (Ok x) is rose s = tt
       all_faults (Err f) is rose s = run_fault f is (λ e. rose (ap Err e)) s

@@ -13,45 +13,45 @@ use Rattle.ac_terms.specs.Read.{environment_of, expr_of}
 use Rattle.ac_rules.specs.declared.loaded.Loaded.{Loaded}
 use Rattle.ac_rules.proofs.ListLaws.{get_old, get_new}
 use Rattle.ac_clashes.proofs.KnownLaws.{position_more}
-use Rattle.ac_names.specs.Table.{Table, number_of, Adds}
+use Rattle.ac_names.specs.Table.{KnownNames, number_of, Adds}
 use Rattle.ac_colours.specs.Chains.{Programs, HaveOneText}
-use Rattle.ac_chain.specs.Texts.{programs_of}
+use Rattle.ac_chain.specs.ChainTexts.{programs_of}
 use Rattle.ac_chain.specs.inner.Known.{Keeps, KeepsAll, Grows}
 
 -- one name more
 abbrev test : Bytes → Bytes × Bytes → Bool
 test name p = same_bytes name p.0
 
-added : (old new : Table) (name text : Bytes) (number : ℕ) → (o : Option ℕ) → number_of old name ≡ o → MatchOption o ((number ≡ length old) × (new ≡ old ++ (name, text) ∷ [])) (λ known. (number ≡ known) × (slice_get old known ≡ Some (name, text)) × (new ≡ old))
+added : (old new : KnownNames) (name text : Bytes) (number : ℕ) → (o : Option ℕ) → number_of old name ≡ o → MatchOption o ((number ≡ length old) × (new ≡ old ++ (name, text) ∷ [])) (λ known. (number ≡ known) × (slice_get old known ≡ Some (name, text)) × (new ≡ old))
     → Keeps new name text × Grows old new
 added old new name text number (Some k) at a = (
-  record { number = k; place = ap (λ (t : Table). number_of t name) a.2 ∙ at; entry = ap (λ (t : Table). slice_get t k) a.2 ∙ a.1 },
-  λ n s h. record { number = h.number; place = ap (λ (t : Table). number_of t n) a.2 ∙ h.place; entry = ap (λ (t : Table). slice_get t h.number) a.2 ∙ h.entry },
+  record { number = k; place = ap (λ (t : KnownNames). number_of t name) a.2 ∙ at; entry = ap (λ (t : KnownNames). slice_get t k) a.2 ∙ a.1 },
+  λ n s h. record { number = h.number; place = ap (λ (t : KnownNames). number_of t n) a.2 ∙ h.place; entry = ap (λ (t : KnownNames). slice_get t h.number) a.2 ∙ h.entry },
 )
 added old new name text number None at a = (
   record {
     number = length old;
-    place = ap (λ (t : Table). number_of t name) a.1 ∙ position_more (test name) old (name, text) ∙ ap₂ (λ (x : Option ℕ) b. or_else x (given b (Some (length old)))) at (bytes_refl name);
-    entry = ap (λ (t : Table). slice_get t (length old)) a.1 ∙ get_new old (name, text) [];
+    place = ap (λ (t : KnownNames). number_of t name) a.1 ∙ position_more (test name) old (name, text) ∙ ap₂ (λ (x : Option ℕ) b. or_else x (given b (Some (length old)))) at (bytes_refl name);
+    entry = ap (λ (t : KnownNames). slice_get t (length old)) a.1 ∙ get_new old (name, text) [];
   },
   λ n s h. record {
     number = h.number;
-    place = ap (λ (t : Table). number_of t n) a.1 ∙ position_more (test n) old (name, text) ∙ ap (λ (x : Option ℕ). or_else x (given (same_bytes n name) (Some (length old)))) h.place;
-    entry = ap (λ (t : Table). slice_get t h.number) a.1 ∙ get_old old ((name, text) ∷ []) h.number (slice_get_within old h.number (n, s) h.entry) ∙ h.entry;
+    place = ap (λ (t : KnownNames). number_of t n) a.1 ∙ position_more (test n) old (name, text) ∙ ap (λ (x : Option ℕ). or_else x (given (same_bytes n name) (Some (length old)))) h.place;
+    entry = ap (λ (t : KnownNames). slice_get t h.number) a.1 ∙ get_old old ((name, text) ∷ []) h.number (slice_get_within old h.number (n, s) h.entry) ∙ h.entry;
   },
 )
 
-pub adds : (old new : Table) (name text : Bytes) (number : ℕ) → Adds old name text number new → Keeps new name text × Grows old new
+pub adds : (old new : KnownNames) (name text : Bytes) (number : ℕ) → Adds old name text number new → Keeps new name text × Grows old new
 adds old new name text number a = added old new name text number (number_of old name) refl a
 
 -- one text for a name
-one_text : (table : Table) (name s t : Bytes) → Keeps table name s → Keeps table name t → s ≡ t
+one_text : (table : KnownNames) (name s t : Bytes) → Keeps table name s → Keeps table name t → s ≡ t
 one_text table name s t h k =
     let at : h.number ≡ k.number = some_eq (sym h.place ∙ k.place) in
     ap (λ (p : Bytes × Bytes). p.1) (some_eq (sym h.entry ∙ ap (slice_get table) at ∙ k.entry))
 
 -- program by program
-pub all_kept : (ps : List Loaded) (table : Table) → ((i : ℕ) (d : Loaded) → i < length ps → KeepsAll (environment_of (get_or ps i d).env) table) → HaveOneText (programs_of ps)
+pub all_kept : (ps : List Loaded) (table : KnownNames) → ((i : ℕ) (d : Loaded) → i < length ps → KeepsAll (environment_of (get_or ps i d).env) table) → HaveOneText (programs_of ps)
 all_kept ps table kept p q a b i j n s t hp hq gp gq =
     let l = at ps p a.0 a.1 a.2 in
     let r = at ps q b.0 b.1 b.2 in

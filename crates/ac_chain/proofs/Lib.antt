@@ -1,5 +1,4 @@
 pub mod Lists
-pub mod Firsts
 pub mod MadeLaws
 pub mod KnownLaws
 pub mod Searches

@@ -21,7 +21,7 @@ use Rattle.ac_load.specs.declared.kind.Refusal.{Refusal}
 use Rattle.ac_colours.specs.Chains.{Programs}
 use Rattle.ac_chain.specs.declared.chained.ChainFault.{ChainFault}
 use Rattle.ac_chain.specs.declared.chained.ChainFault.TheVariants as fault
-use Rattle.ac_chain.specs.Texts.{texts_of, programs_of, LoadAs, RejectsFirst}
+use Rattle.ac_chain.specs.ChainTexts.{texts_of, programs_of, LoadAs, RejectsFirst}
 use Rattle.ac_chain.specs.inner.Running.{AreFew, AreLoaded, IsRefusal, refused_as, refused}
 use Rattle.ac_chain.proofs.Lists.{left_next}
 

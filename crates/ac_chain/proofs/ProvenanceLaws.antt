@@ -10,11 +10,10 @@ use Rattle.ac_rules.specs.Views.{Mode, Coloured}
 use Rattle.ac_rules.specs.declared.loaded.Loaded.{Loaded}
 use Rattle.ac_meaning.specs.Worlds.{Crossing}
 use Rattle.ac_meaning.specs.Writes.{Channel, written}
-use Rattle.ac_meaning.specs.Acts.{Outcome}
-use Rattle.ac_meaning.specs.Laws.{writes_of, crossings_of}
+use Rattle.ac_meaning.specs.Acts.{Outcome, writes_of, crossings_of}
 use Rattle.ac_acceptance.specs.Accepting.{Shelved}
 use Rattle.ac_colours.specs.Births.{Event, events, crossed, crossings_in}
-use Rattle.ac_colours.specs.Chains.{Programs, AreLoadable, Run, begun, HappensIn, EndAs, journals_of, AreRunsOf, IsChain, joined, AreReadNatively}
+use Rattle.ac_colours.specs.Chains.{Programs, AreLoadable, SeparateRun, begun, HappensIn, EndAs, journals_of, AreRunsOf, IsChain, joined, AreReadNatively}
 use Rattle.ac_colours.proofs.Chains.{made_before_of}
 use Rattle.ac_colours.proofs.Crossed.{crossed_both, program_tells}
 use Rattle.ac_colours.proofs.Journals.{native}
@@ -23,8 +22,8 @@ use Rattle.ac_chain.specs.declared.chained.ChainPart.{ChainPart}
 use Rattle.ac_chain.specs.declared.chained.ChainFault.{ChainFault}
 use Rattle.ac_chain.specs.Natives.{made_by}
 use Rattle.ac_chain.specs.Clashes.{first_clash}
-use Rattle.ac_chain.specs.Texts.{programs_of, LoadAs}
-use Rattle.ac_chain.specs.Chains.{RunInTurn, AreParts}
+use Rattle.ac_chain.specs.ChainTexts.{programs_of, LoadAs}
+use Rattle.ac_chain.specs.ChainMeaning.{RunInTurn, AreParts}
 use Rattle.ac_chain.specs.Endings.{AreAllNative, HasProvenance}
 use Rattle.ac_chain.specs.inner.Running.{AreLoaded, AllRun}
 use Rattle.ac_chain.proofs.Apart.{HaveOwnText, one_text}
@@ -41,7 +40,7 @@ own_text (l ∷ ls) h = (record { same = h.0.program.coherent.one_text }, own_te
 
 -- programs that run in turn, as runs with all that happens in them
 record AsRuns (N : ℕ) (told : Bool) (ps : Programs) (left : Bytes) (os : List (Outcome Value)) : Type 0 where
-  runs : List Run
+  runs : List SeparateRun
   are_runs : AreRunsOf N ps runs
   they_end : EndAs runs os
   all : List Event
@@ -56,7 +55,7 @@ as_runs N told (p ∷ ps) left [] l r = absurd r
 as_runs N told (p ∷ ps) left (o ∷ os) l r =
     let x = r.0 in
     let k : ℕ = x.ends.0 in
-    let it : Run = record { program = p; steps = N; input = x.input; sends = true } in
+    let it : SeparateRun = record { program = p; steps = N; input = x.input; sends = true } in
     let mine : List Event = events N k (begun it) in
     let rest = as_runs N told ps (written Channel (writes_of o)) os l.3 r.1 in
     record {

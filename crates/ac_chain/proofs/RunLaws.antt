@@ -1,6 +1,6 @@
 -- The run of one program: what its session leaves is what its reduction says.
 use Rattle.std.specs.Prelude.{IfOk, OnOk, OnErr}
-use Rattle.std.proofs.Common.{append-nil, ◌≡◌, ◌∙◌, refl, sym, ap, subst, ℕ, Bool, true, IsTrue, List, [], Result, Ok, Err}
+use Rattle.std.proofs.Common.{append-nil, ◌≡◌, ◌∙◌, refl, sym, ap, subst, ℕ, Bool, true, IsTrue, List, [], ◌∷◌, ◌++◌, Result, Ok, Err}
 use Rattle.ac_types.specs.Types.{Bytes}
 use Rattle.ac_types.specs.declared.text.Text.{Text}
 use Rattle.ac_types.specs.ReadTypes.{typ_of}
@@ -13,21 +13,22 @@ use Rattle.ac_rules.specs.declared.loaded.Loaded.{Loaded}
 use Rattle.ac_machine.specs.Seen.{MachineSeen}
 use Rattle.ac_outside.specs.Outside.{Extends}
 use Rattle.ac_meaning.specs.Writes.{Write, Console, written}
-use Rattle.ac_meaning.specs.Acts.{Outcome, Returned, Raised, Spent, Stuck}
+use Rattle.ac_meaning.specs.Worlds.{Trace}
+use Rattle.ac_meaning.specs.Acts.{Outcome, Returned, Raised, Spent, Stuck, writes_of, crossings_of, receives_of}
 use Rattle.ac_meaning.specs.Reduction.{Ends}
-use Rattle.ac_meaning.specs.Laws.{writes_of, crossings_of}
 use Rattle.ac_meaning.specs.Loads.{IsLoaded}
 use Rattle.ac_meaning.proofs.Endings.{some_end}
 use Rattle.ac_meaning.proofs.Admitted.{grow}
+use Rattle.ac_meaning.proofs.ReceiveOrders.{written_in_front}
 use Rattle.ac_run.specs.Journals.{read_journal, noted}
-use Rattle.ac_run.specs.Sessions.{Session, Streams, streams, with_writes, IsEnd, Leaves}
+use Rattle.ac_run.specs.Sessions.{Session, Streams, streams, with_writes, StopsBehind, StopsAtReceive, IsEnd, Leaves}
 use Rattle.ac_run.specs.Course.{begun_journalled}
 use Rattle.ac_run.specs.declared.end.RunEnd.{RunEnd}
 use Rattle.ac_run.specs.declared.end.RunEnd.TheVariants as end
 use Rattle.ac_chain.specs.declared.chained.ChainPart.{ChainPart}
 use Rattle.ac_chain.specs.declared.chained.ChainFault.{ChainFault}
 use Rattle.ac_chain.specs.Natives.{natives, made_by}
-use Rattle.ac_chain.specs.Chains.{RunsOn, EndsAs}
+use Rattle.ac_chain.specs.ChainMeaning.{RunsOn, EndsAs}
 use Rattle.ac_chain.specs.inner.Made.{Strings, Has, NativeBy, MadeBy}
 use Rattle.ac_chain.specs.inner.Running.{Ran, RanTo, RanSomewhere, HasRunOn, HasStoppedOn, whole_end}
 use Rattle.ac_chain.proofs.Streams.{inside, behind, somewhere}
@@ -66,24 +67,31 @@ whole N t end.ReadFault e o steps ok is = absurd (cc)
 whole N t end.WriteFault e o steps ok is = absurd (cc)
 whole N t end.Memory e o steps ok is = absurd (cc)
 
-leaves_all : (r e : RunEnd) (told : Bool) (o : Outcome Value) (old new : Streams) → whole_end r ≡ Ok e → Leaves r told (writes_of o) old new → IsTrue told → new ≡ with_writes (writes_of o) old
-leaves_all end.Finished e told o old new ok l t = l t
-leaves_all (end.Uncaught x) e told o old new ok l t = l t
-leaves_all (end.Spent n) e told o old new ok l t = l t
-leaves_all end.ReadFault e told o old new ok l t = absurd (cc)
-leaves_all end.WriteFault e told o old new ok l t = absurd (cc)
-leaves_all end.Memory e told o old new ok l t = absurd (cc)
+leaves_all : (r e : RunEnd) (told : Bool) (o : Outcome Value) (t : Session) (old new : Streams) → whole_end r ≡ Ok e → Leaves r told o t old new → IsTrue told → new ≡ with_writes (writes_of o) old
+leaves_all end.Finished e told o t old new ok l h = l h
+leaves_all (end.Uncaught x) e told o t old new ok l h = l h
+leaves_all (end.Spent n) e told o t old new ok l h = l h
+leaves_all end.ReadFault e told o t old new ok l h = absurd (cc)
+leaves_all end.WriteFault e told o t old new ok l h = absurd (cc)
+leaves_all end.Memory e told o t old new ok l h = absurd (cc)
 
 made_all : (told : Bool) (all : List Write) (old new : Streams) → (IsTrue told → new ≡ with_writes all old) → IsTrue told → Extends old.console new.console (written Console all)
 made_all told all old new is t = record { front = written Console all; rest = []; split = sym (append-nil (written Console all)); new_is = ap (λ (s : Streams). s.console) (is t) }
 
-leaves_some : (r : RunEnd) (told : Bool) (o : Outcome Value) (old new : Streams) → Leaves r told (writes_of o) old new → IsTrue told → Extends old.console new.console (written Console (writes_of o))
-leaves_some end.Finished told o old new l t = made_all told (writes_of o) old new l t
-leaves_some (end.Uncaught x) told o old new l t = made_all told (writes_of o) old new l t
-leaves_some (end.Spent n) told o old new l t = made_all told (writes_of o) old new l t
-leaves_some end.ReadFault told o old new l t = behind told (writes_of o) old new l t
-leaves_some end.WriteFault told o old new l t = inside told (writes_of o) old new l t
-leaves_some end.Memory told o old new l t = somewhere told (writes_of o) old new l t
+-- what is written in front of a receive stands in front of all
+abbrev GoOn : Outcome Value → Type 0
+GoOn o = (before after : List Trace) (x : Trace) → receives_of o ≡ before ++ x ∷ after → (later : List Write) × (writes_of o ≡ x.writes ++ later)
+
+at_receive : (told : Bool) (o : Outcome Value) (old new : Streams) → GoOn o → StopsAtReceive told (receives_of o) old new → StopsBehind told (writes_of o) old new
+at_receive told o old new goes s = let l = goes s.before s.after s.receive s.order in record { before = s.receive.writes; after = l.0; order = l.1; made = s.made }
+
+leaves_some : (r : RunEnd) (told : Bool) (o : Outcome Value) (t : Session) (old new : Streams) → GoOn o → Leaves r told o t old new → IsTrue told → Extends old.console new.console (written Console (writes_of o))
+leaves_some end.Finished told o t old new goes l h = made_all told (writes_of o) old new l h
+leaves_some (end.Uncaught x) told o t old new goes l h = made_all told (writes_of o) old new l h
+leaves_some (end.Spent n) told o t old new goes l h = made_all told (writes_of o) old new l h
+leaves_some end.ReadFault told o t old new goes l h = behind told (writes_of o) old new (at_receive told o old new goes l.0) h
+leaves_some end.WriteFault told o t old new goes l h = inside told (writes_of o) old new l.0 h
+leaves_some end.Memory told o t old new goes l h = somewhere told (writes_of o) old new l.0 h
 
 module _ (mode : Mode) (N : ℕ) (told : Bool) (program : Loaded) (m : MachineSeen) (t : Session) (left : Bytes) (r : RunEnd) (old new : Bytes) (sent : Bytes)
     (loaded : IsLoaded (environment_of program.env) (expr_of program.main) (typ_of program.ty))
@@ -97,11 +105,11 @@ module _ (mode : Mode) (N : ℕ) (told : Bool) (program : Loaded) (m : MachineSe
   runs : RunsOn mode N told it left last.0
   runs = record { input = ran.input; is_input = ran.is_input; ends = last.1 }
 
-  left_so : IsEnd r last.0 t × Leaves r told (writes_of last.0) (streams old []) (streams new sent)
+  left_so : IsEnd r last.0 t × Leaves r told last.0 t (streams old []) (streams new sent)
   left_so = ran.runs.ends mode last.0 last.1
 
   pub has_stopped : HasStoppedOn mode N told it left old new
-  has_stopped = record { last = last.0; runs = runs; printed = leaves_some r told last.0 (streams old []) (streams new sent) left_so.1 }
+  has_stopped = record { last = last.0; runs = runs; printed = leaves_some r told last.0 t (streams old []) (streams new sent) (written_in_front mode it.0 it.1 ran.input true N last.0 last.1) left_so.1 }
 
   pub has_run : (e : RunEnd) → whole_end r ≡ Ok e → (part : ChainPart) (made more : Strings) → part.end ≡ e → part.sent.0 ≡ sent → NativeBy made t.journal part.native → MadeBy made t.journal more → HasRunOn mode N told it left part made more old new
   has_run e ok part made more is frames native note = record {
@@ -122,7 +130,7 @@ module _ (mode : Mode) (N : ℕ) (told : Bool) (program : Loaded) (m : MachineSe
     crossed = done.noted ∙ ap (λ b. noted b (crossings_of last.0)) ran.same.1
 
     all : IsTrue told → streams new sent ≡ with_writes (writes_of last.0) (streams old [])
-    all h = leaves_all r e told last.0 (streams old []) (streams new sent) ok left_so.1 h
+    all h = leaves_all r e told last.0 t (streams old []) (streams new sent) ok left_so.1 h
 
 -- whatever the part of a program came to
 pub ran_to : (told : Bool) (s t : Session) (left : Bytes) (e : RunEnd) (text : Text) (old new : Bytes) (before after : Strings) → Ran told s t left e (streams old []) (streams new text.0) → (r : Result ChainPart ChainFault)

@@ -8,13 +8,13 @@ use Rattle.ac_outside.specs.Outside.{Extends, Rose}
 use Rattle.ac_meaning.specs.Acts.{Outcome}
 use Rattle.ac_acceptance.specs.Accepting.{Shelved}
 use Rattle.ac_colours.specs.Births.{Event}
-use Rattle.ac_colours.specs.Chains.{Programs, Run, HappensIn, EndAs, AreRunsOf, IsChain, HaveBirths}
+use Rattle.ac_colours.specs.Chains.{Programs, SeparateRun, HappensIn, EndAs, AreRunsOf, IsChain, HaveBirths}
 use Rattle.ac_chain.specs.declared.chained.ChainPart.{ChainPart}
 use Rattle.ac_chain.specs.declared.chained.ChainFault.{ChainFault}
 use Rattle.ac_chain.specs.declared.chained.ChainFault.TheVariants as fault
 use Rattle.ac_chain.specs.Clashes.{first_clash}
-use Rattle.ac_chain.specs.Texts.{LoadAs, RejectsFirst}
-use Rattle.ac_chain.specs.Chains.{Runs, AreParts, console_of}
+use Rattle.ac_chain.specs.ChainTexts.{LoadAs, RejectsFirst}
+use Rattle.ac_chain.specs.ChainMeaning.{Runs, AreParts, console_of}
 
 -- a console that is written to: whether it tells its bytes, those before and after the call, and its counts of failed writes
 pub record Printed : Type 0 where
@@ -43,11 +43,11 @@ module _ (texts : List Bytes) (shelf : List Shelved) (N : ℕ) (c : Printed) whe
     pub is_first : first_clash 0 programs ≡ Some clash
 
   -- the cause of a fault, and what it leaves. Want of memory may come in front of the runs too, and then nothing is printed
-  abbrev pub IsFault : ChainFault → Type 0
-  IsFault (fault.Refused program refusal) = RejectsFirst texts shelf program refusal.part refusal.kind
-  IsFault (fault.Clash program1 entry1 program2 entry2) = ClashesFirst (fault.Clash program1 entry1 program2 entry2)
-  IsFault fault.WriteFault = Rose c.before c.after × ((mode : Mode) → HasBegun mode)
-  IsFault fault.Memory = (c.new ≡ c.old) ⊎ ((mode : Mode) → HasBegun mode)
+  abbrev pub IsChainFault : ChainFault → Type 0
+  IsChainFault (fault.Refused program refusal) = RejectsFirst texts shelf program refusal.part refusal.kind
+  IsChainFault (fault.Clash program1 entry1 program2 entry2) = ClashesFirst (fault.Clash program1 entry1 program2 entry2)
+  IsChainFault fault.WriteFault = Rose c.before c.after × ((mode : Mode) → HasBegun mode)
+  IsChainFault fault.Memory = (c.new ≡ c.old) ⊎ ((mode : Mode) → HasBegun mode)
 
 -- the faults in front of the runs, at which nothing is written
 abbrev pub IsBeforeRuns : ChainFault → Type 0
@@ -63,7 +63,7 @@ AreAllNative (part ∷ parts) = IsTrue (list_all (λ (b : Bool). b) part.native)
 
 -- runs of these programs that end as these parts say, and all that happens in them, a chain where what is sent is told: each seal that unmarshal writes has its birth before
 pub record HasProvenance (N : ℕ) (told : Bool) (ps : Programs) (parts : List ChainPart) : Type 0 where
-  pub runs : List Run
+  pub runs : List SeparateRun
   pub are_runs : AreRunsOf N ps runs
   pub ends : List (Outcome Value)
   pub they_end : EndAs runs ends

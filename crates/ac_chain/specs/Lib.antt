@@ -1,7 +1,7 @@
 pub mod Natives
 pub mod Clashes
-pub mod Texts
-pub mod Chains
+pub mod ChainTexts
+pub mod ChainMeaning
 pub mod Endings
-pub mod Lines
+pub mod StringLines
 pub mod inner

@@ -6,8 +6,8 @@ ghost use Rattle.ac_outside.specs.Outside.{Rose};
 ghost use Rattle.ac_acceptance.specs.Accepting.{IsShelf};
 ghost use Rattle.ac_load.specs.Loading.{shelf_of};
 ghost use Rattle.ac_colours.specs.Chains.{Programs};
-ghost use Rattle.ac_chain.specs.Texts.{texts_of, programs_of, LoadAs};
-ghost use Rattle.ac_chain.specs.Endings.{HasRun, IsFault, IsBeforeRuns, AreAllNative, HasProvenance};
+ghost use Rattle.ac_chain.specs.ChainTexts.{texts_of, programs_of, LoadAs};
+ghost use Rattle.ac_chain.specs.Endings.{HasRun, IsChainFault, IsBeforeRuns, AreAllNative, HasProvenance};
 ghost use Rattle.ac_chain.specs.inner.Running.{AreLoaded, AllRun, AllStopped, IsRunFault, last_sent, printed};
 
 use crate::chained::{ChainFault, ChainPart, Chained};
@@ -45,7 +45,7 @@ pub fn chain<C: Sink>(
         LoadAs (texts_of programs.now) (shelf_of shelf.now) ps →
         HasProvenance steps C.told ps c.parts) }
     // The cause of a fault, and what it leaves.
-    ensures fault { IfErr result (IsFault (texts_of programs.now) (shelf_of shelf.now) steps
+    ensures fault { IfErr result (IsChainFault (texts_of programs.now) (shelf_of shelf.now) steps
         (printed C.told C.written C.faults console.old console.new)) }
     ensures untouched { IfErr result (λ f. IsBeforeRuns f → console.new ≡ console.old) }
     ensures later { C.faults console.old ≤ C.faults console.new }

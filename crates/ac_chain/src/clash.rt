@@ -5,7 +5,7 @@ ghost use Rattle.ac_terms.specs.Read.{environment_of};
 ghost use Rattle.ac_terms.specs.Names.{text_of_entry};
 ghost use Rattle.ac_acceptance.specs.Causes.{differ, first_below};
 ghost use Rattle.ac_chain.specs.Clashes.{is_clash, clash_in, clash_behind, first_clash};
-ghost use Rattle.ac_chain.specs.Texts.{programs_of};
+ghost use Rattle.ac_chain.specs.ChainTexts.{programs_of};
 ghost use Rattle.ac_chain.specs.inner.Running.{AreFew};
 
 use crate::chained::ChainFault;

@@ -4,7 +4,7 @@ ghost use Rattle.std.specs.Prelude.{◌≡◌, ◌<◌, ◌≤◌, ◌^◌, true
 ghost use Rattle.std.specs.Option.{option_copied};
 ghost use Rattle.ac_terms.specs.Read.{environment_of, name_of_code};
 ghost use Rattle.ac_colours.specs.Chains.{HaveOneText};
-ghost use Rattle.ac_chain.specs.Texts.{programs_of};
+ghost use Rattle.ac_chain.specs.ChainTexts.{programs_of};
 ghost use Rattle.ac_chain.specs.inner.Known.{told_name, Keeps, KeepsEntry, KeepsAll, Grows};
 ghost use Rattle.ac_chain.specs.inner.Running.{AreFew};
 

@@ -3,7 +3,7 @@
 ghost use Rattle.std.specs.Prelude.{◌≡◌, ◌<◌, ◌≤◌, ◌^◌, length, IfOk, IfErr};
 ghost use Rattle.ac_acceptance.specs.Accepting.{IsShelf};
 ghost use Rattle.ac_load.specs.Loading.{shelf_of};
-ghost use Rattle.ac_chain.specs.Texts.{texts_of, programs_of, LoadAs};
+ghost use Rattle.ac_chain.specs.ChainTexts.{texts_of, programs_of, LoadAs};
 ghost use Rattle.ac_chain.specs.inner.Running.{AreLoaded, IsRefusal, refused};
 
 use crate::chained::ChainFault;

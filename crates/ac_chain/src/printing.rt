@@ -1,7 +1,7 @@
 // The lines that are printed of a chain that has run.
 
 ghost use Rattle.std.specs.Prelude.{◌≡◌, ◌++◌, IfOk, OnOk, flat_map};
-ghost use Rattle.ac_chain.specs.Lines.{end_status, end_line, native_line, part_lines, chain_lines};
+ghost use Rattle.ac_chain.specs.StringLines.{end_status, end_line, native_line, part_lines, chain_lines};
 
 use crate::chained::{ChainPart, Chained};
 use ac_literals::put_number;

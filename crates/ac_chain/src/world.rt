@@ -64,9 +64,13 @@ impl<C: Sink, K: Fixed> World for Linked<'_, C, K> {
 
     ghost write_faults = { λ s. C.faults s.console.now };
 
-    ghost read_leaves = { λ _ _ h _. (Rattle.std.proofs.Common.ap (λ c. C.written c.now) h.0, Rattle.std.proofs.Common.ap (λ t. t.0) h.1) };
+    ghost read_leaves = { λ _ _ h _. (
+      Rattle.std.proofs.Common.ap (λ c. C.written c.now) h.0,
+      Rattle.std.proofs.Common.ap (λ t. t.0) h.1,
+    ) };
 
-    ghost read_keeps = { λ a b h. let e = Rattle.std.proofs.Common.ap (λ c. C.faults c.now) h.0 in omega (arith, e) };
+    ghost read_keeps = { λ a b h. let e = Rattle.std.proofs.Common.ap (λ c. C.faults c.now) h.0 in
+        omega (arith, e) };
 
     fn print(&mut self, bytes: &[u8]) -> Put {
         self.console.write(bytes)

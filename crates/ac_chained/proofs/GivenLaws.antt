@@ -1,5 +1,5 @@
 -- What the call of a chain gives, by what the chain has come to.
-use Rattle.std.proofs.Common.{◌≡◌, ◌∙◌, ◌≤◌, inl, inr, refl, sym, ap, subst, append-nil, append_assoc, ℕ, List, [], ◌++◌, length}
+use Rattle.std.proofs.Common.{◌≡◌, ◌∙◌, ◌≤◌, inl, inr, refl, sym, ap, subst, append-nil, ℕ, List, [], ◌++◌, length}
 use Rattle.std.specs.Prelude.{Result, Ok, Err, IfOk}
 use Rattle.ac_types.specs.Types.{Bytes}
 use Rattle.ac_types.specs.declared.memory.Memory.{Memory}
@@ -10,10 +10,10 @@ use Rattle.ac_load.specs.declared.kind.Kind.{Kind}
 use Rattle.ac_chain.specs.declared.chained.ChainPart.{ChainPart}
 use Rattle.ac_chain.specs.declared.chained.ChainFault.{ChainFault}
 use Rattle.ac_chain.specs.declared.chained.ChainFault.TheVariants as fault
-use Rattle.ac_chain.specs.Texts.{RejectsFirst}
-use Rattle.ac_chain.specs.Chains.{console_of}
-use Rattle.ac_chain.specs.Lines.{chain_lines}
-use Rattle.ac_chain.specs.Endings.{Printed, HasRun, HasBegun, ClashesFirst, IsFault, IsBeforeRuns}
+use Rattle.ac_chain.specs.ChainTexts.{RejectsFirst}
+use Rattle.ac_chain.specs.ChainMeaning.{console_of}
+use Rattle.ac_chain.specs.StringLines.{chain_lines}
+use Rattle.ac_chain.specs.Endings.{Printed, HasRun, HasBegun, ClashesFirst, IsChainFault, IsBeforeRuns}
 use Rattle.ac_answers.specs.declared.answer.Answer.{Answer}
 use Rattle.ac_answers.specs.declared.status.Status.{Status}
 use Rattle.ac_answers.specs.declared.status.TheConstants.Status.{FINISHED, REFUSED, CLASH}
@@ -32,9 +32,9 @@ module _ (texts : List Bytes) (shelf : List Shelved) (N : ℕ) (c : Printed) whe
     has_run parts a h e =
         let r = (h Plain).runs in
         record {
+          console = console_of r.ends;
           whole = printing FINISHED (console_of r.ends ++ lines_behind 1 [] r.ends);
           gives = chains_in_each texts shelf N c.told is few r;
-          front = console_of r.ends;
           printed = (h Plain).printed;
           rest = ap (λ (l : Bytes). console_of r.ends ++ l) (sym (lines_are N c.told 1 [] r.ends parts (h Plain).parts) ∙ sym (ap (λ (s : ShownAnswer). s.printed) e));
           status = sym (ap (λ (s : ShownAnswer). s.status) e);
@@ -46,21 +46,23 @@ module _ (texts : List Bytes) (shelf : List Shelved) (N : ℕ) (c : Printed) whe
     has_run_alone parts h =
         let r = (h Plain).runs in
         record {
+          console = console_of r.ends;
           whole = printing FINISHED (console_of r.ends ++ lines_behind 1 [] r.ends);
           gives = chains_in_each texts shelf N c.told is few r;
-          part = λ t. record { front = console_of r.ends; rest = lines_behind 1 [] r.ends; split = refl; new_is = (h Plain).printed t };
+          runs = refl;
+          part = λ t. record { front = console_of r.ends; rest = []; split = sym (append-nil (console_of r.ends)); new_is = (h Plain).printed t };
         }
 
     -- they haven't all
     pub has_begun : ((mode : Mode) → HasBegun texts shelf N c mode) → GivesPart texts shelf N c
     has_begun h =
         let r = (h Plain).runs in
-        let all = lines_behind 1 [] r.ends in
         record {
-          whole = printing FINISHED (console_of r.ends ++ all);
+          console = console_of r.ends;
+          whole = printing FINISHED (console_of r.ends ++ lines_behind 1 [] r.ends);
           gives = chains_in_each texts shelf N c.told is few r;
-          part = λ t. let x = (h Plain).printed t in
-              record { front = x.front; rest = x.rest ++ all; split = ap (λ (l : Bytes). l ++ all) x.split ∙ append_assoc x.front x.rest all; new_is = x.new_is };
+          runs = refl;
+          part = (h Plain).printed;
         }
 
   -- nothing is printed, and there is a line
@@ -68,9 +70,9 @@ module _ (texts : List Bytes) (shelf : List Shelved) (N : ℕ) (c : Printed) whe
     pub refused_first : (program part : ℕ) (kind : Kind) → RejectsFirst texts shelf program part kind → answer_of a ≡ telling REFUSED (program_line program part kind) → GivesRest texts shelf N c a
     refused_first program part kind h e =
         record {
+          console = [];
           whole = telling REFUSED (program_line program part kind);
           gives = λ mode. refused_program program part kind h;
-          front = [];
           printed = λ t. same ∙ sym (append-nil c.old);
           rest = sym (ap (λ (s : ShownAnswer). s.printed) e);
           status = sym (ap (λ (s : ShownAnswer). s.status) e);
@@ -80,9 +82,9 @@ module _ (texts : List Bytes) (shelf : List Shelved) (N : ℕ) (c : Printed) whe
     pub clashes_first : (p i q j : ℕ) → ClashesFirst texts shelf N c (fault.Clash p i q j) → answer_of a ≡ telling CLASH (clash_line p i q j) → GivesRest texts shelf N c a
     clashes_first p i q j h e =
         record {
+          console = [];
           whole = telling CLASH (clash_line p i q j);
           gives = λ mode. clashing p i q j (record { programs = h.programs; load = h.load; is_first = h.is_first });
-          front = [];
           printed = λ t. same ∙ sym (append-nil c.old);
           rest = sym (ap (λ (s : ShownAnswer). s.printed) e);
           status = sym (ap (λ (s : ShownAnswer). s.status) e);
@@ -90,7 +92,7 @@ module _ (texts : List Bytes) (shelf : List Shelved) (N : ℕ) (c : Printed) whe
         }
 
   -- the answer to a fault is what the call gives
-  pub answered : IsShelf shelf → length shelf ≤ 256 → (f : ChainFault) (r : Result Answer Halt) → IsFault texts shelf N c f → (IsBeforeRuns f → c.new ≡ c.old) → AnswersFault f r → GivesChain texts shelf N c r
+  pub answered : IsShelf shelf → length shelf ≤ 256 → (f : ChainFault) (r : Result Answer Halt) → IsChainFault texts shelf N c f → (IsBeforeRuns f → c.new ≡ c.old) → AnswersFault f r → GivesChain texts shelf N c r
   answered is few (fault.Refused program refusal) (Ok a) cause same h = refused_first a (same tt) program refusal.part refusal.kind cause h
   answered is few (fault.Refused program refusal) (Err halt.WriteFault) cause same h = absurd h
   answered is few (fault.Refused program refusal) (Err halt.Memory) cause same h = inl (same tt)

@@ -8,9 +8,9 @@ use Rattle.ac_terms.specs.Defs.{Environment}
 use Rattle.ac_rules.specs.Views.{Mode, Plain}
 use Rattle.ac_meaning.specs.Worlds.{Crossing}
 use Rattle.ac_meaning.specs.Writes.{Console, Channel, written}
-use Rattle.ac_meaning.specs.Acts.{Outcome, Returned, Raised, Spent, Stuck}
+use Rattle.ac_meaning.specs.Acts.{Outcome, Returned, Raised, Spent, Stuck, writes_of, crossings_of}
 use Rattle.ac_meaning.specs.Reduction.{Ends}
-use Rattle.ac_meaning.specs.Laws.{IsTypedProgram, bare_end, writes_of, crossings_of}
+use Rattle.ac_meaning.specs.Laws.{IsTypedProgram, bare_end}
 use Rattle.ac_meaning.proofs.Admitted.{arrives, grow}
 use Rattle.ac_meaning.proofs.Endings as endings
 use Rattle.ac_meaning.proofs.BareEndings.{ends_alike, one_bare_end}
@@ -18,10 +18,10 @@ use Rattle.ac_meaning.proofs.NeverStuck.{never_stuck}
 use Rattle.ac_acceptance.specs.Accepting.{Shelved, IsShelf}
 use Rattle.ac_load.proofs.Loaded.{loads_ready}
 use Rattle.ac_colours.specs.Chains.{Programs}
-use Rattle.ac_chain.specs.Texts.{LoadAs}
+use Rattle.ac_chain.specs.ChainTexts.{LoadAs}
 use Rattle.ac_chain.specs.Natives.{natives, made_by}
-use Rattle.ac_chain.specs.Chains.{RunInTurn, Runs, console_of}
-use Rattle.ac_chain.specs.Lines.{native_line}
+use Rattle.ac_chain.specs.ChainMeaning.{RunInTurn, Runs, console_of}
+use Rattle.ac_chain.specs.StringLines.{native_line}
 use Rattle.ac_answers.specs.declared.status.TheConstants.Status.{FINISHED}
 use Rattle.ac_answers.specs.Answers.{printing}
 use Rattle.ac_chained.specs.Chaining.{Chains, ChainsInEach, ran, run_status, end_lines, lines_behind, IsNotStuck, NoneIsStuck}
@@ -122,10 +122,12 @@ none_is_stuck mode N told [] h left (o ∷ os) r = absurd r
 none_is_stuck mode N told (p ∷ ps) h left [] r = absurd r
 none_is_stuck mode N told (p ∷ ps) h left (o ∷ os) r = (not_stuck p.0 p.1 h.0.0 h.0.1 mode r.0.input N o r.0.ends, none_is_stuck mode N told ps h.1 (written Channel (writes_of o)) os r.1)
 
-pub chains_in_each : (texts : List Bytes) (shelf : List Shelved) (N : ℕ) (told : Bool) → IsShelf shelf → length shelf ≤ 256 → (r : Runs Plain texts shelf N told) → ChainsInEach texts shelf N told (printing FINISHED (console_of r.ends ++ lines_behind 1 [] r.ends))
+pub chains_in_each : (texts : List Bytes) (shelf : List Shelved) (N : ℕ) (told : Bool) → IsShelf shelf → length shelf ≤ 256 → (r : Runs Plain texts shelf N told) → ChainsInEach texts shelf N told (console_of r.ends) (printing FINISHED (console_of r.ends ++ lines_behind 1 [] r.ends))
 chains_in_each texts shelf N told is few r mode =
     let are = typed texts shelf r.programs is few r.load in
     let q = run_alike N told r.programs are mode [] r.ends r.run in
-    let same = ap₂ (λ (a b : Bytes). a ++ b) (alike_console r.ends q.0 q.2) (alike_lines 1 [] r.ends q.0 q.2) in
-    subst (Chains mode texts shelf N told) (ap (printing FINISHED) (sym same))
-    (ran (record { programs = r.programs; load = r.load; apart = r.apart; ends = q.0; run = q.1 }) (none_is_stuck mode N told r.programs are [] q.0 q.1))
+    let console = alike_console r.ends q.0 q.2 in
+    let same = ap₂ (λ (a b : Bytes). a ++ b) console (alike_lines 1 [] r.ends q.0 q.2) in
+    subst (Chains mode texts shelf N told (console_of r.ends)) (ap (printing FINISHED) (sym same))
+    (subst (λ (b : Bytes). Chains mode texts shelf N told b (printing FINISHED (console_of q.0 ++ lines_behind 1 [] q.0))) (sym console)
+    (ran (record { programs = r.programs; load = r.load; apart = r.apart; ends = q.0; run = q.1 }) (none_is_stuck mode N told r.programs are [] q.0 q.1)))

@@ -4,15 +4,14 @@ use Rattle.std.specs.Prelude.{codes}
 use Rattle.std.specs.Fmt.{decimal}
 use Rattle.ac_types.specs.Types.{Bytes}
 use Rattle.ac_terms.specs.Terms.{Value}
-use Rattle.ac_meaning.specs.Acts.{Outcome, Returned, Raised, Spent, Stuck}
-use Rattle.ac_meaning.specs.Laws.{crossings_of}
+use Rattle.ac_meaning.specs.Acts.{Outcome, Returned, Raised, Spent, Stuck, crossings_of}
 use Rattle.ac_literals.specs.NumberedLines.{lines_from}
 use Rattle.ac_run.specs.declared.end.RunEnd.{RunEnd}
 use Rattle.ac_run.specs.declared.end.RunEnd.TheVariants as end
 use Rattle.ac_chain.specs.declared.chained.ChainPart.{ChainPart}
 use Rattle.ac_chain.specs.Natives.{made_by}
-use Rattle.ac_chain.specs.Chains.{EndsAs, IsPart, AreParts}
-use Rattle.ac_chain.specs.Lines.{end_status, native_line, part_lines}
+use Rattle.ac_chain.specs.ChainMeaning.{EndsAs, IsChainPart, AreParts}
+use Rattle.ac_chain.specs.StringLines.{end_status, native_line, part_lines}
 use Rattle.ac_chained.specs.Chaining.{run_status, end_lines, lines_behind}
 
 status_is : (N : ℕ) (e : RunEnd) (o : Outcome Value) → EndsAs N e o → end_status e ≡ run_status o
@@ -41,7 +40,7 @@ status_is N end.Memory (Raised x z) h = absurd h
 status_is N end.Memory (Spent z) h = absurd h
 status_is N end.Memory Stuck h = absurd h
 
-one_part : (N : ℕ) (told : Bool) (k : ℕ) (made : List Bytes) (o : Outcome Value) (part : ChainPart) → IsPart N told made o part → part_lines k part ≡ end_lines k made o
+one_part : (N : ℕ) (told : Bool) (k : ℕ) (made : List Bytes) (o : Outcome Value) (part : ChainPart) → IsChainPart N told made o part → part_lines k part ≡ end_lines k made o
 one_part N told k made o part h =
     ap₂ (λ (s : ℕ) (ns : List Bool). (codes "program " ++ (decimal k ++ (codes ": status " ++ (decimal s ++ codes "\n")))) ++ flat_map native_line ns) (status_is N part.end o h.ends) h.native
 

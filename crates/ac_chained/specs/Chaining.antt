@@ -3,17 +3,16 @@ use Rattle.std.specs.Prelude.{◌≡◌, ℕ, suc, ◌+◌, Bool, List, [], ◌�
 use Rattle.std.specs.Fmt.{decimal}
 use Rattle.ac_types.specs.Types.{Bytes}
 use Rattle.ac_rules.specs.Views.{Mode}
-use Rattle.ac_meaning.specs.Acts.{Outcome, Returned, Raised, Spent, Stuck}
-use Rattle.ac_meaning.specs.Laws.{crossings_of}
+use Rattle.ac_meaning.specs.Acts.{Outcome, Returned, Raised, Spent, Stuck, crossings_of}
 use Rattle.ac_acceptance.specs.Accepting.{Shelved}
 use Rattle.ac_load.specs.declared.kind.Kind.{Kind}
 use Rattle.ac_colours.specs.Chains.{Programs}
 use Rattle.ac_chain.specs.declared.chained.ChainFault.TheVariants.{Clash}
-use Rattle.ac_chain.specs.Texts.{LoadAs, RejectsFirst}
+use Rattle.ac_chain.specs.ChainTexts.{LoadAs, RejectsFirst}
 use Rattle.ac_chain.specs.Clashes.{first_clash}
 use Rattle.ac_chain.specs.Natives.{natives, made_by}
-use Rattle.ac_chain.specs.Chains.{Runs, console_of}
-use Rattle.ac_chain.specs.Lines.{native_line}
+use Rattle.ac_chain.specs.ChainMeaning.{Runs, console_of}
+use Rattle.ac_chain.specs.StringLines.{native_line}
 use Rattle.ac_answers.specs.declared.status.TheConstants.Status.{FINISHED, REFUSED, CLASH}
 use Rattle.ac_answers.specs.Answers.{ShownAnswer, printing, telling}
 use Rattle.ac_answers.specs.Reasons.{reason}
@@ -63,12 +62,12 @@ abbrev pub NoneIsStuck : {A : Type 0} → List (Outcome A) → Type 0
 NoneIsStuck [] = Unit {0}
 NoneIsStuck (o ∷ os) = IsNotStuck o × NoneIsStuck os
 
--- a text is refused, two entries clash, or the programs run, and their lines follow what they print
-pub data Chains (mode : Mode) (texts : List Bytes) (shelf : List Shelved) (steps : ℕ) (told : Bool) : ShownAnswer → Type 0 where
-  refused_program : (program part : ℕ) (kind : Kind) → RejectsFirst texts shelf program part kind → Chains mode texts shelf steps told (telling REFUSED (program_line program part kind))
-  clashing : (a i b j : ℕ) → ClashAt texts shelf a i b j → Chains mode texts shelf steps told (telling CLASH (clash_line a i b j))
-  ran : (r : Runs mode texts shelf steps told) → NoneIsStuck r.ends → Chains mode texts shelf steps told (printing FINISHED (console_of r.ends ++ lines_behind 1 [] r.ends))
+-- a text is refused, two entries clash, or the programs run; what they print as they run stands first in the answer, and their lines follow it
+pub data Chains (mode : Mode) (texts : List Bytes) (shelf : List Shelved) (steps : ℕ) (told : Bool) : Bytes → ShownAnswer → Type 0 where
+  refused_program : (program part : ℕ) (kind : Kind) → RejectsFirst texts shelf program part kind → Chains mode texts shelf steps told [] (telling REFUSED (program_line program part kind))
+  clashing : (a i b j : ℕ) → ClashAt texts shelf a i b j → Chains mode texts shelf steps told [] (telling CLASH (clash_line a i b j))
+  ran : (r : Runs mode texts shelf steps told) → NoneIsStuck r.ends → Chains mode texts shelf steps told (console_of r.ends) (printing FINISHED (console_of r.ends ++ lines_behind 1 [] r.ends))
 
 -- the same in each mode
-abbrev pub ChainsInEach : List Bytes → List Shelved → ℕ → Bool → ShownAnswer → Type 0
-ChainsInEach texts shelf steps told a = (mode : Mode) → Chains mode texts shelf steps told a
+abbrev pub ChainsInEach : List Bytes → List Shelved → ℕ → Bool → Bytes → ShownAnswer → Type 0
+ChainsInEach texts shelf steps told console a = (mode : Mode) → Chains mode texts shelf steps told console a

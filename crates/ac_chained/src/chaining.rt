@@ -2,8 +2,8 @@
 ghost use Rattle.std.specs.Prelude.{◌≡◌, ◌<◌, ◌≤◌, ◌^◌, IfOk, length};
 ghost use Rattle.ac_acceptance.specs.Accepting.{IsShelf};
 ghost use Rattle.ac_load.specs.Loading.{shelf_of};
-ghost use Rattle.ac_chain.specs.Texts.{texts_of};
-ghost use Rattle.ac_chain.specs.Lines.{chain_lines};
+ghost use Rattle.ac_chain.specs.ChainTexts.{texts_of};
+ghost use Rattle.ac_chain.specs.StringLines.{chain_lines};
 ghost use Rattle.ac_chain.specs.inner.Running.{printed};
 ghost use Rattle.ac_chained.specs.inner.Given.{AnswersFault, GivesChain, Tells};
 

@@ -8,14 +8,13 @@ use Rattle.ac_types.specs.Words as words
 use Rattle.ac_terms.specs.Terms.{In, Expr, Str, Unit', Prim, Marshal, Unmarshal, Evaluated, exprs, Value, VInt, VSeal}
 use Rattle.ac_rules.specs.Views.{Coloured}
 use Rattle.ac_rules.proofs.Samples.{t, made}
-use Rattle.ac_meaning.specs.Acts.{Outcome, Stuck, State, At, Over, iter}
-use Rattle.ac_meaning.specs.Laws.{writes_of}
+use Rattle.ac_meaning.specs.Acts.{Outcome, Stuck, State, At, Over, iter, writes_of}
 use Rattle.ac_meaning.specs.Packing.{packing, landing}
 use Rattle.ac_meaning.specs.Reduction.{step}
 use Rattle.ac_meaning.specs.Worlds.{Crossing, Made, Read, fresh}
 use Rattle.ac_meaning.specs.Writes.{Channel, written}
 use Rattle.ac_colours.specs.Births.{Event, Born, Gave, Took, seal, events, crossed, crossings_in}
-use Rattle.ac_colours.specs.Chains.{Run, begun, EndAs, journals_of, joined}
+use Rattle.ac_colours.specs.Chains.{SeparateRun, begun, EndAs, journals_of, joined}
 use Rattle.ac_colours.specs.Veils.{DifferInside}
 use Rattle.ac_colours.proofs.SentExample.{long_name, cut, seals_of}
 
@@ -78,7 +77,7 @@ unfolding int_wrap packing landing words.is_reserved
 they_tell = refl
 
 -- two separate runs: the second has another budget and no channel, and its input is handed to it
-abbrev apart : List Run
+abbrev apart : List SeparateRun
 apart = record { program = (cut, first); steps = 1; input = []; sends = true } ∷ record { program = (cut, second); steps = 2; input = passed; sends = false } ∷ []
 
 abbrev end_of : State Expr Value → Outcome Value
@@ -86,7 +85,7 @@ end_of (Over o) = o
 end_of (At e z) = Stuck
 
 abbrev ends : List (Outcome Value)
-ends = map (λ (r : Run). end_of (iter (step Coloured r.steps) 30 (begun r))) apart
+ends = map (λ (r : SeparateRun). end_of (iter (step Coloured r.steps) 30 (begun r))) apart
 
 they_end : EndAs apart ends
 unfolding int_wrap packing landing words.is_reserved

@@ -9,15 +9,15 @@ use Rattle.ac_terms.specs.Bounds.{fits_term}
 use Rattle.ac_terms.specs.Names.{text_of_entry}
 use Rattle.ac_rules.specs.Views.{Coloured, opens}
 use Rattle.ac_meaning.specs.Worlds.{World, fresh}
-use Rattle.ac_meaning.specs.Acts.{Act, Is, Goes, Turns, Applies, Raises, Wrong, State, At, Over}
-use Rattle.ac_meaning.specs.Laws.{IsTypedProgram, writes_of}
+use Rattle.ac_meaning.specs.Acts.{Act, Is, Goes, Turns, Applies, Raises, Wrong, State, At, Over, writes_of}
+use Rattle.ac_meaning.specs.Laws.{IsTypedProgram}
 use Rattle.ac_meaning.specs.Reduction.{look, step}
 use Rattle.ac_meaning.specs.Redexes.{Redex, redex}
 use Rattle.ac_meaning.specs.Writes.{Channel, written}
 use Rattle.ac_meaning.proofs.Homes.{lower}
 use Rattle.ac_meaning.proofs.MarshalledRead.{starts_bounded}
 use Rattle.ac_colours.specs.Births.{Seal, seal, Event, Born, Gave, Took, sealing, giving, taken, taking, happening, happening_in, events, IsAmong}
-use Rattle.ac_colours.specs.Chains.{Programs, Run, begun, programs_run, HappensIn, AreRunsOf, IsChain, AreNative, HasBirth, HaveBirths, AreLoadable, HaveOneText}
+use Rattle.ac_colours.specs.Chains.{Programs, SeparateRun, begun, programs_run, HappensIn, AreRunsOf, IsChain, AreNative, HasBirth, HaveBirths, AreLoadable, HaveOneText}
 use Rattle.ac_colours.proofs.Collected.{among_cases}
 use Rattle.ac_colours.proofs.Conserved.{source_sealed}
 use Rattle.ac_colours.proofs.OneText.{Texts, AreOne, Keeps}
@@ -168,7 +168,7 @@ starts S before E e T p fits keeps input sends = record {
 }
 
 -- over the runs
-over_runs : (S : Texts) → AreOne S → (runs : List Run) (all before : List Event) → AreLoadable (programs_run runs) → AllKeep S (programs_run runs) → AllGiven S before → HappensIn runs all → NativeFrom before all → BirthsFrom before all
+over_runs : (S : Texts) → AreOne S → (runs : List SeparateRun) (all before : List Event) → AreLoadable (programs_run runs) → AllKeep S (programs_run runs) → AllGiven S before → HappensIn runs all → NativeFrom before all → BirthsFrom before all
 over_runs S one [] all before l k g c n = subst (BirthsFrom before) (sym c) (none_from before)
 over_runs S one (x ∷ runs) all before l k g c n =
     let E : Environment = x.program.0 in
@@ -189,24 +189,24 @@ module _ (parts : Programs) where
   one_text : HaveOneText parts → AreOne OfParts
   one_text h n s t a b = h a.0 b.0 a.2 b.2 a.1 b.1 n s t a.3 b.3 a.4 b.4
 
-pub made_before : (runs : List Run) (all : List Event) → AreLoadable (programs_run runs) → HaveOneText (programs_run runs) → HappensIn runs all → AreNative all → HaveBirths all
+pub made_before : (runs : List SeparateRun) (all : List Event) → AreLoadable (programs_run runs) → HaveOneText (programs_run runs) → HappensIn runs all → AreNative all → HaveBirths all
 made_before runs all l h c n =
     let ps = programs_run runs in
     over_runs (OfParts ps) (one_text ps h) runs all [] l (all_keep ps [] ps refl) (λ s i. absurd (not_among (Gave s) i.0 i.1 i.2)) c n
 
 -- a chain is runs of its programs
-pub chain_runs : (N : ℕ) (parts : Programs) (input : Bytes) (all : List Event) → IsChain N parts input all → (runs : List Run) × AreRunsOf N parts runs × HappensIn runs all
+pub chain_runs : (N : ℕ) (parts : Programs) (input : Bytes) (all : List Event) → IsChain N parts input all → (runs : List SeparateRun) × AreRunsOf N parts runs × HappensIn runs all
 chain_runs N [] input all c = ([], refl, c)
 chain_runs N (p ∷ ps) input all c =
-    let r : Run = record { program = p; steps = N; input = input; sends = true } in
+    let r : SeparateRun = record { program = p; steps = N; input = input; sends = true } in
     let rest = chain_runs N ps (written Channel (writes_of c.1)) c.2 c.5 in
     (r ∷ rest.0, (r, rest.0, refl, refl, refl, refl, rest.1), (c.0, c.1, c.2, c.3, c.4, rest.2))
 
-pub same_programs : (N : ℕ) (parts : Programs) (runs : List Run) → AreRunsOf N parts runs → programs_run runs ≡ parts
+pub same_programs : (N : ℕ) (parts : Programs) (runs : List SeparateRun) → AreRunsOf N parts runs → programs_run runs ≡ parts
 same_programs N [] runs h = ap programs_run h
 same_programs N (p ∷ ps) runs h = ap programs_run h.2 ∙ ap₂ (λ q qs. q ∷ qs) h.3 (same_programs N ps h.1 h.6)
 
-pub made_before_of : (N : ℕ) (parts : Programs) (runs : List Run) (all : List Event) → AreLoadable parts → HaveOneText parts → AreRunsOf N parts runs → HappensIn runs all → AreNative all → HaveBirths all
+pub made_before_of : (N : ℕ) (parts : Programs) (runs : List SeparateRun) (all : List Event) → AreLoadable parts → HaveOneText parts → AreRunsOf N parts runs → HappensIn runs all → AreNative all → HaveBirths all
 made_before_of N parts runs all l h are c n =
     let same : parts ≡ programs_run runs = sym (same_programs N parts runs are) in
     made_before runs all (subst AreLoadable same l) (subst HaveOneText same h) c n

@@ -9,7 +9,7 @@ use Rattle.ac_terms.specs.Terms.{Home, Value, VInt, VStr, VTuple, Values, no_val
 use Rattle.ac_terms.specs.Defs.{Environment}
 use Rattle.ac_terms.specs.PrimitiveTypes.{is_exception}
 use Rattle.ac_rules.specs.Views.{Coloured}
-use Rattle.ac_code.specs.Constants.{Const, CInt, CBool, CStr, CUnit, CPart, PrimitiveAnswer, Gives, Prints, Sends, Receives, Fails, NoSense, Meaning, meanings, meaning, primitive_answer, sum, difference, product, quotient, remainder, negation, equal, less, concatenated, opposite, printed_int, printed_string, sent_string, received_string, size, bytes_between, part_of_string, int_as_string, same_int, raise_invalid_argument, raise_division_by_zero}
+use Rattle.ac_code.specs.Constants.{Const, CInt, CBool, CStr, CUnit, CPart, PrimitiveAnswer, Yields, Prints, Sends, Receives, Fails, NoSense, Meaning, meanings, meaning, primitive_answer, sum, difference, product, quotient, remainder, negation, equal, less, concatenated, opposite, printed_int, printed_string, sent_string, received_string, size, bytes_between, part_of_string, int_as_string, same_int, raise_invalid_argument, raise_division_by_zero}
 use Rattle.ac_meaning.specs.PrimitiveSteps.{answer_at}
 use Rattle.ac_meaning.specs.Typed.{ValueTyped, ValuesTyped}
 use Rattle.ac_meaning.proofs.Safe.{PartTypes, ConstType, ConstTypes}
@@ -18,7 +18,7 @@ use Rattle.ac_colours.proofs.TypedShapes.{type_in, types_in, looks, values_look,
 -- what a primitive answers, if it is an exception
 abbrev pub FailsWell : PrimitiveAnswer → Type 0
 FailsWell (Fails k s) = is_exception k s ≡ true
-FailsWell (Gives c) = Unit {0}
+FailsWell (Yields c) = Unit {0}
 FailsWell (Prints s) = Unit {0}
 FailsWell (Sends s) = Unit {0}
 FailsWell Receives = Unit {0}
@@ -52,11 +52,11 @@ product_well (CInt x) (CInt y) = tt
 product_well _ _ = tt
 
 quotient_well : (a b : Const) → FailsWell (quotient a b)
-quotient_well (CInt x) (CInt y) = tested (same_int y (pos 0)) raise_division_by_zero (Gives (CInt (int_wrap w64 (int_div x y)))) refl tt
+quotient_well (CInt x) (CInt y) = tested (same_int y (pos 0)) raise_division_by_zero (Yields (CInt (int_wrap w64 (int_div x y)))) refl tt
 quotient_well _ _ = tt
 
 remainder_well : (a b : Const) → FailsWell (remainder a b)
-remainder_well (CInt x) (CInt y) = tested (same_int y (pos 0)) raise_division_by_zero (Gives (CInt (int_rem x y))) refl tt
+remainder_well (CInt x) (CInt y) = tested (same_int y (pos 0)) raise_division_by_zero (Yields (CInt (int_rem x y))) refl tt
 remainder_well _ _ = tt
 
 negation_well : (a : Const) → FailsWell (negation a)
@@ -76,7 +76,7 @@ less_well (CStr x) (CStr y) = tt
 less_well _ _ = tt
 
 concatenated_well : (a b : Const) → FailsWell (concatenated a b)
-concatenated_well (CStr s) (CStr t) = tested (nat_le (length s + length t) longest_string) (Gives (CStr (s ++ t))) (raise_invalid_argument (codes "string")) tt refl
+concatenated_well (CStr s) (CStr t) = tested (nat_le (length s + length t) longest_string) (Yields (CStr (s ++ t))) (raise_invalid_argument (codes "string")) tt refl
 concatenated_well _ _ = tt
 
 opposite_well : (a : Const) → FailsWell (opposite a)
@@ -104,7 +104,7 @@ size_well (CStr s) = tt
 size_well _ = tt
 
 between_well : (s : Bytes) (i n : ℤ) → FailsWell (bytes_between s i n)
-between_well s (pos i) (pos n) = tested (nat_le (i + n) (length s)) (Gives (CStr (take n (drop i s)))) (raise_invalid_argument (codes "sub")) tt refl
+between_well s (pos i) (pos n) = tested (nat_le (i + n) (length s)) (Yields (CStr (take n (drop i s)))) (raise_invalid_argument (codes "sub")) tt refl
 between_well s (pos i) (negsuc n) = refl
 between_well s (negsuc i) n = refl
 

@@ -11,7 +11,7 @@ use Rattle.ac_rules.specs.Views.{Coloured, opens}
 use Rattle.ac_meaning.specs.Worlds.{Made, Read, World, with_crossing, counted, fresh}
 use Rattle.ac_meaning.specs.Acts.{Act, Is, Goes, Turns, Applies, Raises, Wrong, part, parts, Spent, State, At, Over, after, iter}
 use Rattle.ac_meaning.specs.Laws.{IsTypedProgram}
-use Rattle.ac_meaning.specs.Packing.{Packing, Refuses, Packs, packs, packing, Arrival, Unfit, Brings, arrival, brings, marshal_step, unmarshal_step}
+use Rattle.ac_meaning.specs.Packing.{Packing, CannotPack, Packs, packs, packing, Arrival, Unfit, Brings, arrival, brings, marshal_step, unmarshal_step}
 use Rattle.ac_meaning.specs.Reduction.{look, look_main, step}
 use Rattle.ac_meaning.specs.Redexes.{Redex, redex, redex_all, stands_next, crosses}
 use Rattle.ac_meaning.specs.Typed.{Typed, ValueTyped}
@@ -93,7 +93,7 @@ module _ (z : World) where
   Tells Wrong all = crossed all ≡ []
 
   packs_tell : (p : Packing) → Tells (packs z p) (giving (packs z p))
-  packs_tell (Refuses x) = refl
+  packs_tell (CannotPack x) = refl
   packs_tell (Packs s) = refl
 
   marshal_tells : (c : Home) (T : Typ) (v w : Value) → Tells (marshal_step z c T v w) (giving (marshal_step z c T v w))

@@ -6,7 +6,8 @@ use native.Mathlib.Omega.{arith}
 use Rattle.ac_types.specs.Types.{Typ, TExn, TStr, TTuple, TList, TOpt, TFun, TBool}
 use Rattle.ac_terms.specs.Terms.{In, Expr, Int, Boolean, Str, Unit', Exn, ExnOf, Tuple, Nil, Empty, Present, Cons, Var, Own, Ref, Lam, Rec, App, Let, If, Seq, Match, Try, Raise, Prim, Marshal, Unmarshal, Val, Evaluated, Bracket, Exprs, no_exprs, expr, Arms, no_arms, arm}
 use Rattle.ac_terms.specs.Defs.{Environment, Field, Module}
-use Rattle.ac_terms.specs.PrimitiveTypes.{has_text, primitive_type}
+use Rattle.ac_types.specs.Exceptions.{has_text}
+use Rattle.ac_terms.specs.PrimitiveTypes.{primitive_type}
 use Rattle.ac_terms.specs.TermTyping.{last_of}
 use Rattle.ac_rules.specs.Views.{Coloured, view}
 use Rattle.ac_rules.specs.Typing.{Scope, bind, bind_all, all_of, of_field, fields_of, is_home, HasType, type_of, types_of, arm_types, variables, one_of, type_seen}

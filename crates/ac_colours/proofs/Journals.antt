@@ -4,17 +4,16 @@ use Rattle.std.specs.Prelude.{true}
 use Rattle.ac_types.specs.Types.{Bytes}
 use Rattle.ac_terms.specs.Terms.{Value}
 use Rattle.ac_meaning.specs.Worlds.{Crossing, Made, Read, fresh}
-use Rattle.ac_meaning.specs.Acts.{Outcome, At}
+use Rattle.ac_meaning.specs.Acts.{Outcome, At, writes_of, crossings_of}
 use Rattle.ac_meaning.specs.Writes.{Channel, written}
-use Rattle.ac_meaning.specs.Laws.{writes_of, crossings_of}
 use Rattle.ac_colours.specs.Births.{Event, Born, Gave, Took, events, crossed, crossings_in, IsAmong}
-use Rattle.ac_colours.specs.Chains.{Programs, Run, begun, programs_run, HappensIn, EndAs, journals_of, AreRunsOf, IsChain, IsJournalled, joined, AreReadNatively, AreNative, HaveBirths, AreLoadable, HaveOneText}
+use Rattle.ac_colours.specs.Chains.{Programs, SeparateRun, begun, programs_run, HappensIn, EndAs, journals_of, AreRunsOf, IsChain, IsJournalled, joined, AreReadNatively, AreNative, HaveBirths, AreLoadable, HaveOneText}
 use Rattle.ac_colours.proofs.Chains.{split_at, made_before, made_before_in_chain}
 use Rattle.ac_colours.proofs.Crossed.{crossed_both, program_tells}
 use Rattle.ac_colours.proofs.Origins.{not_among}
 
 -- what happens in runs that end so: it tells the strings of their journals
-pub runs_tell : (runs : List Run) (ends : List (Outcome Value)) → AreLoadable (programs_run runs) → EndAs runs ends → (all : List Event) × HappensIn runs all × (crossed all ≡ joined (journals_of ends))
+pub runs_tell : (runs : List SeparateRun) (ends : List (Outcome Value)) → AreLoadable (programs_run runs) → EndAs runs ends → (all : List Event) × HappensIn runs all × (crossed all ≡ joined (journals_of ends))
 runs_tell [] ends l e = ([], refl, sym (ap (λ os. joined (journals_of os)) e))
 runs_tell (r ∷ runs) ends l e =
     let mine = events r.steps e.2.0 (begun r) in
@@ -23,10 +22,10 @@ runs_tell (r ∷ runs) ends l e =
     (mine ++ rest.0, (e.2.0, e.0, rest.0, e.2.1, refl, rest.1), crossed_both mine rest.0 ∙ ap₂ (λ a b. a ++ b) here rest.2 ∙ sym (ap (λ os. joined (journals_of os)) e.3))
 
 -- the journals of a chain are those of runs of its programs
-pub chain_ends : (N : ℕ) (parts : Programs) (input : Bytes) (journals : List (List Crossing)) → IsJournalled N parts input journals → (runs : List Run) × (ends : List (Outcome Value)) × AreRunsOf N parts runs × EndAs runs ends × (journals ≡ journals_of ends)
+pub chain_ends : (N : ℕ) (parts : Programs) (input : Bytes) (journals : List (List Crossing)) → IsJournalled N parts input journals → (runs : List SeparateRun) × (ends : List (Outcome Value)) × AreRunsOf N parts runs × EndAs runs ends × (journals ≡ journals_of ends)
 chain_ends N [] input journals j = ([], [], refl, refl, j)
 chain_ends N (p ∷ ps) input journals j =
-    let r : Run = record { program = p; steps = N; input = input; sends = true } in
+    let r : SeparateRun = record { program = p; steps = N; input = input; sends = true } in
     let rest = chain_ends N ps (written Channel (writes_of j.0)) j.1 j.4 in
     (r ∷ rest.0, j.0 ∷ rest.1, (r, rest.0, refl, refl, refl, refl, rest.2), (j.0, rest.1, j.2, refl, rest.3), j.3 ∙ ap (λ js. crossings_of j.0 ∷ js) rest.4)
 
@@ -69,7 +68,7 @@ native all journals is h before after E s xs e =
     made_given before s i.0 i.1 i.2
 
 -- so provenance holds of runs whose journals say so, and of a chain
-pub made_before_by_ends : (runs : List Run) (ends : List (Outcome Value)) → AreLoadable (programs_run runs) → HaveOneText (programs_run runs) → EndAs runs ends → AreReadNatively [] (journals_of ends) →
+pub made_before_by_ends : (runs : List SeparateRun) (ends : List (Outcome Value)) → AreLoadable (programs_run runs) → HaveOneText (programs_run runs) → EndAs runs ends → AreReadNatively [] (journals_of ends) →
     (all : List Event) × HappensIn runs all × (crossed all ≡ joined (journals_of ends)) × AreNative all × HaveBirths all
 made_before_by_ends runs ends l one e h =
     let c = runs_tell runs ends l e in

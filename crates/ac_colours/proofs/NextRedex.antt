@@ -13,7 +13,7 @@ use Rattle.ac_meaning.specs.Matching.{chosen}
 use Rattle.ac_meaning.specs.PrimitiveSteps.{spelled, primitive, answered, exception_of, exception_value, thrown}
 use Rattle.ac_meaning.specs.Brackets.{is_function_value, bracket_step}
 use Rattle.ac_meaning.specs.References.{own_field, referred}
-use Rattle.ac_meaning.specs.Packing.{marshal_step, unmarshal_step}
+use Rattle.ac_meaning.specs.Packing.{raising, marshal_step, unmarshal_step}
 use Rattle.ac_meaning.specs.Reduction.{apply, branch, look, look_all, look_main}
 use Rattle.ac_meaning.specs.Redexes.{Redex, redex, redex_all, stands_next, crosses}
 use Rattle.ac_meaning.specs.Typed.{Typed, ValueTyped}
@@ -144,8 +144,8 @@ module _ (mode : Mode) (z : World) where
         then_next (λ x. Try x arms) (λ v. Goes e) (λ x. or_raises x (chosen arms (exception_value x))) (redex c e) (stands_next c (Try e arms)) (look mode z c e) (next e c)
         (λ v q. stand_next c (Try e arms) (Goes e) (ap (within (λ x. Try x arms) (λ v. Goes e) (λ x. or_raises x (chosen arms (exception_value x)))) q) tt) (λ x r h. raised_next x (chosen arms (exception_value x)) r h)
     next (Prim k es) c =
-        part_next (Prim k) (λ vs. answered spelled z (primitive k vs)) (redex_all c es) (stands_next c (Prim k es)) (look_all mode z c es) (next_all es c)
-        (λ vs q. stand_next c (Prim k es) (answered spelled z (primitive k vs)) (ap (part (Prim k) (λ vs. answered spelled z (primitive k vs))) q) (rest_answer mode z (primitive k vs) (stands_next c (Prim k es))))
+        part_next (Prim k) (λ vs. answered spelled (raising TStr) z (primitive k vs)) (redex_all c es) (stands_next c (Prim k es)) (look_all mode z c es) (next_all es c)
+        (λ vs q. stand_next c (Prim k es) (answered spelled (raising TStr) z (primitive k vs)) (ap (part (Prim k) (λ vs. answered spelled (raising TStr) z (primitive k vs))) q) (rest_answer mode z (primitive k vs) (stands_next c (Prim k es))))
     next (Marshal T m e) c =
         part_next (λ x. Marshal T x e) (λ v. part (λ y. Marshal T m y) (λ w. marshal_step z c T v w) (look mode z c e)) (redex c m) (or_else (redex c e) (stands_next c (Marshal T m e))) (look mode z c m) (next m c)
         (λ v q. part_next (λ y. Marshal T m y) (λ w. marshal_step z c T v w) (redex c e) (stands_next c (Marshal T m e)) (look mode z c e) (next e c)

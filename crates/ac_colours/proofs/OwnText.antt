@@ -15,14 +15,13 @@ use Rattle.ac_rules.specs.Coherent.{IsCoherent}
 use Rattle.ac_rules.proofs.PartLaws.{AllPass, pass_left, pass_right}
 use Rattle.ac_terms.proofs.AllLaws.{all_left, all_right}
 use Rattle.ac_rules.specs.Growth.{Widening}
-use Rattle.ac_meaning.specs.Acts.{Returned, Raised, Spent, Stuck, State, At, Over}
 use Rattle.ac_meaning.specs.Laws.{is_source, are_source, arms_are_source}
 use Rattle.ac_meaning.proofs.Coherences.{is_field}
 use Rattle.ac_meaning.proofs.KnownNames.{fields_source}
 use Rattle.ac_rules.proofs.Rules.{then_some, map_some}
 use Rattle.ac_rules.proofs.Growth.{there}
 use Rattle.ac_colours.proofs.SealsLaw.{and_left, and_right}
-use Rattle.ac_colours.proofs.Owning.{Captures, Loose, PatternOwned, PatternsOwned, Owned, AllOwned, ArmsOwned, ValueOwned, ValuesOwned, StateOwned}
+use Rattle.ac_colours.proofs.Owning.{Captures, Loose, PatternOwned, PatternsOwned, Owned, AllOwned, ArmsOwned, ValueOwned, ValuesOwned}
 use Rattle.ac_colours.proofs.OwnedKept.{FieldsOwned}
 
 abbrev pub same_pair : Bytes × Bytes → Bytes × Bytes → Bool
@@ -104,13 +103,6 @@ module _ (q r : Home → Bytes × Bytes → Bool) (f : (c : Home) (p : Bytes × 
     values_owned_more : (vs : Values) (c : Home) → ValuesOwned q c vs → ValuesOwned r c vs
     values_owned_more no_values c h = tt
     values_owned_more (value v vs) c h = (value_owned_more v c h.0, values_owned_more vs c h.1)
-
-  pub state_owned_more : (s : State Expr Value) → StateOwned q s → StateOwned r s
-  state_owned_more (At e z) h = owned_more e true Main h
-  state_owned_more (Over (Returned v z)) h = value_owned_more v Main h
-  state_owned_more (Over (Raised x z)) h = tt
-  state_owned_more (Over (Spent z)) h = tt
-  state_owned_more (Over Stuck) h = tt
 
 -- a term of the source whose parts pass
 module _ (q : Home → Bytes × Bytes → Bool) (c : Home) where

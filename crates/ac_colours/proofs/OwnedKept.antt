@@ -8,7 +8,7 @@ use Rattle.ac_types.specs.First.{given, or_else}
 use Rattle.ac_types.specs.Types.{Bytes, same_bytes, mentions, Typ, TInt, TBool, TStr, TUnit, TExn, TTuple, TList, TOpt, TFun, TAbs, Typs, no_types, typ}
 use Rattle.ac_terms.specs.Terms.{Home, Main, In, Pattern, PWild, PVar, PInt, PBool, PStr, PUnit, PTuple, PNil, PCons, PAbsent, PPresent, PExn, PExnOf, Patterns, no_patterns, pattern', Expr, Int, Boolean, Str, Unit', Exn, ExnOf, Tuple, Nil, Empty, Present, Cons, Var, Own, Ref, Lam, Rec, App, Let, If, Seq, Match, Try, Raise, Prim, Marshal, Unmarshal, Val, Evaluated, Bracket, Exprs, no_exprs, expr, Arms, no_arms, arm, Value, VInt, VBool, VStr, VUnit, VExn, VTuple, VNil, VCons, VAbsent, VPresent, VLam, VRec, VProxy, VSeal, Values, no_values, value}
 use Rattle.ac_terms.specs.Defs.{Environment}
-use Rattle.ac_code.specs.Constants.{Const, CInt, CBool, CStr, CUnit, CPart, PrimitiveAnswer, Gives, Prints, Sends, Receives, Fails, NoSense}
+use Rattle.ac_code.specs.Constants.{Const, CInt, CBool, CStr, CUnit, CPart, PrimitiveAnswer, Yields, Prints, Sends, Receives, Fails, NoSense}
 use Rattle.ac_rules.specs.Views.{Coloured, opens, representation}
 use Rattle.ac_rules.specs.Plain.{packed}
 use Rattle.ac_rules.specs.Typing.{is_function}
@@ -20,7 +20,7 @@ use Rattle.ac_meaning.specs.Matching.{fit, fit_all, chosen}
 use Rattle.ac_meaning.specs.PrimitiveSteps.{spelled, primitive, answered, sending, receiving, exception_of, exception_value, thrown}
 use Rattle.ac_meaning.specs.Brackets.{enclosed, all_enclosed, is_function_value, inside_seal, unsealed_term, at_name, bracket_step}
 use Rattle.ac_meaning.specs.References.{own_field, Route, Nowhere, Once, Twice, route, routed}
-use Rattle.ac_meaning.specs.Packing.{Packing, Refuses, Packs, packs, packing, Arrival, Unfit, Brings, arrival, brings, marshal_step, unmarshal_step}
+use Rattle.ac_meaning.specs.Packing.{Packing, CannotPack, Packs, packs, packing, Arrival, Unfit, Brings, arrival, brings, raising, marshal_step, unmarshal_step}
 use Rattle.ac_meaning.specs.Reduction.{apply, branch, look, look_all, look_main, step}
 use Rattle.ac_meaning.specs.Redexes.{Redex, redex, redex_all, stands_next, crosses}
 use Rattle.ac_colours.proofs.Owning.{Writes, PatternOwned, PatternsOwned, Owned, AllOwned, ArmsOwned, ValueOwned, ValuesOwned, StateOwned}
@@ -254,13 +254,13 @@ module _ (q : Home → Bytes × Bytes → Bool) where
     sent_owned c true s = tt
     sent_owned c false s = tt
 
-    received_owned : (c : Home) (o : Frame) → Good c (receiving spelled o z)
+    received_owned : (c : Home) (o : Frame) → Good c (receiving spelled (raising TStr) o z)
     received_owned c (Whole s rest) = tt
-    received_owned c (Bad n got) = tt
-    received_owned c AtEnd = tt
+    received_owned c (Bad n got) = (tt, tt)
+    received_owned c AtEnd = (tt, tt)
 
-    answer_owned : (c : Home) (a : PrimitiveAnswer) → Good c (answered spelled z a)
-    answer_owned c (Gives k) = spelled_owned c k
+    answer_owned : (c : Home) (a : PrimitiveAnswer) → Good c (answered spelled (raising TStr) z a)
+    answer_owned c (Yields k) = spelled_owned c k
     answer_owned c (Prints s) = tt
     answer_owned c (Sends s) = sent_owned c z.has_channel s
     answer_owned c Receives = received_owned c (next_frame z.input)
@@ -268,7 +268,7 @@ module _ (q : Home → Bytes × Bytes → Bool) where
     answer_owned c NoSense = tt
 
     packs_owned : (c : Home) (p : Packing) → Good c (packs z p)
-    packs_owned c (Refuses x) = tt
+    packs_owned c (CannotPack x) = tt
     packs_owned c (Packs s) = tt
 
     marshal_owned : (c : Home) (T : Typ) (m v : Value) → Good c (marshal_step z c T m v)
@@ -410,7 +410,7 @@ module _ (q : Home → Bytes × Bytes → Bool) where
           within_owned (Owned q true c) (Owned q true c) (ValueOwned q c) (ValueOwned q c) (λ x. Try x arms) (λ v. Goes e) (λ x. or_raises x (chosen arms (exception_value x))) (redex c e) (stands_next c (Try e arms)) (seen c e) (rest Coloured z e c) n (λ m. conserved e c m h.0) (λ s p. (p, h.1)) (λ v g m p. h.0)
           (λ x. chosen_owned c arms (exception_value x) x h.1 tt)
       conserved (Prim k es) c n h =
-          within_owned (AllOwned q true c) (Owned q true c) (ValuesOwned q c) (ValueOwned q c) (Prim k) (λ vs. answered spelled z (primitive k vs)) Raises (redex_all c es) (stands_next c (Prim k es)) (look_all Coloured z c es) (rest_all Coloured z es c) n (λ m. all_conserved es c m h) (λ s p. p) (λ vs g m p. answer_owned c (primitive k vs)) (λ x. tt)
+          within_owned (AllOwned q true c) (Owned q true c) (ValuesOwned q c) (ValueOwned q c) (Prim k) (λ vs. answered spelled (raising TStr) z (primitive k vs)) Raises (redex_all c es) (stands_next c (Prim k es)) (look_all Coloured z c es) (rest_all Coloured z es c) n (λ m. all_conserved es c m h) (λ s p. p) (λ vs g m p. answer_owned c (primitive k vs)) (λ x. tt)
       conserved (Marshal T m e) c n h =
           one_part c c (λ x. Marshal T x e) (λ v. part (λ y. Marshal T m y) (λ w. marshal_step z c T v w) (seen c e)) (redex c m) (or_else (redex c e) (stands_next c (Marshal T m e))) (seen c m) (rest Coloured z m c) n (λ k. conserved m c k h.1) (λ s p. (h.0, p, h.2))
           (λ v g k p. one_part c c (λ y. Marshal T m y) (λ w. marshal_step z c T v w) (redex c e) (stands_next c (Marshal T m e)) (seen c e) (rest Coloured z e c) k (λ k'. conserved e c k' h.2) (λ s r. (h.0, h.1, r)) (λ w g k' r. marshal_owned c T v w))

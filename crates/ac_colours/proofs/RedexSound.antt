@@ -13,14 +13,14 @@ use Rattle.ac_colours.specs.Sealed.{Saying, Sealed, AllSealed}
 use Rattle.ac_colours.proofs.Owning.{Owned, AllOwned}
 
 -- nothing is left to do in what an unmarshal takes
-abbrev pub IsReady : Home → Expr → Type 0
-IsReady c (Unmarshal T e) = redex c e ≡ None
-IsReady c e = Unit {0}
+abbrev pub IsInnermost : Home → Expr → Type 0
+IsInnermost c (Unmarshal T e) = redex c e ≡ None
+IsInnermost c e = Unit {0}
 
 module _ (E : Environment) (q : Home → Bytes × Bytes → Bool) (P : Saying) where
   abbrev pub Sound : Option Redex → Type 0
   Sound None = Unit {0}
-  Sound (Some r) = (X : Typ) × IsHome Coloured E r.home × Typed Coloured E r.term r.home [] X × Within false r.term × Owned q true r.home r.term × Sealed P r.term × IsReady r.home r.term
+  Sound (Some r) = (X : Typ) × IsHome Coloured E r.home × Typed Coloured E r.term r.home [] X × Within false r.term × Owned q true r.home r.term × Sealed P r.term × IsInnermost r.home r.term
 
   or_sound : (o p : Option Redex) → Sound o → (o ≡ None → Sound p) → Sound (or_else o p)
   or_sound None p h k = k refl

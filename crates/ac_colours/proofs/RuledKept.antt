@@ -9,10 +9,11 @@ use Rattle.ac_types.proofs.Same.{both_true, and_true, same_refl, bytes_refl}
 use Rattle.ac_types.specs.Types.{Bytes, Typ, TInt, TBool, TStr, TUnit, TExn, TTuple, TList, TOpt, TFun, TAbs, TMine, Typs, no_types, typ, same, agree, mentions, mentions_of_all, is_small}
 use Rattle.ac_terms.specs.Terms.{Home, Main, In, Pattern, Expr, Int, Boolean, Str, Unit', Exn, ExnOf, Tuple, Nil, Empty, Present, Cons, Var, Own, Ref, Lam, Rec, App, Let, If, Seq, Match, Try, Raise, Prim, Marshal, Unmarshal, Val, Evaluated, Bracket, Exprs, no_exprs, expr, Arms, no_arms, arm, Value, VInt, VBool, VStr, VUnit, VExn, VTuple, VNil, VCons, VAbsent, VPresent, VLam, VRec, VProxy, VSeal, Values, value}
 use Rattle.ac_terms.specs.Defs.{Environment, Field}
-use Rattle.ac_terms.specs.PrimitiveTypes.{has_text, is_exception, primitive_type}
+use Rattle.ac_types.specs.Exceptions.{has_text}
+use Rattle.ac_terms.specs.PrimitiveTypes.{is_exception, primitive_type}
 use Rattle.ac_terms.specs.TermTyping.{has, also, both_same, last_of}
 use Rattle.ac_terms.proofs.AllLaws.{all_left, all_right, all_append}
-use Rattle.ac_code.specs.Constants.{Const, CInt, CBool, CStr, CUnit, CPart, PrimitiveAnswer, Gives, Prints, Sends, Receives, Fails, NoSense, meaning}
+use Rattle.ac_code.specs.Constants.{Const, CInt, CBool, CStr, CUnit, CPart, PrimitiveAnswer, Yields, Prints, Sends, Receives, Fails, NoSense, meaning}
 use Rattle.ac_outside.specs.Frames.{Frame, Whole, Bad, AtEnd, next_frame}
 use Rattle.ac_rules.specs.Growth.{Grows}
 use Rattle.ac_rules.specs.Plain.{packed}
@@ -26,7 +27,7 @@ use Rattle.ac_meaning.specs.Acts.{Act, Is, Goes, Turns, Applies, Raises, Wrong, 
 use Rattle.ac_meaning.specs.Brackets.{enclosed, all_enclosed, is_function_value, inside_seal, unsealed_term, at_name, bracket_step}
 use Rattle.ac_meaning.specs.Laws.{IsTypedProgram}
 use Rattle.ac_meaning.specs.Matching.{fit, chosen}
-use Rattle.ac_meaning.specs.Packing.{Packing, Refuses, Packs, packs, packing, Landing, Sinks, Lands, landing, brought, brings, marshal_step, unmarshal_step, raising}
+use Rattle.ac_meaning.specs.Packing.{Packing, CannotPack, Packs, packs, packing, Landing, Sinks, Lands, landing, brought, brings, marshal_step, unmarshal_step, raising}
 use Rattle.ac_meaning.specs.PrimitiveSteps.{spelled, primitive, consts_of, answer_at, answered, sending, receiving, exception_of, exception_value, thrown}
 use Rattle.ac_meaning.specs.Rebuilding.{rebuilt}
 use Rattle.ac_meaning.specs.Reduction.{apply, branch, look, look_all, look_main, step}
@@ -34,7 +35,7 @@ use Rattle.ac_meaning.specs.References.{own_field, referred, Route, Nowhere, Onc
 use Rattle.ac_meaning.specs.Substitution.{Written, inst}
 use Rattle.ac_meaning.specs.Typed.{own_type, Typed, AllTyped}
 use Rattle.ac_meaning.specs.TypedStates.{IsTyped}
-use Rattle.ac_meaning.specs.Worlds.{Exception, World, match_failure_exn, counted, fresh, Read, with_crossing}
+use Rattle.ac_meaning.specs.Worlds.{Exception, World, match_failure_exn, end_of_file_exn, bad_frame, counted, fresh, Read, with_crossing}
 use Rattle.ac_meaning.proofs.Admitted.{sound, arrives}
 use Rattle.ac_meaning.proofs.FromTypes.{EachIs, one_is}
 use Rattle.ac_meaning.proofs.Homes.{all_seen, seen_tuple, view_shut, represented, representation_known, view_open, view_again}
@@ -185,7 +186,7 @@ module _ (z : World) (coherent : IsCoherent z.environment) where
       arm_rules c p t v A T u.0 (fit p v []) (chosen rest v) x refl k u.1 (u.2 ∙ ap Some each.0) (chosen_rules c rest v A T q.1 x e q.3 each.1 k)
 
   -- primitives
-  spelled_rules : (k : Const) (c : Home) (T : Typ) → AnswerOf T (Gives k) → TermOf c T E (spelled k)
+  spelled_rules : (k : Const) (c : Home) (T : Typ) → AnswerOf T (Yields k) → TermOf c T E (spelled k)
   spelled_rules (CInt n) c T h = ap Some (sym h)
   spelled_rules (CBool b) c T h = ap Some (sym h)
   spelled_rules (CStr s) c T h = ap Some (sym h)
@@ -196,13 +197,23 @@ module _ (z : World) (coherent : IsCoherent z.environment) where
   sent_rules true s c T h = (grows_not E coherent, ap Some (sym h))
   sent_rules false s c T h = refl
 
-  received_rules : (f : Frame) (c : Home) (T : Typ) → T ≡ TStr → Good c T (receiving spelled f z)
-  received_rules (Whole s rest) c T h = (grows_not E coherent, ap Some (sym h))
-  received_rules (Bad n got) c T h = refl
-  received_rules AtEnd c T h = refl
+  -- the raise of an exception has the type in whose place it stands
+  raising_rules : (c : Home) (A : Typ) (x : Exception) → IsKnown A → IsSmall (sees c A) → is_exception x.number x.text ≡ true → TermOf c (sees c A) E (raising A x)
+  raising_rules c A x k m i =
+      let e : TermOf c TExn E (Evaluated TExn (exception_value x)) = standing E c (home_scope E c []) TExn TExn (exception_value x) refl refl (ap (λ t. given t (Some TExn)) i) in
+      ap₂ (λ a b. given (has a TExn) (kept_in Coloured b)) e (is_seen E c A k) ∙ keep (sees c A) m
 
-  answer_rules : (a : PrimitiveAnswer) (c : Home) (T : Typ) → AnswerOf T a → FailsWell a → Good c T (answered spelled z a)
-  answer_rules (Gives k) c T h f = spelled_rules k c T h
+  -- in the place of a string
+  raised_here : (x : Exception) (c : Home) (T : Typ) → T ≡ TStr → is_exception x.number x.text ≡ true → TermOf c T E (raising TStr x)
+  raised_here x c T h i = raising_rules c TStr x refl refl i ∙ ap Some (sym h)
+
+  received_rules : (f : Frame) (c : Home) (T : Typ) → T ≡ TStr → Good c T (receiving spelled (raising TStr) f z)
+  received_rules (Whole s rest) c T h = (grows_not E coherent, ap Some (sym h))
+  received_rules (Bad n got) c T h = (grows_not E coherent, raised_here bad_frame c T h refl)
+  received_rules AtEnd c T h = (grows_not E coherent, raised_here end_of_file_exn c T h refl)
+
+  answer_rules : (a : PrimitiveAnswer) (c : Home) (T : Typ) → AnswerOf T a → FailsWell a → Good c T (answered spelled (raising TStr) z a)
+  answer_rules (Yields k) c T h f = spelled_rules k c T h
   answer_rules (Prints s) c T h f = (grows_not E coherent, ap Some (sym h))
   answer_rules (Sends s) c T h f = sent_rules z.has_channel s c T h
   answer_rules Receives c T h f = received_rules (next_frame z.input) c T h
@@ -287,14 +298,8 @@ module _ (z : World) (coherent : IsCoherent z.environment) where
   marshal_rules c m v A T e h = let s = looks E m c TStr h in subst (λ x. Good c T (marshal_step z c A x v)) (sym s.1) (by s.0 (packing z A s.0 (packed z.environment c v A)) refl)
     where
       by : (s : Bytes) (p : Packing) → packing z A s (packed z.environment c v A) ≡ p → Good c T (packs z p)
-      by s (Refuses x) q = (comes_within.refused z A s (packed z.environment c v A) x q).0
+      by s (CannotPack x) q = (comes_within.refused z A s (packed z.environment c v A) x q).0
       by s (Packs r) q = (grows_not E coherent, ap Some e)
-
-  -- the raise of an exception has the type in whose place it stands
-  raising_rules : (c : Home) (A : Typ) (x : Exception) → IsKnown A → IsSmall (sees c A) → is_exception x.number x.text ≡ true → TermOf c (sees c A) E (raising A x)
-  raising_rules c A x k m i =
-      let e : TermOf c TExn E (Evaluated TExn (exception_value x)) = standing E c (home_scope E c []) TExn TExn (exception_value x) refl refl (ap (λ t. given t (Some TExn)) i) in
-      ap₂ (λ a b. given (has a TExn) (kept_in Coloured b)) e (is_seen E c A k) ∙ keep (sees c A) m
 
   landed_typed : (c : Home) (A : Typ) (s : Bytes) → AtHome c → IsKnown A → IsSmall (sees c A) → (l : Landing) → landing E A s ≡ l → Good c (sees c A) (brings Coloured (with_crossing (Read s) z) A (brought c A l))
   landed_typed c A s i k m (Sinks x) q = (grows_not E coherent, raising_rules c A x k m (comes_within.unfit z c A s x coherent (ap (brought c A) q)).0)
@@ -469,7 +474,7 @@ module _ (z : World) (coherent : IsCoherent z.environment) where
         (λ x q. chosen_rules c arms (exception_value x) TExn T p.1.0 x q p.1.1 (one_is p.1.0 T p.1.2) (ap (λ y. given y (Some TExn)) q))
     rules (Prim k es) c X T i t h =
         let p = rule-Prim Coloured E (home_scope E c []) k es T h in
-        within_rules E (TermsOf c p.0) (TermOf c T) (ValuesOf c p.0) (ValueOf c T) (Prim k) (λ vs. answered spelled z (primitive k vs)) Raises (look_all Coloured z c es) coherent (all_rules es c t.0 p.0 i t.1 p.1)
+        within_rules E (TermsOf c p.0) (TermOf c T) (ValuesOf c p.0) (ValueOf c T) (Prim k) (λ vs. answered spelled (raising TStr) z (primitive k vs)) Raises (look_all Coloured z c es) coherent (all_rules es c t.0 p.0 i t.1 p.1)
         (λ F s g q. then_more (primitive_type k) (primitive_type k) _ _ (to p.1 q) (λ Ts m. stays) T h)
         (λ vs q.
         let r = prim_ok k p.0 T p.2 in

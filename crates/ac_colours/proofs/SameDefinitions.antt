@@ -4,7 +4,7 @@ use Rattle.std.specs.Prelude.{option_map, is_some}
 use Rattle.ac_types.specs.First.{or_else}
 use Rattle.ac_types.specs.Types.{Bytes, Typ, TInt, TBool, TStr, TUnit, TExn, TTuple, TList, TOpt, TFun, TAbs}
 use Rattle.ac_terms.specs.Terms.{Home, Expr, Int, Boolean, Str, Unit', Exn, ExnOf, Tuple, Nil, Empty, Present, Cons, Var, Own, Ref, Lam, Rec, App, Let, If, Seq, Match, Try, Raise, Prim, Marshal, Unmarshal, Val, Evaluated, Bracket, Exprs, no_exprs, expr, Value, VInt, VBool, VStr, VUnit, VExn, VTuple, VNil, VCons, VAbsent, VPresent, VLam, VRec, VProxy, value}
-use Rattle.ac_code.specs.Constants.{PrimitiveAnswer, Gives, Prints, Sends, Receives, Fails, NoSense}
+use Rattle.ac_code.specs.Constants.{PrimitiveAnswer, Yields, Prints, Sends, Receives, Fails, NoSense}
 use Rattle.ac_rules.specs.Plain.{packed}
 use Rattle.ac_rules.specs.Views.{Mode, opens, representation}
 use Rattle.ac_rules.specs.Typing.{is_function}
@@ -16,7 +16,7 @@ use Rattle.ac_meaning.specs.Matching.{chosen}
 use Rattle.ac_meaning.specs.PrimitiveSteps.{spelled, primitive, answered, sending, receiving, exception_of, exception_value, thrown}
 use Rattle.ac_meaning.specs.Brackets.{enclosed, all_enclosed, is_function_value, inside_seal, unsealed_term, at_name, bracket_step}
 use Rattle.ac_meaning.specs.References.{own_field, referred}
-use Rattle.ac_meaning.specs.Packing.{Packing, Refuses, Packs, packs, packing, Arrival, Unfit, Brings, arrival, brings, marshal_step, unmarshal_step}
+use Rattle.ac_meaning.specs.Packing.{Packing, CannotPack, Packs, packs, packing, Arrival, Unfit, Brings, arrival, brings, raising, marshal_step, unmarshal_step}
 use Rattle.ac_meaning.specs.Reduction.{apply, branch, look, look_all}
 use Rattle.ac_meaning.specs.Redexes.{Redex, redex, redex_all, stands_next, crosses}
 use Rattle.ac_colours.proofs.SealsLaw.{AtRest, none_else, rest, rest_all}
@@ -135,17 +135,17 @@ module _ (mode : Mode) (z : World) where
   thrown_stays (VExn k s) q = tt
   thrown_stays _ q = tt
 
-  received_stays : (o : Frame) (q : Option Redex) → Stays {S = Expr} {A = Value} (receiving spelled o z) q
+  received_stays : (o : Frame) (q : Option Redex) → Stays {S = Expr} {A = Value} (receiving spelled (raising TStr) o z) q
   received_stays (Whole s left) q = inl (refl, refl)
-  received_stays (Bad n got) q = tt
-  received_stays AtEnd q = tt
+  received_stays (Bad n got) q = inl (refl, refl)
+  received_stays AtEnd q = inl (refl, refl)
 
   sent_stays : (b : Bool) (s : Bytes) (q : Option Redex) → Stays {S = Expr} {A = Value} (sending spelled b s z) q
   sent_stays true s q = inl (refl, refl)
   sent_stays false s q = tt
 
-  answer_stays : (a : PrimitiveAnswer) (q : Option Redex) → Stays {S = Expr} {A = Value} (answered spelled z a) q
-  answer_stays (Gives k) q = tt
+  answer_stays : (a : PrimitiveAnswer) (q : Option Redex) → Stays {S = Expr} {A = Value} (answered spelled (raising TStr) z a) q
+  answer_stays (Yields k) q = tt
   answer_stays (Prints s) q = inl (refl, refl)
   answer_stays (Sends s) q = sent_stays z.has_channel s q
   answer_stays Receives q = received_stays (next_frame z.input) q
@@ -153,7 +153,7 @@ module _ (mode : Mode) (z : World) where
   answer_stays NoSense q = tt
 
   packs_stays : (c : Home) (T : Typ) (m e : Expr) (p : Packing) → Stays (packs z p) (stands_next c (Marshal T m e))
-  packs_stays c T m e (Refuses x) = tt
+  packs_stays c T m e (CannotPack x) = tt
   packs_stays c T m e (Packs s) = inr refl
 
   marshal_stays : (c : Home) (T : Typ) (m e : Expr) (v w : Value) → Stays (marshal_step z c T v w) (stands_next c (Marshal T m e))
@@ -199,7 +199,7 @@ module _ (mode : Mode) (z : World) where
     stays (Try e arms) c =
         then_stays (λ x. Try x arms) (λ v. Goes e) (λ x. or_raises x (chosen arms (exception_value x))) (redex c e) (stands_next c (Try e arms)) (look mode z c e) (rest mode z e c) (stays e c) (λ v. tt) (λ x q. raises_stays x (chosen arms (exception_value x)) q)
     stays (Prim k es) c =
-        part_stays (Prim k) (λ vs. answered spelled z (primitive k vs)) (redex_all c es) (stands_next c (Prim k es)) (look_all mode z c es) (rest_all mode z es c) (stays_all es c) (λ vs. answer_stays (primitive k vs) (stands_next c (Prim k es)))
+        part_stays (Prim k) (λ vs. answered spelled (raising TStr) z (primitive k vs)) (redex_all c es) (stands_next c (Prim k es)) (look_all mode z c es) (rest_all mode z es c) (stays_all es c) (λ vs. answer_stays (primitive k vs) (stands_next c (Prim k es)))
     stays (Marshal T m e) c =
         part_stays (λ x. Marshal T x e) (λ v. part (λ y. Marshal T m y) (λ w. marshal_step z c T v w) (look mode z c e)) (redex c m) (or_else (redex c e) (stands_next c (Marshal T m e))) (look mode z c m) (rest mode z m c) (stays m c)
         (λ v. part_stays (λ y. Marshal T m y) (λ w. marshal_step z c T v w) (redex c e) (stands_next c (Marshal T m e)) (look mode z c e) (rest mode z e c) (stays e c) (λ w. marshal_stays c T m e v w))

@@ -90,21 +90,6 @@ module _ (E : Environment) (K : OfBirth) where
   Told b n t v = (w : PValue) → has_function (bare E (TAbs n t)) ≡ false → plain E b v (opened E n t) ≡ Some w → K n t w
 
   module _ (coherent : IsCoherent E) where
-    -- a round more changes nothing
-    settled : (T : Typ) (k : ℕ) (w : PValue) (go : Typ → Type 0) → Before E coherent k T → SaidAt T k w go → SaidAt T (suc k) w go
-    settled (TAbs n t) zero w go b h = absurd (true≢false (sym (both_true _ true b).0))
-    settled (TAbs n t) (suc k) w go b h = (h.0, settled (opened E n t) k w go (opened_before E coherent n t k b) h.1)
-    settled TInt k w go b h = h
-    settled TBool k w go b h = h
-    settled TStr k w go b h = h
-    settled TUnit k w go b h = h
-    settled TExn k w go b h = h
-    settled (TTuple Ts) k w go b h = h
-    settled (TList T) k w go b h = h
-    settled (TOpt T) k w go b h = h
-    settled (TFun T U) k w go b h = h
-    settled (TMine t) k w go b h = h
-
     unsettled : (T : Typ) (k : ℕ) (w : PValue) (go : Typ → Type 0) → Before E coherent k T → SaidAt T (suc k) w go → SaidAt T k w go
     unsettled (TAbs n t) zero w go b h = tt
     unsettled (TAbs n t) (suc k) w go b h = (h.0, unsettled (opened E n t) k w go (opened_before E coherent n t k b) h.1)

@@ -38,9 +38,6 @@ abbrev mutual
 
 -- in larger definitions it is packed as before
 module _ (E F : Environment) (g : Widening E F) where
-  known_head : (T X : Typ) → head E T ≡ X → are_known E T ≡ true → are_known E X ≡ true
-  known_head T X q k = subst (λ Y. are_known E Y ≡ true) q (head_known E g.before T k)
-
   parts_same : (X : Typ) → are_known E X ≡ true → (f f' : Typs → PValue) → ((Ts : Typs) → list_all (is_known E) (mentions_of_all Ts) ≡ true → f' Ts ≡ f Ts) → where_there (tuple_parts X) f' ≡ where_there (tuple_parts X) f
   parts_same (TTuple Ts) k f f' h = h Ts k
   parts_same _ k f f' h = refl

@@ -17,7 +17,7 @@ use Rattle.ac_terms.specs.PacketReading.{packet_of}
 use Rattle.ac_terms.proofs.SpelledLaws.{spelled_is_read}
 use Rattle.ac_rules.specs.Views.{Coloured, are_known}
 use Rattle.ac_rules.specs.Needed.{root, spoken_of, needed_by, roots_of, place_in, packet_for}
-use Rattle.ac_rules.specs.Packets.{Cause, Placed, placed_number, places, value_there, cause, Accepts}
+use Rattle.ac_rules.specs.Packets.{PacketCause, Placed, placed_number, places, value_there, cause, Accepts}
 use Rattle.ac_rules.specs.Faults.{AString, marshalled}
 use Rattle.ac_rules.specs.RoundTrip.{IsPackable}
 use Rattle.ac_rules.specs.Coherent.{IsCoherent}
@@ -65,7 +65,7 @@ mapped_all : (g : ℕ → ℕ) (p : ℕ → Bool) (xs : List ℕ) → list_all p
 mapped_all g p [] h = refl
 mapped_all g p (x ∷ xs) h = let b = both_true (p (g x)) (list_all p (map g xs)) h in and_true {a = p (g x)} {b = list_all (λ j. p (g j)) xs} b.0 (mapped_all g p xs b.1)
 
-accepted : (E : Environment) (T : Typ) (F : Environment) (v : PValue) (p : Packet) (c : Option Cause) → cause sha256 E p T ≡ c → admitted E p c ≡ Lands F v → Accepts E p T F v
+accepted : (E : Environment) (T : Typ) (F : Environment) (v : PValue) (p : Packet) (c : Option PacketCause) → cause sha256 E p T ≡ c → admitted E p c ≡ Lands F v → Accepts E p T F v
 accepted E T F v p (Some why) e h = absurd cc
 accepted E T F v p None e h =
     let a : (places sha256 E p.defs).0 ≡ F = cc in

@@ -9,9 +9,9 @@ use Rattle.ac_rules.specs.Views.{Coloured, opened, IsFirstOrder}
 use Rattle.ac_rules.specs.Plain.{PlainValue}
 use Rattle.ac_meaning.specs.Writes.{Channel, written}
 use Rattle.ac_meaning.specs.Worlds.{Crossing, Made, Read, fresh}
-use Rattle.ac_meaning.specs.Acts.{Outcome, State, At, Over, iter}
+use Rattle.ac_meaning.specs.Acts.{Outcome, State, At, Over, iter, writes_of, crossings_of}
 use Rattle.ac_meaning.specs.Reduction.{step, Ends}
-use Rattle.ac_meaning.specs.Laws.{IsTypedProgram, writes_of, crossings_of}
+use Rattle.ac_meaning.specs.Laws.{IsTypedProgram}
 use Rattle.ac_colours.specs.Births.{Seal, Event, Gave, Took, events, IsAmong, birth, births}
 
 -- programs, each with its definitions
@@ -29,27 +29,27 @@ HaveOneText parts =
     (p q : Environment × Expr) → IsAmong p parts → IsAmong q parts → (i j : ℕ) (n s t : Bytes) → name_at p.0 i ≡ Some n → name_at q.0 j ≡ Some n → text_of_entry p.0 i ≡ Some s → text_of_entry q.0 j ≡ Some t → s ≡ t
 
 -- a run: its program, how many applications it may make, its input, and whether it has a channel to send on
-pub record Run : Type 0 where
+pub record SeparateRun : Type 0 where
   pub program : Environment × Expr
   pub steps : ℕ
   pub input : Bytes
   pub sends : Bool
 
-abbrev pub begun : Run → State Expr Value
+abbrev pub begun : SeparateRun → State Expr Value
 begun r = At r.program.1 (fresh r.program.0 r.input r.sends)
 
 -- what they run
-abbrev pub programs_run : List Run → Programs
-programs_run runs = map (λ (r : Run). r.program) runs
+abbrev pub programs_run : List SeparateRun → Programs
+programs_run runs = map (λ (r : SeparateRun). r.program) runs
 
 -- runs one after the other, each to its end. All that happens in them, in order
-abbrev pub HappensIn : List Run → List Event → Type 0
+abbrev pub HappensIn : List SeparateRun → List Event → Type 0
 HappensIn [] all = all ≡ []
 HappensIn (r ∷ runs) all =
     (k : ℕ) × (o : Outcome Value) × (later : List Event) × (iter (step Coloured r.steps) k (begun r) ≡ Over o) × (all ≡ events r.steps k (begun r) ++ later) × HappensIn runs later
 
 -- how they end, in order
-abbrev pub EndAs : List Run → List (Outcome Value) → Type 0
+abbrev pub EndAs : List SeparateRun → List (Outcome Value) → Type 0
 EndAs [] ends = ends ≡ []
 EndAs (r ∷ runs) ends = (o : Outcome Value) × (later : List (Outcome Value)) × Ends Coloured r.program.0 r.program.1 r.input r.sends r.steps o × (ends ≡ o ∷ later) × EndAs runs later
 
@@ -58,9 +58,9 @@ abbrev pub journals_of : List (Outcome Value) → List (List Crossing)
 journals_of ends = map crossings_of ends
 
 -- runs of these programs, in order, each within N applications and with a channel to send on
-abbrev pub AreRunsOf : ℕ → Programs → List Run → Type 0
+abbrev pub AreRunsOf : ℕ → Programs → List SeparateRun → Type 0
 AreRunsOf N [] runs = runs ≡ []
-AreRunsOf N (p ∷ ps) runs = (r : Run) × (later : List Run) × (runs ≡ r ∷ later) × (r.program ≡ p) × (r.steps ≡ N) × (r.sends ≡ true) × AreRunsOf N ps later
+AreRunsOf N (p ∷ ps) runs = (r : SeparateRun) × (later : List SeparateRun) × (runs ≡ r ∷ later) × (r.program ≡ p) × (r.steps ≡ N) × (r.sends ≡ true) × AreRunsOf N ps later
 
 -- programs run one after the other, each within N applications and to its end: each reads what the one before it sent. All that happens, in order
 abbrev pub IsChain : ℕ → Programs → Bytes → List Event → Type 0

@@ -11,9 +11,9 @@ abbrev pub IsAccepted : Act Expr Value → Type 0
 IsAccepted a = (y : World) × (T : Typ) × (v : Value) × (a ≡ Turns y (Evaluated T v))
 
 -- it becomes the raise of this exception
-abbrev pub IsRefused : Exception → Act Expr Value → Type 0
-IsRefused x a = (y : World) × (T : Typ) × (a ≡ Turns y (raising T x))
+abbrev pub BecomesRaise : Exception → Act Expr Value → Type 0
+BecomesRaise x a = (y : World) × (T : Typ) × (a ≡ Turns y (raising T x))
 
 -- the string is accepted, or refused as full or for want of a link
 abbrev pub IsTakenAgain : Act Expr Value → Type 0
-IsTakenAgain a = IsAccepted a ⊎ (IsRefused (unmarshal_failure_exn (codes "full")) a ⊎ ((name : Bytes) × IsRefused (resolve_failure_exn name) a))
+IsTakenAgain a = IsAccepted a ⊎ (BecomesRaise (unmarshal_failure_exn (codes "full")) a ⊎ ((name : Bytes) × BecomesRaise (resolve_failure_exn name) a))

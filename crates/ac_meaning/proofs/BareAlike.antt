@@ -12,7 +12,7 @@ use Rattle.ac_terms.proofs.AllLaws.{all_append}
 use Rattle.ac_meaning.proofs.PackedAlike.{packed_alike}
 use Rattle.ac_meaning.specs.Worlds.{Exception, World, match_failure_exn, counted, grown, Read, with_crossing}
 use Rattle.ac_rules.specs.Growth.{Grows}
-use Rattle.ac_meaning.specs.Packing.{Packing, Refuses, Packs, Arrival, Unfit, Brings, packing, arrival}
+use Rattle.ac_meaning.specs.Packing.{Packing, CannotPack, Packs, Arrival, Unfit, Brings, packing, arrival}
 use Rattle.ac_meaning.specs.Substitution.{Written}
 use Rattle.ac_meaning.specs.Matching.{fit, fit_all}
 use Rattle.ac_meaning.specs.PrimitiveSteps.{exception_value}
@@ -150,7 +150,7 @@ module _ (arrives : Arrives) (mode : Mode) where
   marshal_same (VStr m) v c A T z h = subst (λ p. Alike c (full.marshals c A (VStr m) v z) (packed_as WStr (packing z A m p) z)) (sym (packed_alike mode z.environment v c T A h)) (by (packing z A m (packed z.environment c v A)))
     where
       by : (p : Packing) → Alike c (packed_as VStr p z) (packed_as WStr p z)
-      by (Refuses x) = refl
+      by (CannotPack x) = refl
       by (Packs s) = refl
   marshal_same _ v c A T z h = tt
 

@@ -11,7 +11,8 @@ use Rattle.ac_meaning.specs.Worlds.{fresh}
 use Rattle.ac_meaning.specs.Acts.{State, At, Over, Returned, Spent, iter}
 use Rattle.ac_meaning.specs.BareTerms.{Bare, BareValue, bare, BVar, BApp, BOwn, WInt, WUnit, WLam}
 use Rattle.ac_meaning.specs.BareReduction.{step}
-use Rattle.ac_meaning.proofs.Programs.{number, printed_by, made_by, two_entries, countdown}
+use Rattle.ac_meaning.proofs.Programs.{number, printed_by, has_printed, made_by, two_entries, countdown}
+use Rattle.ac_meaning.proofs.RunExamples.{receives_twice}
 
 abbrev bare_steps : ℕ → Environment → Expr → ℕ → State Bare BareValue
 bare_steps k E e N = iter (step N) k (At (bare Main e) (fresh E [] false))
@@ -36,3 +37,9 @@ a_function_of_c = refl
 pub through_an_import : bare_steps 60 two_entries (App (Ref 1 (codes "get")) (App (Ref 1 (codes "make")) (number 4))) 3 ≡ Over (Returned (WInt (pos 6)) (made_by two_entries 3))
 unfolding int_wrap
 through_an_import = refl
+
+-- the receives of a run, of which the second finds the end
+pub receives_alike :
+    iter (step 0) 30 (At (bare Main receives_twice) (fresh [] (0 ∷ 0 ∷ 0 ∷ 2 ∷ 104 ∷ 105 ∷ []) false)) ≡
+    Over (Returned WUnit (record (printed_by (codes "a" ∷ codes "hi" ∷ codes "." ∷ []) 0) { receives = has_printed (codes "a" ∷ []) ∷ has_printed (codes "a" ∷ codes "hi" ∷ []) ∷ [] }))
+receives_alike = refl

@@ -9,13 +9,13 @@ use Rattle.ac_types.specs.First.{or_else}
 use Rattle.ac_types.specs.Types.{Bytes, Typ, TInt, TBool, TStr, TUnit, TExn, TTuple, TList, TOpt, TFun, TAbs, TMine, Typs, no_types, typ, mentions, mentions_of_all}
 use Rattle.ac_terms.specs.Terms.{Home, Main, In, Pattern, Expr, Int, Boolean, Str, Unit', Exn, ExnOf, Tuple, Nil, Empty, Present, Cons, Var, Own, Ref, Lam, Rec, App, Let, If, Seq, Match, Try, Raise, Prim, Marshal, Unmarshal, Val, Evaluated, Bracket, Exprs, no_exprs, expr, Arms, no_arms, arm, Value, VInt, VBool, VStr, VUnit, VExn, VTuple, VNil, VCons, VAbsent, VPresent, VLam, VRec, VProxy, VSeal, Values, value}
 use Rattle.ac_terms.specs.Defs.{Environment, Field}
-use Rattle.ac_code.specs.Constants.{Const, CInt, CBool, CStr, CUnit, CPart, PrimitiveAnswer, Gives, Prints, Sends, Receives, Fails, NoSense, meaning}
+use Rattle.ac_code.specs.Constants.{Const, CInt, CBool, CStr, CUnit, CPart, PrimitiveAnswer, Yields, Prints, Sends, Receives, Fails, NoSense, meaning}
 use Rattle.ac_rules.specs.Plain.{packed}
 use Rattle.ac_rules.specs.Views.{Mode, Coloured, opens, representation, view, is_known}
 use Rattle.ac_rules.specs.Typing.{all_of, fields_of}
 use Rattle.ac_rules.specs.Coherent.{IsCoherent}
 use Rattle.ac_terms.proofs.AllLaws.{all_left, all_right, all_append}
-use Rattle.ac_meaning.specs.Worlds.{Exception, World, match_failure_exn, counted, fresh, Read, with_crossing}
+use Rattle.ac_meaning.specs.Worlds.{Exception, World, match_failure_exn, end_of_file_exn, bad_frame, counted, fresh, Read, with_crossing}
 use Rattle.ac_rules.specs.Growth.{Grows}
 use Rattle.ac_outside.specs.Frames.{Frame, Whole, Bad, AtEnd, next_frame}
 use Rattle.ac_meaning.specs.Acts.{Act, Is, Goes, Turns, Applies, Raises, Wrong, becomes, or_raises, within, part, Spent, State, At, Over, after}
@@ -24,7 +24,7 @@ use Rattle.ac_meaning.specs.Matching.{fit, chosen}
 use Rattle.ac_meaning.specs.PrimitiveSteps.{spelled, primitive, answer_at, answered, sending, receiving, exception_of, exception_value, thrown}
 use Rattle.ac_meaning.specs.Brackets.{enclosed, all_enclosed, is_function_value, inside_seal, unsealed_term, at_name, bracket_step}
 use Rattle.ac_meaning.specs.References.{own_field, referred, Route, Nowhere, Once, Twice, route, routed}
-use Rattle.ac_meaning.specs.Packing.{Packing, Refuses, Packs, packs, packing, Arrival, Unfit, Brings, arrival, brings, marshal_step, unmarshal_step}
+use Rattle.ac_meaning.specs.Packing.{Packing, CannotPack, Packs, packs, packing, Arrival, Unfit, Brings, arrival, brings, raising, marshal_step, unmarshal_step}
 use Rattle.ac_meaning.specs.Reduction.{apply, branch, look, look_all, look_main, step}
 use Rattle.ac_meaning.specs.Laws.{IsTypedProgram}
 use Rattle.ac_meaning.specs.Typed.{as_seen, Known, IsHome, IsLast, own_type, Fits, Typed, AllTyped, ArmsTyped, ValueTyped, ValuesTyped, WrittenTyped}
@@ -143,7 +143,7 @@ module _ (arrives : Arrives) (mode : Mode) where
     chosen_ok c (arm p t rest) v A T x h k = arm_ok c p t v A T h.0 (fit p v []) (chosen rest v) x refl k h.1 h.2 (chosen_ok c rest v A T x h.3 k)
 
     -- primitives
-    spelled_ok : (k : Const) (c : Home) (T : Typ) → AnswerOf T (Gives k) → Typed mode E (spelled k) c [] T
+    spelled_ok : (k : Const) (c : Home) (T : Typ) → AnswerOf T (Yields k) → Typed mode E (spelled k) c [] T
     spelled_ok (CInt n) c T h = h
     spelled_ok (CBool b) c T h = h
     spelled_ok (CStr s) c T h = h
@@ -154,13 +154,16 @@ module _ (arrives : Arrives) (mode : Mode) where
     sent_ok true s c T h = (grows_not E coherent, h)
     sent_ok false s c T h = tt
 
-    received_ok : (f : Frame) (c : Home) (T : Typ) → T ≡ TStr → Good c T (receiving spelled f z)
-    received_ok (Whole s rest) c T h = (grows_not E coherent, h)
-    received_ok (Bad n got) c T h = tt
-    received_ok AtEnd c T h = tt
+    raising_ok : (x : Exception) (c : Home) (T : Typ) → T ≡ TStr → Typed mode E (raising TStr x) c [] T
+    raising_ok x c T h = (h ∙ sym (seen_str E mode c), (sym (seen_exn E mode c), refl, refl), refl)
 
-    answer_ok : (a : PrimitiveAnswer) (c : Home) (T : Typ) → AnswerOf T a → Good c T (answered spelled z a)
-    answer_ok (Gives k) c T h = spelled_ok k c T h
+    received_ok : (f : Frame) (c : Home) (T : Typ) → T ≡ TStr → Good c T (receiving spelled (raising TStr) f z)
+    received_ok (Whole s rest) c T h = (grows_not E coherent, h)
+    received_ok (Bad n got) c T h = (grows_not E coherent, raising_ok bad_frame c T h)
+    received_ok AtEnd c T h = (grows_not E coherent, raising_ok end_of_file_exn c T h)
+
+    answer_ok : (a : PrimitiveAnswer) (c : Home) (T : Typ) → AnswerOf T a → Good c T (answered spelled (raising TStr) z a)
+    answer_ok (Yields k) c T h = spelled_ok k c T h
     answer_ok (Prints s) c T h = (grows_not E coherent, h)
     answer_ok (Sends s) c T h = sent_ok z.has_channel s c T h
     answer_ok Receives c T h = received_ok (next_frame z.input) c T h
@@ -233,7 +236,7 @@ module _ (arrives : Arrives) (mode : Mode) where
     marshal_ok c m v A T e h = let s = shape mode E m c TStr TStr refl h in subst (λ x. Good c T (marshal_step z c A x v)) (sym s.1) (by (packing z A s.0 (packed z.environment c v A)))
       where
         by : (p : Packing) → Good c T (packs z p)
-        by (Refuses x) = tt
+        by (CannotPack x) = tt
         by (Packs s) = (grows_not E coherent, e)
 
     unmarshal_ok : (c : Home) (v : Value) (A T : Typ) → AtHome c → ValueTyped mode E v c TStr → IsKnown A → T ≡ sees c A → Good c T (unmarshal_step mode z c A v)
@@ -366,7 +369,7 @@ module _ (arrives : Arrives) (mode : Mode) where
           within_ok E (TermOf c T) (TermOf c T) (ValueOf c T) (ValueOf c T) (λ x. Try x arms) (λ v. Goes e) (λ x. or_raises x (chosen arms (exception_value x))) (look mode z c e) coherent (kept e c T i h.0)
           (λ F s g p. (p, arms_more F c i g arms TExn T h.1, h.2)) (λ v p. h.0) (λ x. chosen_ok c arms (exception_value x) TExn T x h.1 refl)
       kept (Prim k es) c T i h =
-          within_ok E (TermsOf c h.0) (TermOf c T) (ValuesOf c h.0) (ValueOf c T) (Prim k) (λ vs. answered spelled z (primitive k vs)) Raises (look_all mode z c es) coherent (all_kept es c h.0 i h.1) (λ F s g p. (h.0, p, h.2))
+          within_ok E (TermsOf c h.0) (TermOf c T) (ValuesOf c h.0) (ValueOf c T) (Prim k) (λ vs. answered spelled (raising TStr) z (primitive k vs)) Raises (look_all mode z c es) coherent (all_kept es c h.0 i h.1) (λ F s g p. (h.0, p, h.2))
           (λ vs p.
           let r = prim_ok k h.0 T h.2 in
           let s = consts_ok mode E h.0 r.0 vs c p in

@@ -10,7 +10,9 @@ pub mod Reduces
 pub mod Endings
 pub mod Changes
 pub mod Budgets
+pub mod InOrder
 pub mod WriteOrders
+pub mod ReceiveOrders
 pub mod Coherences
 pub mod Homes
 pub mod Programs

@@ -21,7 +21,7 @@ use Rattle.ac_meaning.specs.Acts.{Act, Is, Goes, Turns, Applies, Raises, Wrong, 
 use Rattle.ac_rules.specs.Growth.{Grows}
 use Rattle.ac_meaning.specs.BareTerms.{bare_value}
 use Rattle.ac_meaning.specs.BarePacking.{bare_packed}
-use Rattle.ac_meaning.specs.Packing.{Packing, Refuses, Packs, packs, packing, landing, marshal_step}
+use Rattle.ac_meaning.specs.Packing.{Packing, CannotPack, Packs, packs, packing, landing, marshal_step}
 use Rattle.ac_meaning.specs.Reduction.{look, step}
 use Rattle.ac_meaning.specs.Laws.{IsTypedProgram}
 use Rattle.ac_meaning.specs.Typed.{IsHome, Typed, AllTyped, ValueTyped, as_seen, Known}
@@ -129,7 +129,7 @@ pub record Packs' (z : World) (c : Home) (T : Typ) (s : Bytes) (a b : Act Expr V
   pub packs_so : packing z T mark (packed z.environment c value T) ≡ Packs s
 
 packed_string : (z y : World) (p : Packing) (s : Bytes) → packs z p ≡ Turns y (Str s) → p ≡ Packs s
-packed_string z y (Refuses x) s e = absurd cc
+packed_string z y (CannotPack x) s e = absurd cc
 packed_string z y (Packs r) s e = let q : r ≡ s = cc in ap Packs q
 
 pub marshal_parts : (z y : World) (c : Home) (T : Typ) (m w : Expr) (s : Bytes) (a b : Act Expr Value) → parts (Marshal T) m w (marshal_step z c T) a b ≡ Turns y (Str s) → Packs' z c T s a b

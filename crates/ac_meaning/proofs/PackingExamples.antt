@@ -27,7 +27,7 @@ use Rattle.ac_meaning.specs.Packing.{packing, landing, marshal_step, bare_marsha
 use Rattle.ac_meaning.specs.Reduction.{step}
 use Rattle.ac_meaning.specs.BareTerms.{WUnit, bare, bare_value}
 use Rattle.ac_meaning.specs.BareReduction as lean
-use Rattle.ac_meaning.proofs.Programs.{number, plus, print_int}
+use Rattle.ac_meaning.proofs.Programs.{has_printed, number, plus, print_int}
 use Rattle.ac_types.specs.Sigs.{MyName}
 
 abbrev pub a_mark : Bytes → Entry
@@ -68,11 +68,11 @@ add_received = print_int (plus (number 3) (Unmarshal TInt receive))
 abbrev in_a_frame : World
 in_a_frame = fresh [] (0 ∷ 0 ∷ 0 ∷ 0x11 ∷ five_bytes) false
 
-pub eight_is_printed : iter (step Coloured 0) 9 (At add_received in_a_frame) ≡ Over (Returned VUnit (record (fresh [] [] false) { writes = Print (codes "8") ∷ []; crossings = Read five_bytes ∷ [] }))
+pub eight_is_printed : iter (step Coloured 0) 9 (At add_received in_a_frame) ≡ Over (Returned VUnit (record (fresh [] [] false) { writes = Print (codes "8") ∷ []; crossings = Read five_bytes ∷ []; receives = has_printed [] ∷ [] }))
 unfolding int_wrap digits is_reserved landing
 eight_is_printed = refl
 
-pub eight_is_printed_bare : iter (lean.step 0) 9 (At (bare Main add_received) in_a_frame) ≡ Over (Returned WUnit (record (fresh [] [] false) { writes = Print (codes "8") ∷ []; crossings = Read five_bytes ∷ [] }))
+pub eight_is_printed_bare : iter (lean.step 0) 9 (At (bare Main add_received) in_a_frame) ≡ Over (Returned WUnit (record (fresh [] [] false) { writes = Print (codes "8") ∷ []; crossings = Read five_bytes ∷ []; receives = has_printed [] ∷ [] }))
 unfolding int_wrap digits is_reserved landing
 eight_is_printed_bare = refl
 

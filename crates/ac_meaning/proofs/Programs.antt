@@ -9,7 +9,7 @@ use Rattle.ac_terms.specs.Defs.{Environment, AnImport, Own'}
 use Rattle.ac_rules.specs.Views.{Mode}
 use Rattle.ac_rules.proofs.Samples.{t, one_entry, wanted}
 use Rattle.ac_meaning.specs.Writes.{Print}
-use Rattle.ac_meaning.specs.Worlds.{World, fresh}
+use Rattle.ac_meaning.specs.Worlds.{Trace, World, fresh}
 use Rattle.ac_meaning.specs.Acts.{State, At, iter}
 use Rattle.ac_meaning.specs.Reduction.{step}
 
@@ -19,7 +19,11 @@ after_steps k mode e N = iter (step mode N) k (At e (fresh [] [] false))
 
 -- the world after these prints and so many applications
 abbrev pub printed_by : List Bytes → ℕ → World
-printed_by ss n = record { environment = []; writes = map Print ss; crossings = []; input = []; has_channel = false; made = n }
+printed_by ss n = record { environment = []; writes = map Print ss; crossings = []; receives = []; input = []; has_channel = false; made = n }
+
+-- what a program has done that printed so
+abbrev pub has_printed : List Bytes → Trace
+has_printed ss = record { environment = []; writes = map Print ss; crossings = [] }
 
 abbrev pub number : ℕ → Expr
 number n = Int (pos n)

@@ -16,7 +16,7 @@ use Rattle.ac_code.specs.Constants.{meaning}
 use Rattle.ac_meaning.specs.Brackets.{is_function_value}
 use Rattle.ac_meaning.specs.References.{route}
 use Rattle.ac_rules.specs.Growth.{Grows}
-use Rattle.ac_meaning.specs.Packing.{Packing, Refuses, Packs, Arrival, Unfit, Brings, packing, arrival}
+use Rattle.ac_meaning.specs.Packing.{Packing, CannotPack, Packs, Arrival, Unfit, Brings, packing, arrival}
 use Rattle.ac_meaning.proofs.Results.{Result, Spending, M, give, raise, follow, lift}
 use Rattle.ac_meaning.proofs.Eval.{with_text, own_by, ref_by, opened, branching, throws, answering, constant, fitted, no_more, packed_as, marshals, arrived_as, unmarshals, across, crossing, eval, eval_all, eval_rest, eval_arms, calling, depth}
 use Rattle.ac_meaning.proofs.Arrivals.{Arrives}
@@ -94,7 +94,7 @@ module _ (arrives : Arrives) (mode : Mode) where
       subst (λ x. Good z c T (marshals c A x v z)) (sym s.1) (by (packing z A s.0 (packed z.environment c v A)))
     where
       by : (p : Packing) → Good z c T (packed_as VStr p z)
-      by (Refuses x) = grows_not z.environment i
+      by (CannotPack x) = grows_not z.environment i
       by (Packs s) = (grows_not z.environment i, e)
 
   pub unmarshal_ok : (s : Value) (c : Home) (A T : Typ) (z : World) → At z c → Is c TStr z.environment s → Known mode z.environment A → T ≡ sees z c A → Good z c T (unmarshals mode c A s z)

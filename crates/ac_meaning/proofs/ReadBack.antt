@@ -8,7 +8,7 @@ use Rattle.ac_terms.specs.Defs.{Environment, Packet}
 use Rattle.ac_terms.proofs.SpelledLaws.{spelled_is_read}
 use Rattle.ac_rules.specs.Views.{Coloured}
 use Rattle.ac_rules.specs.Needed.{packet_for}
-use Rattle.ac_rules.specs.Packets.{Cause, Definition, Clash, Full, Unresolved, WrongType, NoValue, cause}
+use Rattle.ac_rules.specs.Packets.{PacketCause, Definition, Clash, Full, Unresolved, WrongType, NoValue, cause}
 use Rattle.ac_rules.specs.Faults.{Marshalled, NoString, AString, marshalled}
 use Rattle.ac_rules.specs.RoundTrip.{IsPackable, IsExcused}
 use Rattle.ac_rules.proofs.RoundTrip.{marshal_round_trip, round_trip}
@@ -22,7 +22,7 @@ use Rattle.ac_meaning.specs.Packing.{Packs, answer, admitted, received, landing}
 use Rattle.ac_meaning.specs.ReadBack.{IsReadBack}
 use Rattle.ac_meaning.proofs.PackedHolds.{packable}
 
-excused_lands : (E : Environment) (p : Packet) (o : Option Cause) → IsExcused o → IsReadBack (admitted E p o)
+excused_lands : (E : Environment) (p : Packet) (o : Option PacketCause) → IsExcused o → IsReadBack (admitted E p o)
 excused_lands E p None h = tt
 excused_lands E p (Some (Full n)) h = inl refl
 excused_lands E p (Some (Unresolved i)) h = inr (_, refl)

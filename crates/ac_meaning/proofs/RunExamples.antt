@@ -12,7 +12,7 @@ use Rattle.ac_meaning.specs.Writes.{Send}
 use Rattle.ac_meaning.specs.Worlds.{Exception, fresh, match_failure_exn, end_of_file_exn, no_channel, bad_frame}
 use Rattle.ac_meaning.specs.Acts.{At, Over, Returned, Raised, Spent, Stuck, iter}
 use Rattle.ac_meaning.specs.Reduction.{step}
-use Rattle.ac_meaning.proofs.Programs.{after_steps, printed_by, number, plus, minus, over, modulo, print_int, print, then', countdown, total, numbers}
+use Rattle.ac_meaning.proofs.Programs.{after_steps, printed_by, has_printed, number, plus, minus, over, modulo, print_int, print, then', countdown, total, numbers}
 
 abbrev division_by_zero : Exception
 division_by_zero = record { number = exceptions.division_by_zero; text = None }
@@ -167,6 +167,9 @@ no_number = refl
 abbrev receive : Expr
 receive = Prim primitives.receive (exprs (Unit' ∷ []))
 
+abbrev print_received : Expr → Expr
+print_received e = Prim primitives.print_string (exprs (e ∷ []))
+
 abbrev send : Bytes → Expr
 send s = Prim primitives.send (exprs (Str s ∷ []))
 
@@ -180,17 +183,27 @@ two_are_sent = refl
 -- over one frame and one byte more: the frame, and then the bad frame each time
 pub a_frame_and_a_bad_one :
     iter (step Coloured 0) 20 (At (Tuple (exprs (receive ∷ Try receive (arms ((PExnOf exceptions.sys_error (PVar TStr), Var 0) ∷ [])) ∷ receive ∷ []))) (fresh [] (0 ∷ 0 ∷ 0 ∷ 2 ∷ 104 ∷ 105 ∷ 7 ∷ []) false)) ≡
-    Over (Raised bad_frame (fresh [] (7 ∷ []) false))
+    Over (Raised bad_frame (record (fresh [] (7 ∷ []) false) { receives = has_printed [] ∷ has_printed [] ∷ has_printed [] ∷ [] }))
 a_frame_and_a_bad_one = refl
 
-pub a_received_frame : iter (step Coloured 0) 3 (At receive (fresh [] (0 ∷ 0 ∷ 0 ∷ 2 ∷ 104 ∷ 105 ∷ []) false)) ≡ Over (Returned (VStr (codes "hi")) (fresh [] [] false))
+pub a_received_frame : iter (step Coloured 0) 3 (At receive (fresh [] (0 ∷ 0 ∷ 0 ∷ 2 ∷ 104 ∷ 105 ∷ []) false)) ≡ Over (Returned (VStr (codes "hi")) (record (fresh [] [] false) { receives = has_printed [] ∷ [] }))
 a_received_frame = refl
 
-pub a_short_frame : iter (step Coloured 0) 3 (At receive (fresh [] (0 ∷ 0 ∷ 0 ∷ 2 ∷ 65 ∷ []) false)) ≡ Over (Raised bad_frame (fresh [] (0 ∷ 0 ∷ 0 ∷ 2 ∷ 65 ∷ []) false))
+pub a_short_frame : iter (step Coloured 0) 3 (At receive (fresh [] (0 ∷ 0 ∷ 0 ∷ 2 ∷ 65 ∷ []) false)) ≡ Over (Raised bad_frame (record (fresh [] (0 ∷ 0 ∷ 0 ∷ 2 ∷ 65 ∷ []) false) { receives = has_printed [] ∷ [] }))
 a_short_frame = refl
 
-pub too_long_a_frame : iter (step Coloured 0) 3 (At receive (fresh [] (0 ∷ 16 ∷ 0 ∷ 1 ∷ []) false)) ≡ Over (Raised bad_frame (fresh [] (0 ∷ 16 ∷ 0 ∷ 1 ∷ []) false))
+pub too_long_a_frame : iter (step Coloured 0) 3 (At receive (fresh [] (0 ∷ 16 ∷ 0 ∷ 1 ∷ []) false)) ≡ Over (Raised bad_frame (record (fresh [] (0 ∷ 16 ∷ 0 ∷ 1 ∷ []) false) { receives = has_printed [] ∷ [] }))
 too_long_a_frame = refl
 
-pub end_of_input : after_steps 3 Coloured receive 0 ≡ Over (Raised end_of_file_exn (printed_by [] 0))
+pub end_of_input : after_steps 3 Coloured receive 0 ≡ Over (Raised end_of_file_exn (record (printed_by [] 0) { receives = has_printed [] ∷ [] }))
 end_of_input = refl
+
+-- `IO.print_string "a"; IO.print_string (IO.receive ()); IO.print_string (try IO.receive () with End_of_file -> "." end)`
+abbrev pub receives_twice : Expr
+receives_twice = Seq (exprs (print (codes "a") ∷ print_received receive ∷ print_received (Try receive (arms ((PExn exceptions.end_of_file, Str (codes ".")) ∷ []))) ∷ []))
+
+-- over one frame: what was done in front of each receive, of which the second finds the end
+pub receives_of_a_run :
+    iter (step Coloured 0) 30 (At receives_twice (fresh [] (0 ∷ 0 ∷ 0 ∷ 2 ∷ 104 ∷ 105 ∷ []) false)) ≡
+    Over (Returned VUnit (record (printed_by (codes "a" ∷ codes "hi" ∷ codes "." ∷ []) 0) { receives = has_printed (codes "a" ∷ []) ∷ has_printed (codes "a" ∷ codes "hi" ∷ []) ∷ [] }))
+receives_of_a_run = refl

@@ -8,7 +8,7 @@ use Rattle.ac_terms.specs.Terms.{Home, Prim, Value, VInt, VBool, VStr, VUnit, VT
 use Rattle.ac_terms.specs.Defs.{Environment}
 use Rattle.ac_terms.specs.PrimitiveTypes.{Rule, arithmetic, comparison, by_rules, primitives, primitive_type}
 use Rattle.ac_types.specs.Limits.{longest_string}
-use Rattle.ac_code.specs.Constants.{Const, CInt, CBool, CStr, CUnit, CPart, PrimitiveAnswer, Gives, Prints, Sends, Receives, Fails, NoSense, Meaning, meaning, primitive_answer, sum, difference, product, quotient, remainder, negation, equal, less, concatenated, opposite, printed_int, printed_string, sent_string, received_string, size, part_of_string, int_as_string, bytes_between, meanings, same_int, raise_division_by_zero, raise_invalid_argument}
+use Rattle.ac_code.specs.Constants.{Const, CInt, CBool, CStr, CUnit, CPart, PrimitiveAnswer, Yields, Prints, Sends, Receives, Fails, NoSense, Meaning, meaning, primitive_answer, sum, difference, product, quotient, remainder, negation, equal, less, concatenated, opposite, printed_int, printed_string, sent_string, received_string, size, part_of_string, int_as_string, bytes_between, meanings, same_int, raise_division_by_zero, raise_invalid_argument}
 use Rattle.ac_rules.specs.Views.{Mode}
 use Rattle.ac_rules.specs.Coherent.{IsCoherent}
 use Rattle.ac_rules.proofs.Rules.{then_some}
@@ -38,7 +38,7 @@ ConstsOf Ts [] = Ts ≡ no_types
 ConstsOf Ts (k ∷ ks) = (U : Typ) × (Us : Typs) × (Ts ≡ typ U Us) × ConstOf U k × ConstsOf Us ks
 
 abbrev pub AnswerOf : Typ → PrimitiveAnswer → Type 0
-AnswerOf T (Gives k) = ConstOf T k
+AnswerOf T (Yields k) = ConstOf T k
 AnswerOf T (Prints s) = T ≡ TUnit
 AnswerOf T (Sends s) = T ≡ TUnit
 AnswerOf T Receives = T ≡ TStr
@@ -123,7 +123,7 @@ tested true T x y h k = h
 tested false T x y h k = k
 
 part_of : (s : Bytes) (i n : ℤ) → AnswerOf TStr (bytes_between s i n)
-part_of s (pos i) (pos n) = tested (nat_le (i + n) (length s)) TStr (Gives (CStr (take n (drop i s)))) (raise_invalid_argument (codes "sub")) refl tt
+part_of s (pos i) (pos n) = tested (nat_le (i + n) (length s)) TStr (Yields (CStr (take n (drop i s)))) (raise_invalid_argument (codes "sub")) refl tt
 part_of s _ _ = tt
 
 -- a string with two ints
@@ -177,10 +177,10 @@ each_answers =
           (ints product TInt (λ x y. refl), tt),
           (
             sums,
-            (ints quotient TInt (λ x y. tested (same_int y (pos 0)) TInt raise_division_by_zero (Gives (CInt (int_wrap w64 (int_div x y)))) tt refl), tt),
+            (ints quotient TInt (λ x y. tested (same_int y (pos 0)) TInt raise_division_by_zero (Yields (CInt (int_wrap w64 (int_div x y)))) tt refl), tt),
             (
               sums,
-              (ints remainder TInt (λ x y. tested (same_int y (pos 0)) TInt raise_division_by_zero (Gives (CInt (int_rem x y))) tt refl), tt),
+              (ints remainder TInt (λ x y. tested (same_int y (pos 0)) TInt raise_division_by_zero (Yields (CInt (int_rem x y))) tt refl), tt),
               (
                 (one, tt),
                 (an_int negation TInt (λ x. refl), tt),
@@ -192,7 +192,7 @@ each_answers =
                     (ints less TBool (λ x y. refl), (bools less TBool (λ x y. refl), (strs less TBool (λ x y. refl), tt))),
                     (
                       (two, tt),
-                      (strs concatenated TStr (λ x y. tested (nat_le (length x + length y) longest_string) TStr (Gives (CStr (x ++ y))) (raise_invalid_argument (codes "string")) refl tt), tt),
+                      (strs concatenated TStr (λ x y. tested (nat_le (length x + length y) longest_string) TStr (Yields (CStr (x ++ y))) (raise_invalid_argument (codes "string")) refl tt), tt),
                       (
                         (one, tt),
                         (a_bool opposite TBool (λ x. refl), tt),
@@ -344,7 +344,7 @@ module _ (mode : Mode) where
   receive_ok AtEnd c T z i h = grows_not z.environment i
 
   pub answer_ok : (a : PrimitiveAnswer) (c : Home) (T : Typ) (z : World) → IsCoherent z.environment → AnswerOf T a → Ok z.environment (Of c T) (answering constant a z)
-  answer_ok (Gives k) c T z i h = (grows_not z.environment i, constant_ok mode z.environment k c T h)
+  answer_ok (Yields k) c T z i h = (grows_not z.environment i, constant_ok mode z.environment k c T h)
   answer_ok (Prints s) c T z i h = (grows_not z.environment i, h)
   answer_ok (Sends s) c T z i h = send_ok z.has_channel s c T z i h
   answer_ok Receives c T z i h = receive_ok (next_frame z.input) c T z i h

@@ -11,7 +11,7 @@ use Rattle.ac_meaning.specs.Reduction.{step}
 use Rattle.ac_meaning.specs.BareTerms.{bare, WInt}
 use Rattle.ac_meaning.specs.BareReduction as b
 use Rattle.ac_meaning.specs.ReadBack.{Marshals}
-use Rattle.ac_meaning.specs.Packing.{Packing, Refuses, Packs, packing, landing, unmarshal_failure_exn}
+use Rattle.ac_meaning.specs.Packing.{Packing, CannotPack, Packs, packing, landing, unmarshal_failure_exn}
 
 -- the mark M, and nothing else
 abbrev marked : Environment
@@ -23,7 +23,7 @@ seven = Unmarshal TInt (Marshal TInt (Str (codes "M")) (Int (pos 7)))
 
 -- the string of the 7
 abbrev sent : Packing → Bytes
-sent (Refuses x) = []
+sent (CannotPack x) = []
 sent (Packs s) = s
 
 seven_sent : Bytes

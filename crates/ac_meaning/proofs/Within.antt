@@ -6,7 +6,8 @@ use Rattle.std.specs.Option.{option_map_or}
 use Rattle.ac_types.specs.Types.{Typ, TFun, is_small}
 use Rattle.ac_terms.specs.Terms.{Pattern, Expr, Int, Boolean, Str, Unit', Exn, ExnOf, Tuple, Nil, Empty, Present, Cons, Var, Own, Ref, Lam, Rec, App, Let, If, Seq, Match, Try, Raise, Prim, Marshal, Unmarshal, Val, Evaluated, Bracket, Exprs, no_exprs, expr, Arms, no_arms, arm, Value, VInt, VBool, VStr, VUnit, VExn, VTuple, VNil, VCons, VAbsent, VPresent, VLam, VRec, VProxy, VSeal, Values, no_values, value}
 use Rattle.ac_terms.specs.Spelling.{term_count, arm_count}
-use Rattle.ac_terms.specs.PrimitiveTypes.{has_text, is_exception, primitives}
+use Rattle.ac_types.specs.Exceptions.{has_text}
+use Rattle.ac_terms.specs.PrimitiveTypes.{is_exception, primitives}
 use Rattle.ac_terms.specs.Parts.{pattern_types}
 use Rattle.ac_terms.specs.Bounds.{is_string, is_two, is_four, is_integer, is_width, is_lower, fits_type, fits_pattern, takes}
 use Rattle.ac_meaning.specs.Writes.{Write, string_of}

@@ -10,17 +10,18 @@ use Rattle.std.proofs.lemmas.Bool.Decides.{nat_tests}
 use mathlib.Core.Bool.{true≢false}
 use native.Mathlib.Omega.{arith}
 use Rattle.ac_types.proofs.FirstLaws.{none≢some, some_eq}
-use Rattle.ac_types.specs.Types.{Bytes}
+use Rattle.ac_types.specs.Types.{Bytes, TStr}
 use Rattle.ac_terms.specs.Terms.{Value, VInt, VBool, VStr, VUnit, VTuple, Values, no_values, value}
 use Rattle.ac_terms.specs.PrimitiveTypes.{is_exception}
 use Rattle.ac_terms.specs.Bounds.{is_string, is_integer}
 use Rattle.ac_types.specs.Limits.{longest_string, longest_frame}
-use Rattle.ac_code.specs.Constants.{Const, CInt, CBool, CStr, CUnit, CPart, PrimitiveAnswer, Gives, Prints, Sends, Receives, Fails, NoSense, Meaning, One, Two, meanings, meaning, primitive_answer, sum, difference, product, quotient, remainder, negation, equal, less, concatenated, opposite, printed_int, printed_string, sent_string, received_string, size, part_of_string, int_as_string, bytes_between, same_int, raise_invalid_argument, raise_division_by_zero}
+use Rattle.ac_code.specs.Constants.{Const, CInt, CBool, CStr, CUnit, CPart, PrimitiveAnswer, Yields, Prints, Sends, Receives, Fails, NoSense, Meaning, One, Two, meanings, meaning, primitive_answer, sum, difference, product, quotient, remainder, negation, equal, less, concatenated, opposite, printed_int, printed_string, sent_string, received_string, size, part_of_string, int_as_string, bytes_between, same_int, raise_invalid_argument, raise_division_by_zero}
 use Rattle.ac_meaning.specs.Writes.{Print, Send}
-use Rattle.ac_meaning.specs.Worlds.{World}
+use Rattle.ac_meaning.specs.Worlds.{Exception, World, end_of_file_exn, bad_frame}
 use Rattle.ac_outside.specs.Frames.{Frame, Whole, Bad, AtEnd, next_frame}
 use Rattle.ac_meaning.specs.PrimitiveSteps.{const_of_parts, const_of, all_there, consts_of, spelled, answer_at, primitive, answered, sending, receiving}
-use Rattle.ac_meaning.proofs.Within.{Within, ValueWithin, ValuesWithin, WritesWithin}
+use Rattle.ac_meaning.specs.Packing.{raising}
+use Rattle.ac_meaning.proofs.Within.{Within, ValueWithin, ValuesWithin, RaisedWithin, WritesWithin}
 use Rattle.ac_meaning.proofs.WithinLaws.{Good, one_more}
 
 abbrev ConstWithin : Const → Type 0
@@ -35,7 +36,7 @@ ConstsWithin [] = Unit {0}
 ConstsWithin (c ∷ cs) = ConstWithin c × ConstsWithin cs
 
 abbrev AnswerWithin : PrimitiveAnswer → Type 0
-AnswerWithin (Gives c) = ConstWithin c
+AnswerWithin (Yields c) = ConstWithin c
 AnswerWithin (Prints s) = is_string s ≡ true
 AnswerWithin (Sends s) = is_string s ≡ true
 AnswerWithin (Fails k s) = (is_exception k s ≡ true) × (option_map_or is_string s true ≡ true)
@@ -105,11 +106,11 @@ product_within (CInt x) (CInt y) h k = wrapped (x *ℤ y)
 product_within _ _ h k = tt
 
 quotient_within : MeaningWithin (Two quotient)
-quotient_within (CInt x) (CInt y) h k = tested (same_int y (pos 0)) raise_division_by_zero (Gives (CInt (int_wrap w64 (int_div x y)))) (λ e. (refl, refl)) (λ e. wrapped (int_div x y))
+quotient_within (CInt x) (CInt y) h k = tested (same_int y (pos 0)) raise_division_by_zero (Yields (CInt (int_wrap w64 (int_div x y)))) (λ e. (refl, refl)) (λ e. wrapped (int_div x y))
 quotient_within _ _ h k = tt
 
 remainder_within : MeaningWithin (Two remainder)
-remainder_within (CInt x) (CInt y) h k = tested (same_int y (pos 0)) raise_division_by_zero (Gives (CInt (int_rem x y))) (λ e. (refl, refl)) (λ e. rem_within x y k e)
+remainder_within (CInt x) (CInt y) h k = tested (same_int y (pos 0)) raise_division_by_zero (Yields (CInt (int_rem x y))) (λ e. (refl, refl)) (λ e. rem_within x y k e)
 remainder_within _ _ h k = tt
 
 negation_within : MeaningWithin (One negation)
@@ -130,7 +131,7 @@ less_within _ _ h k = tt
 
 joined_within : MeaningWithin (Two concatenated)
 joined_within (CStr s) (CStr t) h k =
-    tested (nat_le (length s + length t) longest_string) (Gives (CStr (s ++ t))) (raise_invalid_argument (codes "string"))
+    tested (nat_le (length s + length t) longest_string) (Yields (CStr (s ++ t))) (raise_invalid_argument (codes "string"))
     (λ e. ap (λ n. nat_le n 1048576) (length-append s t) ∙ e) (λ e. (refl, refl))
 joined_within _ _ h k = tt
 
@@ -182,7 +183,7 @@ drop_short (suc i) (x ∷ s) = let l = drop_short i s in omega (arith, l)
 
 part_within : (s : Bytes) (i n : ℤ) → is_string s ≡ true → AnswerWithin (bytes_between s i n)
 part_within s (pos i) (pos n) h =
-    tested (nat_le (i + n) (length s)) (Gives (CStr (take n (drop i s)))) (raise_invalid_argument (codes "sub"))
+    tested (nat_le (i + n) (length s)) (Yields (CStr (take n (drop i s)))) (raise_invalid_argument (codes "sub"))
     (λ e. bytes_at_most (length (take n (drop i s))) (length s) (let a = take_short n (drop i s) in let b = drop_short i s in omega (arith, a, b)) h) (λ e. (refl, refl))
 part_within s _ _ h = (refl, refl)
 
@@ -279,17 +280,21 @@ whole_short (a ∷ (b ∷ (c ∷ (d ∷ bs)))) s rest e = by (from_be_bytes w32 
     by n false p q = absurd cc
     by n true p q = there n (nat_le n (length bs)) p q
 
-received_within : (f : Frame) (z : World) → WritesWithin z.writes → ((s rest : Bytes) → f ≡ Whole s rest → is_string s ≡ true) → Good (receiving spelled f z)
+-- where none comes, an exception is raised
+raising_within : (x : Exception) → RaisedWithin x → Within false (raising TStr x)
+raising_within x h = ((refl, refl), (tt, h))
+
+received_within : (f : Frame) (z : World) → WritesWithin z.writes → ((s rest : Bytes) → f ≡ Whole s rest → is_string s ≡ true) → Good (receiving spelled (raising TStr) f z)
 received_within (Whole s rest) z w h = (h s rest refl, w)
-received_within (Bad n got) z w h = (refl, refl)
-received_within AtEnd z w h = (refl, refl)
+received_within (Bad n got) z w h = (raising_within bad_frame (refl, refl), w)
+received_within AtEnd z w h = (raising_within end_of_file_exn (refl, refl), w)
 
 sent_within : (b : Bool) (s : Bytes) (z : World) → WritesWithin z.writes → is_string s ≡ true → Good (sending spelled b s z)
 sent_within true s z w h = (tt, one_more z.writes (Send s) w h)
 sent_within false s z w h = (refl, refl)
 
-answered_within : (a : PrimitiveAnswer) (z : World) → WritesWithin z.writes → AnswerWithin a → Good (answered spelled z a)
-answered_within (Gives c) z w h = spelled_within c h
+answered_within : (a : PrimitiveAnswer) (z : World) → WritesWithin z.writes → AnswerWithin a → Good (answered spelled (raising TStr) z a)
+answered_within (Yields c) z w h = spelled_within c h
 answered_within (Prints s) z w h = (tt, one_more z.writes (Print s) w h)
 answered_within (Sends s) z w h = sent_within z.has_channel s z w h
 answered_within Receives z w h = received_within (next_frame z.input) z w (λ s rest e. whole_short z.input s rest e)
@@ -297,5 +302,5 @@ answered_within (Fails k s) z w h = h
 answered_within NoSense z w h = tt
 
 -- so a primitive comes to what is within the bounds
-pub primitive_answered : (k : ℕ) (vs : Values) (z : World) → WritesWithin z.writes → ValuesWithin vs → Good (answered spelled z (primitive k vs))
+pub primitive_answered : (k : ℕ) (vs : Values) (z : World) → WritesWithin z.writes → ValuesWithin vs → Good (answered spelled (raising TStr) z (primitive k vs))
 primitive_answered k vs z w h = answered_within (primitive k vs) z w (primitive_within k vs h)

@@ -19,12 +19,12 @@ use Rattle.ac_terms.proofs.SpelledLaws.{read_is_spelled}
 use Rattle.ac_rules.specs.Views.{Mode, Coloured}
 use Rattle.ac_rules.specs.Typing.{of_field}
 use Rattle.ac_rules.specs.Coherent.{IsCoherent}
-use Rattle.ac_rules.specs.Packets.{Cause, Definition, Clash, Full, Unresolved, WrongType, NoValue, cause}
+use Rattle.ac_rules.specs.Packets.{PacketCause, Definition, Clash, Full, Unresolved, WrongType, NoValue, cause}
 use Rattle.ac_rules.specs.Faults.{Fault, NoMark, Depth, Function, Size, Marshalled, NoString, AString, marshalled}
 use Rattle.ac_rules.proofs.ListLaws.{all_at}
 use Rattle.ac_rules.proofs.FaultLaws.{gives_packet}
 use Rattle.ac_meaning.specs.Worlds.{World}
-use Rattle.ac_meaning.specs.Packing.{Packing, Refuses, Packs, packing, answer, of_fault, of_cause, import_name, Arrival, Unfit, Brings, arrival, brought, Landing, Sinks, Lands, landing, received, admitted}
+use Rattle.ac_meaning.specs.Packing.{Packing, CannotPack, Packs, packing, answer, of_fault, of_cause, import_name, Arrival, Unfit, Brings, arrival, brought, Landing, Sinks, Lands, landing, received, admitted}
 use Rattle.ac_meaning.specs.References.{own_field}
 use Rattle.ac_meaning.proofs.Coherences.{is_field, is_sound}
 use Rattle.ac_meaning.proofs.KnownNames.{fields_source}
@@ -85,7 +85,7 @@ name_short (AMark t) h = refl
 defs_fit : (p : Packet) → IsTrue (fits_packet p) → list_all fits_def p.defs ≡ true
 defs_fit p h = (both_true _ _ (both_true _ _ (both_true _ _ (both_true _ _ (both_true _ _ (both_true _ _ (both_true _ _ (both_true _ _ h).0).0).0).0).0).0).0).1
 
-cause_within : (ds : List Def) → list_all fits_def ds ≡ true → (why : Cause) → RaisedWithin (of_cause ds why)
+cause_within : (ds : List Def) → list_all fits_def ds ≡ true → (why : PacketCause) → RaisedWithin (of_cause ds why)
 cause_within ds h (Definition i) = (refl, refl)
 cause_within ds h (Clash i j) = (refl, refl)
 cause_within ds h (Full n) = (refl, refl)
@@ -101,7 +101,7 @@ abbrev SinksWithin : Landing → Type 0
 SinksWithin (Sinks x) = RaisedWithin x
 SinksWithin (Lands F v) = Unit {0}
 
-admitted_within : (E : Environment) (p : Packet) → IsTrue (fits_packet p) → (o : Option Cause) → SinksWithin (admitted E p o)
+admitted_within : (E : Environment) (p : Packet) → IsTrue (fits_packet p) → (o : Option PacketCause) → SinksWithin (admitted E p o)
 admitted_within E p h None = tt
 admitted_within E p h (Some why) = cause_within p.defs (defs_fit p h) why
 
@@ -130,7 +130,7 @@ fault_within Function = (refl, refl)
 fault_within Size = (refl, refl)
 
 abbrev PackingWithin : Packing → Type 0
-PackingWithin (Refuses x) = RaisedWithin x
+PackingWithin (CannotPack x) = RaisedWithin x
 PackingWithin (Packs s) = is_string s ≡ true
 
 at_most : (n : ℕ) → n ≤ 1048576 → nat_le n 1048576 ≡ true

@@ -6,7 +6,7 @@ use Rattle.ac_types.specs.Types.{Bytes, same_bytes, Typ, TInt, TBool, TStr, TUni
 use Rattle.ac_terms.specs.Terms.{Home, Main, In, Expr, Int, Boolean, Str, Unit', Exn, ExnOf, Tuple, Nil, Empty, Present, Cons, Var, Own, Ref, Lam, Rec, App, Let, If, Seq, Match, Try, Raise, Prim, Marshal, Unmarshal, Val, Evaluated, Bracket, Exprs, no_exprs, expr, PValue, Value, VInt, VBool, VStr, VUnit, VExn, VTuple, VNil, VCons, VAbsent, VPresent, VLam, VRec, VProxy, VSeal, Values, no_values, value}
 use Rattle.ac_terms.specs.Spelling.{term_count}
 use Rattle.ac_terms.specs.Bounds.{is_width, is_string}
-use Rattle.ac_terms.specs.PrimitiveTypes.{has_text}
+use Rattle.ac_types.specs.Exceptions.{has_text}
 use Rattle.ac_terms.specs.Defs.{Environment}
 use Rattle.ac_rules.specs.Plain.{packed}
 use Rattle.ac_rules.specs.Views.{Mode, opens, representation}
@@ -18,7 +18,7 @@ use Rattle.ac_meaning.specs.Matching.{chosen}
 use Rattle.ac_meaning.specs.PrimitiveSteps.{spelled, primitive, answered, exception_of, exception_value, thrown}
 use Rattle.ac_meaning.specs.Brackets.{enclosed, all_enclosed, is_function_value, inside_seal, unsealed_term, at_name, bracket_step}
 use Rattle.ac_meaning.specs.References.{own_field, Route, Nowhere, Once, Twice, route, routed}
-use Rattle.ac_meaning.specs.Packing.{Packing, Refuses, Packs, packs, packing, Arrival, Unfit, Brings, arrival, brings, marshal_step, unmarshal_step}
+use Rattle.ac_meaning.specs.Packing.{Packing, CannotPack, Packs, packs, packing, Arrival, Unfit, Brings, arrival, brings, raising, marshal_step, unmarshal_step}
 use Rattle.ac_meaning.specs.BareTerms.{BareValue}
 use Rattle.ac_meaning.specs.Reduction.{apply, branch, look, look_all, look_main, step}
 use Rattle.ac_meaning.proofs.Within.{TypeFits, Within, AllWithin, ValueWithin, ValuesWithin, width, RaisedWithin, WritesWithin, ActWithin}
@@ -38,7 +38,7 @@ pub record ComesWithin : Type 0 where
   pub fields : (E : Environment) → IsCoherent E → (j f : ℕ) (e : Expr) → own_field E (In j) f ≡ Some e → Within false e
   pub brought : (mode : Mode) (z : World) (c : Home) (T : Typ) (s : Bytes) (F : Environment) (v : Mode → Value) (w : BareValue) → IsCoherent z.environment → arrival z c T s ≡ Brings F v w → ValueWithin (v mode)
   pub unfit : (z : World) (c : Home) (T : Typ) (s : Bytes) (x : Exception) → IsCoherent z.environment → arrival z c T s ≡ Unfit x → RaisedWithin x
-  pub refused : (z : World) (T : Typ) (mark : Bytes) (v : PValue) (x : Exception) → packing z T mark v ≡ Refuses x → RaisedWithin x
+  pub refused : (z : World) (T : Typ) (mark : Bytes) (v : PValue) (x : Exception) → packing z T mark v ≡ CannotPack x → RaisedWithin x
   pub packed : (z : World) (T : Typ) (mark : Bytes) (v : PValue) (s : Bytes) → packing z T mark v ≡ Packs s → is_string s ≡ true
 
 no_text : RaisedWithin match_failure_exn
@@ -138,8 +138,8 @@ module _ (comes : ComesWithin) (mode : Mode) (z : World) (coherent : IsCoherent 
   bracket_within b c (TAbs m u) v h = name_within b m u (representation E m u) v (opens mode E b m) (opens mode E c m) h
   bracket_within b c _ _ h = tt
 
-  packs_within : (p : Packing) → ((x : Exception) → p ≡ Refuses x → RaisedWithin x) → ((s : Bytes) → p ≡ Packs s → is_string s ≡ true) → Good (packs z p)
-  packs_within (Refuses x) h k = h x refl
+  packs_within : (p : Packing) → ((x : Exception) → p ≡ CannotPack x → RaisedWithin x) → ((s : Bytes) → p ≡ Packs s → is_string s ≡ true) → Good (packs z p)
+  packs_within (CannotPack x) h k = h x refl
   packs_within (Packs s) h k = (k s refl, written)
 
   marshal_within : (c : Home) (T : Typ) (m v : Value) → Good (marshal_step z c T m v)
@@ -220,7 +220,7 @@ module _ (comes : ComesWithin) (mode : Mode) (z : World) (coherent : IsCoherent 
         part_within (Within false) (Within false) ValueWithin ValueWithin (λ x. Try x arms) (λ v. Goes e) (λ x. or_raises x (chosen arms (exception_value x))) (next c e) (kept_within e c h.0) (λ s p. (p, h.1, h.2)) (λ v p. h.0)
         (λ x y. chosen_within arms (exception_value x) x h.1 y y)
     kept_within (Prim k es) c h =
-        part_within (Counted (term_count es)) (Within false) (Wide (term_count es)) ValueWithin (Prim k) (λ vs. answered spelled z (primitive k vs)) Raises (all_next c es) (all_kept_within es c h.1)
+        part_within (Counted (term_count es)) (Within false) (Wide (term_count es)) ValueWithin (Prim k) (λ vs. answered spelled (raising TStr) z (primitive k vs)) Raises (all_next c es) (all_kept_within es c h.1)
         (λ s p. (tt, p.1)) (λ vs p. primitive_answered k vs z written p.1) (λ x y. y)
     kept_within (Marshal T m e) c h =
         one_part (λ x. Marshal T x e) (λ v. part (λ y. Marshal T m y) (λ w. marshal_step z c T v w) (next c e)) (next c m) (kept_within m c h.1) (λ s p. (h.0, p, h.2))

@@ -12,9 +12,9 @@ use Rattle.ac_rules.specs.Views.{Mode}
 use Rattle.ac_types.specs.Limits.{longest_frame}
 use Rattle.ac_meaning.specs.Writes.{Write, string_of}
 use Rattle.ac_meaning.specs.Worlds.{Exception, World, IsShortText, IsException, fresh}
-use Rattle.ac_meaning.specs.Acts.{Outcome, Returned, Raised, Spent, Stuck, At, Over}
+use Rattle.ac_meaning.specs.Acts.{Outcome, Returned, Raised, Spent, Stuck, At, Over, writes_of}
 use Rattle.ac_meaning.specs.Reduction.{Ends}
-use Rattle.ac_meaning.specs.Laws.{IsTypedProgram, writes_of}
+use Rattle.ac_meaning.specs.Laws.{IsTypedProgram}
 use Rattle.ac_meaning.proofs.Homes.{lower}
 use Rattle.ac_meaning.proofs.Within.{RaisedWithin, WritesWithin}
 use Rattle.ac_meaning.proofs.WithinSteps.{StateWithin}

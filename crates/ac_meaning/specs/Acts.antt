@@ -1,6 +1,7 @@
 -- What is next in a term, and runs of steps.
-use Rattle.std.specs.Prelude.{◌≡◌, ℕ, zero, suc, nat_lt, cond, Option, Some, None}
-use Rattle.ac_meaning.specs.Worlds.{Exception, World, counted}
+use Rattle.std.specs.Prelude.{◌≡◌, ℕ, zero, suc, nat_lt, cond, List, [], Option, Some, None}
+use Rattle.ac_meaning.specs.Writes.{Write}
+use Rattle.ac_meaning.specs.Worlds.{Exception, World, Crossing, Trace, counted}
 
 pub data Act (T A : Type 0) : Type 0 where
   -- the term is a value already
@@ -81,3 +82,24 @@ iter f (suc k) s = iter f k (f s)
 -- some number of steps leads from one state to another
 abbrev pub Leads : {S : Type 0} → (S → S) → S → S → Type 0
 Leads f s t = (k : ℕ) × (iter f k s ≡ t)
+
+-- the writes of a run by its end
+abbrev pub writes_of : {A : Type 0} → Outcome A → List Write
+writes_of (Returned v z) = z.writes
+writes_of (Raised x z) = z.writes
+writes_of (Spent z) = z.writes
+writes_of Stuck = []
+
+-- the strings that marshal gave and that unmarshal read in a run, by its end
+abbrev pub crossings_of : {A : Type 0} → Outcome A → List Crossing
+crossings_of (Returned v z) = z.crossings
+crossings_of (Raised x z) = z.crossings
+crossings_of (Spent z) = z.crossings
+crossings_of Stuck = []
+
+-- what a run had done in front of each of its receives, by its end
+abbrev pub receives_of : {A : Type 0} → Outcome A → List Trace
+receives_of (Returned v z) = z.receives
+receives_of (Raised x z) = z.receives
+receives_of (Spent z) = z.receives
+receives_of Stuck = []

@@ -2,8 +2,8 @@
 use Rattle.std.specs.Prelude.{ℕ, Bool, true, false, List, [], ◌∷◌, Option, Some, None}
 use Rattle.ac_types.specs.Types.{Bytes}
 use Rattle.ac_terms.specs.Terms.{Expr, Int, Boolean, Str, Unit', Tuple, exprs, Value, VInt, VBool, VStr, VUnit, VExn, VTuple, VNil, VCons, VAbsent, VPresent, VLam, VRec, VProxy, VSeal, Values, no_values, value}
-use Rattle.ac_code.specs.Constants.{Const, CInt, CBool, CStr, CUnit, CPart, PrimitiveAnswer, Gives, Prints, Sends, Receives, Fails, NoSense, Meaning, meaning, primitive_answer}
-use Rattle.ac_meaning.specs.Worlds.{Exception, World, exception, end_of_file_exn, no_channel, bad_frame, with_write, with_left}
+use Rattle.ac_code.specs.Constants.{Const, CInt, CBool, CStr, CUnit, CPart, PrimitiveAnswer, Yields, Prints, Sends, Receives, Fails, NoSense, Meaning, meaning, primitive_answer}
+use Rattle.ac_meaning.specs.Worlds.{Exception, World, exception, end_of_file_exn, no_channel, bad_frame, with_write, with_receive, with_left}
 use Rattle.ac_meaning.specs.Writes.{Print, Send}
 use Rattle.ac_outside.specs.Frames.{Frame, Whole, Bad, AtEnd, next_frame}
 use Rattle.ac_meaning.specs.Acts.{Act, Is, Goes, Turns, Raises, Wrong}
@@ -63,20 +63,22 @@ module _ {T A : Type 0} (spell : Const → T) where
   sending true s z = Turns (with_write (Send s) z) (spell CUnit)
   sending false s z = Raises no_channel
 
-  -- the next frame is received; where there is none, the input stays as it is
-  abbrev pub receiving : Frame → World → Act T A
-  receiving (Whole s rest) z = Turns (with_left rest z) (spell (CStr s))
-  receiving (Bad n got) z = Raises bad_frame
-  receiving AtEnd z = Raises end_of_file_exn
+  -- and where the raise of an exception, in the place of a string, is spelled so
+  module _ (raise : Exception → T) where
+    -- the next frame is received: in the world that has the receive, it becomes its string; where there is none, the input stays as it is, and it becomes the raise of why
+    abbrev pub receiving : Frame → World → Act T A
+    receiving (Whole s rest) z = Turns (with_left rest (with_receive z)) (spell (CStr s))
+    receiving (Bad n got) z = Turns (with_receive z) (raise bad_frame)
+    receiving AtEnd z = Turns (with_receive z) (raise end_of_file_exn)
 
-  -- an applied primitive becomes its answer
-  abbrev pub answered : World → PrimitiveAnswer → Act T A
-  answered z (Gives c) = Goes (spell c)
-  answered z (Prints s) = Turns (with_write (Print s) z) (spell CUnit)
-  answered z (Sends s) = sending z.has_channel s z
-  answered z Receives = receiving (next_frame z.input) z
-  answered z (Fails k s) = Raises (exception k s)
-  answered z NoSense = Wrong
+    -- an applied primitive becomes its answer
+    abbrev pub answered : World → PrimitiveAnswer → Act T A
+    answered z (Yields c) = Goes (spell c)
+    answered z (Prints s) = Turns (with_write (Print s) z) (spell CUnit)
+    answered z (Sends s) = sending z.has_channel s z
+    answered z Receives = receiving (next_frame z.input) z
+    answered z (Fails k s) = Raises (exception k s)
+    answered z NoSense = Wrong
 
 -- an exception with a text, and an exception as a value
 abbrev pub exception_of : ℕ → Value → Act Expr Value

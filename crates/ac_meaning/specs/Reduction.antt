@@ -1,6 +1,6 @@
 -- The reduction of the whole language, in call by value and from the left, in both modes: a step of a term, and how a run ends.
 use Rattle.std.specs.Prelude.{ℕ, Bool, true, false, [], ◌∷◌, None}
-use Rattle.ac_types.specs.Types.{Bytes, TFun}
+use Rattle.ac_types.specs.Types.{Bytes, TStr, TFun}
 use Rattle.ac_terms.specs.Terms.{Home, Main, Expr, Int, Boolean, Str, Unit', Exn, ExnOf, Tuple, Nil, Empty, Present, Cons, Var, Own, Ref, Lam, Rec, App, Let, If, Seq, Match, Try, Raise, Prim, Marshal, Unmarshal, Val, Evaluated, Bracket, Exprs, no_exprs, expr, Value, VInt, VBool, VStr, VUnit, VExn, VTuple, VNil, VCons, VAbsent, VPresent, VLam, VRec, VProxy, VSeal, Values, no_values, value}
 use Rattle.ac_terms.specs.Defs.{Environment}
 use Rattle.ac_rules.specs.Views.{Mode}
@@ -11,7 +11,7 @@ use Rattle.ac_meaning.specs.Matching.{chosen}
 use Rattle.ac_meaning.specs.PrimitiveSteps.{spelled, primitive, answered, exception_of, exception_value, thrown}
 use Rattle.ac_meaning.specs.Brackets.{enclosed, bracket_step}
 use Rattle.ac_meaning.specs.References.{own_field, referred}
-use Rattle.ac_meaning.specs.Packing.{marshal_step, unmarshal_step}
+use Rattle.ac_meaning.specs.Packing.{raising, marshal_step, unmarshal_step}
 
 -- a function of home c is applied to w. A lambda's body has w for its variable, and that of a recursive one the function itself for the other; each is one application. A proxy hands w inwards and the result outwards
 abbrev pub apply : Home → Value → Value → Act Expr Value
@@ -82,7 +82,7 @@ module _ (mode : Mode) (z : World) where
     look c (Raise T e) = part (Raise T) thrown (look c e)
     look c (Try e arms) = within (λ e'. Try e' arms) (λ v. Goes e) (λ x. or_raises x (chosen arms (exception_value x))) (look c e)
     -- primitives
-    look c (Prim k es) = part (Prim k) (λ vs. answered spelled z (primitive k vs)) (look_all c es)
+    look c (Prim k es) = part (Prim k) (λ vs. answered spelled (raising TStr) z (primitive k vs)) (look_all c es)
     look c (Marshal T m e) = parts (Marshal T) m e (marshal_step z c T) (look c m) (look c e)
     look c (Unmarshal T e) = part (Unmarshal T) (unmarshal_step mode z c T) (look c e)
     -- fields, here and elsewhere

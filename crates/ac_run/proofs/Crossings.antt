@@ -16,7 +16,7 @@ use Rattle.ac_machine.specs.Seen.{MachineSeen, standing}
 use Rattle.ac_rules.specs.Faults.{Fault, Marshalled, NoString, AString}
 use Rattle.ac_meaning.specs.Worlds.{Exception}
 use Rattle.ac_meaning.specs.ReadExn.{exn_of}
-use Rattle.ac_meaning.specs.Packing.{Refuses, Packs, answer, of_fault, Landing, Sinks, Lands}
+use Rattle.ac_meaning.specs.Packing.{CannotPack, Packs, answer, of_fault, Landing, Sinks, Lands}
 use Rattle.ac_simulation.specs.Running.{with_more}
 use Rattle.ac_crossing.specs.Crossing.{Departs, HasLanded, Enters}
 use Rattle.ac_crossing.specs.declared.fault.CrossFault.{CrossFault}
@@ -30,7 +30,7 @@ use Rattle.ac_run.proofs.Courses.{with_none, all_made, answers}
 same_string : (s u : Bytes) → Packs s ≡ Packs u → s ≡ u
 same_string s u e = cc
 
-same_exception : (x y : Exception) → Refuses x ≡ Refuses y → x ≡ y
+same_exception : (x y : Exception) → CannotPack x ≡ CannotPack y → x ≡ y
 same_exception x y e = cc
 
 same_cause : (x y : Exception) → Sinks x ≡ Sinks y → x ≡ y

@@ -4,23 +4,18 @@ use Rattle.ac_types.specs.Types.{Bytes}
 use Rattle.ac_terms.specs.Terms.{Expr, Value}
 use Rattle.ac_terms.specs.Defs.{Environment}
 use Rattle.ac_terms.specs.Read.{expr_of, environment_of}
-use Rattle.ac_code.specs.Code.{Code}
-use Rattle.ac_generate.specs.Generated.{program_code}
 use Rattle.ac_outside.specs.Outside.{Extends}
 use Rattle.ac_outside.specs.Frames.{frame_of}
 use Rattle.ac_rules.specs.Views.{Mode}
 use Rattle.ac_rules.specs.declared.loaded.Loaded.{Loaded}
-use Rattle.ac_machine.specs.States.{Core, beginning, Ask, AskReceive, AskDone, AskRaised, AskSpent, Run, Paused}
+use Rattle.ac_machine.specs.States.{Core, Ask, AskDone, AskRaised, AskSpent, Paused}
 use Rattle.ac_machine.specs.Resumes as standing
 use Rattle.ac_machine.specs.Seen.{MachineSeen, standing}
 use Rattle.ac_meaning.specs.Writes.{Write, Print, Send, Console, Channel, written}
-use Rattle.ac_meaning.specs.Worlds.{World, fresh}
+use Rattle.ac_meaning.specs.Worlds.{Crossing, Trace, World}
 use Rattle.ac_meaning.specs.ReadExn.{exn_of}
-use Rattle.ac_meaning.specs.Acts.{Outcome, Returned, Raised, Spent, Stuck, Leads}
-use Rattle.ac_meaning.specs.Laws.{writes_of, crossings_of}
+use Rattle.ac_meaning.specs.Acts.{Outcome, Returned, Raised, Spent, Stuck, writes_of, crossings_of, receives_of}
 use Rattle.ac_meaning.specs.Reduction.{Ends}
-use Rattle.ac_simulation.specs.Running.{Running, on, machine_step}
-use Rattle.ac_simulation.specs.Alike.{program_block}
 use Rattle.ac_run.specs.Journals.{read_journal, noted, BeginsWith}
 use Rattle.ac_run.specs.declared.crossing.Crossing as code
 use Rattle.ac_run.specs.declared.end.RunEnd.{RunEnd}
@@ -50,6 +45,10 @@ ProgramEnds mode s input o = Ends mode (environment s) (main s) input s.sends s.
 abbrev pub HasInput : Bool → Bytes → Bytes → Type 0
 HasInput told left input = IsTrue told → left ≡ input
 
+-- a session's journal has these crossings, if it keeps one
+abbrev pub HasNoted : Session → List Crossing → Type 0
+HasNoted s crossings = read_journal s.journal ≡ noted s.keeps crossings
+
 -- a session's machine has stopped for this reason; definitions and applications are those of this world, and so are the crossings in its journal, if it keeps one
 pub record HasStopped (s : Session) (why : Ask) (z : World) : Type 0 where
   pub able : s.machine.lost ≡ false
@@ -57,11 +56,13 @@ pub record HasStopped (s : Session) (why : Ask) (z : World) : Type 0 where
   pub stands : standing s.machine ≡ standing.At (Paused why core)
   pub counted : core.made ≡ z.made
   pub defines : environment s ≡ z.environment
-  pub noted : read_journal s.journal ≡ noted s.keeps z.crossings
+  pub noted : HasNoted s z.crossings
 
--- a session's journal has the first of the crossings of this end, if it keeps one
-abbrev pub HasNoted : {A : Type 0} → Outcome A → Session → Type 0
-HasNoted o s = BeginsWith (read_journal s.journal) (noted s.keeps (crossings_of o))
+-- a session's machine waits for a frame
+pub record WaitsForFrame (s : Session) : Type 0 where
+  pub able : s.machine.lost ≡ false
+  pub core : Core
+  pub stands : standing s.machine ≡ standing.Waits standing.Receiving core
 
 -- a session ends so where the reduction ends so, and its machine has stopped accordingly; a fault and want of memory may come on every way
 abbrev pub IsEnd : {A : Type 0} → RunEnd → Outcome A → Session → Type 0
@@ -77,9 +78,9 @@ IsEnd (end.Spent steps) (Returned v z) s = ⊥
 IsEnd (end.Spent steps) (Raised x z) s = ⊥
 IsEnd (end.Spent steps) (Spent z) s = (steps ≡ s.steps) × HasStopped s AskSpent z
 IsEnd (end.Spent steps) Stuck s = ⊥
-IsEnd end.ReadFault o s = HasNoted o s
-IsEnd end.WriteFault o s = HasNoted o s
-IsEnd end.Memory o s = HasNoted o s
+IsEnd end.ReadFault o s = WaitsForFrame s
+IsEnd end.WriteFault o s = Unit {0}
+IsEnd end.Memory o s = Unit {0}
 
 -- console and channel of a world
 pub record Streams : Type 0 where
@@ -113,31 +114,27 @@ pub record StopsBehind (told : Bool) (all : List Write) (old new : Streams) : Ty
   pub order : all ≡ before ++ after
   pub made : IsTrue told → new ≡ with_writes before old
 
--- what a session leaves of the writes of its program: all of them; after a fault of reading some of them and then none; after a fault of writing those before one of them and a prefix of it; and want of memory may come anywhere
-abbrev pub Leaves : RunEnd → Bool → List Write → Streams → Streams → Type 0
-Leaves end.Finished told all old new = IsTrue told → new ≡ with_writes all old
-Leaves (end.Uncaught e) told all old new = IsTrue told → new ≡ with_writes all old
-Leaves (end.Spent steps) told all old new = IsTrue told → new ≡ with_writes all old
-Leaves end.ReadFault told all old new = StopsBehind told all old new
-Leaves end.WriteFault told all old new = StopsIn told all old new
-Leaves end.Memory told all old new = StopsIn told all old new ⊎ StopsBehind told all old new
+-- the run came to one of these receives: what it had written in front of it was written, where the streams are told, and nothing else
+pub record StopsAtReceive (told : Bool) (all : List Trace) (old new : Streams) : Type 0 where
+  pub before : List Trace
+  pub receive : Trace
+  pub after : List Trace
+  pub order : all ≡ before ++ receive ∷ after
+  pub made : IsTrue told → new ≡ with_writes receive.writes old
 
--- the run of a session's program on its machine, in front of the first instruction
-abbrev pub begins : Session → Bytes → Running
-begins s input = on (program_code (environment s) (main s)) (Run (beginning (program_block (environment s) (main s)) s.steps)) (fresh (environment s) input s.sends)
+-- a session's journal has the first of the crossings of this end, if it keeps one
+abbrev pub HasNotedSome : {A : Type 0} → Session → Outcome A → Type 0
+HasNotedSome s o = BeginsWith (read_journal s.journal) (noted s.keeps (crossings_of o))
 
--- over these definitions this machine stands at a receive to which this run comes, and the writes that it has made in front of it were made, and no others
-pub record AtReceive (told : Bool) (from : Running) (E : Environment) (m : MachineSeen) (old new : Streams) : Type 0 where
-  pub code : Code
-  pub core : Core
-  pub world : World
-  pub comes : Leads machine_step from (on code (Paused AskReceive core) world)
-  pub able : m.lost ≡ false
-  pub stands : standing m ≡ standing.Waits standing.Receiving core
-  pub defines : E ≡ world.environment
-  pub made : IsTrue told → new ≡ with_writes world.writes old
+-- what a session leaves of what its program does: all writes; after a fault of reading those in front of one of its receives, with the crossings in front of that in its journal and the definitions there; after a fault of writing those before one write and a prefix of it; and want of memory may come anywhere
+abbrev pub Leaves : {A : Type 0} → RunEnd → Bool → Outcome A → Session → Streams → Streams → Type 0
+Leaves end.Finished told o s old new = IsTrue told → new ≡ with_writes (writes_of o) old
+Leaves (end.Uncaught e) told o s old new = IsTrue told → new ≡ with_writes (writes_of o) old
+Leaves (end.Spent steps) told o s old new = IsTrue told → new ≡ with_writes (writes_of o) old
+Leaves end.ReadFault told o s old new = (stops : StopsAtReceive told (receives_of o) old new) × (HasNoted s stops.receive.crossings × (environment s ≡ stops.receive.environment))
+Leaves end.WriteFault told o s old new = StopsIn told (writes_of o) old new × HasNotedSome s o
+Leaves end.Memory told o s old new = (StopsIn told (writes_of o) old new ⊎ StopsBehind told (writes_of o) old new) × HasNotedSome s o
 
--- with this input a session ends so, as the reduction in each mode does, with what it leaves; where a read has failed, it stands at a receive
+-- with this input a session ends so, as the reduction in each mode does, and leaves what it says
 pub record RunsTo (told : Bool) (s t : Session) (input : Bytes) (r : RunEnd) (old new : Streams) : Type 0 where
-  pub ends : (mode : Mode) (o : Outcome Value) → ProgramEnds mode s input o → IsEnd r o t × Leaves r told (writes_of o) old new
-  pub receives : r ≡ end.ReadFault → AtReceive told (begins s input) (environment t) t.machine old new
+  pub ends : (mode : Mode) (o : Outcome Value) → ProgramEnds mode s input o → IsEnd r o t × Leaves r told o t old new

@@ -16,7 +16,7 @@ use ac_types::{Box, Many, Memory, Text, Ty};
 use std::alloc::Global;
 use std::test::Fail;
 
-/// `unmarshal "x" as int`.
+// `unmarshal "x" as int`.
 fn unmarshals(alloc: Global) -> Result<Loaded, Memory>
     ensures typed { IfOk result (λ p. IsTypedProgram (environment_of p.env) (expr_of p.main)
         (typ_of p.ty)) }
@@ -27,7 +27,7 @@ fn unmarshals(alloc: Global) -> Result<Loaded, Memory>
     Ok(program(alloc, Term::Unmarshal(Ty::Int, argument), Ty::Int))
 }
 
-/// The string of a crossing that was read.
+// The string of a crossing that was read.
 fn read(crossing: &Crossing) -> Option<&[u8]> {
     match crossing {
         Crossing::Read(text) => Some(text.as_slice()),
@@ -35,7 +35,7 @@ fn read(crossing: &Crossing) -> Option<&[u8]> {
     }
 }
 
-/// Whether the session ends by refusing its string.
+// Whether the session ends by refusing its string.
 fn refuses(alloc: Global, session: &mut Session) -> bool {
     let mut world = SureWorld::new(alloc, Text::new(alloc));
     match session.run(&mut world) {
@@ -44,7 +44,7 @@ fn refuses(alloc: Global, session: &mut Session) -> bool {
     }
 }
 
-/// Whether a journal has this string alone, which was read.
+// Whether a journal has this string alone, which was read.
 fn has_read(journal: &Many<Crossing>, text: &[u8]) -> bool {
     match journal.get(0) {
         Some(crossing) => journal.len() == 1 && read(crossing) == Some(text),

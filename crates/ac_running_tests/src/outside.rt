@@ -12,7 +12,7 @@ fn numbers(alloc: Global, calls: &[u64]) -> Result<Many<u64>, Memory> {
     Many::from_slice(alloc, calls)
 }
 
-/// Whether a sink keeps all but the write that is to fail.
+// Whether a sink keeps all but the write that is to fail.
 fn sink_keeps(alloc: Global) -> Result<bool, Memory> {
     let mut sink = MemorySink::new(alloc, numbers(alloc, &[1])?);
     let first = sink.write(b"a") == Put::Done;
@@ -35,7 +35,7 @@ fn sinks_keep_what_is_written(rt: HostRuntime) -> Result<(), Fail> {
     Ok(())
 }
 
-/// Files with one, `a`, of five bytes, whose fourth read and fourth write fail.
+// Files with one, `a`, of five bytes, whose fourth read and fourth write fail.
 fn one_file(alloc: Global) -> Result<MemoryFiles, Memory> {
     let name = String::from_str(alloc, "a")?;
     let bytes = Text::from_slice(alloc, b"12345")?;
@@ -111,7 +111,7 @@ fn files_of_the_system_are_made_and_added_to(rt: HostRuntime) -> Result<(), Fail
     Ok(())
 }
 
-/// Whether a source gives these bytes, two at a time, and then its end.
+// Whether a source gives these bytes, two at a time, and then its end.
 fn gives_abc<S: Source>(source: &mut S) -> bool {
     let mut buf = [0u8; 2];
     let two = source.read(&mut buf) == Got::Bytes(2) && buf == [b'a', b'b'];
@@ -119,7 +119,7 @@ fn gives_abc<S: Source>(source: &mut S) -> bool {
     two && one && source.read(&mut buf) == Got::End
 }
 
-/// Whether a source whose first read fails gives the same then.
+// Whether a source whose first read fails gives the same then.
 fn source_fails(alloc: Global) -> Result<bool, Memory> {
     let bytes = Text::from_slice(alloc, b"abc")?;
     let mut source = MemorySource::new(bytes, numbers(alloc, &[0])?);
@@ -138,12 +138,12 @@ fn sources_are_read(rt: HostRuntime) -> Result<(), Fail> {
     Ok(())
 }
 
-/// Sends a string of one byte as a whole frame.
+// Sends a string of one byte as a whole frame.
 fn send_one<W: World>(world: &mut W, byte: u8) -> Put {
     world.send(&[0, 0, 0, 1, byte])
 }
 
-/// Whether a world keeps input, console and channel apart.
+// Whether a world keeps input, console and channel apart.
 fn sure_world_keeps(alloc: Global) -> Result<bool, Memory> {
     let mut world = SureWorld::new(alloc, Text::from_slice(alloc, b"abc")?);
     let mut buf = [0u8; 2];
@@ -160,7 +160,7 @@ fn sure_world_keeps(alloc: Global) -> Result<bool, Memory> {
     )
 }
 
-/// Whether the calls of a world fail where they are to.
+// Whether the calls of a world fail where they are to.
 fn world_fails(alloc: Global) -> Result<bool, Memory> {
     let input = Text::from_slice(alloc, b"a")?;
     let reads = numbers(alloc, &[0])?;

@@ -15,7 +15,7 @@ use Rattle.ac_answers.specs.declared.showing.Showing.TheVariants.{Names, Code}
 use Rattle.ac_answers.specs.declared.status.Status.{Status}
 use Rattle.ac_answers.specs.Answers.{ShownAnswer, answer_of}
 use Rattle.ac_top.specs.Streams.{Writing}
-use Rattle.ac_top.specs.Requests.{list_named, IsUnread}
+use Rattle.ac_top.specs.Requests.{list_named, IsUnreadable}
 use Rattle.ac_top.specs.Giving.{Gives, ShowsFile}
 use Rattle.ac_top.specs.Endings.{AnswerEnded, has_printed, no_shelf, unread, unprinted, no_memory_to_find, no_memory_to_print}
 use Rattle.ac_top.specs.inner.Asked.{showing}
@@ -34,7 +34,7 @@ module _ (r : Request) (files : Bytes → Reading) (output errors : Writing) whe
   answered found gives end (not_found w s) = no_memory_to_find w s
 
   -- the texts weren't read
-  pub not_read : Still output → (f : TextsFault) → ((n : ℕ) → f ≡ fault.Line n → HasBadLine files (list_named r) n) → (f ≡ fault.Failed → IsUnread files r) → (end : Status) → SaysUnread f errors end → AnswerEnded r files output errors end
+  pub not_read : Still output → (f : TextsFault) → ((n : ℕ) → f ≡ fault.Line n → HasBadLine files (list_named r) n) → (f ≡ fault.Failed → IsUnreadable files r) → (end : Status) → SaysUnread f errors end → AnswerEnded r files output errors end
   not_read still (fault.Line n) bad failed end (inl s) = no_shelf n (bad n refl) (still_whole output still) s
   not_read still (fault.Line n) bad failed end (inr s) = no_memory_to_find (still_whole output still) s
   not_read still fault.Failed bad failed end s = unread (failed refl) (still_whole output still) s
@@ -56,6 +56,6 @@ module _ (files : Bytes → Reading) (p : ProgramFiles) where
   list_shown Names n bad = bad
   list_shown Code n bad = bad
 
-  pub unread_shown : (what : Showing) → ReadsFail files p.file p.shelf → IsUnread files (showing what p)
+  pub unread_shown : (what : Showing) → ReadsFail files p.file p.shelf → IsUnreadable files (showing what p)
   unread_shown Names fails = one_fails files p.file fails
   unread_shown Code fails = one_fails files p.file fails

@@ -1,19 +1,22 @@
 -- How a chain comes to its end.
-use Rattle.std.proofs.Common.{◌≡◌, ◌∙◌, ◌⊎◌, ◌≤◌, inl, inr, refl, sym, ap, subst, append-nil, append_assoc, ℕ, Bool, List, ◌++◌, Option}
+use Rattle.std.proofs.Common.{◌≡◌, ◌∙◌, ◌⊎◌, ◌≤◌, inl, inr, refl, sym, ap, subst, append-nil, append_assoc, ℕ, Bool, IsTrue, List, [], ◌++◌, Option}
 use Rattle.ac_types.specs.Types.{Bytes}
 use Rattle.ac_types.specs.declared.text.Text.{Text}
 use Rattle.ac_outside.specs.Outside.{Extends, Rose}
+use Rattle.ac_rules.specs.Views.{Plain}
 use Rattle.ac_acceptance.specs.Accepting.{Shelved}
 use Rattle.ac_files.specs.Files.{Reading}
 use Rattle.ac_files.specs.ManyTexts.{AreTexts, TextsFail}
 use Rattle.ac_files.specs.ProgramTexts.{IsShelfBy, HasBadLine}
 use Rattle.ac_files.specs.declared.shelf.TextsFault.{TextsFault}
 use Rattle.ac_files.specs.declared.shelf.TextsFault.TheVariants as fault
-use Rattle.ac_chain.specs.Texts.{texts_of}
+use Rattle.ac_chain.specs.ChainTexts.{texts_of}
 use Rattle.ac_chain.specs.Endings.{Printed}
 use Rattle.ac_answers.specs.declared.answer.Answer.{Answer}
 use Rattle.ac_answers.specs.declared.status.Status.{Status}
 use Rattle.ac_answers.specs.declared.status.TheConstants.Status.{OUT_OF_MEMORY, WRITE_FAULT}
+use Rattle.ac_answers.specs.Answers.{ShownAnswer}
+use Rattle.ac_chained.specs.Chaining.{Chains, refused_program, clashing, ran, lines_behind}
 use Rattle.ac_chained.specs.inner.Given.{GivesRest, GivesPart}
 use Rattle.ac_top.specs.Streams.{Writing, write_line, memory_line}
 use Rattle.ac_top.specs.Saying.{Said, SaidIfAny}
@@ -30,6 +33,12 @@ stream told old new before after = record { told = told; old = old; new = new; b
 abbrev console : Bool → Bytes → Bytes → ℕ → ℕ → Printed
 console told old new before after = record { told = told; old = old; new = new; before = before; after = after }
 
+-- what the programs print stands first in the answer
+console_rest : (texts : List Bytes) (shelf : List Shelved) (steps : ℕ) (told : Bool) (printed : Bytes) (a : ShownAnswer) → Chains Plain texts shelf steps told printed a → (rest : Bytes) × (a.printed ≡ printed ++ rest)
+console_rest texts shelf steps told _ _ (refused_program program part kind x) = ([], refl)
+console_rest texts shelf steps told _ _ (clashing a i b j x) = ([], refl)
+console_rest texts shelf steps told _ _ (ran r h) = (lines_behind 1 [] r.ends, refl)
+
 -- a part of what comes behind some front
 behind : (old mid new front rest all : Bytes) → mid ≡ old ++ front → all ≡ front ++ rest → Extends mid new rest → Extends old new all
 behind old mid new front rest all at is x = record {
@@ -43,30 +52,35 @@ module _ (texts : List Bytes) (shelf : List Shelved) (steps : ℕ) (told : Bool)
   -- an answer that goes on where the programs have stopped printing
   pub delivered_behind : (a : Answer) → before ≤ between → GivesRest texts shelf steps (console told old mid before between) a → (end : Status) → Delivered a (stream told mid new between after) errors end → ChainDelivered texts shelf steps (stream told old new before after) errors end
   delivered_behind a later g end (whole w s) =
-      whole_chain g.whole g.gives
-      (λ t. w t ∙ ap (λ (l : Bytes). l ++ a.printed.0) (g.printed t) ∙ append_assoc old g.front a.printed.0 ∙ ap (λ (l : Bytes). old ++ l) (sym g.rest))
+      whole_chain g.console g.whole g.gives
+      (λ t. w t ∙ ap (λ (l : Bytes). l ++ a.printed.0) (g.printed t) ∙ append_assoc old g.console a.printed.0 ∙ ap (λ (l : Bytes). old ++ l) (sym g.rest))
       (subst (λ (l : Bytes). SaidIfAny errors l g.whole.status end) (sym g.line) (subst (λ (n : Status). SaidIfAny errors a.line.0 n end) (sym g.status) s))
   delivered_behind a later g end (print_failed rose p s) =
-      failed_chain g.whole g.gives (rose_earlier before between after later rose) (λ t. behind old mid new g.front a.printed.0 g.whole.printed (g.printed t) g.rest (p t)) s
+      failed_chain g.console g.whole g.gives (rose_earlier before between after later rose) (λ t. behind old mid new g.console a.printed.0 g.whole.printed (g.printed t) g.rest (p t)) s
   delivered_behind a later g end (lost_in_print p s) =
-      lost_chain g.whole g.gives (λ t. behind old mid new g.front a.printed.0 g.whole.printed (g.printed t) g.rest (p t)) s
+      lost_chain g.console g.whole g.gives (λ t. behind old mid new g.console a.printed.0 g.whole.printed (g.printed t) g.rest (p t)) s
 
 module _ (texts : List Bytes) (shelf : List Shelved) (steps : ℕ) (told : Bool) (old new : Bytes) (before after : ℕ) (errors : Writing) where
+  -- a part of what the programs print is one of the answer
+  of_console : (g : GivesPart texts shelf steps (console told old new before after)) → IsTrue told → Extends old new g.whole.printed
+  of_console g t = let r = console_rest texts shelf steps told g.console g.whole (g.gives Plain) in let x = g.part t in
+      record { front = x.front; rest = x.rest ++ r.0; split = r.1 ∙ ap (λ (l : Bytes). l ++ r.0) x.split ∙ append_assoc x.front x.rest r.0; new_is = x.new_is }
+
   -- a print of a program failed
   pub delivered_failed : Rose before after × GivesPart texts shelf steps (console told old new before after) → (end : Status) → Said errors write_line WRITE_FAULT end → ChainDelivered texts shelf steps (stream told old new before after) errors end
-  delivered_failed g end s = failed_chain g.1.whole g.1.gives g.0 g.1.part s
+  delivered_failed g end s = failed_chain g.1.console g.1.whole g.1.gives g.0 (of_console g.1) s
 
   -- memory ran out
   pub delivered_lost : (new ≡ old) ⊎ GivesPart texts shelf steps (console told old new before after) → (end : Status) → Said errors memory_line OUT_OF_MEMORY end → ChainDelivered texts shelf steps (stream told old new before after) errors end
   delivered_lost (inl same) end s = never_begun (λ t. same ∙ sym (append-nil old)) s
-  delivered_lost (inr g) end s = lost_chain g.whole g.gives g.part s
+  delivered_lost (inr g) end s = lost_chain g.console g.whole g.gives (of_console g) s
 
 module _ (programs : List Bytes) (list : Option Bytes) (steps : ℕ) (files : Bytes → Reading) (output errors : Writing) where
   -- the texts of files were chained
   pub chained : (shelf : List Shelved) (texts : List Text) → IsShelfBy files list shelf → AreTexts files programs texts → (end : Status) → ChainDelivered (texts_of texts) shelf steps output errors end → ChainEnded programs list steps files output errors end
-  chained shelf texts is are end (whole_chain a g w s) = has_chained a (record { shelf = shelf; is_shelf = is; texts = texts; are_texts = are; chains = g }) w s
-  chained shelf texts is are end (failed_chain a g rose p s) = unprinted_chain a (record { shelf = shelf; is_shelf = is; texts = texts; are_texts = are; chains = g }) rose p s
-  chained shelf texts is are end (lost_chain a g p s) = no_memory_in_chain a (record { shelf = shelf; is_shelf = is; texts = texts; are_texts = are; chains = g }) p s
+  chained shelf texts is are end (whole_chain console a g w s) = has_chained a (record { shelf = shelf; is_shelf = is; texts = texts; are_texts = are; console = console; chains = g }) w s
+  chained shelf texts is are end (failed_chain console a g rose p s) = unprinted_chain a (record { shelf = shelf; is_shelf = is; texts = texts; are_texts = are; console = console; chains = g }) rose p s
+  chained shelf texts is are end (lost_chain console a g p s) = no_memory_in_chain a (record { shelf = shelf; is_shelf = is; texts = texts; are_texts = are; console = console; chains = g }) p s
   chained shelf texts is are end (never_begun w s) = no_memory_to_chain w s
 
   -- they weren't read

@@ -9,7 +9,8 @@ use Rattle.ac_outside.specs.declared.traits.Put.{Put}
 use Rattle.ac_outside.specs.declared.traits.Put.TheVariants as put
 use Rattle.ac_words.specs.Form.{Text}
 use Rattle.ac_words.specs.Commands.{ChannelName, standard, file}
-use Rattle.ac_top.specs.Channels.{of_channel, tells, sent_in}
+use Rattle.ac_top.specs.inner.Told.{tells, sent_in}
+use Rattle.ac_top.specs.Channels.{of_channel}
 use Rattle.ac_top.specs.inner.Counts.{count_of_both}
 
 none_of : (old new : Option (List ℕ)) (piece : List ℕ) → new ≡ old → Extends (or_empty old) (or_empty new) piece

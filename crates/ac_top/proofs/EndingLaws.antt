@@ -12,7 +12,7 @@ use Rattle.ac_run.specs.Sessions.{Streams, with_writes, StopsBehind}
 use Rattle.ac_answers.specs.declared.status.Status.{Status}
 use Rattle.ac_answers.specs.declared.status.TheConstants.Status.{OUT_OF_MEMORY, WORDS_REFUSED}
 use Rattle.ac_answers.specs.Meaning.{CommandAnswer}
-use Rattle.ac_top.specs.Streams.{Writing, Whole, memory_line, words_line}
+use Rattle.ac_top.specs.Streams.{Writing, AllWritten, memory_line, words_line}
 use Rattle.ac_top.specs.Saying.{Said, SaidIfAny}
 use Rattle.ac_top.specs.Handed.{Handed, is_told, before_run, after_run, behind_run, Untouched}
 use Rattle.ac_top.specs.RunEndings.{HasRead, GivesStatus, RunEnded, has_run, bad_list, unread_file, no_memory_yet, no_memory_left}
@@ -25,7 +25,7 @@ use Rattle.ac_top.specs.inner.Delivered.{SaysUnread}
 pub record Still (s : Writing) : Type 0 where
   pub same : s.new ≡ s.old
 
-pub still_whole : (s : Writing) → Still s → Whole s []
+pub still_whole : (s : Writing) → Still s → AllWritten s []
 still_whole s still told = still.same ∙ sym (append-nil s.old)
 
 -- a line that is there

@@ -11,7 +11,7 @@ use Rattle.ac_words.specs.WordValues.{all_in, first_in, is_file}
 use Rattle.ac_words.specs.Commands.{ChannelName, ProgramFiles, Request, run, names, code, are_one, run_with, run_of, names_of, code_of}
 use Rattle.ac_words.specs.Commands.{make_with, make_of, check_with, check_of, chain_with, chain_of, program_of, run_form, program_form, make_form, check_form, chain_form}
 use Rattle.ac_words.specs.Commands.{steps_in, channel_in, seed_in, modules_in, shelf_in, files_in, command_of}
-use Rattle.ac_top.specs.inner.Apart.{IsShort}
+use Rattle.ac_top.specs.inner.Apart.{HasFewPrograms}
 
 -- a bound on runs is at most m, where there is one
 abbrev IsWithin : ℕ → Option ℕ → Type 0
@@ -162,13 +162,13 @@ few_named m (Some texts) h = go (list_all is_file texts)
 
 abbrev IsShortIf : Option Request → Type 0
 IsShortIf None = Unit {0}
-IsShortIf (Some r) = IsShort r
+IsShortIf (Some r) = HasFewPrograms r
 
 if_so : (b : Bool) (o r : Option Request) → IsShortIf o → IsShortIf r → IsShortIf (if b then o else r)
 if_so true o r h k = h
 if_so false o r h k = k
 
-unless : (b : Bool) (r : Request) → IsShort r → IsShortIf (if b then None else Some r)
+unless : (b : Bool) (r : Request) → HasFewPrograms r → IsShortIf (if b then None else Some r)
 unless true r h = tt
 unless false r h = h
 
@@ -244,5 +244,5 @@ all_few (w ∷ ws) =
     (if_so (bytes_eq w (codes "chain")) _ None (given_chain (given_of chain_form ws) (few_chained ws)) tt)))))
 
 -- a `chain` that words ask for has at most 16 files
-pub words_short : (ws : List Text) (r : Request) → command_of ws ≡ Some r → IsShort r
+pub words_short : (ws : List Text) (r : Request) → command_of ws ≡ Some r → HasFewPrograms r
 words_short ws r is = subst IsShortIf is (all_few ws)

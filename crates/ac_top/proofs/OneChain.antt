@@ -6,18 +6,17 @@ use Rattle.ac_terms.specs.Terms.{Expr, Value}
 use Rattle.ac_terms.specs.Defs.{Environment}
 use Rattle.ac_rules.specs.Views.{Mode}
 use Rattle.ac_meaning.specs.Writes.{Channel, written}
-use Rattle.ac_meaning.specs.Acts.{Outcome}
+use Rattle.ac_meaning.specs.Acts.{Outcome, writes_of}
 use Rattle.ac_meaning.specs.Reduction.{Ends}
-use Rattle.ac_meaning.specs.Laws.{writes_of}
 use Rattle.ac_meaning.proofs.Runs.{one_end}
 use Rattle.ac_acceptance.specs.Accepting.{Shelved}
 use Rattle.ac_load.specs.Loading.{Rejects}
 use Rattle.ac_load.specs.declared.kind.Kind.{Kind}
 use Rattle.ac_chain.specs.declared.chained.ChainFault.{ChainFault}
 use Rattle.ac_chain.specs.declared.chained.ChainFault.TheVariants as fault
-use Rattle.ac_chain.specs.Texts.{LoadAs, RejectsFirst}
+use Rattle.ac_chain.specs.ChainTexts.{LoadAs, RejectsFirst}
 use Rattle.ac_chain.specs.Clashes.{first_clash}
-use Rattle.ac_chain.specs.Chains.{RunInTurn, Runs, console_of}
+use Rattle.ac_chain.specs.ChainMeaning.{RunInTurn, Runs, console_of}
 use Rattle.ac_chain.proofs.LoadLaws.{one_list}
 use Rattle.ac_answers.specs.declared.status.TheConstants.Status.{REFUSED}
 use Rattle.ac_answers.specs.Answers.{ShownAnswer}
@@ -73,13 +72,13 @@ module _ (texts : List Bytes) (shelf : List Shelved) where
         let same = one_list texts shelf r.programs s.programs r.load s.load in
         one_course mode N told t s.programs [] r.ends s.ends (subst (λ (ps : List (Environment × Expr)). RunInTurn mode N told ps [] r.ends) same r.run) s.run
 
-    pub one_chain : (a b : ShownAnswer) → Chains mode texts shelf N told a → Chains mode texts shelf N told b → AlikeWhere told a b
-    one_chain _ _ (refused_program p n k x) (refused_program q m l y) = (refl, ((λ t. refl), (λ other. absurd (other refl))))
-    one_chain _ _ (refused_program p n k x) (clashing a i b j y) = absurd (all_load p n k x y.programs y.load)
-    one_chain _ _ (refused_program p n k x) (ran r h) = absurd (all_load p n k x r.programs r.load)
-    one_chain _ _ (clashing a i b j x) (refused_program p n k y) = absurd (all_load p n k y x.programs x.load)
-    one_chain _ _ (clashing a i b j x) (clashing c k d l y) = (refl, ((λ t. refl), (λ other. one_clash a i b j c k d l x y)))
-    one_chain _ _ (clashing a i b j x) (ran r h) = absurd (no_clash a i b j x r)
-    one_chain _ _ (ran r h) (refused_program p n k y) = absurd (all_load p n k y r.programs r.load)
-    one_chain _ _ (ran r h) (clashing a i b j y) = absurd (no_clash a i b j y r)
-    one_chain _ _ (ran r h) (ran s k) = (refl, ((λ t. ap (λ (os : List (Outcome Value)). console_of os ++ lines_behind 1 [] os) (one_ends r s t)), (λ other. refl)))
+    pub one_chain : (x y : Bytes) (a b : ShownAnswer) → Chains mode texts shelf N told x a → Chains mode texts shelf N told y b → AlikeWhere told a b
+    one_chain _ _ _ _ (refused_program p n k x) (refused_program q m l y) = (refl, ((λ t. refl), (λ other. absurd (other refl))))
+    one_chain _ _ _ _ (refused_program p n k x) (clashing a i b j y) = absurd (all_load p n k x y.programs y.load)
+    one_chain _ _ _ _ (refused_program p n k x) (ran r h) = absurd (all_load p n k x r.programs r.load)
+    one_chain _ _ _ _ (clashing a i b j x) (refused_program p n k y) = absurd (all_load p n k y x.programs x.load)
+    one_chain _ _ _ _ (clashing a i b j x) (clashing c k d l y) = (refl, ((λ t. refl), (λ other. one_clash a i b j c k d l x y)))
+    one_chain _ _ _ _ (clashing a i b j x) (ran r h) = absurd (no_clash a i b j x r)
+    one_chain _ _ _ _ (ran r h) (refused_program p n k y) = absurd (all_load p n k y r.programs r.load)
+    one_chain _ _ _ _ (ran r h) (clashing a i b j y) = absurd (no_clash a i b j y r)
+    one_chain _ _ _ _ (ran r h) (ran s k) = (refl, ((λ t. ap (λ (os : List (Outcome Value)). console_of os ++ lines_behind 1 [] os) (one_ends r s t)), (λ other. refl)))

@@ -12,15 +12,18 @@ use Rattle.ac_outside.specs.declared.traits.Put.TheVariants as put
 use Rattle.ac_words.specs.Form.{Text}
 use Rattle.ac_words.specs.Commands.{ChannelName, ProgramFiles, standard, file, are_one}
 use Rattle.ac_meaning.specs.Writes.{Write}
-use Rattle.ac_run.specs.Sessions.{Session, Streams, streams, with_writes, Begun, StopsIn, StopsBehind, Leaves, RunsTo}
+use Rattle.ac_meaning.specs.Worlds.{Trace}
+use Rattle.ac_meaning.specs.Acts.{Outcome, writes_of, receives_of}
+use Rattle.ac_run.specs.Sessions.{Session, Streams, streams, with_writes, Begun, StopsIn, StopsBehind, StopsAtReceive, Leaves, RunsTo}
 use Rattle.ac_run.specs.declared.end.RunEnd.{RunEnd}
 use Rattle.ac_run.specs.declared.end.RunEnd.TheVariants as end
 use Rattle.ac_answers.specs.declared.status.Status.{Status}
-use Rattle.ac_top.specs.Channels.{of_channel, of_console, tells, left_in, sent_in, GetsInput}
+use Rattle.ac_top.specs.inner.Told.{tells, left_in, sent_in}
+use Rattle.ac_top.specs.Channels.{of_channel, of_console, GetsInput}
 use Rattle.ac_acceptance.specs.Accepting.{Shelved}
 use Rattle.ac_files.specs.Files.{FilesSeen, Reading, IsTextOf, Since}
 use Rattle.ac_files.specs.ProgramTexts.{IsShelfBy}
-use Rattle.ac_top.specs.Streams.{Writing, Whole, writing}
+use Rattle.ac_top.specs.Streams.{Writing, AllWritten, writing}
 use Rattle.ac_top.specs.Handed.{Handed, what_is_handed, is_told, input_of, Untouched, MadeAtMost, MakingFailed}
 use Rattle.ac_top.specs.Saying.{Said, said, failed, no_memory}
 use Rattle.ac_top.specs.RunEndings.{HasRead}
@@ -100,13 +103,13 @@ told_behind told written faults to e old mid new line other status others end is
 told_behind told written faults to e old mid new line other status others end is apart le (inr s) = inr (said_behind told written faults to e old mid new other others end is apart le s)
 
 -- no line behind a run
-pub still_behind : {Errors : Type 0} (told : Bool) (written : Errors → List ℕ) (faults : Errors → ℕ) (to : Option ChannelName) (e : Writing) (old mid : Errors) → e ≡ writing told written faults old mid → ErrorsApart to old mid → Whole (errors_behind to e (written mid)) []
+pub still_behind : {Errors : Type 0} (told : Bool) (written : Errors → List ℕ) (faults : Errors → ℕ) (to : Option ChannelName) (e : Writing) (old mid : Errors) → e ≡ writing told written faults old mid → ErrorsApart to old mid → AllWritten (errors_behind to e (written mid)) []
 still_behind told written faults None e old mid is apart =
-    subst (λ (w : Writing). Whole w []) (sym is) (λ t. ap written apart ∙ sym (append-nil (written old)))
+    subst (λ (w : Writing). AllWritten w []) (sym is) (λ t. ap written apart ∙ sym (append-nil (written old)))
 still_behind told written faults (Some standard) e old mid is apart =
-    subst (λ (w : Writing). Whole (record w { old = written mid }) []) (sym is) (λ t. sym (append-nil (written mid)))
+    subst (λ (w : Writing). AllWritten (record w { old = written mid }) []) (sym is) (λ t. sym (append-nil (written mid)))
 still_behind told written faults (Some (file name)) e old mid is apart =
-    subst (λ (w : Writing). Whole w []) (sym is) (λ t. ap written apart ∙ sym (append-nil (written old)))
+    subst (λ (w : Writing). AllWritten w []) (sym is) (λ t. ap written apart ∙ sym (append-nil (written old)))
 
 -- what a run leaves, from other streams in front of it that are the same where they are told
 module _ (told : Bool) (old there new : Streams) (same : IsTrue told → old ≡ there) where
@@ -130,31 +133,29 @@ module _ (told : Bool) (old there new : Streams) (same : IsTrue told → old ≡
   whole_moved : (all : List Write) → (IsTrue told → new ≡ with_writes all old) → IsTrue told → new ≡ with_writes all there
   whole_moved all h t = h t ∙ ap (with_writes all) (same t)
 
-  pub leaves_moved : (r : RunEnd) (all : List Write) → Leaves r told all old new → Leaves r told all there new
-  leaves_moved end.Finished all h = whole_moved all h
-  leaves_moved (end.Uncaught e) all h = whole_moved all h
-  leaves_moved (end.Spent steps) all h = whole_moved all h
-  leaves_moved end.ReadFault all h = behind_moved all h
-  leaves_moved end.WriteFault all h = in_moved all h
-  leaves_moved end.Memory all (inl h) = inl (in_moved all h)
-  leaves_moved end.Memory all (inr h) = inr (behind_moved all h)
+  part_moved : (all : List Write) → StopsIn told all old new ⊎ StopsBehind told all old new → StopsIn told all there new ⊎ StopsBehind told all there new
+  part_moved all (inl h) = inl (in_moved all h)
+  part_moved all (inr h) = inr (behind_moved all h)
+
+  abbrev receive_moved : (all : List Trace) → StopsAtReceive told all old new → StopsAtReceive told all there new
+  receive_moved all s = record {
+    before = s.before;
+    receive = s.receive;
+    after = s.after;
+    order = s.order;
+    made = λ t. s.made t ∙ ap (with_writes s.receive.writes) (same t);
+  }
+
+  pub leaves_moved : {A : Type 0} (r : RunEnd) (o : Outcome A) (s : Session) → Leaves r told o s old new → Leaves r told o s there new
+  leaves_moved end.Finished o s h = whole_moved (writes_of o) h
+  leaves_moved (end.Uncaught e) o s h = whole_moved (writes_of o) h
+  leaves_moved (end.Spent steps) o s h = whole_moved (writes_of o) h
+  leaves_moved end.ReadFault o s h = (receive_moved (receives_of o) h.0, h.1)
+  leaves_moved end.WriteFault o s h = (in_moved (writes_of o) h.0, h.1)
+  leaves_moved end.Memory o s h = (part_moved (writes_of o) h.0, h.1)
 
   pub runs_moved : (s t : Session) (input : Bytes) (r : RunEnd) → RunsTo told s t input r old new → RunsTo told s t input r there new
-  runs_moved s t input r h = record {
-    ends = λ mode o e. ((h.ends mode o e).0, leaves_moved r _ (h.ends mode o e).1);
-    receives = λ is.
-        let a = h.receives is in
-        record {
-          code = a.code;
-          core = a.core;
-          world = a.world;
-          comes = a.comes;
-          able = a.able;
-          stands = a.stands;
-          defines = a.defines;
-          made = λ t'. a.made t' ∙ ap (with_writes a.world.writes) (same t');
-        };
-  }
+  runs_moved s t input r h = record { ends = λ mode o e. ((h.ends mode o e).0, leaves_moved r o t (h.ends mode o e).1) }
 
 -- all that a channel has may be the input
 pub gets_all : (from : Option ChannelName) (t : Bool) (o : Handed) → GetsInput from t (input_of from o) (input_of from o)

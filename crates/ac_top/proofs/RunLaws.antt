@@ -10,13 +10,14 @@ use Rattle.ac_rules.specs.declared.loaded.Loaded.{Loaded}
 use Rattle.ac_machine.specs.Seen.{MachineSeen}
 use Rattle.ac_meaning.specs.Reduction.{Ends}
 use Rattle.ac_meaning.specs.Worlds.{Exception}
-use Rattle.ac_meaning.specs.Acts.{Outcome, Returned, Raised, Spent, Stuck}
-use Rattle.ac_meaning.specs.Laws.{IsTypedProgram, writes_of}
+use Rattle.ac_meaning.specs.Acts.{Outcome, Returned, Raised, Spent, Stuck, writes_of, receives_of}
+use Rattle.ac_meaning.specs.Laws.{IsTypedProgram}
 use Rattle.ac_meaning.specs.ReadExn.{exn_of}
 use Rattle.ac_meaning.proofs.Endings.{some_end}
 use Rattle.ac_meaning.proofs.NeverStuck.{never_stuck}
 use Rattle.ac_meaning.proofs.Admitted.{grow, arrives}
-use Rattle.ac_run.specs.Sessions.{Session, Streams, with_writes, IsEnd, Leaves, RunsTo}
+use Rattle.ac_meaning.proofs.ReceiveOrders.{written_in_front}
+use Rattle.ac_run.specs.Sessions.{Session, Streams, with_writes, StopsBehind, StopsAtReceive, IsEnd, Leaves, RunsTo}
 use Rattle.ac_run.specs.Course.{begun}
 use Rattle.ac_run.specs.declared.end.RunEnd.{RunEnd}
 use Rattle.ac_run.specs.declared.end.RunEnd.TheVariants as end
@@ -30,7 +31,7 @@ use Rattle.ac_answers.specs.declared.status.TheConstants.Status.{FINISHED, UNCAU
 use Rattle.ac_words.specs.Form.{Text}
 use Rattle.ac_outside.specs.Outside.{Rose}
 use Rattle.ac_top.specs.Channels.{of_channel, of_console}
-use Rattle.ac_top.specs.Streams.{Whole, read_line, write_line, memory_line}
+use Rattle.ac_top.specs.Streams.{AllWritten, read_line, write_line, memory_line}
 use Rattle.ac_top.specs.Handed.{Handed, is_told, input_of, InputFailed, OutputFailed, MakingFailed, MadeAtMost, before_run, after_run, behind_run}
 use Rattle.ac_answers.specs.Lines.{uncaught_line, spent_line}
 use Rattle.ac_answers.specs.Meaning.{CommandAnswer, run_answer, Means, finished, uncaught, spent}
@@ -80,10 +81,10 @@ module _ (prog : ProgramFiles) (steps : ℕ) (from to : Option ChannelName) (o :
   meaning = meant prog steps from to o loaded r accepted typed
 
   -- as the reduction ends
-  ended : (e : RunEnd) → Runs e → IsEnd e last t × Leaves e (is_told from to o) (writes_of last) (before_run to o) (after_run to o mid)
+  ended : (e : RunEnd) → Runs e → IsEnd e last t × Leaves e (is_told from to o) last t (before_run to o) (after_run to o mid)
   ended e runs = let h = some prog steps from to o loaded r accepted typed Coloured in runs.ends Coloured h.0 h.1
 
-  finished_by : (p : Outcome Value) → GivesStatus prog steps from to o r (given_by steps p) → IsEnd end.Finished p t → (IsTrue (is_told from to o) → after_run to o mid ≡ with_writes (writes_of p) (before_run to o)) → Whole (behind_run to o mid) [] → RunEnded prog steps from to o FINISHED
+  finished_by : (p : Outcome Value) → GivesStatus prog steps from to o r (given_by steps p) → IsEnd end.Finished p t → (IsTrue (is_told from to o) → after_run to o mid ≡ with_writes (writes_of p) (before_run to o)) → AllWritten (behind_run to o mid) [] → RunEnded prog steps from to o FINISHED
   finished_by (Returned v z) g is all still = has_run r (run_answer FINISHED z.writes []) mid g refl all (refl, still)
   finished_by (Raised x z) g is all still = absurd is
   finished_by (Spent z) g is all still = absurd is
@@ -107,7 +108,7 @@ module _ (prog : ProgramFiles) (steps : ℕ) (from to : Option ChannelName) (o :
       (subst (λ (n : ℕ). Said (behind_run to o mid) (spent_line n) SPENT status ⊎ Said (behind_run to o mid) memory_line OUT_OF_MEMORY status) (is.0 ∙ same) s)
   spent_by budget Stuck same g is all status s = absurd is
 
-  pub has_finished : Runs end.Finished → Whole (behind_run to o mid) [] → RunEnded prog steps from to o FINISHED
+  pub has_finished : Runs end.Finished → AllWritten (behind_run to o mid) [] → RunEnded prog steps from to o FINISHED
   has_finished runs still = let e = ended end.Finished runs in finished_by last meaning e.0 e.1 still
 
   pub has_raised : (exn : Exn) → Runs (end.Uncaught exn) → (status : Status) → Said (behind_run to o mid) (uncaught_line (exn_of exn)) UNCAUGHT status ⊎ Said (behind_run to o mid) memory_line OUT_OF_MEMORY status → RunEnded prog steps from to o status
@@ -116,16 +117,32 @@ module _ (prog : ProgramFiles) (steps : ℕ) (from to : Option ChannelName) (o :
   pub has_spent : (budget : ℕ) → t.steps ≡ steps → Runs (end.Spent budget) → (status : Status) → Said (behind_run to o mid) (spent_line budget) SPENT status ⊎ Said (behind_run to o mid) memory_line OUT_OF_MEMORY status → RunEnded prog steps from to o status
   has_spent budget same runs status s = let e = ended (end.Spent budget) runs in spent_by budget last same meaning e.0 e.1 status s
 
+  -- what was written in front of a receive stands in front of all
+  in_front : EndsSo prog steps from to o loaded r accepted typed Coloured last → StopsAtReceive (is_told from to o) (receives_of last) (before_run to o) (after_run to o mid) → StopsBehind (is_told from to o) (writes_of last) (before_run to o) (after_run to o mid)
+  in_front ends s =
+      let w = written_in_front Coloured (environment_of loaded.env) (expr_of loaded.main) r.input (is_some to) steps last ends s.before s.after s.receive s.order in
+      record { before = s.receive.writes; after = w.0; order = w.1; made = s.made }
+
   pub has_unread : Runs end.ReadFault → InputFailed from o → (status : Status) → Said (behind_run to o mid) read_line READ_FAULT status → RunEnded prog steps from to o status
   has_unread runs rose status s =
-      unread_input r _ mid meaning refl rose (ended end.ReadFault runs).1
-      (record { program = loaded; accepted = accepted; machine = machine; last = environment_of t.program.env; stopped = t.machine; stands = runs.receives refl }) s
+      unread_input r _ mid meaning refl rose (in_front (some prog steps from to o loaded r accepted typed Coloured).1 (ended end.ReadFault runs).1.0)
+      (λ mode.
+      let h = some prog steps from to o loaded r accepted typed mode in
+      record {
+        definitions = environment_of loaded.env;
+        term = expr_of loaded.main;
+        ty = typ_of loaded.ty;
+        accepted = accepted;
+        last = h.0;
+        ends = h.1;
+        stops = (runs.ends mode h.0 h.1).1.0;
+      }) s
 
   pub has_failed : Runs end.WriteFault → OutputFailed to o → (status : Status) → Said (behind_run to o mid) write_line WRITE_FAULT status → RunEnded prog steps from to o status
-  has_failed runs rose status s = unwritten r _ mid meaning refl rose (ended end.WriteFault runs).1 s
+  has_failed runs rose status s = unwritten r _ mid meaning refl rose (ended end.WriteFault runs).1.0 s
 
   pub has_lost : Runs end.Memory → (status : Status) → Said (behind_run to o mid) memory_line OUT_OF_MEMORY status → RunEnded prog steps from to o status
-  has_lost runs status s = no_memory_left r _ mid meaning refl (ended end.Memory runs).1 s
+  has_lost runs status s = no_memory_left r _ mid meaning refl (ended end.Memory runs).1.0 s
 
 -- where the file of the channel isn't made
 module _ (prog : ProgramFiles) (steps : ℕ) (from to : Option ChannelName) (o : Handed) (shelf : List Shelved) (is_shelf : IsShelfBy o.files prog.shelf shelf) (text : Bytes) (is_text : IsTextOf (o.files prog.file) text) (loaded : Loaded)
@@ -134,10 +151,10 @@ module _ (prog : ProgramFiles) (steps : ℕ) (from to : Option ChannelName) (o :
   meaning_all : (a : CommandAnswer) × (GivesStatus prog steps from to o (read_all prog steps from to o shelf is_shelf text is_text) a × (a.runs ≡ true))
   meaning_all = meant_by prog steps from to o loaded (read_all prog steps from to o shelf is_shelf text is_text) accepted typed
 
-  pub unmade_in : MakingFailed to o → Whole o.output [] → MadeAtMost to o → (end : Status) → Said o.errors write_line WRITE_FAULT end → RunEnded prog steps from to o end
+  pub unmade_in : MakingFailed to o → AllWritten o.output [] → MadeAtMost to o → (end : Status) → Said o.errors write_line WRITE_FAULT end → RunEnded prog steps from to o end
   unmade_in rose none most end s = unmade_file (read_all prog steps from to o shelf is_shelf text is_text) meaning_all.0 meaning_all.1.0 meaning_all.1.1 rose none most s
 
-  pub lost_making : Whole o.output [] → MadeAtMost to o → (end : Status) → Said o.errors memory_line OUT_OF_MEMORY end → RunEnded prog steps from to o end
+  pub lost_making : AllWritten o.output [] → MadeAtMost to o → (end : Status) → Said o.errors memory_line OUT_OF_MEMORY end → RunEnded prog steps from to o end
   lost_making none most end s = no_memory_making (read_all prog steps from to o shelf is_shelf text is_text) meaning_all.0 meaning_all.1.0 meaning_all.1.1 none most s
 
 -- a session has run, from what was read and made in front of it
@@ -166,7 +183,7 @@ module _ {prog : ProgramFiles} {steps : ℕ} {from to : Option ChannelName} {o :
       subst (λ (y : Session). RunsTo (is_told from to o) y t x.ran.input e (before_run to o) (after_run to o mid)) x.is
       (runs_moved (is_told from to o) x.old (before_run to o) (after_run to o mid) x.old_is s t x.ran.input e x.ran.runs)
 
-  pub finished_in : Setting prog steps from to o mid s t end.Finished → Whole (behind_run to o mid) [] → RunEnded prog steps from to o FINISHED
+  pub finished_in : Setting prog steps from to o mid s t end.Finished → AllWritten (behind_run to o mid) [] → RunEnded prog steps from to o FINISHED
   finished_in x still = has_finished prog steps from to o x.loaded x.machine t mid (read_in x) x.accepted x.typed (runs_in x) still
 
   pub raised_in : {exn : Exn} → Setting prog steps from to o mid s t (end.Uncaught exn) → (status : Status) → Said (behind_run to o mid) (uncaught_line (exn_of exn)) UNCAUGHT status ⊎ Said (behind_run to o mid) memory_line OUT_OF_MEMORY status → RunEnded prog steps from to o status

@@ -3,7 +3,7 @@ use Rattle.std.proofs.Common.{◌≡◌, List, ℕ, [], ◌∷◌, refl, sym}
 use Rattle.ac_outside.specs.Outside.{Rose}
 use Rattle.ac_answers.specs.declared.status.Status.{Status}
 use Rattle.ac_answers.specs.declared.status.TheConstants.Status.{OUT_OF_MEMORY}
-use Rattle.ac_top.specs.Streams.{Writing, Whole}
+use Rattle.ac_top.specs.Streams.{Writing, AllWritten}
 use Rattle.ac_top.specs.Saying.{Said, said, failed, no_memory, SaidIfAny}
 
 module _ {end : Status} (m : end ≡ OUT_OF_MEMORY → ⊥) where
@@ -17,11 +17,11 @@ module _ {end : Status} (m : end ≡ OUT_OF_MEMORY → ⊥) where
   said_if_any_wholly errors e (c ∷ line) status s = said_wholly errors e refl s
 
   -- and stands there
-  pub line_whole : (errors : Writing) → (Rose errors.before errors.after → ⊥) → {line : List ℕ} {status end' : Status} → end' ≡ end → Said errors line status end' → Whole errors line
+  pub line_whole : (errors : Writing) → (Rose errors.before errors.after → ⊥) → {line : List ℕ} {status end' : Status} → end' ≡ end → Said errors line status end' → AllWritten errors line
   line_whole errors e same (said w) = w
   line_whole errors e same (failed rose p) = absurd (e rose)
   line_whole errors e same (no_memory p) = absurd (m (sym same))
 
-  pub line_if_any_whole : (errors : Writing) → (Rose errors.before errors.after → ⊥) → (line : List ℕ) (status : Status) → SaidIfAny errors line status end → Whole errors line
+  pub line_if_any_whole : (errors : Writing) → (Rose errors.before errors.after → ⊥) → (line : List ℕ) (status : Status) → SaidIfAny errors line status end → AllWritten errors line
   line_if_any_whole errors e [] status s = s.1
   line_if_any_whole errors e (c ∷ line) status s = line_whole errors e refl s

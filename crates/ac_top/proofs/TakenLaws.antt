@@ -7,14 +7,14 @@ use Rattle.ac_terms.specs.Defs.{Environment, Packet}
 use Rattle.ac_terms.specs.Bounds.{Spells}
 use Rattle.ac_terms.specs.PacketReading.{packet_of}
 use Rattle.ac_terms.proofs.SpelledLaws.{read_is_spelled, spelled_is_read}
-use Rattle.ac_rules.specs.Packets.{Cause, cause, places, value_there, Accepts, Refuses}
+use Rattle.ac_rules.specs.Packets.{PacketCause, cause, places, value_there, Accepts, RefusesPacket}
 use Rattle.ac_meaning.specs.Packing.{Lands, Sinks, admitted, received, landing, of_cause, unmarshal_failure_exn}
 
 -- it spells a packet that is accepted so
 abbrev pub Takes : Environment → Typ → Bytes → Environment → PValue → Type 0
 Takes E T s F v = (p : Packet) × Spells s p × Accepts E p T F v
 
-by_cause : (E : Environment) (T : Typ) (s : Bytes) (F : Environment) (v : PValue) (p : Packet) → Spells s p → (c : Option Cause) → cause sha256 E p T ≡ c → admitted E p c ≡ Lands F v → Takes E T s F v
+by_cause : (E : Environment) (T : Typ) (s : Bytes) (F : Environment) (v : PValue) (p : Packet) → Spells s p → (c : Option PacketCause) → cause sha256 E p T ≡ c → admitted E p c ≡ Lands F v → Takes E T s F v
 by_cause E T s F v p spells (Some why) e h = absurd cc
 by_cause E T s F v p spells None e h =
     let a : (places sha256 E p.defs).0 ≡ F = cc in
@@ -37,7 +37,7 @@ looked_at E T s p spells = ap (received E T) (spelled_is_read s p spells)
 pub takes_lands : (E : Environment) (T : Typ) (s : Bytes) (F : Environment) (v : PValue) → Takes E T s F v → landing E T s ≡ Lands F v
 takes_lands E T s F v (p, spells, a) = looked_at E T s p spells ∙ ap (admitted E p) a.no_cause ∙ ap₂ Lands (sym a.entries) (sym a.value)
 
-pub refused_sinks : (E : Environment) (T : Typ) (s : Bytes) (p : Packet) (c : Cause) → Spells s p → Refuses E p T c → landing E T s ≡ Sinks (of_cause p.defs c)
+pub refused_sinks : (E : Environment) (T : Typ) (s : Bytes) (p : Packet) (c : PacketCause) → Spells s p → RefusesPacket E p T c → landing E T s ≡ Sinks (of_cause p.defs c)
 refused_sinks E T s p c spells r = looked_at E T s p spells ∙ ap (admitted E p) r
 
 -- where it spells none

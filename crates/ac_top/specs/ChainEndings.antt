@@ -7,32 +7,33 @@ use Rattle.ac_acceptance.specs.Accepting.{Shelved}
 use Rattle.ac_files.specs.Files.{Reading}
 use Rattle.ac_files.specs.ManyTexts.{AreTexts, TextsFail}
 use Rattle.ac_files.specs.ProgramTexts.{IsShelfBy, HasBadLine}
-use Rattle.ac_chain.specs.Texts.{texts_of}
+use Rattle.ac_chain.specs.ChainTexts.{texts_of}
 use Rattle.ac_answers.specs.declared.status.Status.{Status}
 use Rattle.ac_answers.specs.declared.status.TheConstants.Status.{OUT_OF_MEMORY, READ_FAULT, WRITE_FAULT, SHELF_REFUSED}
 use Rattle.ac_answers.specs.Answers.{ShownAnswer}
 use Rattle.ac_chained.specs.Chaining.{ChainsInEach}
-use Rattle.ac_top.specs.Streams.{Writing, Whole, Part, read_line, write_line, memory_line, shelf_line}
+use Rattle.ac_top.specs.Streams.{Writing, AllWritten, PrefixWritten, read_line, write_line, memory_line, shelf_line}
 use Rattle.ac_top.specs.Saying.{Said, SaidIfAny}
 
--- the programs of files give that as a chain, where output tells what it has or doesn't
+-- the programs of files give that as a chain, where output tells what it has or doesn't; what they print as they run stands first in it
 pub record ChainsFiles (files : Bytes → Reading) (programs : List Bytes) (list : Option Bytes) (steps : ℕ) (told : Bool) (a : ShownAnswer) : Type 0 where
   pub shelf : List Shelved
   pub is_shelf : IsShelfBy files list shelf
   pub texts : List Text
   pub are_texts : AreTexts files programs texts
-  pub chains : ChainsInEach (texts_of texts) shelf steps told a
+  pub console : Bytes
+  pub chains : ChainsInEach (texts_of texts) shelf steps told console a
 
 -- how a chain of files ends: a row for each way
 pub data ChainEnded (programs : List Bytes) (list : Option Bytes) (steps : ℕ) (files : Bytes → Reading) (output errors : Writing) (end : Status) : Type 0 where
   -- all that it prints stands there
-  has_chained : (a : ShownAnswer) → ChainsFiles files programs list steps output.told a → Whole output a.printed → SaidIfAny errors a.line a.status end → ChainEnded programs list steps files output errors end
+  has_chained : (a : ShownAnswer) → ChainsFiles files programs list steps output.told a → AllWritten output a.printed → SaidIfAny errors a.line a.status end → ChainEnded programs list steps files output errors end
   -- the list of the shelf has a bad line
-  bad_chain_list : (n : ℕ) → HasBadLine files list n → Whole output [] → Said errors (shelf_line n) SHELF_REFUSED end → ChainEnded programs list steps files output errors end
+  bad_chain_list : (n : ℕ) → HasBadLine files list n → AllWritten output [] → Said errors (shelf_line n) SHELF_REFUSED end → ChainEnded programs list steps files output errors end
   -- a read of the list, of a file that it names, or of a program's file failed
-  unread_chain : TextsFail files programs list → Whole output [] → Said errors read_line READ_FAULT end → ChainEnded programs list steps files output errors end
+  unread_chain : TextsFail files programs list → AllWritten output [] → Said errors read_line READ_FAULT end → ChainEnded programs list steps files output errors end
   -- a print failed
-  unprinted_chain : (a : ShownAnswer) → ChainsFiles files programs list steps output.told a → Rose output.before output.after → Part output a.printed → Said errors write_line WRITE_FAULT end → ChainEnded programs list steps files output errors end
+  unprinted_chain : (a : ShownAnswer) → ChainsFiles files programs list steps output.told a → Rose output.before output.after → PrefixWritten output a.printed → Said errors write_line WRITE_FAULT end → ChainEnded programs list steps files output errors end
   -- memory ran out in front of the runs, or in them, or behind them
-  no_memory_to_chain : Whole output [] → Said errors memory_line OUT_OF_MEMORY end → ChainEnded programs list steps files output errors end
-  no_memory_in_chain : (a : ShownAnswer) → ChainsFiles files programs list steps output.told a → Part output a.printed → Said errors memory_line OUT_OF_MEMORY end → ChainEnded programs list steps files output errors end
+  no_memory_to_chain : AllWritten output [] → Said errors memory_line OUT_OF_MEMORY end → ChainEnded programs list steps files output errors end
+  no_memory_in_chain : (a : ShownAnswer) → ChainsFiles files programs list steps output.told a → PrefixWritten output a.printed → Said errors memory_line OUT_OF_MEMORY end → ChainEnded programs list steps files output errors end

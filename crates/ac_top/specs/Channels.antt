@@ -1,6 +1,6 @@
 -- The channels of a run, among standard streams and files.
-use Rattle.std.specs.Prelude.{◌≡◌, ℕ, ◌&&◌, Bool, true, IsTrue, List, [], Option, Some, None, drop}
-use Rattle.ac_outside.specs.Outside.{Contents, or_empty}
+use Rattle.std.specs.Prelude.{◌≡◌, ℕ, Bool, IsTrue, List, [], Option, Some, None}
+use Rattle.ac_outside.specs.Outside.{Contents}
 use Rattle.ac_words.specs.Form.{Text}
 use Rattle.ac_words.specs.Commands.{ChannelName, standard, file}
 
@@ -16,19 +16,6 @@ of_console None output errors = output
 of_console (Some standard) output errors = errors
 of_console (Some (file name)) output errors = output
 
--- whether all is told of what a run reads from and writes to: files, the stream of its input, its console, and the stream of its channel
-abbrev pub tells : Option ChannelName → Option ChannelName → Bool → Bool → Bool → Bool → Bool
-tells from to files input console stream =
-    of_channel from true input (λ name. files) && (console && of_channel to true stream (λ name. files))
-
--- the bytes that a run has left to read, where it has come to this place in its file
-abbrev pub left_in : Option ChannelName → Contents → List ℕ → ℕ → List ℕ
-left_in from files input place = of_channel from [] input (λ name. drop place (or_empty (files name)))
-
--- the bytes that it has sent
-abbrev pub sent_in : Option ChannelName → Contents → List ℕ → List ℕ
-sent_in to files stream = of_channel to [] stream (λ name. or_empty (files name))
-
 -- a run gets this input: nothing where it has no channel to read from, and else what that has, where all is told
 abbrev pub GetsInput : Option ChannelName → Bool → List ℕ → List ℕ → Type 0
 GetsInput None told left input = input ≡ []
@@ -37,6 +24,10 @@ GetsInput (Some channel) told left input = IsTrue told → left ≡ input
 -- a channel is no file
 abbrev pub NoFile : Option ChannelName → Type 0
 NoFile channel = (name : Text) → channel ≡ Some (file name) → ⊥
+
+-- a channel is no standard stream
+abbrev pub NotStandard : Option ChannelName → Type 0
+NotStandard channel = channel ≡ Some standard → ⊥
 
 -- each file but that of the channel has the bytes that it had
 abbrev pub KeptBut : Option ChannelName → Contents → Contents → Type 0

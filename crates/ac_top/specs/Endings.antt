@@ -9,10 +9,10 @@ use Rattle.ac_files.specs.ProgramTexts.{HasBadLine}
 use Rattle.ac_answers.specs.declared.status.Status.{Status}
 use Rattle.ac_answers.specs.declared.status.TheConstants.Status.{OUT_OF_MEMORY, READ_FAULT, WRITE_FAULT, WORDS_REFUSED, SHELF_REFUSED}
 use Rattle.ac_answers.specs.Answers.{ShownAnswer}
-use Rattle.ac_top.specs.Streams.{Writing, Whole, Part, words_line, read_line, write_line, memory_line, shelf_line}
+use Rattle.ac_top.specs.Streams.{Writing, AllWritten, PrefixWritten, words_line, read_line, write_line, memory_line, shelf_line}
 use Rattle.ac_top.specs.Saying.{Said, SaidIfAny}
 use Rattle.ac_top.specs.Handed.{Handed}
-use Rattle.ac_top.specs.Requests.{list_named, IsUnread}
+use Rattle.ac_top.specs.Requests.{list_named, IsUnreadable}
 use Rattle.ac_top.specs.Giving.{Gives}
 use Rattle.ac_top.specs.ChainEndings.{ChainEnded}
 use Rattle.ac_top.specs.RunEndings.{RunEnded}
@@ -23,22 +23,22 @@ texts words = map string_bytes words
 
 -- where the words are refused: nothing is written but a line
 pub data NoCommand (o : Handed) (end : Status) : Type 0 where
-  refused_words : Whole o.output [] → Said o.errors words_line WORDS_REFUSED end → NoCommand o end
-  no_memory_for_words : Whole o.output [] → Said o.errors memory_line OUT_OF_MEMORY end → NoCommand o end
+  refused_words : AllWritten o.output [] → Said o.errors words_line WORDS_REFUSED end → NoCommand o end
+  no_memory_for_words : AllWritten o.output [] → Said o.errors memory_line OUT_OF_MEMORY end → NoCommand o end
 
 -- how a request ends that prints what it finds
 pub data AnswerEnded (r : Request) (files : Bytes → Reading) (output errors : Writing) (end : Status) : Type 0 where
   -- all that it prints stands there
-  has_printed : (a : ShownAnswer) → Gives files r a → Whole output a.printed → SaidIfAny errors a.line a.status end → AnswerEnded r files output errors end
+  has_printed : (a : ShownAnswer) → Gives files r a → AllWritten output a.printed → SaidIfAny errors a.line a.status end → AnswerEnded r files output errors end
   -- the list of the shelf has a bad line
-  no_shelf : (n : ℕ) → HasBadLine files (list_named r) n → Whole output [] → Said errors (shelf_line n) SHELF_REFUSED end → AnswerEnded r files output errors end
+  no_shelf : (n : ℕ) → HasBadLine files (list_named r) n → AllWritten output [] → Said errors (shelf_line n) SHELF_REFUSED end → AnswerEnded r files output errors end
   -- a read of the list, of a file that it names, or of a file that is loaded failed
-  unread : IsUnread files r → Whole output [] → Said errors read_line READ_FAULT end → AnswerEnded r files output errors end
+  unread : IsUnreadable files r → AllWritten output [] → Said errors read_line READ_FAULT end → AnswerEnded r files output errors end
   -- a print failed
-  unprinted : (a : ShownAnswer) → Gives files r a → Rose output.before output.after → Part output a.printed → Said errors write_line WRITE_FAULT end → AnswerEnded r files output errors end
+  unprinted : (a : ShownAnswer) → Gives files r a → Rose output.before output.after → PrefixWritten output a.printed → Said errors write_line WRITE_FAULT end → AnswerEnded r files output errors end
   -- memory ran out in front of the print, or in it
-  no_memory_to_find : Whole output [] → Said errors memory_line OUT_OF_MEMORY end → AnswerEnded r files output errors end
-  no_memory_to_print : (a : ShownAnswer) → Gives files r a → Part output a.printed → Said errors memory_line OUT_OF_MEMORY end → AnswerEnded r files output errors end
+  no_memory_to_find : AllWritten output [] → Said errors memory_line OUT_OF_MEMORY end → AnswerEnded r files output errors end
+  no_memory_to_print : (a : ShownAnswer) → Gives files r a → PrefixWritten output a.printed → Said errors memory_line OUT_OF_MEMORY end → AnswerEnded r files output errors end
 
 -- how a call ends, by what the words ask for
 abbrev pub Ended : Option Request → Handed → Status → Type 0

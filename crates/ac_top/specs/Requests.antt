@@ -25,8 +25,14 @@ list_named (check files list) = list
 list_named (chain programs list steps) = list
 
 -- a read failed, of the list, of a file that it names, or of one of these files
-abbrev pub IsUnread : (Bytes → Reading) → Request → Type 0
-IsUnread files r = TextsFail files (files_loaded r) (list_named r)
+abbrev pub IsUnreadable : (Bytes → Reading) → Request → Type 0
+IsUnreadable files r = TextsFail files (files_loaded r) (list_named r)
+
+-- the channel from which a request reads
+abbrev pub channel_read : Option Request → Option ChannelName
+channel_read None = None
+channel_read (Some (run p steps from to)) = from
+channel_read (Some r) = None
 
 -- the channel to which a request sends
 abbrev pub channel_written : Option Request → Option ChannelName

@@ -1,35 +1,34 @@
 -- How the run of a file ends: what its text means where nothing fails, and what a fault leaves of that.
 use Rattle.std.specs.Prelude.{◌≡◌, ◌⊎◌, ℕ, Bool, true, false, IsTrue, List, [], Option, is_some}
-use Rattle.ac_types.specs.Types.{Bytes}
-use Rattle.ac_types.specs.ReadTypes.{typ_of}
+use Rattle.ac_types.specs.Types.{Bytes, Typ}
+use Rattle.ac_terms.specs.Terms.{Expr, Value}
 use Rattle.ac_terms.specs.Defs.{Environment}
-use Rattle.ac_terms.specs.Read.{environment_of, expr_of}
 use Rattle.ac_words.specs.Commands.{ChannelName, ProgramFiles}
 use Rattle.ac_rules.specs.Views.{Mode}
-use Rattle.ac_rules.specs.declared.loaded.Loaded.{Loaded}
-use Rattle.ac_machine.specs.Seen.{MachineSeen}
+use Rattle.ac_meaning.specs.Acts.{Outcome, receives_of}
+use Rattle.ac_meaning.specs.Reduction.{Ends}
 use Rattle.ac_acceptance.specs.Accepting.{Shelved}
 use Rattle.ac_load.specs.Loading.{Loads}
 use Rattle.ac_files.specs.Files.{IsTextOf}
 use Rattle.ac_files.specs.ProgramTexts.{IsShelfBy, HasBadLine, ReadsFail}
-use Rattle.ac_run.specs.Sessions.{Streams, with_writes, StopsIn, StopsBehind, AtReceive, begins}
-use Rattle.ac_run.specs.Course.{begun}
+use Rattle.ac_run.specs.Sessions.{Streams, with_writes, StopsIn, StopsBehind, StopsAtReceive}
 use Rattle.ac_answers.specs.declared.status.Status.{Status}
 use Rattle.ac_answers.specs.declared.status.TheConstants.Status.{OUT_OF_MEMORY, READ_FAULT, WRITE_FAULT, SHELF_REFUSED}
 use Rattle.ac_answers.specs.Meaning.{CommandAnswer, Means}
 use Rattle.ac_top.specs.Channels.{GetsInput}
-use Rattle.ac_top.specs.Streams.{Whole, read_line, write_line, memory_line, shelf_line}
+use Rattle.ac_top.specs.Streams.{AllWritten, read_line, write_line, memory_line, shelf_line}
 use Rattle.ac_top.specs.Saying.{Said, SaidIfAny}
 use Rattle.ac_top.specs.Handed.{Handed, is_told, input_of, InputFailed, OutputFailed, MakingFailed, Untouched, MadeAtMost, before_run, after_run, behind_run}
 
--- the run of an accepted text comes to a receive on its machine, with these writes in front of it
-pub record ComesToReceive (text : Bytes) (shelf : List Shelved) (steps : ℕ) (input : Bytes) (sends told : Bool) (old new : Streams) : Type 0 where
-  pub program : Loaded
-  pub accepted : Loads text shelf (environment_of program.env) (expr_of program.main) (typ_of program.ty)
-  pub machine : MachineSeen
-  pub last : Environment
-  pub stopped : MachineSeen
-  pub stands : AtReceive told (begins (begun program steps sends machine) input) last stopped old new
+-- a text is accepted, and on the way to its end in this mode the program came to a receive: what it had written in front of that was written, and nothing else
+pub record StoodAtReceive (mode : Mode) (text : Bytes) (shelf : List Shelved) (steps : ℕ) (input : Bytes) (sends told : Bool) (old new : Streams) : Type 0 where
+  pub definitions : Environment
+  pub term : Expr
+  pub ty : Typ
+  pub accepted : Loads text shelf definitions term ty
+  pub last : Outcome Value
+  pub ends : Ends mode definitions term input sends steps last
+  pub stops : StopsAtReceive told (receives_of last) old new
 
 module _ (p : ProgramFiles) (steps : ℕ) (from to : Option ChannelName) (o : Handed) where
   -- what is read: the shelf, the text, and the input of its run
@@ -48,24 +47,24 @@ module _ (p : ProgramFiles) (steps : ℕ) (from to : Option ChannelName) (o : Ha
   -- how the run of a file ends: a row for each way, and one line on errors that goes with it
   pub data RunEnded (end : Status) : Type 0 where
     -- the program is refused, and nothing else is written
-    is_refused : (r : HasRead) (a : CommandAnswer) → GivesStatus r a → a.runs ≡ false → Whole o.output [] → Untouched to o → Said o.errors a.line a.status end → RunEnded end
+    is_refused : (r : HasRead) (a : CommandAnswer) → GivesStatus r a → a.runs ≡ false → AllWritten o.output [] → Untouched to o → Said o.errors a.line a.status end → RunEnded end
     -- the program has run to its end, and all that it writes stands there
     has_run : (r : HasRead) (a : CommandAnswer) (mid : Bytes) → GivesStatus r a → a.runs ≡ true → (IsTrue (is_told from to o) → after_run to o mid ≡ with_writes a.writes (before_run to o)) → SaidIfAny (behind_run to o mid) a.line a.status end → RunEnded end
     -- the list of the shelf has a bad line, and nothing else is written
-    bad_list : (n : ℕ) → HasBadLine o.files p.shelf n → Whole o.output [] → Untouched to o → Said o.errors (shelf_line n) SHELF_REFUSED end → RunEnded end
+    bad_list : (n : ℕ) → HasBadLine o.files p.shelf n → AllWritten o.output [] → Untouched to o → Said o.errors (shelf_line n) SHELF_REFUSED end → RunEnded end
     -- a read of the list, of a file that it names, or of the program's file failed, and nothing was written
-    unread_file : ReadsFail o.files p.file p.shelf → Whole o.output [] → Untouched to o → Said o.errors read_line READ_FAULT end → RunEnded end
+    unread_file : ReadsFail o.files p.file p.shelf → AllWritten o.output [] → Untouched to o → Said o.errors read_line READ_FAULT end → RunEnded end
     -- the file of the channel could not be made, and nothing was run
-    unmade_file : (r : HasRead) (a : CommandAnswer) → GivesStatus r a → a.runs ≡ true → MakingFailed to o → Whole o.output [] → MadeAtMost to o → Said o.errors write_line WRITE_FAULT end → RunEnded end
-    -- a read of the channel failed, where the run stood at a receive
+    unmade_file : (r : HasRead) (a : CommandAnswer) → GivesStatus r a → a.runs ≡ true → MakingFailed to o → AllWritten o.output [] → MadeAtMost to o → Said o.errors write_line WRITE_FAULT end → RunEnded end
+    -- a read of the channel failed, where the program stood at one of its receives; what was written stands in front of all that it writes
     unread_input : (r : HasRead) (a : CommandAnswer) (mid : Bytes) → GivesStatus r a → a.runs ≡ true → InputFailed from o → StopsBehind (is_told from to o) a.writes (before_run to o) (after_run to o mid)
-        → ComesToReceive r.text r.shelf steps r.input (is_some to) (is_told from to o) (before_run to o) (after_run to o mid) → Said (behind_run to o mid) read_line READ_FAULT end → RunEnded end
+        → ((mode : Mode) → StoodAtReceive mode r.text r.shelf steps r.input (is_some to) (is_told from to o) (before_run to o) (after_run to o mid)) → Said (behind_run to o mid) read_line READ_FAULT end → RunEnded end
     -- a write of the run failed
     unwritten : (r : HasRead) (a : CommandAnswer) (mid : Bytes) → GivesStatus r a → a.runs ≡ true → OutputFailed to o → StopsIn (is_told from to o) a.writes (before_run to o) (after_run to o mid) → Said (behind_run to o mid) write_line WRITE_FAULT end → RunEnded end
     -- memory ran out in front of the run, with nothing written
-    no_memory_yet : Whole o.output [] → Untouched to o → Said o.errors memory_line OUT_OF_MEMORY end → RunEnded end
+    no_memory_yet : AllWritten o.output [] → Untouched to o → Said o.errors memory_line OUT_OF_MEMORY end → RunEnded end
     -- or while the file of the channel was made
-    no_memory_making : (r : HasRead) (a : CommandAnswer) → GivesStatus r a → a.runs ≡ true → Whole o.output [] → MadeAtMost to o → Said o.errors memory_line OUT_OF_MEMORY end → RunEnded end
+    no_memory_making : (r : HasRead) (a : CommandAnswer) → GivesStatus r a → a.runs ≡ true → AllWritten o.output [] → MadeAtMost to o → Said o.errors memory_line OUT_OF_MEMORY end → RunEnded end
     -- or in the run, or behind it
     no_memory_left : (r : HasRead) (a : CommandAnswer) (mid : Bytes) → GivesStatus r a → a.runs ≡ true → StopsIn (is_told from to o) a.writes (before_run to o) (after_run to o mid) ⊎ StopsBehind (is_told from to o) a.writes (before_run to o) (after_run to o mid)
         → Said (behind_run to o mid) memory_line OUT_OF_MEMORY end → RunEnded end

@@ -23,12 +23,12 @@ writing told bytes faults old new =
     record { told = told; old = bytes old; new = bytes new; before = faults old; after = faults new }
 
 -- exactly this was written
-abbrev pub Whole : Writing → List ℕ → Type 0
-Whole stream bytes = IsTrue stream.told → stream.new ≡ stream.old ++ bytes
+abbrev pub AllWritten : Writing → List ℕ → Type 0
+AllWritten stream bytes = IsTrue stream.told → stream.new ≡ stream.old ++ bytes
 
 -- some prefix of this was written, and no more
-abbrev pub Part : Writing → List ℕ → Type 0
-Part stream bytes = IsTrue stream.told → Extends stream.old stream.new bytes
+abbrev pub PrefixWritten : Writing → List ℕ → Type 0
+PrefixWritten stream bytes = IsTrue stream.told → Extends stream.old stream.new bytes
 
 abbrev pub words_line : List ℕ
 words_line = codes "acute: words refused" ++ 10 ∷ []

@@ -4,3 +4,4 @@ pub mod Apart
 pub mod ChainDelivered
 pub mod Asked
 pub mod Delivered
+pub mod Told

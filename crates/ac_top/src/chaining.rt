@@ -4,7 +4,7 @@ ghost use Rattle.ac_acceptance.specs.Accepting.{IsShelf};
 ghost use Rattle.ac_load.specs.Loading.{shelf_of};
 ghost use Rattle.ac_files.specs.Files.{files_seen, files_read};
 ghost use Rattle.ac_files.specs.ManyTexts.{ReadInTurn};
-ghost use Rattle.ac_chain.specs.Texts.{texts_of};
+ghost use Rattle.ac_chain.specs.ChainTexts.{texts_of};
 ghost use Rattle.ac_top.specs.Streams.{writing};
 ghost use Rattle.ac_top.specs.ChainEndings.{ChainEnded};
 ghost use Rattle.ac_top.specs.inner.ChainDelivered.{ChainDelivered};

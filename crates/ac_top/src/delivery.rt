@@ -39,7 +39,8 @@ pub fn deliver_answer<O: Sink, E: Sink>(answer: &Answer, output: &mut O, errors:
 
 // Writes these bytes in one piece, if there are any.
 fn print<O: Sink>(bytes: &[u8], output: &mut O) -> Put
-    ensures bytes { IsTrue O.told → Wrote result (O.written output.old) (O.written output.new) bytes.now }
+    ensures bytes { IsTrue O.told → Wrote result (O.written output.old) (O.written output.new)
+        bytes.now }
     ensures cause { result ≡ Put.Failed → Rose (O.faults output.old) (O.faults output.new) }
 {
     if bytes.is_empty() {

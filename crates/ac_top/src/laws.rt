@@ -4,7 +4,7 @@ ghost use Rattle.ac_types.specs.Types.{Bytes, Typ};
 ghost use Rattle.ac_terms.specs.Terms.{Expr, PValue};
 ghost use Rattle.ac_terms.specs.Defs.{Environment, Packet};
 ghost use Rattle.ac_terms.specs.Bounds.{Spells};
-ghost use Rattle.ac_rules.specs.Packets.{Cause, Accepts, Refuses};
+ghost use Rattle.ac_rules.specs.Packets.{PacketCause, Accepts, RefusesPacket};
 ghost use Rattle.ac_meaning.specs.Packing.{Lands, Sinks, landing, of_cause, unmarshal_failure_exn};
 ghost use Rattle.ac_outside.specs.Outside.{Rose};
 ghost use Rattle.ac_rules.specs.Views.{Mode};
@@ -18,9 +18,9 @@ ghost use Rattle.ac_answers.specs.declared.status.Status.{Status};
 ghost use Rattle.ac_answers.specs.declared.status.TheConstants.Status.{REFUSED, OUT_OF_MEMORY, SHELF_REFUSED};
 ghost use Rattle.ac_answers.specs.Answers.{ShownAnswer};
 ghost use Rattle.ac_answers.specs.Meaning.{CommandAnswer, Means};
-ghost use Rattle.ac_top.specs.Streams.{Whole};
+ghost use Rattle.ac_top.specs.Streams.{AllWritten};
 ghost use Rattle.ac_top.specs.Handed.{Handed, is_told, input_of, InputFailed, OutputFailed, MakingFailed};
-ghost use Rattle.ac_top.specs.Requests.{list_named, IsUnread};
+ghost use Rattle.ac_top.specs.Requests.{list_named, IsUnreadable};
 ghost use Rattle.ac_top.specs.Giving.{Gives};
 ghost use Rattle.ac_top.specs.ChainEndings.{ChainsFiles};
 ghost use Rattle.ac_top.specs.Endings.{AnswerEnded, Ended};
@@ -33,6 +33,13 @@ pub fn one_meaning()
         (sends : Bool) (a b : CommandAnswer) → IsShelf shelf → length shelf ≤ 256 →
         Means m text shelf steps input sends a → Means n text shelf steps input sends b →
         (a.status ≡ b.status) × (a.writes ≡ b.writes) }
+{}
+
+/// What stands beside a program, without a list or by a list that has no bad line, is a shelf of at
+/// most 256 texts.
+pub fn good_shelf()
+    ensures { (files : Bytes → Reading) (list : Option Bytes) (shelf : List Shelved) →
+        IsShelfBy files list shelf → IsShelf shelf × (length shelf ≤ 256) }
 {}
 
 /// Beside a shelf, a text that loads has a meaning in each mode, within each budget and with each
@@ -51,8 +58,8 @@ pub fn some_meaning()
 pub fn taken_exactly()
     ensures taken { (E : Environment) (T : Typ) (s : Bytes) (F : Environment) (v : PValue) →
         landing E T s ≡ Lands F v ↔ ((p : Packet) × Spells s p × Accepts E p T F v) }
-    ensures refused { (E : Environment) (T : Typ) (s : Bytes) (p : Packet) (c : Cause) →
-        Spells s p → Refuses E p T c → landing E T s ≡ Sinks (of_cause p.defs c) }
+    ensures refused { (E : Environment) (T : Typ) (s : Bytes) (p : Packet) (c : PacketCause) →
+        Spells s p → RefusesPacket E p T c → landing E T s ≡ Sinks (of_cause p.defs c) }
     ensures format { (E : Environment) (T : Typ) (s : Bytes) →
         ((p : Packet) → Spells s p → ⊥) →
         landing E T s ≡ Sinks (unmarshal_failure_exn (codes "format")) }
@@ -79,17 +86,17 @@ pub fn nothing_failed()
 pub fn nothing_failed_printing()
     ensures found { (r : Request) (o : Handed) (status : Status) →
         AnswerEnded r o.files o.output o.errors status →
-        ((n : ℕ) → HasBadLine o.files (list_named r) n → ⊥) → (IsUnread o.files r → ⊥) →
+        ((n : ℕ) → HasBadLine o.files (list_named r) n → ⊥) → (IsUnreadable o.files r → ⊥) →
         (Rose o.output.before o.output.after → ⊥) → (Rose o.errors.before o.errors.after → ⊥) →
         (status ≡ OUT_OF_MEMORY → ⊥) → (a : ShownAnswer) × (Gives o.files r a ×
-        ((status ≡ a.status) × (Whole o.output a.printed × Whole o.errors a.line))) }
+        ((status ≡ a.status) × (AllWritten o.output a.printed × AllWritten o.errors a.line))) }
     ensures chained { (programs : List Bytes) (list : Option Bytes) (steps : ℕ) (o : Handed)
         (status : Status) → Ended (Some (chain programs list steps)) o status →
         ((n : ℕ) → HasBadLine o.files list n → ⊥) → (TextsFail o.files programs list → ⊥) →
         (Rose o.output.before o.output.after → ⊥) → (Rose o.errors.before o.errors.after → ⊥) →
         (status ≡ OUT_OF_MEMORY → ⊥) → (a : ShownAnswer) ×
         (ChainsFiles o.files programs list steps o.output.told a ×
-        ((status ≡ a.status) × (Whole o.output a.printed × Whole o.errors a.line))) }
+        ((status ≡ a.status) × (AllWritten o.output a.printed × AllWritten o.errors a.line))) }
 {}
 
 /// Where the files are told, a request gives one status, and one print: only the lines of `check`
@@ -111,7 +118,7 @@ pub fn one_answer()
 /// Where the list of a shelf has a bad line, each request that names it ends so.
 pub fn bad_line_refused()
     ensures { (r : Request) (o : Handed) (status : Status) → Ended (Some r) o status →
-        ((name : Bytes) → IsTrue (o.files name).told) → (IsUnread o.files r → ⊥) →
+        ((name : Bytes) → IsTrue (o.files name).told) → (IsUnreadable o.files r → ⊥) →
         (Rose o.errors.before o.errors.after → ⊥) → (status ≡ OUT_OF_MEMORY → ⊥) →
         (n : ℕ) → HasBadLine o.files (list_named r) n → status ≡ SHELF_REFUSED }
 {}

@@ -6,6 +6,7 @@ mod chaining;
 mod delivery;
 mod laws;
 mod no_files;
+mod no_input;
 mod run;
 mod saying;
 mod top;
@@ -13,6 +14,7 @@ mod world;
 
 pub use ac_answers::Status;
 pub use laws::{
-    bad_line_refused, nothing_failed, nothing_failed_printing, one_answer, one_meaning,
+    bad_line_refused, good_shelf, nothing_failed, nothing_failed_printing, one_answer, one_meaning,
+    some_meaning, taken_exactly,
 };
 pub use top::acute;

@@ -10,7 +10,7 @@ ghost use Rattle.ac_files.specs.Files.{FilesSeen, files_seen, IsTextOf, Since};
 ghost use Rattle.ac_files.specs.ProgramTexts.{IsShelfBy};
 ghost use Rattle.ac_run.specs.Course.{begun};
 ghost use Rattle.ac_words.specs.Commands.{are_one, channel_of, files_of};
-ghost use Rattle.ac_top.specs.Channels.{KeptBut, NoFile};
+ghost use Rattle.ac_top.specs.Channels.{KeptBut, NoFile, NotStandard};
 ghost use Rattle.ac_top.specs.Streams.{feeding, writing};
 ghost use Rattle.ac_top.specs.Handed.{what_is_handed};
 ghost use Rattle.ac_top.specs.RunEndings.{RunEnded};
@@ -36,8 +36,10 @@ pub fn run_file<F: Files, I: Source, O: Sink, E: Sink>(
     output: &mut O,
     errors: &mut E,
 ) -> Status
-    requires { are_one (option_map channel_of run.input) (option_map channel_of run.output) ≡ false }
-    ensures ends { RunEnded (files_of run.entry.program) run.entry.steps (option_map channel_of run.entry.input)
+    requires { are_one (option_map channel_of run.input) (option_map channel_of run.output) ≡
+        false }
+    ensures ends { RunEnded (files_of run.entry.program) run.entry.steps
+        (option_map channel_of run.entry.input)
         (option_map channel_of run.entry.output) (what_is_handed F.told
         (files_seen F.contents F.read_faults F.write_faults files.old)
         (files_seen F.contents F.read_faults F.write_faults files.new)
@@ -46,6 +48,7 @@ pub fn run_file<F: Files, I: Source, O: Sink, E: Sink>(
         (writing E.told E.written E.faults errors.old errors.new)) result }
     ensures kept { IsTrue F.told → KeptBut (option_map channel_of run.entry.output)
         (F.contents files.old) (F.contents files.new) }
+    ensures idle { NotStandard (option_map channel_of run.entry.input) → input.new ≡ input.old }
     ensures only { NoFile (option_map channel_of run.entry.input) →
         NoFile (option_map channel_of run.entry.output) →
         (files_of run.entry.program).shelf ≡ None →
@@ -73,16 +76,19 @@ fn run_texts<F: Files, I: Source, O: Sink, E: Sink>(
     requires shelved { IsShelf (shelf_of texts.shelf) }
     ensures ends { (start : FilesSeen) →
         Since F.told start (files_seen F.contents F.read_faults F.write_faults files.old) →
-        let o = what_is_handed F.told start (files_seen F.contents F.read_faults F.write_faults files.new)
+        let o = what_is_handed F.told start (files_seen F.contents F.read_faults F.write_faults
+        files.new)
         (feeding I.told I.left I.read_faults input.old input.new)
         (writing O.told O.written O.faults output.old output.new)
         (writing E.told E.written E.faults errors.old errors.new) in
         IsShelfBy o.files (files_of run.entry.program).shelf (shelf_of texts.shelf) →
         IsTextOf (o.files (files_of run.entry.program).file) texts.program.0 →
-        RunEnded (files_of run.entry.program) run.entry.steps (option_map channel_of run.entry.input)
+        RunEnded (files_of run.entry.program) run.entry.steps
+        (option_map channel_of run.entry.input)
         (option_map channel_of run.entry.output) o result }
     ensures kept { IsTrue F.told → KeptBut (option_map channel_of run.entry.output)
         (F.contents files.old) (F.contents files.new) }
+    ensures idle { NotStandard (option_map channel_of run.entry.input) → input.new ≡ input.old }
     ensures only { NoFile (option_map channel_of run.entry.input) →
         NoFile (option_map channel_of run.entry.output) → files.new ≡ files.old }
 {
@@ -108,17 +114,20 @@ fn run_program<F: Files, I: Source, O: Sink, E: Sink>(
         (typ_of loaded.ty) }
     ensures ends { (start : FilesSeen) →
         Since F.told start (files_seen F.contents F.read_faults F.write_faults files.old) →
-        let o = what_is_handed F.told start (files_seen F.contents F.read_faults F.write_faults files.new)
+        let o = what_is_handed F.told start (files_seen F.contents F.read_faults F.write_faults
+        files.new)
         (feeding I.told I.left I.read_faults input.old input.new)
         (writing O.told O.written O.faults output.old output.new)
         (writing E.told E.written E.faults errors.old errors.new) in
         (shelf : List Shelved) → IsShelfBy o.files (files_of run.entry.program).shelf shelf →
         (text : Bytes) → IsTextOf (o.files (files_of run.entry.program).file) text →
         Loads text shelf (environment_of loaded.env) (expr_of loaded.main) (typ_of loaded.ty) →
-        RunEnded (files_of run.entry.program) run.entry.steps (option_map channel_of run.entry.input)
+        RunEnded (files_of run.entry.program) run.entry.steps
+        (option_map channel_of run.entry.input)
         (option_map channel_of run.entry.output) o result }
     ensures kept { IsTrue F.told → KeptBut (option_map channel_of run.entry.output)
         (F.contents files.old) (F.contents files.new) }
+    ensures idle { NotStandard (option_map channel_of run.entry.input) → input.new ≡ input.old }
     ensures only { NoFile (option_map channel_of run.entry.input) →
         NoFile (option_map channel_of run.entry.output) → files.new ≡ files.old }
 {
@@ -142,7 +151,8 @@ fn make_and_run<F: Files, I: Source, O: Sink, E: Sink>(
         ≡ false }
     ensures ends { (start : FilesSeen) →
         Since F.told start (files_seen F.contents F.read_faults F.write_faults files.old) →
-        let o = what_is_handed F.told start (files_seen F.contents F.read_faults F.write_faults files.new)
+        let o = what_is_handed F.told start (files_seen F.contents F.read_faults F.write_faults
+        files.new)
         (feeding I.told I.left I.read_faults input.old input.new)
         (writing O.told O.written O.faults output.old output.new)
         (writing E.told E.written E.faults errors.old errors.new) in
@@ -153,10 +163,12 @@ fn make_and_run<F: Files, I: Source, O: Sink, E: Sink>(
         Loads text shelf (environment_of loaded.env) (expr_of loaded.main) (typ_of loaded.ty) →
         session.old ≡ begun loaded run.entry.steps
         (is_some (option_map channel_of run.entry.output)) session.old.machine →
-        RunEnded (files_of run.entry.program) run.entry.steps (option_map channel_of run.entry.input)
+        RunEnded (files_of run.entry.program) run.entry.steps
+        (option_map channel_of run.entry.input)
         (option_map channel_of run.entry.output) o result }
     ensures kept { IsTrue F.told → KeptBut (option_map channel_of run.entry.output)
         (F.contents files.old) (F.contents files.new) }
+    ensures idle { NotStandard (option_map channel_of run.entry.input) → input.new ≡ input.old }
     ensures only { NoFile (option_map channel_of run.entry.input) →
         NoFile (option_map channel_of run.entry.output) → files.new ≡ files.old }
 {
@@ -192,9 +204,11 @@ fn run_session<F: Files, I: Source, O: Sink, E: Sink>(
 ) -> Status
     requires apart { are_one (option_map channel_of run.input) (option_map channel_of run.output)
         ≡ false }
-    ensures ends { (start : FilesSeen) → Prepared F.told (option_map channel_of run.entry.output) start
+    ensures ends { (start : FilesSeen) → Prepared F.told
+        (option_map channel_of run.entry.output) start
         (files_seen F.contents F.read_faults F.write_faults files.old) →
-        let o = what_is_handed F.told start (files_seen F.contents F.read_faults F.write_faults files.new)
+        let o = what_is_handed F.told start (files_seen F.contents F.read_faults F.write_faults
+        files.new)
         (feeding I.told I.left I.read_faults input.old input.new)
         (writing O.told O.written O.faults output.old output.new)
         (writing E.told E.written E.faults errors.old errors.new) in
@@ -205,10 +219,12 @@ fn run_session<F: Files, I: Source, O: Sink, E: Sink>(
         Loads text shelf (environment_of loaded.env) (expr_of loaded.main) (typ_of loaded.ty) →
         session.old ≡ begun loaded run.entry.steps
         (is_some (option_map channel_of run.entry.output)) session.old.machine →
-        RunEnded (files_of run.entry.program) run.entry.steps (option_map channel_of run.entry.input)
+        RunEnded (files_of run.entry.program) run.entry.steps
+        (option_map channel_of run.entry.input)
         (option_map channel_of run.entry.output) o result }
     ensures kept { IsTrue F.told → KeptBut (option_map channel_of run.entry.output)
         (F.contents files.old) (F.contents files.new) }
+    ensures idle { NotStandard (option_map channel_of run.entry.input) → input.new ≡ input.old }
     ensures only { NoFile (option_map channel_of run.entry.input) →
         NoFile (option_map channel_of run.entry.output) → files.new ≡ files.old }
 {

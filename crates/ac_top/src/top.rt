@@ -2,12 +2,12 @@
 ghost use Rattle.std.specs.Prelude.{◌≡◌, Some, IsTrue};
 ghost use Rattle.ac_files.specs.Files.{files_seen};
 ghost use Rattle.ac_words.specs.Commands.{command_of, request_of};
-ghost use Rattle.ac_top.specs.Channels.{KeptBut};
+ghost use Rattle.ac_top.specs.Channels.{KeptBut, NotStandard};
 ghost use Rattle.ac_top.specs.Streams.{feeding, writing};
 ghost use Rattle.ac_top.specs.Handed.{what_is_handed};
-ghost use Rattle.ac_top.specs.Requests.{Touches, channel_written};
+ghost use Rattle.ac_top.specs.Requests.{Touches, channel_read, channel_written};
 ghost use Rattle.ac_top.specs.Endings.{texts, Ended};
-ghost use Rattle.ac_top.specs.inner.Apart.{IsApart, IsShort};
+ghost use Rattle.ac_top.specs.inner.Apart.{IsApart, HasFewPrograms};
 
 use crate::answering::{check_files, make_program, show_file};
 use crate::chaining::chain_files;
@@ -42,6 +42,9 @@ pub fn acute<R: Threads + Sync, F: Files, I: Source, O: Sink, E: Sink, G: Gate +
     // No file is created or changed but that of the channel to which the run sends.
     ensures kept { IsTrue F.told → KeptBut (channel_written (command_of (texts words.now)))
         (F.contents files.old) (F.contents files.new) }
+    // Nothing is read from input but by a run that has it as its channel.
+    ensures idle { NotStandard (channel_read (command_of (texts words.now))) →
+        input.new ≡ input.old }
     // Where the words are refused no file is touched; where no shelf is given and no channel is a
     // file, only those whose texts are loaded are, one after another.
     ensures touched { Touches F.reads (command_of (texts words.now)) files.old files.new }
@@ -65,7 +68,7 @@ fn obey<R: Threads + Sync, F: Files, I: Source, O: Sink, E: Sink, G: Gate + Sync
     gate: &G,
 ) -> Status
     requires apart { IsApart (request_of command) }
-    requires short { IsShort (request_of command) }
+    requires short { HasFewPrograms (request_of command) }
     ensures ends { Ended (Some (request_of command.entry)) (what_is_handed F.told
         (files_seen F.contents F.read_faults F.write_faults files.old)
         (files_seen F.contents F.read_faults F.write_faults files.new)
@@ -74,6 +77,8 @@ fn obey<R: Threads + Sync, F: Files, I: Source, O: Sink, E: Sink, G: Gate + Sync
         (writing E.told E.written E.faults errors.old errors.new)) result }
     ensures kept { IsTrue F.told → KeptBut (channel_written (Some (request_of command.entry)))
         (F.contents files.old) (F.contents files.new) }
+    ensures idle { NotStandard (channel_read (Some (request_of command.entry))) →
+        input.new ≡ input.old }
     ensures touched { Touches F.reads (Some (request_of command.entry)) files.old files.new }
 {
     match command {

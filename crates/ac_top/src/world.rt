@@ -4,11 +4,13 @@ ghost use native.Mathlib.Omega.{arith};
 ghost use Rattle.ac_outside.specs.Outside.{Rose, Contents, NeverFall};
 ghost use Rattle.ac_words.specs.Commands.{ChannelName, are_one, channel_of};
 ghost use Rattle.ac_run.specs.Sessions.{streams};
-ghost use Rattle.ac_top.specs.Channels.{of_channel, of_console, tells, left_in, sent_in, KeptBut, NoFile};
+ghost use Rattle.ac_top.specs.inner.Told.{tells, left_in, sent_in};
+ghost use Rattle.ac_top.specs.Channels.{of_channel, of_console, KeptBut, NoFile, NotStandard};
 ghost use Rattle.ac_top.specs.inner.Counts.{count_of_both};
 ghost use Rattle.ac_top.specs.inner.Runs.{RanIn, ErrorsApart};
 
 use crate::no_files::NoFiles;
+use crate::no_input::NoInput;
 use ac_outside::{Files, Got, Put, Sink, Source, SureSink, World};
 use ac_run::{RunEnd, Session};
 use ac_words::Channel;
@@ -153,7 +155,8 @@ impl<F: Files, I: Source, C: Sink, S: Sink, K: Fixed> World for Joined<'_, F, I,
 }
 
 /// Runs a program with these channels. Its console is output, or errors where output is its channel.
-/// Errors are not touched else, and no file is where no channel is one.
+/// Else errors aren't touched; files are only where a channel is one, and input only where it is the
+/// channel.
 pub fn run_among<F: Files, I: Source, O: Sink, E: Sink>(
     alloc: Global,
     session: &mut Session,
@@ -165,40 +168,83 @@ pub fn run_among<F: Files, I: Source, O: Sink, E: Sink>(
     errors: &mut E,
 ) -> RunEnd
     requires { are_one (option_map channel_of from) (option_map channel_of to) ≡ false }
-    ensures ends { let a = option_map channel_of from.entry in let b = option_map channel_of to.entry in
+    ensures ends { let a = option_map channel_of from.entry in let b = option_map channel_of
+        to.entry in
         session.old.end ≡ None → RanIn a
         (tells a b F.told I.told (of_console b O.told E.told) O.told)
         (left_in a (F.contents files.old) (I.left input.old) 0)
-        (streams (of_console b (O.written output.old) (E.written errors.old)) (sent_in b (F.contents files.old) (O.written output.old)))
-        (streams (of_console b (O.written output.new) (E.written errors.new)) (sent_in b (F.contents files.new) (O.written output.new)))
+        (streams (of_console b (O.written output.old) (E.written errors.old))
+        (sent_in b (F.contents files.old) (O.written output.old)))
+        (streams (of_console b (O.written output.new) (E.written errors.new))
+        (sent_in b (F.contents files.new) (O.written output.new)))
         session.old session.new result }
     ensures cause { let b = option_map channel_of to.entry in
         session.old.end ≡ None → result ≡ RunEnd.WriteFault →
-        Rose (of_console b (O.faults output.old) (E.faults errors.old)) (of_console b (O.faults output.new) (E.faults errors.new)) ⊎
-        Rose (of_channel b 0 (O.faults output.old) (F.write_faults files.old)) (of_channel b 0 (O.faults output.new) (F.write_faults files.new)) }
+        Rose (of_console b (O.faults output.old) (E.faults errors.old))
+        (of_console b (O.faults output.new) (E.faults errors.new)) ⊎
+        Rose (of_channel b 0 (O.faults output.old) (F.write_faults files.old))
+        (of_channel b 0 (O.faults output.new) (F.write_faults files.new)) }
     ensures cause_read { let a = option_map channel_of from.entry in
         session.old.end ≡ None → result ≡ RunEnd.ReadFault →
-        Rose (of_channel a 0 (I.read_faults input.old) (F.read_faults files.old)) (of_channel a 0 (I.read_faults input.new) (F.read_faults files.new)) }
+        Rose (of_channel a 0 (I.read_faults input.old) (F.read_faults files.old))
+        (of_channel a 0 (I.read_faults input.new) (F.read_faults files.new)) }
     ensures later { E.faults errors.old ≤ E.faults errors.new }
     ensures apart { ErrorsApart (option_map channel_of to.entry) errors.old errors.new }
     ensures kept { IsTrue F.told →
         KeptBut (option_map channel_of to.entry) (F.contents files.old) (F.contents files.new) }
-    ensures only { NoFile (option_map channel_of from.entry) → NoFile (option_map channel_of to.entry) →
+    ensures idle { NotStandard (option_map channel_of from.entry) → input.new ≡ input.old }
+    ensures only { NoFile (option_map channel_of from.entry) → NoFile
+        (option_map channel_of to.entry) →
         files.new ≡ files.old }
 {
-    if is_file(from) || is_file(to) {
-        run_between(alloc, session, from, to, files, input, output, errors)
-    } else {
-        run_between(
-            alloc,
-            session,
-            from,
-            to,
-            &mut NoFiles,
-            input,
-            output,
-            errors,
-        )
+    match (is_file(from) || is_file(to), is_standard(from)) {
+        (true, true) => run_between(alloc, session, from, to, files, input, output, errors),
+        (true, false) => {
+            run_between(
+                alloc,
+                session,
+                from,
+                to,
+                files,
+                &mut NoInput,
+                output,
+                errors,
+            )
+        }
+        (false, true) => {
+            run_between(
+                alloc,
+                session,
+                from,
+                to,
+                &mut NoFiles,
+                input,
+                output,
+                errors,
+            )
+        }
+        (false, false) => {
+            run_between(
+                alloc,
+                session,
+                from,
+                to,
+                &mut NoFiles,
+                &mut NoInput,
+                output,
+                errors,
+            )
+        }
+    }
+}
+
+// Whether a channel is a standard stream.
+fn is_standard(channel: Option<Channel>) -> bool
+    ensures { result ≡ of_channel (option_map channel_of channel.entry) false true (λ _. false) }
+{
+    match channel {
+        Some(Channel::Standard) => true,
+        Some(Channel::File(_)) | None => false,
     }
 }
 
@@ -224,20 +270,26 @@ fn run_between<F: Files, I: Source, O: Sink, E: Sink>(
     errors: &mut E,
 ) -> RunEnd
     requires { are_one (option_map channel_of from) (option_map channel_of to) ≡ false }
-    ensures ends { let a = option_map channel_of from.entry in let b = option_map channel_of to.entry in
+    ensures ends { let a = option_map channel_of from.entry in let b = option_map channel_of
+        to.entry in
         session.old.end ≡ None → RanIn a
         (tells a b F.told I.told (of_console b O.told E.told) O.told)
         (left_in a (F.contents files.old) (I.left input.old) 0)
-        (streams (of_console b (O.written output.old) (E.written errors.old)) (sent_in b (F.contents files.old) (O.written output.old)))
-        (streams (of_console b (O.written output.new) (E.written errors.new)) (sent_in b (F.contents files.new) (O.written output.new)))
+        (streams (of_console b (O.written output.old) (E.written errors.old))
+        (sent_in b (F.contents files.old) (O.written output.old)))
+        (streams (of_console b (O.written output.new) (E.written errors.new))
+        (sent_in b (F.contents files.new) (O.written output.new)))
         session.old session.new result }
     ensures cause { let b = option_map channel_of to.entry in
         session.old.end ≡ None → result ≡ RunEnd.WriteFault →
-        Rose (of_console b (O.faults output.old) (E.faults errors.old)) (of_console b (O.faults output.new) (E.faults errors.new)) ⊎
-        Rose (of_channel b 0 (O.faults output.old) (F.write_faults files.old)) (of_channel b 0 (O.faults output.new) (F.write_faults files.new)) }
+        Rose (of_console b (O.faults output.old) (E.faults errors.old))
+        (of_console b (O.faults output.new) (E.faults errors.new)) ⊎
+        Rose (of_channel b 0 (O.faults output.old) (F.write_faults files.old))
+        (of_channel b 0 (O.faults output.new) (F.write_faults files.new)) }
     ensures cause_read { let a = option_map channel_of from.entry in
         session.old.end ≡ None → result ≡ RunEnd.ReadFault →
-        Rose (of_channel a 0 (I.read_faults input.old) (F.read_faults files.old)) (of_channel a 0 (I.read_faults input.new) (F.read_faults files.new)) }
+        Rose (of_channel a 0 (I.read_faults input.old) (F.read_faults files.old))
+        (of_channel a 0 (I.read_faults input.new) (F.read_faults files.new)) }
     ensures later { E.faults errors.old ≤ E.faults errors.new }
     ensures apart { ErrorsApart (option_map channel_of to.entry) errors.old errors.new }
     ensures kept { IsTrue F.told →
@@ -282,7 +334,8 @@ fn run_on<F: Files, I: Source, C: Sink, S: Sink>(
     stream: &mut S,
 ) -> RunEnd
     requires { are_one (option_map channel_of from) (option_map channel_of to) ≡ false }
-    ensures ends { let a = option_map channel_of from.entry in let b = option_map channel_of to.entry in
+    ensures ends { let a = option_map channel_of from.entry in let b = option_map channel_of
+        to.entry in
         session.old.end ≡ None → RanIn a (tells a b F.told I.told C.told S.told)
         (left_in a (F.contents files.old) (I.left input.old) 0)
         (streams (C.written console.old) (sent_in b (F.contents files.old) (S.written stream.old)))
@@ -291,10 +344,12 @@ fn run_on<F: Files, I: Source, C: Sink, S: Sink>(
     ensures cause { let b = option_map channel_of to.entry in
         session.old.end ≡ None → result ≡ RunEnd.WriteFault →
         Rose (C.faults console.old) (C.faults console.new) ⊎
-        Rose (of_channel b 0 (S.faults stream.old) (F.write_faults files.old)) (of_channel b 0 (S.faults stream.new) (F.write_faults files.new)) }
+        Rose (of_channel b 0 (S.faults stream.old) (F.write_faults files.old))
+        (of_channel b 0 (S.faults stream.new) (F.write_faults files.new)) }
     ensures cause_read { let a = option_map channel_of from.entry in
         session.old.end ≡ None → result ≡ RunEnd.ReadFault →
-        Rose (of_channel a 0 (I.read_faults input.old) (F.read_faults files.old)) (of_channel a 0 (I.read_faults input.new) (F.read_faults files.new)) }
+        Rose (of_channel a 0 (I.read_faults input.old) (F.read_faults files.old))
+        (of_channel a 0 (I.read_faults input.new) (F.read_faults files.new)) }
     ensures later { C.faults console.old ≤ C.faults console.new }
     ensures kept { IsTrue F.told →
         KeptBut (option_map channel_of to.entry) (F.contents files.old) (F.contents files.new) }
@@ -330,8 +385,10 @@ fn run_at<'a, F: Files, I: Source, C: Sink, S: Sink, K: Fixed>(
     ensures ends { session.old.end ≡ None → RanIn K.from
         (tells K.from K.to F.told I.told C.told S.told)
         (left_in K.from (F.contents files.entry.now) (I.left input.entry.now) 0)
-        (streams (C.written console.entry.now) (sent_in K.to (F.contents files.entry.now) (S.written stream.entry.now)))
-        (streams (C.written result.2.now) (sent_in K.to (F.contents result.0.now) (S.written result.3.now)))
+        (streams (C.written console.entry.now)
+        (sent_in K.to (F.contents files.entry.now) (S.written stream.entry.now)))
+        (streams (C.written result.2.now) (sent_in K.to (F.contents result.0.now)
+        (S.written result.3.now)))
         session.old session.new end.new }
     ensures cause { session.old.end ≡ None → end.new ≡ RunEnd.WriteFault →
         Rose K.console_faults (C.faults result.2.now) ⊎

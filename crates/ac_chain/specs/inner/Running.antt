@@ -9,8 +9,7 @@ use Rattle.ac_rules.specs.Views.{Mode}
 use Rattle.ac_rules.specs.declared.loaded.Loaded.{Loaded}
 use Rattle.ac_outside.specs.Outside.{Extends}
 use Rattle.ac_meaning.specs.Writes.{Console, written}
-use Rattle.ac_meaning.specs.Acts.{Outcome}
-use Rattle.ac_meaning.specs.Laws.{writes_of, crossings_of}
+use Rattle.ac_meaning.specs.Acts.{Outcome, writes_of, crossings_of}
 use Rattle.ac_meaning.specs.Loads.{IsLoaded}
 use Rattle.ac_acceptance.specs.Accepting.{Shelved}
 use Rattle.ac_load.specs.declared.kind.Kind.{Kind}
@@ -23,8 +22,8 @@ use Rattle.ac_colours.specs.Chains.{Programs}
 use Rattle.ac_chain.specs.declared.chained.ChainPart.{ChainPart}
 use Rattle.ac_chain.specs.declared.chained.ChainFault.{ChainFault}
 use Rattle.ac_chain.specs.declared.chained.ChainFault.TheVariants as fault
-use Rattle.ac_chain.specs.Texts.{RejectsFirst}
-use Rattle.ac_chain.specs.Chains.{RunsOn, RunInTurn, IsPart, AreParts, console_of}
+use Rattle.ac_chain.specs.ChainTexts.{RejectsFirst}
+use Rattle.ac_chain.specs.ChainMeaning.{RunsOn, RunInTurn, IsChainPart, AreParts, console_of}
 use Rattle.ac_chain.specs.Endings.{Printed}
 use Rattle.ac_chain.specs.Natives.{made_by}
 use Rattle.ac_chain.specs.inner.Made.{Strings, Has, NativeBy, MadeBy}
@@ -92,7 +91,7 @@ module _ (mode : Mode) (N : ℕ) (told : Bool) (p : Environment × Expr) (left :
   pub record HasRunOn (given : ChainPart) (before after : Strings) (old new : Bytes) : Type 0 where
     pub last : Outcome Value
     pub runs : RunsOn mode N told p left last
-    pub part : (earlier : List Bytes) → Has before earlier → IsPart N told earlier last given
+    pub part : (earlier : List Bytes) → Has before earlier → IsChainPart N told earlier last given
     pub made : (earlier : List Bytes) → Has before earlier → Has after (made_by earlier (crossings_of last))
     pub printed : IsTrue told → new ≡ old ++ written Console (writes_of last)
 

@@ -9,7 +9,7 @@ use Rattle.ac_chain.specs.declared.chained.ChainFault.{ChainFault}
 use Rattle.ac_chain.specs.declared.chained.ChainFault.TheVariants as fault
 use Rattle.ac_chain.specs.Endings.{Printed}
 use Rattle.ac_answers.specs.declared.status.Status.{Status}
-use Rattle.ac_answers.specs.declared.status.TheConstants.Status.{REFUSED, CLASH}
+use Rattle.ac_answers.specs.declared.status.TheConstants.Status.{FINISHED, REFUSED, CLASH}
 use Rattle.ac_answers.specs.Answers.{ShownAnswer, telling, answer_of}
 use Rattle.ac_answers.specs.declared.answer.Answer.{Answer}
 use Rattle.ac_chained.specs.declared.chaining.Halt.{Halt}
@@ -17,21 +17,23 @@ use Rattle.ac_chained.specs.declared.chaining.Halt.TheVariants as halt
 use Rattle.ac_chained.specs.Chaining.{ChainsInEach, program_line, clash_line}
 
 module _ (texts : List Bytes) (shelf : List Shelved) (steps : ℕ) (c : Printed) where
-  -- an answer that goes on where the programs have stopped printing
+  -- what the programs print was printed, and the answer goes on behind it
   pub record GivesRest (a : Answer) : Type 0 where
+    pub console : Bytes
     pub whole : ShownAnswer
-    pub gives : ChainsInEach texts shelf steps c.told whole
-    pub front : Bytes
-    pub printed : IsTrue c.told → c.new ≡ c.old ++ front
-    pub rest : whole.printed ≡ front ++ a.printed.0
+    pub gives : ChainsInEach texts shelf steps c.told console whole
+    pub printed : IsTrue c.told → c.new ≡ c.old ++ console
+    pub rest : whole.printed ≡ console ++ a.printed.0
     pub status : whole.status ≡ a.status
     pub line : whole.line ≡ a.line.0
 
-  -- no more than a prefix of what it prints was printed
+  -- the programs run, and a prefix of what they print was printed, and nothing else
   pub record GivesPart : Type 0 where
+    pub console : Bytes
     pub whole : ShownAnswer
-    pub gives : ChainsInEach texts shelf steps c.told whole
-    pub part : IsTrue c.told → Extends c.old c.new whole.printed
+    pub gives : ChainsInEach texts shelf steps c.told console whole
+    pub runs : whole.status ≡ FINISHED
+    pub part : IsTrue c.told → Extends c.old c.new console
 
   -- an answer, or the cause why there is none
   abbrev pub GivesChain : Result Answer Halt → Type 0

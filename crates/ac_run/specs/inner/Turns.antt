@@ -13,10 +13,9 @@ use Rattle.ac_machine.specs.Resumes.{resumed, resumed_text, with_raise}
 use Rattle.ac_machine.specs.Seen.{MachineSeen, standing}
 use Rattle.ac_meaning.specs.Writes.{Write, string_of}
 use Rattle.ac_meaning.specs.Worlds.{Exception, World, end_of_file_exn, bad_frame}
-use Rattle.ac_meaning.specs.Acts.{Outcome, Stuck, Over, Leads}
-use Rattle.ac_meaning.specs.Laws.{writes_of}
-use Rattle.ac_simulation.specs.Running.{Running, on, machine_step}
-use Rattle.ac_run.specs.Sessions.{Session, environment, Streams, with_writes, StopsIn, StopsBehind, IsEnd, Leaves, AtReceive}
+use Rattle.ac_meaning.specs.Acts.{Outcome, Stuck, Over, Leads, writes_of}
+use Rattle.ac_simulation.specs.Running.{on, machine_step}
+use Rattle.ac_run.specs.Sessions.{Session, environment, Streams, with_writes, StopsIn, StopsBehind, IsEnd, Leaves}
 use Rattle.ac_run.specs.Journals.{read_journal, noted}
 use Rattle.ac_run.specs.inner.Inboxes.{MayCome, IsLeft}
 use Rattle.ac_run.specs.declared.end.RunEnd.{RunEnd}
@@ -75,15 +74,14 @@ abbrev pub point : Environment → Code → MachineSeen → Inbox → Bytes → 
 point E K m inbox left now journal = record { environment = E; code = K; machine = m; inbox = inbox; left = left; streams = now; journal = journal }
 
 module _ (sends told : Bool) where
-  -- over coherent definitions a run that began there is on its way to this end, where it isn't stuck and all writes are short, and this is what comes; where that is told, the writes since the start were made; what crossed stands in the journal, if it is kept
-  pub record OnItsWay (p : Point) (rest : Bytes) (from : Running) (start : Streams) (o : Outcome (Code × MValue)) : Type 0 where
+  -- over coherent definitions a run is on its way to this end, where it isn't stuck and all writes are short, and this is what comes; where that is told, the writes since the start were made; what crossed stands in the journal, if it is kept
+  pub record OnItsWay (p : Point) (rest : Bytes) (start : Streams) (o : Outcome (Code × MValue)) : Type 0 where
     pub able : p.machine.lost ≡ false
     pub coherent : IsCoherent p.environment
     pub state : MState
     pub world : World
     pub defines : world.environment ≡ p.environment
     pub stands : standing p.machine ≡ standing.At state
-    pub came : Leads machine_step from (on p.code state world)
     pub ends : Leads machine_step (on p.code state world) (Over o)
     pub not_stuck : o ≡ Stuck → ⊥
     pub short : AreShort (writes_of o)
@@ -94,17 +92,17 @@ module _ (sends told : Bool) where
 
   -- whatever comes, it is on the way to an end
   abbrev pub CanRun : Point → Type 0
-  CanRun p = (rest : Bytes) → MayCome p.inbox told p.left rest → (o : Outcome (Code × MValue)) × (from : Running) × (start : Streams) × OnItsWay p rest from start o
+  CanRun p = (rest : Bytes) → MayCome p.inbox told p.left rest → (o : Outcome (Code × MValue)) × (start : Streams) × OnItsWay p rest start o
 
-  -- each session with these definitions, this budget, this machine and this journal has ended so
-  abbrev pub EndsSo : ℕ → Point → RunEnd → Outcome (Code × MValue) → Type 0
-  EndsSo N p r o = (s : Session) → environment s ≡ p.environment → s.steps ≡ N → s.machine ≡ p.machine → s.keeps ≡ p.journal.keeps → s.journal ≡ p.journal.crossings → IsEnd r o s
+  -- each session with these definitions, this budget, this machine and this journal has ended so, and leaves what it says
+  abbrev pub EndsSo : ℕ → Point → Streams → RunEnd → Outcome (Code × MValue) → Type 0
+  EndsSo N p start r o = (s : Session) → environment s ≡ p.environment → s.steps ≡ N → s.machine ≡ p.machine → s.keeps ≡ p.journal.keeps → s.journal ≡ p.journal.crossings → IsEnd r o s × Leaves r told o s start p.streams
 
   -- it is on its way, or has ended
-  abbrev pub Turned : ℕ → Point → Bytes → Running → Streams → Outcome (Code × MValue) → Option RunEnd → Type 0
-  Turned N p rest from start o None = OnItsWay p rest from start o
-  Turned N p rest from start o (Some r) = EndsSo N p r o × Leaves r told (writes_of o) start p.streams × (r ≡ end.ReadFault → AtReceive told from p.environment p.machine start p.streams)
+  abbrev pub Turned : ℕ → Point → Bytes → Streams → Outcome (Code × MValue) → Option RunEnd → Type 0
+  Turned N p rest start o None = OnItsWay p rest start o
+  Turned N p rest start o (Some r) = EndsSo N p start r o
 
   -- whatever comes later, something comes now with which a run that is on its way gets from the first point to the second, or ends there
   abbrev pub Goes : ℕ → Point → Point → Option RunEnd → Type 0
-  Goes N p q r = (rest : Bytes) → MayCome q.inbox told q.left rest → (before : Bytes) × MayCome p.inbox told p.left before × ((from : Running) (start : Streams) (o : Outcome (Code × MValue)) → OnItsWay p before from start o → Turned N q rest from start o r)
+  Goes N p q r = (rest : Bytes) → MayCome q.inbox told q.left rest → (before : Bytes) × MayCome p.inbox told p.left before × ((start : Streams) (o : Outcome (Code × MValue)) → OnItsWay p before start o → Turned N q rest start o r)

@@ -6,6 +6,6 @@ abbrev pub IsApart : Request → Type 0
 IsApart (run p steps from to) = are_one from to ≡ false
 IsApart r = Unit {0}
 
-abbrev pub IsShort : Request → Type 0
-IsShort (chain programs list steps) = length programs ≤ 16
-IsShort r = Unit {0}
+abbrev pub HasFewPrograms : Request → Type 0
+HasFewPrograms (chain programs list steps) = length programs ≤ 16
+HasFewPrograms r = Unit {0}

@@ -7,19 +7,19 @@ use Rattle.ac_files.specs.declared.shelf.TextsFault.TheVariants as fault
 use Rattle.ac_answers.specs.declared.answer.Answer.{Answer}
 use Rattle.ac_answers.specs.declared.status.Status.{Status}
 use Rattle.ac_answers.specs.declared.status.TheConstants.Status.{OUT_OF_MEMORY, READ_FAULT, WRITE_FAULT, SHELF_REFUSED}
-use Rattle.ac_top.specs.Streams.{Writing, Whole, Part, read_line, write_line, memory_line, shelf_line}
+use Rattle.ac_top.specs.Streams.{Writing, AllWritten, PrefixWritten, read_line, write_line, memory_line, shelf_line}
 use Rattle.ac_top.specs.Saying.{Said, SaidIfAny}
 
 -- an answer was to be printed and its line to be written, before an end with its status
 pub data Delivered (a : Answer) (output errors : Writing) (end : Status) : Type 0 where
-  whole : Whole output a.printed.0 → SaidIfAny errors a.line.0 a.status end → Delivered a output errors end
-  print_failed : Rose output.before output.after → Part output a.printed.0 → Said errors write_line WRITE_FAULT end → Delivered a output errors end
-  lost_in_print : Part output a.printed.0 → Said errors memory_line OUT_OF_MEMORY end → Delivered a output errors end
+  whole : AllWritten output a.printed.0 → SaidIfAny errors a.line.0 a.status end → Delivered a output errors end
+  print_failed : Rose output.before output.after → PrefixWritten output a.printed.0 → Said errors write_line WRITE_FAULT end → Delivered a output errors end
+  lost_in_print : PrefixWritten output a.printed.0 → Said errors memory_line OUT_OF_MEMORY end → Delivered a output errors end
 
 -- that, or there was no memory to find the answer
 pub data DeliveredIfFound (found : Result Answer Memory) (output errors : Writing) (end : Status) : Type 0 where
   delivered : (a : Answer) → found ≡ Ok a → Delivered a output errors end → DeliveredIfFound found output errors end
-  not_found : Whole output [] → Said errors memory_line OUT_OF_MEMORY end → DeliveredIfFound found output errors end
+  not_found : AllWritten output [] → Said errors memory_line OUT_OF_MEMORY end → DeliveredIfFound found output errors end
 
 -- the line of a fault of reading
 abbrev pub SaysUnread : TextsFault → Writing → Status → Type 0

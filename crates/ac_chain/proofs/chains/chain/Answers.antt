@@ -7,7 +7,7 @@ use Rattle.ac_terms.specs.Defs.{Environment}
 use Rattle.ac_load.specs.Loading.{shelf_of}
 use Rattle.ac_rules.specs.declared.loaded.Loaded.{Loaded}
 use Rattle.ac_chain.specs.Clashes.{first_clash}
-use Rattle.ac_chain.specs.Texts.{texts_of, programs_of, LoadAs}
+use Rattle.ac_chain.specs.ChainTexts.{texts_of, programs_of, LoadAs}
 use Rattle.ac_chain.specs.inner.Running.{AreFew, printed}
 use Rattle.ac_chain.proofs.LoadLaws.{as_many, are_few}
 use Rattle.ac_chain.proofs.ProvenanceLaws.{all_provenance}

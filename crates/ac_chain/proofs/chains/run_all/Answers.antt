@@ -1,7 +1,7 @@
 use Rattle.std.proofs.Common.{◌∙◌, ◌++◌, ◌∷◌, [], sym, ap, subst, append_assoc, arith}
 use Rattle.ac_types.specs.Types.{Bytes}
 use Rattle.ac_terms.specs.Read.{environment_of, expr_of}
-use Rattle.ac_chain.specs.Texts.{programs_of}
+use Rattle.ac_chain.specs.ChainTexts.{programs_of}
 use Rattle.ac_chain.specs.inner.Running.{HasRunOn, HasStoppedOn, last_sent}
 use Rattle.ac_chain.proofs.Lists.{empty_is}
 use Rattle.ac_chain.proofs.MadeLaws.{has_none}

@@ -1,6 +1,6 @@
 use Rattle.std.proofs.Common.{◌≡◌, ◌≤◌, ◌++◌}
 use Rattle.ac_rules.specs.Views.{Mode}
-use Rattle.ac_chain.specs.Texts.{programs_of}
+use Rattle.ac_chain.specs.ChainTexts.{programs_of}
 use Rattle.ac_chain.proofs.ChainLaws.{SoFar}
 use Rattle.ac_chain.proofs.chains.run_all.Given as goal
 

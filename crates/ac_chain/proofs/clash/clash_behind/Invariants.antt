@@ -1,7 +1,7 @@
 use Rattle.std.proofs.Common.{◌≡◌, ◌+◌, drop}
 use Rattle.ac_terms.specs.Read.{environment_of}
 use Rattle.ac_chain.specs.Clashes.{clash_behind}
-use Rattle.ac_chain.specs.Texts.{programs_of}
+use Rattle.ac_chain.specs.ChainTexts.{programs_of}
 use Rattle.ac_chain.proofs.clash.clash_behind.Given as goal
 
 abbrev pub invariant-loop-k : goal.invariant-loop-k

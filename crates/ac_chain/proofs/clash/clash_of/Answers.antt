@@ -2,7 +2,7 @@ use Rattle.std.proofs.Common.{◌<◌, ◌≤◌, ◌+◌, length, arith}
 use Rattle.std.proofs.lemmas.List.{length-map}
 use Rattle.ac_terms.specs.Read.{environment_of, entry_of}
 use Rattle.ac_chain.specs.Clashes.{clash_behind}
-use Rattle.ac_chain.specs.Texts.{programs_of}
+use Rattle.ac_chain.specs.ChainTexts.{programs_of}
 use Rattle.ac_chain.proofs.Searches.{found_below, none_below}
 use Rattle.ac_chain.proofs.clash.clash_of.Goals as goal
 

@@ -1,6 +1,6 @@
 use Rattle.std.proofs.Common.{◌+◌, sym, subst}
 use Rattle.ac_chain.specs.inner.Running.{AreFew}
-use Rattle.ac_chain.specs.Texts.{programs_of}
+use Rattle.ac_chain.specs.ChainTexts.{programs_of}
 use Rattle.ac_chain.proofs.Apart.{no_first}
 use Rattle.ac_chain.proofs.Lists.{whole_rest}
 use Rattle.ac_chain.proofs.Searches.{few_at, few_behind}

@@ -1,7 +1,7 @@
 use Rattle.std.proofs.Common.{◌+◌, take, ◌∙◌, ap, sym, subst}
 use Rattle.ac_types.specs.declared.text.Text.{Text}
 use Rattle.ac_load.specs.Loading.{shelf_of}
-use Rattle.ac_chain.specs.Texts.{texts_of, programs_of, LoadAs}
+use Rattle.ac_chain.specs.ChainTexts.{texts_of, programs_of, LoadAs}
 use Rattle.ac_chain.specs.inner.Running.{AreLoaded}
 use Rattle.ac_chain.proofs.LoadLaws.{load_more, loaded_more, is_refusal}
 use Rattle.ac_chain.proofs.loads.load_all.Goals as goal

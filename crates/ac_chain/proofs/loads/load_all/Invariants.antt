@@ -1,6 +1,6 @@
 use Rattle.std.proofs.Common.{take}
 use Rattle.ac_load.specs.Loading.{shelf_of}
-use Rattle.ac_chain.specs.Texts.{texts_of, programs_of, LoadAs}
+use Rattle.ac_chain.specs.ChainTexts.{texts_of, programs_of, LoadAs}
 use Rattle.ac_chain.specs.inner.Running.{AreLoaded}
 use Rattle.ac_chain.proofs.loads.load_all.Given as goal
 

@@ -1,6 +1,6 @@
 use Rattle.std.proofs.Common.{◌≡◌, ◌+◌, ◌++◌, drop}
 use Rattle.ac_literals.specs.NumberedLines.{lines_from}
-use Rattle.ac_chain.specs.Lines.{part_lines}
+use Rattle.ac_chain.specs.StringLines.{part_lines}
 use Rattle.ac_chain.proofs.printing.lines.Given as goal
 
 abbrev pub invariant-loop-k : goal.invariant-loop-k

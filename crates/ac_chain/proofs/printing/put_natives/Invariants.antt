@@ -1,6 +1,6 @@
 use Rattle.std.proofs.Common.{◌≡◌, ◌++◌, drop}
 use Rattle.std.specs.Prelude.{flat_map}
-use Rattle.ac_chain.specs.Lines.{native_line}
+use Rattle.ac_chain.specs.StringLines.{native_line}
 use Rattle.ac_chain.proofs.printing.put_natives.Given as goal
 
 abbrev pub invariant-loop-is_native : goal.invariant-loop-is_native

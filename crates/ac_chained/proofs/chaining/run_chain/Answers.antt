@@ -2,7 +2,7 @@ use Rattle.std.proofs.Common.{◌∙◌, ◌≤◌, inr, ap, length, arith}
 use Rattle.std.proofs.lemmas.List.{length-map}
 use Rattle.ac_load.specs.Loading.{shelved, shelf_of}
 use Rattle.ac_load.specs.declared.shelf.Shelf.{Shelf}
-use Rattle.ac_chain.specs.Texts.{texts_of}
+use Rattle.ac_chain.specs.ChainTexts.{texts_of}
 use Rattle.ac_chain.specs.inner.Running.{printed}
 use Rattle.ac_answers.specs.declared.status.TheConstants.Status.{FINISHED}
 use Rattle.ac_answers.specs.Answers.{printing}

@@ -8,7 +8,7 @@ use Rattle.ac_answers.specs.declared.status.Status.{Status}
 use Rattle.ac_answers.specs.declared.status.TheConstants.Status.{OUT_OF_MEMORY, SHELF_REFUSED}
 use Rattle.ac_answers.specs.Answers.{ShownAnswer}
 use Rattle.ac_top.specs.Handed.{Handed}
-use Rattle.ac_top.specs.Requests.{list_named, IsUnread}
+use Rattle.ac_top.specs.Requests.{list_named, IsUnreadable}
 use Rattle.ac_top.specs.Giving.{Gives}
 use Rattle.ac_top.specs.RunEndings.{RunEnded, is_refused, has_run, bad_list, unread_file, unmade_file, unread_input, unwritten, no_memory_yet, no_memory_making, no_memory_left}
 use Rattle.ac_top.specs.ChainEndings.{ChainEnded, has_chained, bad_chain_list, unread_chain, unprinted_chain, no_memory_to_chain, no_memory_in_chain}
@@ -28,7 +28,7 @@ module _ (o : Handed) {end : Status} (told : (name : Bytes) → IsTrue (o.files 
   not_given (check files list) a bad g = shelf_or_bad o.files told g.is_shelf bad
   not_given (chain programs list steps) a bad g = g
 
-  answering : (r : Request) → (IsUnread o.files r → ⊥) → HasBadLine o.files (list_named r) n → AnswerEnded r o.files o.output o.errors end → end ≡ SHELF_REFUSED
+  answering : (r : Request) → (IsUnreadable o.files r → ⊥) → HasBadLine o.files (list_named r) n → AnswerEnded r o.files o.output o.errors end → end ≡ SHELF_REFUSED
   answering r f bad (has_printed a g x s) = absurd (not_given r a bad g)
   answering r f bad (no_shelf k other x s) = said_wholly m o.errors e refl s
   answering r f bad (unread fails x s) = absurd (f fails)
@@ -42,7 +42,7 @@ module _ (o : Handed) {end : Status} (told : (name : Bytes) → IsTrue (o.files 
   running prog steps from to f bad (bad_list k other x u s) = said_wholly m o.errors e refl s
   running prog steps from to f bad (unread_file fails x u s) = absurd (f fails)
   running prog steps from to f bad (unmade_file r b g runs rose x u s) = absurd (shelf_or_bad o.files told r.is_shelf bad)
-  running prog steps from to f bad (unread_input r b mid g runs rose x y s) = absurd (shelf_or_bad o.files told r.is_shelf bad)
+  running prog steps from to f bad (unread_input r b mid g runs rose stops x s) = absurd (shelf_or_bad o.files told r.is_shelf bad)
   running prog steps from to f bad (unwritten r b mid g runs rose x s) = absurd (shelf_or_bad o.files told r.is_shelf bad)
   running prog steps from to f bad (no_memory_yet x u s) = absurd (m (said_wholly m o.errors e refl s))
   running prog steps from to f bad (no_memory_making r b g runs x u s) = absurd (shelf_or_bad o.files told r.is_shelf bad)
@@ -56,7 +56,7 @@ module _ (o : Handed) {end : Status} (told : (name : Bytes) → IsTrue (o.files 
   chaining programs list steps f bad (no_memory_to_chain x s) = absurd (m (said_wholly m o.errors e refl s))
   chaining programs list steps f bad (no_memory_in_chain a g x s) = absurd (shelf_or_bad o.files told g.is_shelf bad)
 
-  complete : (r : Request) → (IsUnread o.files r → ⊥) → HasBadLine o.files (list_named r) n → Ended (Some r) o end → end ≡ SHELF_REFUSED
+  complete : (r : Request) → (IsUnreadable o.files r → ⊥) → HasBadLine o.files (list_named r) n → Ended (Some r) o end → end ≡ SHELF_REFUSED
   complete (run prog steps from to) f bad ended = running prog steps from to (λ fails. f (one_fails o.files prog.file fails)) bad ended
   complete (names prog) f bad ended = answering (names prog) f bad ended
   complete (code prog) f bad ended = answering (code prog) f bad ended

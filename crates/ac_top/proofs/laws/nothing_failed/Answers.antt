@@ -48,7 +48,7 @@ module _ (prog : ProgramFiles) (steps : ℕ) (from to : Option ChannelName) (o :
   complete (bad_list n bad x u s) = absurd (shelf_or_bad o.files told is_shelf bad)
   complete (unread_file fails x u s) = absurd (f fails)
   complete (unmade_file r b g runs rose x u s) = absurd (k rose)
-  complete (unread_input r b mid g runs rose x y s) = absurd (i rose)
+  complete (unread_input r b mid g runs rose stops x s) = absurd (i rose)
   complete (unwritten r b mid g runs rose x s) = absurd (w rose)
   complete (no_memory_yet x u s) = absurd (m (said_wholly m o.errors e refl s))
   complete (no_memory_making r b g runs x u s) = absurd (m (said_wholly m o.errors e refl s))

@@ -7,9 +7,9 @@ use Rattle.ac_files.specs.ProgramTexts.{HasBadLine}
 use Rattle.ac_answers.specs.declared.status.Status.{Status}
 use Rattle.ac_answers.specs.declared.status.TheConstants.Status.{OUT_OF_MEMORY}
 use Rattle.ac_answers.specs.Answers.{ShownAnswer}
-use Rattle.ac_top.specs.Streams.{Whole}
+use Rattle.ac_top.specs.Streams.{AllWritten}
 use Rattle.ac_top.specs.Handed.{Handed}
-use Rattle.ac_top.specs.Requests.{list_named, IsUnread}
+use Rattle.ac_top.specs.Requests.{list_named, IsUnreadable}
 use Rattle.ac_top.specs.Giving.{Gives}
 use Rattle.ac_top.specs.ChainEndings.{ChainsFiles, ChainEnded, has_chained, bad_chain_list, unread_chain, unprinted_chain, no_memory_to_chain, no_memory_in_chain}
 use Rattle.ac_top.specs.Endings.{AnswerEnded, has_printed, no_shelf, unread, unprinted, no_memory_to_find, no_memory_to_print}
@@ -18,9 +18,9 @@ use Rattle.ac_top.proofs.laws.nothing_failed_printing.Goals as goal
 
 -- the status is that of an answer, which is printed, and its line is written
 abbrev IsDone : ShownAnswer → Handed → Status → Type 0
-IsDone a o end = (end ≡ a.status) × (Whole o.output a.printed × Whole o.errors a.line)
+IsDone a o end = (end ≡ a.status) × (AllWritten o.output a.printed × AllWritten o.errors a.line)
 
-module _ (r : Request) (o : Handed) {end : Status} (b : (n : ℕ) → HasBadLine o.files (list_named r) n → ⊥) (f : IsUnread o.files r → ⊥) (w : Rose o.output.before o.output.after → ⊥) (e : Rose o.errors.before o.errors.after → ⊥) (m : end ≡ OUT_OF_MEMORY → ⊥) where
+module _ (r : Request) (o : Handed) {end : Status} (b : (n : ℕ) → HasBadLine o.files (list_named r) n → ⊥) (f : IsUnreadable o.files r → ⊥) (w : Rose o.output.before o.output.after → ⊥) (e : Rose o.errors.before o.errors.after → ⊥) (m : end ≡ OUT_OF_MEMORY → ⊥) where
   complete : AnswerEnded r o.files o.output o.errors end → (a : ShownAnswer) × (Gives o.files r a × IsDone a o end)
   complete (has_printed a g x s) = (a, (g, (said_if_any_wholly m o.errors e a.line a.status s, (x, line_if_any_whole m o.errors e a.line a.status s))))
   complete (no_shelf n bad x s) = absurd (b n bad)

@@ -5,7 +5,7 @@ use Rattle.ac_rules.specs.Views.{Plain}
 use Rattle.ac_words.specs.Commands.{ProgramFiles, Request, run, names, code, make, check, chain}
 use Rattle.ac_acceptance.specs.Accepting.{Shelved}
 use Rattle.ac_files.specs.Files.{Reading}
-use Rattle.ac_chain.specs.Texts.{texts_of}
+use Rattle.ac_chain.specs.ChainTexts.{texts_of}
 use Rattle.ac_answers.specs.declared.showing.Showing.{Showing}
 use Rattle.ac_answers.specs.declared.showing.Showing.TheVariants.{Names, Code}
 use Rattle.ac_answers.specs.Answers.{ShownAnswer}
@@ -51,8 +51,8 @@ module _ (files : Bytes → Reading) (told : (name : Bytes) → IsTrue (files na
   chaining programs list steps shown x y =
       let texts = one_list files told programs x.texts y.texts x.are_texts y.are_texts in
       let shelf = one_shelf files told x.is_shelf y.is_shelf in
-      let first = subst (λ (t : List Text). Chains Plain (texts_of t) x.shelf steps shown a) texts (x.chains Plain) in
-      one_chain (texts_of y.texts) y.shelf Plain steps shown a b (subst (λ (s : List Shelved). Chains Plain (texts_of y.texts) s steps shown a) shelf first) (y.chains Plain)
+      let first = subst (λ (t : List Text). Chains Plain (texts_of t) x.shelf steps shown x.console a) texts (x.chains Plain) in
+      one_chain (texts_of y.texts) y.shelf Plain steps shown x.console y.console a b (subst (λ (s : List Shelved). Chains Plain (texts_of y.texts) s steps shown x.console a) shelf first) (y.chains Plain)
 
 pub returns-clause-found : goal.returns-clause-found
 returns-clause-found c = λ r files told a b x y. one files told a b r x y

@@ -6,9 +6,8 @@ use Rattle.ac_terms.specs.Defs.{Environment}
 use Rattle.ac_rules.specs.Views.{Mode}
 use Rattle.ac_meaning.specs.Writes.{Console, Channel, written}
 use Rattle.ac_meaning.specs.ReadExn.{exn_of}
-use Rattle.ac_meaning.specs.Acts.{Outcome, Returned, Raised, Spent}
+use Rattle.ac_meaning.specs.Acts.{Outcome, Returned, Raised, Spent, writes_of, crossings_of}
 use Rattle.ac_meaning.specs.Reduction.{Ends}
-use Rattle.ac_meaning.specs.Laws.{writes_of, crossings_of}
 use Rattle.ac_acceptance.specs.Accepting.{Shelved}
 use Rattle.ac_run.specs.Sessions.{HasInput}
 use Rattle.ac_run.specs.declared.end.RunEnd.{RunEnd}
@@ -17,7 +16,7 @@ use Rattle.ac_colours.specs.Chains.{Programs}
 use Rattle.ac_chain.specs.declared.chained.ChainPart.{ChainPart}
 use Rattle.ac_chain.specs.Natives.{natives, made_by}
 use Rattle.ac_chain.specs.Clashes.{first_clash}
-use Rattle.ac_chain.specs.Texts.{LoadAs}
+use Rattle.ac_chain.specs.ChainTexts.{LoadAs}
 
 -- a program that may make N applications ends so, where it has this left to read; where that isn't told, it reads something
 pub record RunsOn (mode : Mode) (N : ℕ) (told : Bool) (p : Environment × Expr) (left : Bytes) (o : Outcome Value) : Type 0 where
@@ -44,7 +43,7 @@ EndsAs N (end.Spent steps) (Spent z) = steps ≡ N
 EndsAs N end o = ⊥
 
 -- a part of a chain in which these strings were made in front of it: its end, what it sent where that is told, and which of the strings that it read are native
-pub record IsPart (N : ℕ) (told : Bool) (made : List Bytes) (o : Outcome Value) (part : ChainPart) : Type 0 where
+pub record IsChainPart (N : ℕ) (told : Bool) (made : List Bytes) (o : Outcome Value) (part : ChainPart) : Type 0 where
   pub ends : EndsAs N part.end o
   pub sent : IsTrue told → part.sent.0 ≡ written Channel (writes_of o)
   pub native : part.native ≡ natives made (crossings_of o)
@@ -52,7 +51,7 @@ pub record IsPart (N : ℕ) (told : Bool) (made : List Bytes) (o : Outcome Value
 -- one part for each end, in order
 abbrev pub AreParts : ℕ → Bool → List Bytes → List (Outcome Value) → List ChainPart → Type 0
 AreParts N told made [] [] = Unit {0}
-AreParts N told made (o ∷ os) (part ∷ parts) = IsPart N told made o part × AreParts N told (made_by made (crossings_of o)) os parts
+AreParts N told made (o ∷ os) (part ∷ parts) = IsChainPart N told made o part × AreParts N told (made_by made (crossings_of o)) os parts
 AreParts N told made [] (part ∷ parts) = ⊥
 AreParts N told made (o ∷ os) [] = ⊥
 
