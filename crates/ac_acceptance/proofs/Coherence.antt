@@ -18,7 +18,8 @@ use Rattle.ac_rules.specs.Views.{is_known}
 use Rattle.ac_rules.specs.Typing.{all_of}
 use Rattle.ac_rules.specs.Modules.{are_distinct, has_sound_fields}
 use Rattle.ac_rules.proofs.ArrivalExample.{empty-IsCoherent}
-use Rattle.ac_rules.specs.Coherent.{IsCoherent, rank, rises, uri_of, mark_of, is_uri}
+use Rattle.ac_types.specs.Limits.{is_uri}
+use Rattle.ac_rules.specs.Coherent.{IsCoherent, rank, rises, uri_of, mark_of}
 use Rattle.ac_syntax.specs.Trees.{NameAt, Tree, SigTree, FieldTree, DefTree, ModuleDef, ImportDef, MarkDef, ProgramTree}
 use Rattle.ac_syntax.specs.Signs.{Sign}
 use Rattle.ac_syntax.specs.Programs.{IsProgram, IsModule, program, module_alone}
@@ -32,8 +33,8 @@ use Rattle.ac_scopes.specs.Counts.{definitions_limit, over, large_in_def}
 use Rattle.ac_scopes.specs.Surfaces.{first_scope, last_scope, surface_main}
 use Rattle.ac_scopes.proofs.AddedEntries.{entries_in, entries_behind}
 use Rattle.ac_acceptance.specs.Causes.{linked_entry, linked_behind, first_at, unlinked, unlike, first_clash, added, loaded, main_type, cause}
-use Rattle.ac_acceptance.specs.Accepting.{Shelved, IsShelf, Gives, nothing, a_module, Accepted}
-use Rattle.ac_acceptance.specs.Ready.{IsReady}
+use Rattle.ac_acceptance.specs.Accepting.{Shelved, IsShelf, GivesEntries, nothing, a_module, Accepted}
+use Rattle.ac_acceptance.specs.Ready.{IsWellLoaded}
 use Rattle.ac_acceptance.proofs.PartLaws.{Scoped, sound, scoped, one_text, fields_of_part}
 use Rattle.ac_acceptance.proofs.Standing.{IsOrdered, distinct_front, filter_append}
 use Rattle.ac_acceptance.proofs.Behind.{linked_length}
@@ -194,7 +195,7 @@ uris_counted : (shelf : List Shelved) → length (uris_of shelf) ≡ length shel
 uris_counted [] = refl
 uris_counted (s ∷ shelf) = ap suc (uris_counted shelf)
 
-shelf_front : {E F : Environment} {shelf : List Shelved} → Gives sha256 E shelf F → IsCoherent E → (uris : List Bytes) → IsOfShelf E uris
+shelf_front : {E F : Environment} {shelf : List Shelved} → GivesEntries sha256 E shelf F → IsCoherent E → (uris : List Bytes) → IsOfShelf E uris
     → are_distinct (uris ++ uris_of shelf) ≡ true → list_all (λ (s : Shelved). is_uri s.uri) shelf ≡ true → length uris + length shelf ≤ 256 → IsFrontOf F (uris ++ uris_of shelf)
 shelf_front {E} nothing c uris of_shelf distinct good few = record { coherent = c; of_shelf = subst (IsOfShelf E) (sym (append-nil uris)) of_shelf }
 shelf_front {E} {F} (a_module {s = s} {rest = rest} {tree = p} x more) c uris of_shelf distinct good few =
@@ -214,7 +215,7 @@ module _ (E : Environment) (uris : List Bytes) (front : IsFrontOf E uris) (few :
   from_program : IsSeen Own' ds
   from_program u is = absurd (none≢some {A = ℕ} (ap (λ (s : Seen). elim s as (λ z. Option ℕ) [ Own' ↦ None | Shelf w ↦ Some 0 | Arrived ↦ None ]) is))
 
-  program_ready : ProgramHas Whole → cause sha256 E Own' Whole ≡ None → (T : Typ) → main_type sha256 E Own' Whole ≡ Some T → IsReady (loaded sha256 E Own' Whole) (surface_main sha256 E Whole) T
+  program_ready : ProgramHas Whole → cause sha256 E Own' Whole ≡ None → (T : Typ) → main_type sha256 E Own' Whole ≡ Some T → IsWellLoaded (loaded sha256 E Own' Whole) (surface_main sha256 E Whole) T
   program_ready has accepted T typed =
       let c = front.coherent in
       let at = at_front E in
@@ -252,11 +253,11 @@ module _ (E : Environment) (uris : List Bytes) (front : IsFrontOf E uris) (few :
       }
 
 program_more : (E : Environment) (uris : List Bytes) → IsFrontOf E uris → length uris ≤ 256 → are_distinct uris ≡ true → {ts : List Sign} {p : ProgramTree} → IsProgram ts p → ProgramHas p
-    → cause sha256 E Own' p ≡ None → (T : Typ) → main_type sha256 E Own' p ≡ Some T → IsReady (loaded sha256 E Own' p) (surface_main sha256 E p) T
+    → cause sha256 E Own' p ≡ None → (T : Typ) → main_type sha256 E Own' p ≡ Some T → IsWellLoaded (loaded sha256 E Own' p) (surface_main sha256 E p) T
 program_more E uris front few distinct (program {ds = ds} {e = e} parsed) has accepted T typed = program_ready E uris front few distinct ds e has accepted T typed
 
 -- the entries of the first texts of a shelf
-pub front_coherent : (before rest : List Shelved) {E : Environment} → IsShelf (before ++ rest) → length (before ++ rest) ≤ 256 → Gives sha256 [] before E → IsCoherent E × (length E ≤ 256)
+pub front_coherent : (before rest : List Shelved) {E : Environment} → IsShelf (before ++ rest) → length (before ++ rest) ≤ 256 → GivesEntries sha256 [] before E → IsCoherent E × (length E ≤ 256)
 front_coherent before rest good few gives =
     let empty : IsOfShelf [] [] = record { are = refl; no_marks = refl; first = refl; counted = refl } in
     let distinct : are_distinct (uris_of before ++ uris_of rest) ≡ true = ap are_distinct (sym (map-append (λ (s : Shelved). s.uri) before rest)) ∙ good.distinct in
@@ -267,11 +268,11 @@ front_coherent before rest good few gives =
     (front.coherent, omega (arith, few, k, n, c))
 
 -- so what is accepted beside a shelf is ready
-pub accepted_ready : (text : Bytes) (shelf : List Shelved) (F : Environment) (e : Expr) (T : Typ) → IsShelf shelf → length shelf ≤ 256 → Accepted sha256 text shelf F e T → IsReady F e T
+pub accepted_ready : (text : Bytes) (shelf : List Shelved) (F : Environment) (e : Expr) (T : Typ) → IsShelf shelf → length shelf ≤ 256 → Accepted sha256 text shelf F e T → IsWellLoaded F e T
 accepted_ready text shelf F e T good few a =
     let empty : IsOfShelf [] [] = record { are = refl; no_marks = refl; first = refl; counted = refl } in
     let front = shelf_front a.shelved empty-IsCoherent [] empty good.distinct good.uris (omega (arith, few)) in
     let has = program_has a.part.has.is (text_fits a.part.has.read.short a.part.has.read.lexed) in
     let n = uris_counted shelf in
     let ready = program_more a.front (uris_of shelf) front (omega (arith, few, n)) good.distinct a.part.has.is has a.part.sound T a.typed in
-    subst (λ (G : Environment). IsReady G e T) (sym a.entries) (subst (λ (f : Expr). IsReady (loaded sha256 a.front Own' a.tree) f T) (sym a.main) ready)
+    subst (λ (G : Environment). IsWellLoaded G e T) (sym a.entries) (subst (λ (f : Expr). IsWellLoaded (loaded sha256 a.front Own' a.tree) f T) (sym a.main) ready)

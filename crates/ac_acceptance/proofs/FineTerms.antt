@@ -42,9 +42,6 @@ both_none a b c d h =
     let y = least_none c d h.1 in
     ((x.0, y.0), (x.1, y.1))
 
-behind_count : (a b c : Option ℕ) → Neither a (least b c) → (b ≡ None) × Neither a c
-behind_count a b c h = let y = least_none b c h.1 in (y.0, (h.0, y.1))
-
 -- a name among some has a number below theirs
 raised : (o : Option ℕ) (i n : ℕ) → option_map suc o ≡ Some i → ((k : ℕ) → o ≡ Some k → k < n) → i < suc n
 raised None i n h low = absurd (none≢some h)

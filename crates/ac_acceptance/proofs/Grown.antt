@@ -14,7 +14,8 @@ use Rattle.ac_terms.specs.Spelling.{canonical_text}
 use Rattle.ac_terms.specs.Parts.{Portion, OfType, OfRef, OfHome, Captured, part_refs, def_parts, has_captured}
 use Rattle.ac_terms.proofs.AllLaws.{all_implies}
 use Rattle.ac_rules.specs.Modules.{refers_back, has_sound_fields, has_sound_likes, has_right_likes}
-use Rattle.ac_rules.specs.Coherent.{IsCoherent, IsAModule, is_uri}
+use Rattle.ac_types.specs.Limits.{is_uri}
+use Rattle.ac_rules.specs.Coherent.{IsCoherent, IsAModule}
 use Rattle.ac_rules.proofs.Rules.{map_some, then_some}
 use Rattle.ac_rules.proofs.ViewLaws.{within as place_within}
 use Rattle.ac_rules.proofs.ListLaws.{get_old, get_new}

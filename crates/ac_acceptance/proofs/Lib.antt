@@ -1,3 +1,4 @@
+pub mod Firsts
 pub mod OneAnswer
 mod PartLaws
 mod Sooner

@@ -11,7 +11,7 @@ use Rattle.ac_parser.specs.Texts.{HasTree}
 use Rattle.ac_parser.proofs.TextLaws.{one_program_text, one_module_text, tree_and_refusal, one_refusal}
 use Rattle.ac_scopes.specs.Surfaces.{surface_main}
 use Rattle.ac_acceptance.specs.Causes.{Cause, loaded, main_type, cause}
-use Rattle.ac_acceptance.specs.Accepting.{Shelved, IsPart, Gives, nothing, a_module, Accepted, IsRefused, no_tree, with_tree, Refuses, of_shelf, of_program, SameRefusal, equal, unparsed}
+use Rattle.ac_acceptance.specs.Accepting.{Shelved, IsPart, GivesEntries, nothing, a_module, Accepted, IsRefused, no_tree, with_tree, Refuses, of_shelf, of_program, SameRefusal, equal, unparsed}
 
 -- a text has one tree at most
 abbrev One : (List Sign → ProgramTree → Type 0) → Type 0
@@ -25,10 +25,10 @@ others_of : {A : Type 0} {x y : A} {xs ys : List A} → x ∷ xs ≡ y ∷ ys �
 others_of {A} is = ap (λ (zs : List A). elim zs [ [] ↦ [] | z ∷ more ↦ more ]) is
 
 module _ (digest : Bytes → Bytes) where
-  pub one_front : {E F G : Environment} {shelf : List Shelved} → Gives digest E shelf F → Gives digest E shelf G → F ≡ G
+  pub one_front : {E F G : Environment} {shelf : List Shelved} → GivesEntries digest E shelf F → GivesEntries digest E shelf G → F ≡ G
   one_front nothing nothing = refl
   one_front {E} {F} {G} (a_module {s = s} {rest = rest} {tree = p} x more) (a_module {tree = q} y others) =
-      one_front more (subst (λ (t : ProgramTree). Gives digest (loaded digest E (Shelf s.uri) t) rest G) (one_module_text s.text q p y.has x.has) others)
+      one_front more (subst (λ (t : ProgramTree). GivesEntries digest (loaded digest E (Shelf s.uri) t) rest G) (one_module_text s.text q p y.has x.has) others)
 
   pub one_result : {text : Bytes} {shelf : List Shelved} {F G : Environment} {e f : Expr} {T U : Typ} → Accepted digest text shelf F e T → Accepted digest text shelf G f U → (F ≡ G) × (e ≡ f) × (T ≡ U)
   one_result {text} a b =
@@ -54,18 +54,18 @@ module _ (digest : Bytes → Bytes) where
   -- what a front of a shelf gives, and the part behind it
   pub record Split (D : Environment) (before : List Shelved) (s : Shelved) : Type 0 where
     pub front : Environment
-    pub gives : Gives digest D before front
+    pub gives : GivesEntries digest D before front
     pub tree : ProgramTree
     pub part : IsPart digest IsModule front (Shelf s.uri) s.text tree
 
-  split : (before : List Shelved) {D F : Environment} {s : Shelved} (rest : List Shelved) → Gives digest D (before ++ s ∷ rest) F → Split D before s
+  split : (before : List Shelved) {D F : Environment} {s : Shelved} (rest : List Shelved) → GivesEntries digest D (before ++ s ∷ rest) F → Split D before s
   split [] {D} rest (a_module {tree = p} x more) = record { front = D; gives = nothing; tree = p; part = x }
   split (b ∷ before) {D} rest (a_module {tree = p} x more) = let r = split before {D = loaded digest D (Shelf b.uri) p} rest more in record { front = r.front; gives = a_module x r.gives; tree = r.tree; part = r.part }
 
   pub not_both : {text : Bytes} {shelf : List Shelved} {k : ℕ} {c : Cause} {F : Environment} {e : Expr} {T : Typ} → Refuses digest text shelf k c → Accepted digest text shelf F e T → ⊥
   not_both {text} (of_program {c = c} gives r) a = part_not_both one_program_text (subst (λ (E : Environment). IsRefused digest IsProgram E Own' text c) (one_front gives a.shelved) r) a.part
   not_both (of_shelf before rest {s = s} {c = c} is gives r) a =
-      let there = split before {s = s} rest (subst (λ (l : List Shelved). Gives digest [] l a.front) is a.shelved) in
+      let there = split before {s = s} rest (subst (λ (l : List Shelved). GivesEntries digest [] l a.front) is a.shelved) in
       part_not_both one_module_text (subst (λ (E : Environment). IsRefused digest IsModule E (Shelf s.uri) s.text c) (one_front gives there.gives) r) there.part
 
   -- the first part that is refused is one
@@ -76,23 +76,23 @@ module _ (digest : Bytes → Bytes) where
   abbrev RefusedModule : Environment → Shelved → Cause → Type 0
   RefusedModule E s c = IsRefused digest IsModule E (Shelf s.uri) s.text c
 
-  same_front : (before others : List Shelved) {D E F : Environment} {c d : Cause} {s t : Shelved} (rest more : List Shelved) → before ++ s ∷ rest ≡ others ++ t ∷ more → Gives digest D before E → Gives digest D others F → RefusedModule E s c → RefusedModule F t d → SamePart (suc (length before)) (suc (length others)) c d
+  same_front : (before others : List Shelved) {D E F : Environment} {c d : Cause} {s t : Shelved} (rest more : List Shelved) → before ++ s ∷ rest ≡ others ++ t ∷ more → GivesEntries digest D before E → GivesEntries digest D others F → RefusedModule E s c → RefusedModule F t d → SamePart (suc (length before)) (suc (length others)) c d
   same_front [] [] {D} {c = c} {t = t} rest more is nothing nothing r q = record { part = refl; cause = part_one_cause one_module_text (subst (λ (x : Shelved). RefusedModule D x c) (first_of is) r) q }
   same_front [] (o ∷ others) {D} {c = c} rest more is nothing (a_module x deep) r q = absurd (part_not_both one_module_text (subst (λ (x : Shelved). RefusedModule D x c) (first_of is) r) x)
   same_front (b ∷ before) [] {D} {d = d} rest more is (a_module x deep) nothing r q = absurd (part_not_both one_module_text (subst (λ (x : Shelved). RefusedModule D x d) (sym (first_of is)) q) x)
   same_front (b ∷ before) (o ∷ others) {D} {E} {F} {c} {d} {s} {t} rest more is (a_module {tree = p} x deep) (a_module {tree = q} y below) r u =
       let there = subst (λ (x : Shelved). IsPart digest IsModule D (Shelf x.uri) x.text q) (sym (first_of is)) y in
-      let gives = subst (λ (x : Shelved). Gives digest (loaded digest D (Shelf x.uri) q) others F) (sym (first_of is)) below in
-      let same = same_front before others rest more (others_of is) deep (subst (λ (z : ProgramTree). Gives digest (loaded digest D (Shelf b.uri) z) others F) (one_module_text b.text q p there.has x.has) gives) r u in
+      let gives = subst (λ (x : Shelved). GivesEntries digest (loaded digest D (Shelf x.uri) q) others F) (sym (first_of is)) below in
+      let same = same_front before others rest more (others_of is) deep (subst (λ (z : ProgramTree). GivesEntries digest (loaded digest D (Shelf b.uri) z) others F) (one_module_text b.text q p there.has x.has) gives) r u in
       record { part = ap suc same.part; cause = same.cause }
 
   pub one_refused : {text : Bytes} {shelf : List Shelved} {k n : ℕ} {c d : Cause} → Refuses digest text shelf k c → Refuses digest text shelf n d → SamePart k n c d
   one_refused {text} {c = c} (of_program gives r) (of_program there q) =
       record { part = refl; cause = part_one_cause one_program_text (subst (λ (E : Environment). IsRefused digest IsProgram E Own' text c) (one_front gives there) r) q }
   one_refused (of_program {E = E} gives r) (of_shelf before rest {s = s} {c = c} is there q) =
-      let x = split before {s = s} rest (subst (λ (l : List Shelved). Gives digest [] l E) is gives) in
+      let x = split before {s = s} rest (subst (λ (l : List Shelved). GivesEntries digest [] l E) is gives) in
       absurd (part_not_both one_module_text (subst (λ (E : Environment). RefusedModule E s c) (one_front there x.gives) q) x.part)
   one_refused (of_shelf before rest {s = s} {c = c} is there q) (of_program {E = E} gives r) =
-      let x = split before {s = s} rest (subst (λ (l : List Shelved). Gives digest [] l E) is gives) in
+      let x = split before {s = s} rest (subst (λ (l : List Shelved). GivesEntries digest [] l E) is gives) in
       absurd (part_not_both one_module_text (subst (λ (E : Environment). RefusedModule E s c) (one_front there x.gives) q) x.part)
   one_refused (of_shelf before rest is gives r) (of_shelf others more same there q) = same_front before others rest more (sym is ∙ same) gives there r q

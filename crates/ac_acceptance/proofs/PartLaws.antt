@@ -87,10 +87,6 @@ pub likes_sound : (k : ℕ) (i : Import) → unlike k (bare_entry (AnImport i) N
 likes_sound k i h version =
     ap is_none (map_none (LikeMissing k) (like_missing i) (sym (ap (λ b. given (not b) (option_map (LikeMissing k) (like_missing i))) version) ∙ h))
 
-pub link_there : (k : ℕ) (i : Import) (link : Option ℕ) → unlinked k (bare_entry (AnImport i) link) ≡ None → (j : ℕ) × (link ≡ Some j)
-link_there k i None h = absurd (none≢some (sym h))
-link_there k i (Some j) h = (j, refl)
-
 -- of a part: the tests of its entries
 module _ (digest : Bytes → Bytes) (E : Environment) (seen : Seen) (p : ProgramTree) where
   pub record Sound : Type 0 where

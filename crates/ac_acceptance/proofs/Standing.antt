@@ -1,5 +1,5 @@
 -- Behind a coherent environment stand entries that are sound, one after another, and it stays coherent.
-use Rattle.std.proofs.Common.{◌≡◌, refl, sym, ap, subst, ◌∙◌, ℕ, ◌<◌, ◌≤◌, ◌+◌, Bool, true, false, List, [], ◌∷◌, ◌++◌, length, Option, Some, None, arith, append_assoc, append-nil, length-append, suc}
+use Rattle.std.proofs.Common.{◌≡◌, refl, sym, ap, subst, ◌∙◌, ℕ, ◌<◌, ◌≤◌, ◌+◌, Bool, true, false, List, [], ◌∷◌, ◌++◌, length, Option, Some, None, arith, append_assoc, length-append}
 use Rattle.std.specs.Prelude.{option_map, option_and_then, not, ◌&&◌, nat_le, nat_lt, filter_map, is_some, slice_get, IsTrue}
 use Rattle.std.specs.List.{list_all, list_any, cons_option}
 use mathlib.Core.Bool.{true≢false}
@@ -14,7 +14,8 @@ use Rattle.ac_terms.specs.Bounds.{fits_def}
 use Rattle.ac_terms.proofs.AllLaws.{all_implies}
 use Rattle.ac_rules.specs.Views.{is_known}
 use Rattle.ac_rules.specs.Modules.{are_distinct, refers_back, is_plain_def, has_distinct_names, has_closed_sig, has_sound_fields, has_sound_likes}
-use Rattle.ac_rules.specs.Coherent.{IsCoherent, IsAModule, IsLinked, is_uri, rank, rises, uri_of, mark_of}
+use Rattle.ac_types.specs.Limits.{is_uri}
+use Rattle.ac_rules.specs.Coherent.{IsCoherent, IsAModule, IsLinked, rank, rises, uri_of, mark_of}
 use Rattle.ac_rules.proofs.ListLaws.{any_old, get_new}
 use Rattle.ac_rules.proofs.LookupLaws.{name_old, text_old}
 use Rattle.ac_rules.proofs.Placing.{entry_text_old}
@@ -121,19 +122,3 @@ module _ (E : Environment) (coherent : IsCoherent E) (x : Entry) (ys : Environme
 
   pub coherent_behind : IsCoherent (E ++ x ∷ [])
   coherent_behind = grown E coherent x stands
-
--- entries that are fit, one after another
-abbrev pub AreFit : Environment → List Entry → Type 0
-AreFit E [] = Unit {0}
-AreFit E (x ∷ xs) = IsFit E x × AreFit (E ++ x ∷ []) xs
-
--- a coherent environment with entries behind it is coherent, where all are in order, and each is fit and has sound fields
-pub all_coherent : (E : Environment) → IsCoherent E → (xs : List Entry) → IsOrdered (E ++ xs) → AreFit E xs
-    → ((k : ℕ) (x : Entry) → slice_get xs k ≡ Some x → has_sound_fields (E ++ xs) (length E + k) x.def ≡ true) → IsCoherent (E ++ xs)
-all_coherent E c [] ordered fit sound = subst IsCoherent (sym (append-nil E)) c
-all_coherent E c (x ∷ xs) ordered fit sound =
-    let one = append_assoc E (x ∷ []) xs in
-    let first : has_sound_fields (E ++ x ∷ xs) (length E) x.def ≡ true = subst (λ n. has_sound_fields (E ++ x ∷ xs) n x.def ≡ true) (omega arith) (sound 0 x refl) in
-    subst IsCoherent one
-    (all_coherent (E ++ x ∷ []) (coherent_behind E c x xs ordered fit.0 first) xs (subst IsOrdered (sym one) ordered) fit.1
-    (λ k y is. subst (λ (F : Environment). has_sound_fields F (length (E ++ x ∷ []) + k) y.def ≡ true) (sym one) (subst (λ n. has_sound_fields (E ++ x ∷ xs) n y.def ≡ true) (omega (arith, length-append E (x ∷ []))) (sound (suc k) y is))))

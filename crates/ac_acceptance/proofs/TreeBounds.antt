@@ -3,7 +3,8 @@ use Rattle.std.proofs.Common.{◌≡◌, ◌≤◌, ◌+◌, ◌^◌, ℕ, zero,
 use Rattle.std.specs.Prelude.{nat_lt}
 use Rattle.std.proofs.lemmas.Bool.{lt-ltb, ltb-true}
 use Rattle.ac_types.proofs.FirstLaws.{some_eq}
-use Rattle.ac_terms.specs.PrimitiveTypes.{has_text, is_exception, primitives}
+use Rattle.ac_types.specs.Exceptions.{has_text}
+use Rattle.ac_terms.specs.PrimitiveTypes.{is_exception, primitives}
 use Rattle.ac_terms.specs.Bounds.{is_integer, is_string, takes}
 use Rattle.ac_lexer.specs.Tokens.{longest_text}
 use Rattle.ac_syntax.specs.Signs.{Sign, Fixed}

@@ -5,7 +5,7 @@ use Rattle.ac_types.specs.Types.{Bytes, Typ}
 use Rattle.ac_terms.specs.Terms.{Expr}
 use Rattle.ac_terms.specs.Defs.{Environment, Seen, Own', Shelf}
 use Rattle.ac_rules.specs.Modules.{are_distinct}
-use Rattle.ac_rules.specs.Coherent.{is_uri}
+use Rattle.ac_types.specs.Limits.{is_uri}
 use Rattle.ac_syntax.specs.Signs.{Sign}
 use Rattle.ac_syntax.specs.Trees.{ProgramTree}
 use Rattle.ac_syntax.specs.Programs.{IsProgram, IsModule}
@@ -31,15 +31,15 @@ module _ (digest : Bytes → Bytes) where
     pub sound : cause digest E seen tree ≡ None
 
   -- the entries of some texts of the shelf behind the entries E: each text is a module, and may name those in front of it
-  pub data Gives : Environment → List Shelved → Environment → Type 0 where
-    nothing : {E : Environment} → Gives E [] E
+  pub data GivesEntries : Environment → List Shelved → Environment → Type 0 where
+    nothing : {E : Environment} → GivesEntries E [] E
     a_module : {E F : Environment} {s : Shelved} {rest : List Shelved} {tree : ProgramTree}
-        → IsPart IsModule E (Shelf s.uri) s.text tree → Gives (loaded digest E (Shelf s.uri) tree) rest F → Gives E (s ∷ rest) F
+        → IsPart IsModule E (Shelf s.uri) s.text tree → GivesEntries (loaded digest E (Shelf s.uri) tree) rest F → GivesEntries E (s ∷ rest) F
 
   -- the text is a program with these entries, those of the shelf first, and this term, of this type
   pub record Accepted (text : Bytes) (shelf : List Shelved) (F : Environment) (e : Expr) (T : Typ) : Type 0 where
     pub front : Environment
-    pub shelved : Gives [] shelf front
+    pub shelved : GivesEntries [] shelf front
     pub tree : ProgramTree
     pub part : IsPart IsProgram front Own' text tree
     pub entries : F ≡ loaded digest front Own' tree
@@ -54,8 +54,8 @@ module _ (digest : Bytes → Bytes) where
   -- the first part that is refused, and its cause: the texts of the shelf in order, from part 1 on, and then the program, which is part 0
   pub data Refuses (text : Bytes) (shelf : List Shelved) : ℕ → Cause → Type 0 where
     of_shelf : (before rest : List Shelved) {s : Shelved} {E : Environment} {c : Cause}
-        → shelf ≡ before ++ s ∷ rest → Gives [] before E → IsRefused IsModule E (Shelf s.uri) s.text c → Refuses text shelf (suc (length before)) c
-    of_program : {E : Environment} {c : Cause} → Gives [] shelf E → IsRefused IsProgram E Own' text c → Refuses text shelf 0 c
+        → shelf ≡ before ++ s ∷ rest → GivesEntries [] before E → IsRefused IsModule E (Shelf s.uri) s.text c → Refuses text shelf (suc (length before)) c
+    of_program : {E : Environment} {c : Cause} → GivesEntries [] shelf E → IsRefused IsProgram E Own' text c → Refuses text shelf 0 c
 
 -- the same cause, at the same place where it isn't one of syntax
 pub data SameRefusal : Cause → Cause → Type 0 where

@@ -11,7 +11,7 @@ use Rattle.ac_rules.specs.Typing.{all_of, HasType}
 use Rattle.ac_rules.specs.Coherent.{IsCoherent}
 
 -- coherent entries, and a term of the main program over them: of its type, with known names, within the bounds of its spelling, with small types
-pub record IsReady (F : Environment) (e : Expr) (T : Typ) : Type 0 where
+pub record IsWellLoaded (F : Environment) (e : Expr) (T : Typ) : Type 0 where
   pub coherent : IsCoherent F
   pub typed : HasType Coloured F (all_of F Main) e T
   pub known : IsTrue (list_all (is_known F) (part_mentions (term_parts e)))

@@ -7,13 +7,13 @@ ghost use Rattle.ac_terms.specs.Terms.{Expr};
 ghost use Rattle.ac_terms.specs.Defs.{Environment};
 ghost use Rattle.ac_acceptance.specs.Causes.{Cause};
 ghost use Rattle.ac_acceptance.specs.Accepting.{Shelved, IsShelf, Accepted, Refuses, SameRefusal};
-ghost use Rattle.ac_acceptance.specs.Ready.{IsReady};
+ghost use Rattle.ac_acceptance.specs.Ready.{IsWellLoaded};
 
 /// A text that is accepted beside a shelf is ready to run: its entries are coherent, and its term is
 /// typed over them, within the bounds of its spelling, and mentions known types alone.
 pub fn accepted_ready()
     ensures { (text : Bytes) (shelf : List Shelved) (F : Environment) (e : Expr) (T : Typ) →
-        IsShelf shelf → length shelf ≤ 256 → Accepted sha256 text shelf F e T → IsReady F e T }
+        IsShelf shelf → length shelf ≤ 256 → Accepted sha256 text shelf F e T → IsWellLoaded F e T }
 {}
 
 /// It has one list of entries, one term and one type.

@@ -10,7 +10,7 @@ use Rattle.ac_types.specs.First.{or_else, given}
 use Rattle.ac_terms.specs.Defs.{Environment, Def, Packet}
 use Rattle.ac_rules.specs.Views.{Coloured}
 use Rattle.ac_rules.specs.Typing.{holds}
-use Rattle.ac_rules.specs.Packets.{Cause, Full, WrongType, NoValue, cause, ill_formed, clash, too_many, unresolved, wrong_type, no_value, places, value_there}
+use Rattle.ac_rules.specs.Packets.{PacketCause, Full, WrongType, NoValue, cause, ill_formed, clash, too_many, unresolved, wrong_type, no_value, places, value_there}
 use Rattle.ac_admit.specs.declared.fault.AdmitFault.{AdmitFault}
 use Rattle.ac_admit.specs.declared.fault.AdmitFault.TheVariants as fault
 use Rattle.ac_admit.specs.Refusing.{IsFor}
@@ -18,10 +18,10 @@ use Rattle.ac_admit.specs.inner.Judging.{front_cause}
 use Rattle.ac_admit.specs.inner.Spoken.{is_spoken}
 
 -- the first that applies is the first of more
-still : {c : Cause} (o r : Option Cause) → o ≡ Some c → or_else o r ≡ Some c
+still : {c : PacketCause} (o r : Option PacketCause) → o ≡ Some c → or_else o r ≡ Some c
 still o r h = ap (λ x. or_else x r) h
 
-still_for : (f : AdmitFault) (o r : Option Cause) → IsFor f o → IsFor f (or_else o r)
+still_for : (f : AdmitFault) (o r : Option PacketCause) → IsFor f o → IsFor f (or_else o r)
 still_for (fault.Definition i) o r h = still o r h
 still_for (fault.Clash i j) o r h = still o r h
 still_for (fault.Full n) o r h = still o r h
@@ -30,15 +30,15 @@ still_for fault.WrongType o r h = still o r h
 still_for fault.Value o r h = still o r h
 still_for fault.Memory o r h = tt
 
-behind_none : (f : AdmitFault) (o r : Option Cause) → o ≡ None → IsFor f r → IsFor f (or_else o r)
-behind_none f o r n h = subst (λ (x : Option Cause). IsFor f (or_else x r)) (sym n) h
+behind_none : (f : AdmitFault) (o r : Option PacketCause) → o ≡ None → IsFor f r → IsFor f (or_else o r)
+behind_none f o r n h = subst (λ (x : Option PacketCause). IsFor f (or_else x r)) (sym n) h
 
 -- the first four, one after the other
 module _ (E : Environment) (ds : List Def) where
-  abbrev third : Option Cause
+  abbrev third : Option PacketCause
   third = or_else (too_many sha256 E ds) (or_else (unresolved sha256 E ds) None)
 
-  abbrev second : Option Cause
+  abbrev second : Option PacketCause
   second = or_else (clash sha256 E ds) third
 
   pub first_for : (f : AdmitFault) → IsFor f (ill_formed sha256 ds) → IsFor f (front_cause E ds)
@@ -61,8 +61,8 @@ module _ (E : Environment) (ds : List Def) where
 
         pub none_of_four : unresolved sha256 E ds ≡ None → front_cause E ds ≡ None
         none_of_four linked =
-            ap (λ (x : Option Cause). or_else x second) ill ∙ ap (λ (x : Option Cause). or_else x third) clear ∙
-            ap (λ (x : Option Cause). or_else x (or_else (unresolved sha256 E ds) None)) few ∙ ap (λ (x : Option Cause). or_else x None) linked
+            ap (λ (x : Option PacketCause). or_else x second) ill ∙ ap (λ (x : Option PacketCause). or_else x third) clear ∙
+            ap (λ (x : Option PacketCause). or_else x (or_else (unresolved sha256 E ds) None)) few ∙ ap (λ (x : Option PacketCause). or_else x None) linked
 
 -- room for so many entries
 is_full : (n : ℕ) → 65535 < n → nat_lt 65535 n ≡ true
@@ -85,7 +85,7 @@ first_four None None None (Some d) r = refl
 first_four None None None None r = refl
 
 module _ (E : Environment) (p : Packet) (T : Typ) where
-  abbrev rest : Option Cause
+  abbrev rest : Option PacketCause
   rest = or_else (wrong_type sha256 p T) (or_else (no_value sha256 E p T) None)
 
   split_cause : cause sha256 E p T ≡ or_else (front_cause E p.defs) rest
@@ -94,7 +94,7 @@ module _ (E : Environment) (p : Packet) (T : Typ) where
   pub front_for : (f : AdmitFault) → IsFor f (front_cause E p.defs) → IsFor f (cause sha256 E p T)
   front_for f h = subst (IsFor f) (sym split_cause) (still_for f (front_cause E p.defs) rest h)
 
-  abbrev behind : Bool → Bool → Option Cause
+  abbrev behind : Bool → Bool → Option PacketCause
   behind t v = or_else (given (not t) (Some WrongType)) (or_else (given (not v) (Some NoValue)) None)
 
   -- whether the value holds

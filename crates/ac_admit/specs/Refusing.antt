@@ -1,11 +1,11 @@
 -- Which cause of refusal a fault is.
 use Rattle.std.specs.Prelude.{◌≡◌, ⊤, Option, Some}
-use Rattle.ac_rules.specs.Packets.{Cause, Definition, Clash, Full, Unresolved, WrongType, NoValue}
+use Rattle.ac_rules.specs.Packets.{PacketCause, Definition, Clash, Full, Unresolved, WrongType, NoValue}
 use Rattle.ac_admit.specs.declared.fault.AdmitFault.{AdmitFault}
 use Rattle.ac_admit.specs.declared.fault.AdmitFault.TheVariants as fault
 
 -- the fault is the first cause that applies, or want of memory
-abbrev pub IsFor : AdmitFault → Option Cause → Type 0
+abbrev pub IsFor : AdmitFault → Option PacketCause → Type 0
 IsFor (fault.Definition i) o = o ≡ Some (Definition i)
 IsFor (fault.Clash i j) o = o ≡ Some (Clash i j)
 IsFor (fault.Full count) o = o ≡ Some (Full count)

@@ -49,7 +49,8 @@ pub fn commit(
 ) -> Result<(), CheckFault>
     requires { length env.old.entries + length more < 2 ^ 32 }
     ensures grown { OnOk result (env.new.entries ≡ env.old.entries ++ more) }
-    ensures held { OnOk result (Holds (environment_of env.new) (value_of value.now) (typ_of ty.now)) }
+    ensures held { OnOk result (Holds (environment_of env.new) (value_of value.now)
+        (typ_of ty.now)) }
     ensures kept { OnErr result (env.new ≡ env.old) }
     ensures refused { IfErr result (λ f. RefusesWhere f (holds Coloured false
         (map entry_of (env.old.entries ++ more)) (value_of value.now) (typ_of ty.now))) }

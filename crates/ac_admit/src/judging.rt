@@ -12,7 +12,7 @@ ghost use Rattle.ac_terms.specs.Defs.{Entry};
 ghost use Rattle.ac_terms.specs.Read.{environment_of, packet_of};
 ghost use Rattle.ac_rules.specs.Coherent.{IsCoherent};
 ghost use Rattle.ac_rules.specs.Modules.{is_well_formed};
-ghost use Rattle.ac_rules.specs.Packets.{Cause, alone, cause, first_clash, places};
+ghost use Rattle.ac_rules.specs.Packets.{PacketCause, alone, cause, first_clash, places};
 ghost use Rattle.ac_clashes.specs.inner.Known.{all_known};
 ghost use Rattle.ac_placing.specs.Placed.{state_of, number_of};
 ghost use Rattle.ac_admit.specs.Refusing.{IsFor};
@@ -28,15 +28,16 @@ use ac_terms::{Env, Packet};
 use ac_types::{Ty, same_types};
 use std::alloc::Global;
 
-/// The most entries of an environment.
+// The most entries of an environment.
 const MOST_ENTRIES: usize = 65_535;
 
 // Nothing where each definition is well formed among them.
 fn formed(alloc: Global, own: &Env) -> Result<(), AdmitFault>
     requires entries { length own.now.entries < 2 ^ 32 }
     requires fits { IsTrue (list_all (λ (e : Entry). fits_def e.def) (environment_of own.now)) }
-    ensures { Judges result (option_map Cause.Definition
-        (first_wrong 0 (is_well_formed (environment_of own.now)) (defs_of (environment_of own.now)))) }
+    ensures { Judges result (option_map PacketCause.Definition
+        (first_wrong 0 (is_well_formed (environment_of own.now))
+        (defs_of (environment_of own.now)))) }
 {
     match ill_formed(alloc, own)? {
         None => Ok(()),
@@ -62,7 +63,7 @@ fn unclashed(alloc: Global, env: &Env, own: &Env) -> Result<(), AdmitFault>
 fn has_room(env: &Env, more: usize) -> Result<(), AdmitFault>
     requires { length env.now.entries + more < 2 ^ 32 }
     ensures { let n = length env.now.entries + more in
-        Judges result (given (nat_lt 65535 n) (Some (Cause.Full n))) }
+        Judges result (given (nat_lt 65535 n) (Some (PacketCause.Full n))) }
 {
     let count = env.entries.len() + more;
     if count > MOST_ENTRIES {
@@ -82,7 +83,8 @@ fn first_unresolved(places: &[Place]) -> Option<usize>
 // Nothing where each import has a link.
 fn resolved(places: &[Place]) -> Result<(), AdmitFault>
     requires { length places.now < 2 ^ 32 }
-    ensures { Judges result (option_map Cause.Unresolved (position (λ q. q.unresolved) places.now)) }
+    ensures { Judges result (option_map PacketCause.Unresolved
+        (position (λ q. q.unresolved) places.now)) }
 {
     match first_unresolved(places) {
         None => Ok(()),
@@ -114,7 +116,8 @@ fn placing(alloc: Global, env: &Env, p: &Packet, own: &Env) -> Result<Placing, A
 pub fn judged(alloc: Global, env: &Env, p: &Packet, expected: &Ty) -> Result<Placing, AdmitFault>
     requires coherent { IsCoherent (environment_of env.now) }
     requires fits { IsTrue (fits_packet (packet_of p.now)) }
-    ensures front { OnOk result (front_cause (environment_of env.now) (packet_of p.now).defs ≡ None) }
+    ensures front { OnOk result (front_cause (environment_of env.now) (packet_of p.now).defs ≡
+        None) }
     ensures of_type { OnOk result (same (packet_of p.now).ty (typ_of expected.now) ≡ true) }
     ensures spoken { OnOk result (is_spoken (packet_of p.now) ≡ true) }
     ensures placed { IfOk result (λ q. state_of (environment_of env.now) q ≡ places sha256

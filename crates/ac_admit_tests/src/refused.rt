@@ -7,36 +7,36 @@ use ac_admit::AdmitFault;
 use ac_types::{Name, Ty};
 use std::test::Fail;
 
-/// The packet of `true` as a bool, and as an int.
+// The packet of `true` as a bool, and as an int.
 const TRUE: &[u8] = b"ACUP\x01\x00\x00\x02\x02\x01";
 
 const TRUE_AS_INT: &[u8] = b"ACUP\x01\x00\x00\x01\x02\x01";
 
-/// A packet that brings a module, with `true` as an int.
+// A packet that brings a module, with `true` as an int.
 const BRINGS_FALSELY: &[u8] =
     b"ACUP\x01\x00\x01\x01\x02M2\x01\x02\x00\x00\x00\x01\x01z\x01\x00\x00\x00\x01\x01z\x01\x01\x00\x00\x00\x00\x00\x00\x00\x03\x01\x02\x01";
 
-/// A module with a field of the wrong type, and one that refers to itself; each with unit.
+// A module with a field of the wrong type, and one that refers to itself; each with unit.
 const ILL_TYPED: &[u8] =
     b"ACUP\x01\x00\x01\x01\x02M2\x01\x02\x00\x00\x00\x01\x01z\x01\x00\x00\x00\x01\x01z\x01\x02\x01\x04\x04";
 
 const REFERS_ON: &[u8] =
     b"ACUP\x01\x00\x01\x01\x02M2\x01\x02\x00\x00\x00\x01\x01z\x01\x00\x00\x00\x01\x01z\x01\x0D\x00\x00\x01z\x04\x04";
 
-/// A module whose signature has two values of one name.
+// A module whose signature has two values of one name.
 const TWICE: &[u8] =
     b"ACUP\x01\x00\x01\x01\x02M2\x01\x02\x00\x00\x00\x02\x01z\x01\x01z\x01\x00\x00\x00\x01\x01z\x01\x01\x00\x00\x00\x00\x00\x00\x00\x03\x04\x04";
 
-/// An import of `M1` by version, and behind it the module with a field of the wrong type.
+// An import of `M1` by version, and behind it the module with a field of the wrong type.
 const ILL_TYPED_LATER: &[u8] =
     b"ACUP\x01\x00\x02\x02\x02M1\x00\x00\x00\x01\x01y\x01\x01\x00\x01\x00\x00\x01\x02\x01\x02M2\x01\x02\x00\x00\x00\x01\x01z\x01\x00\x00\x00\x01\x01z\x01\x02\x01\x04\x04";
 
-/// A module, and behind it an import of `M1` by `Static_Link`, which gives nothing in a packet; with
-/// unit.
+// A module, and behind it an import of `M1` by `Static_Link`, which gives nothing in a packet; with
+// unit.
 const LINKS_TO_NOTHING: &[u8] =
     b"ACUP\x01\x00\x02\x01\x02M2\x01\x02\x00\x00\x00\x01\x01z\x01\x00\x00\x00\x01\x01z\x01\x01\x00\x00\x00\x00\x00\x00\x00\x03\x02\x02M1\x00\x00\x00\x01\x01y\x01\x01\x00\x01\x00\x00\x01\x01\x04\x04";
 
-/// A function at home in a definition that isn't there, and one at home in an import by version.
+// A function at home in a definition that isn't there, and one at home in an import by version.
 const NO_HOME: &[u8] = b"ACUP\x01\x00\x00\x09\x04\x04\x0A\x00\x01\x0E\x04\x04";
 
 const IMPORT_HOME: &[u8] =

@@ -6,7 +6,7 @@ use ac_admit::AdmitFault;
 use ac_types::Ty;
 use std::test::Fail;
 
-/// A program with a module that the packet of many modules brings too.
+// A program with a module that the packet of many modules brings too.
 const OWN_AAA: &[u8] = b"module AAA : sig end = struct end ()";
 
 // Want of room comes before an import without a link, and before another type.

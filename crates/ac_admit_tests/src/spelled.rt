@@ -5,7 +5,7 @@ use ac_terms::Env;
 use ac_types::{Memory, Name, Text};
 use std::alloc::Global;
 
-/// Of what names are made behind their first letter.
+// Of what names are made behind their first letter.
 const LETTERS: &[u8; 64] = b"ABCDEFGHIJKLMNOPQRSTUVWXYZabcdefghijklmnopqrstuvwxyz0123456789_'";
 
 /// The packet of unit with so many modules without fields, under the names `AAA`, `AAB` and so on.

@@ -1,63 +1,11 @@
--- The reading of each form of patterns.
-use Rattle.std.proofs.Common.{◌≡◌, ◌∙◌, ap, refl, ℕ, ℤ, suc, Bool, List, [], ◌∷◌, map, length, None, Some}
-use Rattle.ac_types.specs.ReadTypes.{typ_of}
-use Rattle.ac_types.specs.declared.text.Text.{Text}
-use Rattle.ac_types.specs.declared.ty.Ty.{Ty}
-use Rattle.ac_terms.specs.declared.pat.Pat.{Pat, out-Pat, map-Pat, fold_out-Pat}
-use Rattle.ac_terms.specs.declared.pat.Pat.TheVariants as pat
-use Rattle.ac_terms.specs.declared.pat.Pat.TheOpen.{Pat-F}
-use Rattle.ac_terms.specs.Terms.{Pattern, PWild, PVar, PInt, PBool, PStr, PUnit, PTuple, PNil, PCons, PAbsent, PPresent, PExn, PExnOf, patterns}
-use Rattle.ac_terms.specs.Read.{pattern_of, pattern_layer}
+-- How many patterns a list of them has, and what the writing of patterns rests on.
+use Rattle.std.proofs.Common.{◌≡◌, ap, refl, suc, List, [], ◌∷◌, map, length}
+use Rattle.ac_terms.specs.declared.pat.Pat.{Pat}
+use Rattle.ac_terms.specs.Terms.{patterns}
+use Rattle.ac_terms.specs.Read.{pattern_of}
 use Rattle.ac_terms.specs.Spelling.{pattern_count}
+use Rattle.ac_terms.proofs.PatternForms.{pattern_forms}
 use Rattle.ac_canon.proofs.Joins.{joins}
-
-abbrev pat_layer : Pat-F Pat → Pattern
-pat_layer x = pattern_layer (map-Pat Pat Pattern pattern_of x)
-
-pat_out : (p : Pat) → pattern_of p ≡ pat_layer (out-Pat p)
-unfolding pattern_of
-pat_out p = fold_out-Pat Pattern pattern_layer p
-
-pub pattern_of-Wild : pattern_of pat.Wild ≡ PWild
-pattern_of-Wild = pat_out pat.Wild ∙ ap pat_layer pat.outs-Wild
-
-pub pattern_of-Var : (t : Ty) → pattern_of (pat.Var t) ≡ PVar (typ_of t)
-pattern_of-Var t = pat_out (pat.Var t) ∙ ap pat_layer (pat.outs-Var t)
-
-pub pattern_of-Int : (n : ℤ) → pattern_of (pat.Int n) ≡ PInt n
-pattern_of-Int n = pat_out (pat.Int n) ∙ ap pat_layer (pat.outs-Int n)
-
-pub pattern_of-Bool : (b : Bool) → pattern_of (pat.Bool b) ≡ PBool b
-pattern_of-Bool b = pat_out (pat.Bool b) ∙ ap pat_layer (pat.outs-Bool b)
-
-pub pattern_of-Str : (s : Text) → pattern_of (pat.Str s) ≡ PStr s.0
-pattern_of-Str s = pat_out (pat.Str s) ∙ ap pat_layer (pat.outs-Str s)
-
-pub pattern_of-Unit : pattern_of pat.Unit ≡ PUnit
-pattern_of-Unit = pat_out pat.Unit ∙ ap pat_layer pat.outs-Unit
-
-pub pattern_of-Tuple : (ps : List Pat) → pattern_of (pat.Tuple ps) ≡ PTuple (patterns (map pattern_of ps))
-pattern_of-Tuple ps = pat_out (pat.Tuple ps) ∙ ap pat_layer (pat.outs-Tuple ps)
-
-pub pattern_of-Nil : pattern_of pat.Nil ≡ PNil
-pattern_of-Nil = pat_out pat.Nil ∙ ap pat_layer pat.outs-Nil
-
-pub pattern_of-Cons : (p q : Pat) → pattern_of (pat.Cons p q) ≡ PCons (pattern_of p) (pattern_of q)
-pattern_of-Cons p q = pat_out (pat.Cons p q) ∙ ap pat_layer (pat.outs-Cons p q)
-
-pub pattern_of-Absent : pattern_of pat.Absent ≡ PAbsent
-pattern_of-Absent = pat_out pat.Absent ∙ ap pat_layer pat.outs-Absent
-
-pub pattern_of-Present : (p : Pat) → pattern_of (pat.Present p) ≡ PPresent (pattern_of p)
-pattern_of-Present p = pat_out (pat.Present p) ∙ ap pat_layer (pat.outs-Present p)
-
-pub pattern_of-Exn : (k : ℕ) → pattern_of (pat.Exn k None) ≡ PExn k
-pattern_of-Exn k = pat_out (pat.Exn k None) ∙ ap pat_layer (pat.outs-Exn k None)
-
-pub pattern_of-ExnOf : (k : ℕ) (p : Pat) → pattern_of (pat.Exn k (Some p)) ≡ PExnOf k (pattern_of p)
-pattern_of-ExnOf k p = pat_out (pat.Exn k (Some p)) ∙ ap pat_layer (pat.outs-Exn k (Some p))
-
-pub ruleset pattern_forms = (pattern_of-Wild, pattern_of-Var, pattern_of-Int, pattern_of-Bool, pattern_of-Str, pattern_of-Unit, pattern_of-Tuple, pattern_of-Nil, pattern_of-Cons, pattern_of-Absent, pattern_of-Present, pattern_of-Exn, pattern_of-ExnOf)
 
 pub count_patterns : (ps : List Pat) → pattern_count (patterns (map pattern_of ps)) ≡ length ps
 count_patterns [] = refl

@@ -1,105 +1,27 @@
--- The reading of each form of terms and arms.
-use Rattle.std.proofs.Common.{◌≡◌, ◌∙◌, ap, refl, ℕ, ℤ, suc, Bool, List, [], ◌∷◌, map, length, None, Some}
+-- The reading of the forms of terms that have arms, and how many terms and arms a list of them has.
+use Rattle.std.proofs.Common.{◌≡◌, ◌∙◌, ap, refl, suc, List, [], ◌∷◌, map, length}
 use mathlib.Core.Path.{ap₂}
-use Rattle.ac_types.specs.ReadTypes.{typ_of}
-use Rattle.ac_types.specs.declared.text.Text.{Text}
-use Rattle.ac_types.specs.declared.ty.Ty.{Ty}
 use Rattle.ac_terms.specs.declared.term.Term.{Term}
 use Rattle.ac_terms.specs.declared.term.Term.TheVariants as term
-use Rattle.ac_terms.specs.declared.term.PVal.{PVal}
 use Rattle.ac_terms.specs.declared.term.Arm.{Arm}
-use Rattle.ac_terms.specs.declared.term.PVal.TheOpen.{Term-F}
-use Rattle.ac_terms.specs.declared.term.PVal.TheFolds.{fold_out-Arm}
-use Rattle.ac_terms.specs.Terms.{Pattern, Expr, Int, Boolean, Str, Unit', Exn, ExnOf, Nil, Empty, Present, Cons, Var, Own, Ref, Lam, Rec, App, Let, If, Match, Try, Raise, Marshal, Unmarshal, Val, exprs, arms, PValue}
-use Rattle.ac_terms.specs.Read.{expr_of, value_of, value_layer, expr_layer, arm_layer}
+use Rattle.ac_terms.specs.Terms.{Pattern, Expr, Match, Try, exprs, arms}
+use Rattle.ac_terms.specs.Read.{expr_of}
 use Rattle.ac_terms.specs.Spelling.{term_count, arm_count}
-use Rattle.ac_terms.proofs.ReadLaws.{read_arm, read_parts, expr_out, expr_of-Tuple, expr_of-Seq, expr_of-Prim}
+use Rattle.ac_terms.proofs.ReadLaws.{read_arm}
+use Rattle.ac_terms.proofs.TermForms.{one_arm, match_read, try_read, armless_forms}
 use Rattle.ac_canon.specs.inner.Arms.{arm_of}
-
-abbrev layer : Term-F PVal Term Arm → Expr
-layer x = expr_layer (read_parts x)
-
-one_arm : (a : Arm) → read_arm a ≡ arm_of a
-unfolding read_arm expr_of value_of
-one_arm a = fold_out-Arm PValue Expr (Pattern × Expr) value_layer expr_layer arm_layer a
 
 same_arms : (xs : List Arm) → map read_arm xs ≡ map arm_of xs
 same_arms [] = refl
 same_arms (x ∷ xs) = ap₂ (λ (y : Pattern × Expr) ys. y ∷ ys) (one_arm x) (same_arms xs)
 
-pub expr_of-Int : (n : ℤ) → expr_of (term.Int n) ≡ Int n
-expr_of-Int n = expr_out (term.Int n) ∙ ap layer (term.outs-Int n)
-
-pub expr_of-Bool : (b : Bool) → expr_of (term.Bool b) ≡ Boolean b
-expr_of-Bool b = expr_out (term.Bool b) ∙ ap layer (term.outs-Bool b)
-
-pub expr_of-Str : (s : Text) → expr_of (term.Str s) ≡ Str s.0
-expr_of-Str s = expr_out (term.Str s) ∙ ap layer (term.outs-Str s)
-
-pub expr_of-Unit : expr_of term.Unit ≡ Unit'
-expr_of-Unit = expr_out term.Unit ∙ ap layer term.outs-Unit
-
-pub expr_of-Exn : (k : ℕ) → expr_of (term.ExnVal k None) ≡ Exn k
-expr_of-Exn k = expr_out (term.ExnVal k None) ∙ ap layer (term.outs-ExnVal k None)
-
-pub expr_of-ExnOf : (k : ℕ) (e : Term) → expr_of (term.ExnVal k (Some e)) ≡ ExnOf k (expr_of e)
-expr_of-ExnOf k e = expr_out (term.ExnVal k (Some e)) ∙ ap layer (term.outs-ExnVal k (Some e))
-
-pub expr_of-Nil : (t : Ty) → expr_of (term.Nil t) ≡ Nil (typ_of t)
-expr_of-Nil t = expr_out (term.Nil t) ∙ ap layer (term.outs-Nil t)
-
-pub expr_of-Empty : (t : Ty) → expr_of (term.Empty t) ≡ Empty (typ_of t)
-expr_of-Empty t = expr_out (term.Empty t) ∙ ap layer (term.outs-Empty t)
-
-pub expr_of-Present : (e : Term) → expr_of (term.Present e) ≡ Present (expr_of e)
-expr_of-Present e = expr_out (term.Present e) ∙ ap layer (term.outs-Present e)
-
-pub expr_of-Cons : (a b : Term) → expr_of (term.Cons a b) ≡ Cons (expr_of a) (expr_of b)
-expr_of-Cons a b = expr_out (term.Cons a b) ∙ ap layer (term.outs-Cons a b)
-
-pub expr_of-Var : (i : ℕ) → expr_of (term.Var i) ≡ Var i
-expr_of-Var i = expr_out (term.Var i) ∙ ap layer (term.outs-Var i)
-
-pub expr_of-Own : (f : ℕ) → expr_of (term.Own f) ≡ Own f
-expr_of-Own f = expr_out (term.Own f) ∙ ap layer (term.outs-Own f)
-
-pub expr_of-Ref : (j : ℕ) (x : List ℕ) → expr_of (term.Ref j x) ≡ Ref j x
-expr_of-Ref j x = expr_out (term.Ref j x) ∙ ap layer (term.outs-Ref j x)
-
-pub expr_of-Lam : (t : Ty) (e : Term) → expr_of (term.Lam t e) ≡ Lam (typ_of t) (expr_of e)
-expr_of-Lam t e = expr_out (term.Lam t e) ∙ ap layer (term.outs-Lam t e)
-
-pub expr_of-Rec : (t u : Ty) (e : Term) → expr_of (term.Rec t u e) ≡ Rec (typ_of t) (typ_of u) (expr_of e)
-expr_of-Rec t u e = expr_out (term.Rec t u e) ∙ ap layer (term.outs-Rec t u e)
-
-pub expr_of-App : (f a : Term) → expr_of (term.App f a) ≡ App (expr_of f) (expr_of a)
-expr_of-App f a = expr_out (term.App f a) ∙ ap layer (term.outs-App f a)
-
-pub expr_of-Let : (t : Ty) (a b : Term) → expr_of (term.Let t a b) ≡ Let (typ_of t) (expr_of a) (expr_of b)
-expr_of-Let t a b = expr_out (term.Let t a b) ∙ ap layer (term.outs-Let t a b)
-
-pub expr_of-If : (c a b : Term) → expr_of (term.If c a b) ≡ If (expr_of c) (expr_of a) (expr_of b)
-expr_of-If c a b = expr_out (term.If c a b) ∙ ap layer (term.outs-If c a b)
-
 pub expr_of-Match : (e : Term) (cases : List Arm) → expr_of (term.Match e cases) ≡ Match (expr_of e) (arms (map arm_of cases))
-expr_of-Match e cases = expr_out (term.Match e cases) ∙ ap layer (term.outs-Match e cases) ∙ ap (λ xs. Match (expr_of e) (arms xs)) (same_arms cases)
+expr_of-Match e cases = match_read e cases ∙ ap (λ xs. Match (expr_of e) (arms xs)) (same_arms cases)
 
 pub expr_of-Try : (e : Term) (cases : List Arm) → expr_of (term.Try e cases) ≡ Try (expr_of e) (arms (map arm_of cases))
-expr_of-Try e cases = expr_out (term.Try e cases) ∙ ap layer (term.outs-Try e cases) ∙ ap (λ xs. Try (expr_of e) (arms xs)) (same_arms cases)
+expr_of-Try e cases = try_read e cases ∙ ap (λ xs. Try (expr_of e) (arms xs)) (same_arms cases)
 
-pub expr_of-Raise : (t : Ty) (e : Term) → expr_of (term.Raise t e) ≡ Raise (typ_of t) (expr_of e)
-expr_of-Raise t e = expr_out (term.Raise t e) ∙ ap layer (term.outs-Raise t e)
-
-pub expr_of-Marshal : (t : Ty) (m e : Term) → expr_of (term.Marshal t m e) ≡ Marshal (typ_of t) (expr_of m) (expr_of e)
-expr_of-Marshal t m e = expr_out (term.Marshal t m e) ∙ ap layer (term.outs-Marshal t m e)
-
-pub expr_of-Unmarshal : (t : Ty) (e : Term) → expr_of (term.Unmarshal t e) ≡ Unmarshal (typ_of t) (expr_of e)
-expr_of-Unmarshal t e = expr_out (term.Unmarshal t e) ∙ ap layer (term.outs-Unmarshal t e)
-
-pub expr_of-Val : (t : Ty) (v : PVal) → expr_of (term.Val t v) ≡ Val (typ_of t) (value_of v)
-expr_of-Val t v = expr_out (term.Val t v) ∙ ap layer (term.outs-Val t v)
-
-pub ruleset term_forms = (expr_of-Int, expr_of-Bool, expr_of-Str, expr_of-Unit, expr_of-Exn, expr_of-ExnOf, expr_of-Tuple, expr_of-Nil, expr_of-Empty, expr_of-Present, expr_of-Cons, expr_of-Var, expr_of-Own, expr_of-Ref, expr_of-Lam, expr_of-Rec, expr_of-App, expr_of-Let, expr_of-If, expr_of-Seq, expr_of-Match, expr_of-Try, expr_of-Raise, expr_of-Prim, expr_of-Marshal, expr_of-Unmarshal, expr_of-Val)
+pub ruleset term_forms = (armless_forms, expr_of-Match, expr_of-Try)
 
 pub count_terms : (ts : List Term) → term_count (exprs (map expr_of ts)) ≡ length ts
 count_terms [] = refl

@@ -27,7 +27,8 @@ fn put_atom(out: &mut Out, atom: Atom) -> Result<(), Memory>
 /// Puts how many parts a version has, and each.
 #[tactic(auto, using(crate::proofs::Lists::lists))]
 pub fn put_version(out: &mut Out, atoms: &[Atom]) -> Result<(), Memory>
-    ensures { OnOk result (out.new ≡ out.old ++ listed one_written atom_bytes (map atom_of atoms.now)) }
+    ensures { OnOk result (out.new ≡ out.old ++ listed one_written atom_bytes
+        (map atom_of atoms.now)) }
 {
     put_count_u8(out, atoms.len())?;
     for atom in atoms {
@@ -126,7 +127,8 @@ fn put_sig_type<S: Spelling>(out: &mut Out, spelling: &S, x: &SigType) -> Result
 #[tactic(auto, using(crate::proofs::Lists::lists))]
 fn put_sig_types<S: Spelling>(out: &mut Out, spelling: &S, types: &[SigType]) -> Result<(), Memory>
     ensures { OnOk result (out.new ≡ out.old ++
-        listed two_written (sig_type_bytes (S.spelled_type spelling.now)) (map sig_type_of types.now)) }
+        listed two_written (sig_type_bytes (S.spelled_type spelling.now))
+        (map sig_type_of types.now)) }
 {
     put_count_u16(out, types.len())?;
     for x in types {

@@ -1,5 +1,5 @@
 -- The first clash of entries: what the first entry of each name says of the next.
-use Rattle.std.proofs.Common.{◌≡◌, ◌∙◌, ◌⊎◌, inl, inr, ◌<◌, ◌+◌, refl, sym, ap, ap₂, subst, ℕ, zero, suc, Bool, true, false, List, length, Option, Some, None, arith}
+use Rattle.std.proofs.Common.{◌≡◌, ◌∙◌, ◌⊎◌, inl, inr, ◌<◌, ◌+◌, refl, sym, ap, ap₂, subst, ℕ, suc, Bool, true, false, length, Option, Some, None, arith}
 use Rattle.std.specs.Prelude.{not, ◌&&◌, is_some, if◌then◌else◌}
 use Rattle.std.specs.Option.{option_map_or}
 use Rattle.std.proofs.lemmas.Bool.{cases_order}
@@ -9,9 +9,9 @@ use Rattle.ac_types.proofs.FirstLaws.{none≢some, some_eq, given_some}
 use Rattle.ac_types.proofs.Same.{both_true, bytes_eq, bytes_refl}
 use Rattle.ac_terms.specs.Defs.{Environment, name_at, names}
 use Rattle.ac_terms.specs.Names.{text_of_entry}
-use Rattle.ac_acceptance.specs.Causes.{Cause, Clash, first_below, differ, clashes, clash_of, first_clash}
+use Rattle.ac_acceptance.specs.Causes.{Clash, differ, clashes, clash_of, first_clash}
 use Rattle.ac_causes.specs.inner.Named.{told_name, first_told, put_number}
-use Rattle.ac_causes.proofs.Firsts.{Least, below_all, below_none, below_some, below_is}
+use Rattle.ac_acceptance.proofs.Firsts.{below_all, below_none, below_some, below_is}
 
 true_or_false : {A : Type 0} (b : Bool) → b ≡ true → b ≡ false → A
 true_or_false b t f = absurd (none≢some {A = ℕ} (ap (λ x. elim x as (λ z. Option ℕ) [ true ↦ None | false ↦ Some 0 ]) (sym t ∙ f)))

@@ -1,12 +1,10 @@
 -- The causes of a part, one behind another.
-use Rattle.std.proofs.Common.{◌≡◌, ◌∙◌, refl, sym, ap, subst, ℕ, List, length, drop, Option, Some, None}
-use Rattle.std.specs.Prelude.{is_none}
-use Rattle.ac_types.specs.First.{given, or_else, first_some}
-use Rattle.ac_types.specs.Types.{Typ}
+use Rattle.std.proofs.Common.{◌≡◌, ◌∙◌, refl, sym, ap, subst, ℕ, List, drop, Option, None}
+use Rattle.ac_types.specs.First.{or_else, first_some}
 use Rattle.ac_terms.specs.Terms.{Expr}
 use Rattle.ac_terms.specs.Defs.{Environment}
-use Rattle.ac_acceptance.specs.Causes.{Cause, IllTyped, first_at, ill_typed, uncovering, not_valuable, unlike, unlinked, first_clash}
-use Rattle.ac_causes.specs.Entries.{term_type, causes_behind, part_cause, Tells}
+use Rattle.ac_acceptance.specs.Causes.{Cause, IllTyped, first_at, uncovering, not_valuable, unlike, unlinked, first_clash}
+use Rattle.ac_causes.specs.Entries.{causes_behind, Tells}
 use Rattle.ac_causes.specs.declared.fault.PartFault.{PartFault}
 use Rattle.ac_causes.specs.declared.fault.PartFault.TheVariants as fault
 
@@ -59,24 +57,5 @@ module _ (E : Environment) (n : ℕ) where
   last_is o a b c d h = rest_is covers _ a ∙ rest_is values _ b ∙ rest_is likes _ c ∙ rest_is links _ d ∙ ap (λ q. or_else q None) (sym h)
 
 module _ (E : Environment) (n : ℕ) (e : Expr) where
-  abbrev typed_first : Option Cause
-  typed_first = first_at 0 (ill_typed E n) (drop n E)
-
   abbrev behind : Option Cause
   behind = first_some (causes_behind E n)
-
-  abbrev of_term : Option Typ → Option Cause
-  of_term o = given (is_none o) (Some (IllTyped (length (drop n E))))
-
-  pub field_told : (def : ℕ) → Some (IllTyped def) ≡ typed_first → part_cause E n e ≡ Some (IllTyped def)
-  field_told def h = ap (λ o. or_else o (or_else (of_term (term_type E e)) behind)) (sym h)
-
-  pub term_told : (def : ℕ) → None ≡ typed_first → term_type E e ≡ None → def ≡ length (drop n E) → part_cause E n e ≡ Some (IllTyped def)
-  term_told def h t is =
-      ap (λ o. or_else o (or_else (of_term (term_type E e)) behind)) (sym h) ∙ ap (λ o. or_else (of_term o) behind) t ∙ ap (λ k. Some (IllTyped k)) (sym is)
-
-  pub behind_types : (T : Typ) → None ≡ typed_first → term_type E e ≡ Some T → part_cause E n e ≡ behind
-  behind_types T h t = ap (λ o. or_else o (or_else (of_term (term_type E e)) behind)) (sym h) ∙ ap (λ o. or_else (of_term o) behind) t
-
-  pub behind_told : (T : Typ) (f : PartFault) → None ≡ typed_first → term_type E e ≡ Some T → Tells f behind → Tells f (part_cause E n e)
-  behind_told T f h t d = subst (Tells f) (sym (behind_types T h t)) d

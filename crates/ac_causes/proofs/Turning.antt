@@ -1,13 +1,11 @@
 -- Entries that are taken off at the end, and put back linked.
-use Rattle.std.proofs.Common.{◌≡◌, ◌∙◌, ◌≤◌, ◌<◌, ◌+◌, refl, sym, ap, ap₂, subst, ℕ, suc, true, List, [], ◌∷◌, ◌++◌, length, map, take, drop, arith, append_assoc, length-append}
+use Rattle.std.proofs.Common.{◌≡◌, ◌∙◌, ◌≤◌, ◌<◌, ◌+◌, refl, sym, ap, subst, suc, true, List, [], ◌∷◌, ◌++◌, length, map, arith, append_assoc, length-append}
 use Rattle.std.specs.List.{list_all}
-use Rattle.std.proofs.Math.Seq.{take-append_seam, drop-append_seam}
-use Rattle.std.proofs.lemmas.List.{map-append, length-map}
+use Rattle.std.proofs.lemmas.List.{map-append}
 use Rattle.ac_types.proofs.Same.{both_true}
 use Rattle.ac_terms.specs.Defs.{Environment, Entry, Seen}
 use Rattle.ac_terms.specs.declared.def.Entry as code
 use Rattle.ac_terms.specs.Read.{entry_of}
-use Rattle.ac_terms.proofs.AllLaws.{all_right}
 use Rattle.ac_acceptance.specs.Causes.{linked_entry, linked_behind}
 use Rattle.ac_acceptance.specs.Counted.{has_counted}
 use Rattle.ac_causes.specs.inner.Turned.{turned}
@@ -49,16 +47,3 @@ put_next seen all env more part rest x y p e m h =
     ∙ ap (λ (l : List code.Entry). E ++ linked_behind seen E (map entry_of l)) (ap turned p ∙ turned_last rest x)
     ∙ sym (append_assoc E (z ∷ []) (linked_behind seen (E ++ z ∷ []) (map entry_of (turned rest))))
     ∙ ap (λ (F : Environment). F ++ linked_behind seen F (map entry_of (turned rest))) longer
-
--- at the end the first ones are left, and the others are turned
-pub all_taken : (all ahead behind : List code.Entry) (n : ℕ) → ahead ++ turned behind ≡ all → length ahead ≡ n → (map entry_of ahead ≡ take n (map entry_of all)) × (map entry_of (turned behind) ≡ drop n (map entry_of all))
-all_taken all ahead behind n h e =
-    let whole : map entry_of ahead ++ map entry_of (turned behind) ≡ map entry_of all = sym (map-append entry_of ahead (turned behind)) ∙ ap (map entry_of) h in
-    let long : length (map entry_of ahead) ≡ n = length-map ahead entry_of ∙ e in (
-      sym (take-append_seam (map entry_of ahead) (map entry_of (turned behind))) ∙ ap₂ (λ (k : ℕ) (l : Environment). take k l) long whole,
-      sym (drop-append_seam (map entry_of ahead) (map entry_of (turned behind))) ∙ ap₂ (λ (k : ℕ) (l : Environment). drop k l) long whole,
-    )
-
-pub turned_counted : (all ahead behind : List code.Entry) → ahead ++ turned behind ≡ all → list_all has_counted (map entry_of all) ≡ true → list_all has_counted (map entry_of (turned behind)) ≡ true
-turned_counted all ahead behind h c =
-    all_right has_counted (map entry_of ahead) (map entry_of (turned behind)) (ap (list_all has_counted) (sym (map-append entry_of ahead (turned behind)) ∙ ap (map entry_of) h) ∙ c)

@@ -1,5 +1,5 @@
 -- The first definition with an ill-typed field, along the entries behind the first.
-use Rattle.std.proofs.Common.{◌≡◌, ◌∙◌, ◌≤◌, ◌<◌, ◌+◌, ◌-◌, refl, sym, ap, ap₂, subst, ℕ, suc, Bool, true, false, List, [], ◌∷◌, length, drop, map, get_or, Option, Some, None, arith, add-one}
+use Rattle.std.proofs.Common.{◌≡◌, ◌∙◌, ◌≤◌, ◌<◌, ◌+◌, ◌-◌, refl, sym, ap, ap₂, ℕ, Bool, true, false, List, length, drop, map, get_or, Option, Some, None, arith, add-one}
 use Rattle.std.specs.Prelude.{not, ◌&&◌}
 use Rattle.std.proofs.lemmas.List.{drop-map}
 use Rattle.ac_types.specs.First.{given}
@@ -10,7 +10,8 @@ use Rattle.ac_terms.specs.Read.{entry_of, def_of_code, field_of}
 use Rattle.ac_rules.specs.Modules.{is_typed, are_typed}
 use Rattle.ac_acceptance.specs.Causes.{Cause, IllTyped, first_at, ill_typed}
 use Rattle.ac_causes.specs.inner.Asked.{is_typed_def}
-use Rattle.ac_causes.proofs.Firsts.{at_next, at_here, at_end, left_next, left_none}
+use Rattle.ac_types.proofs.Loops.{drop_next, drop_end}
+use Rattle.ac_causes.proofs.Firsts.{at_next, at_here, at_end}
 
 ill_typed_at : (E : Environment) (n k : ℕ) (d : Def) → ill_typed E n k (record { def = d; name = None; seen = Own'; link = None }) ≡ given (not (is_typed_def E (n + k) d)) (Some (IllTyped k))
 ill_typed_at E n k (AModule m) = refl
@@ -51,7 +52,7 @@ module _ (E : Environment) (i : ℕ) (fs : List code_field.Field) where
   typed_from k g = are_typed E i k (map field_of (drop g fs))
 
   field_here : (k g : ℕ) (x : code_field.Field) → g < length fs → x ≡ get_or fs g x → typed_from k g ≡ (is_typed E i k (field_of x) && typed_from (k + 1) (g + 1))
-  field_here k g x lt is = rw (add-one k) (ap (λ ys. are_typed E i k (map field_of ys)) (left_next g fs x lt is))
+  field_here k g x lt is = rw (add-one k) (ap (λ ys. are_typed E i k (map field_of ys)) (drop_next g fs x lt is))
 
   pub fields_next : (all : Bool) (g : ℕ) (x : code_field.Field) → g < length fs → x ≡ get_or fs g x → is_typed E i g (field_of x) ≡ true → all ≡ typed_from g g → all ≡ typed_from (g + 1) (g + 1)
   fields_next all g x lt is typed so = so ∙ field_here g g x lt is ∙ ap (λ b. b && typed_from (g + 1) (g + 1)) typed
@@ -60,4 +61,4 @@ module _ (E : Environment) (i : ℕ) (fs : List code_field.Field) where
   fields_here all g x lt is typed so = so ∙ field_here g g x lt is ∙ ap (λ b. b && typed_from (g + 1) (g + 1)) typed
 
   pub fields_end : (all : Bool) (g : ℕ) → g ≡ length fs → all ≡ typed_from g g → all ≡ true
-  fields_end all g e so = so ∙ ap (λ ys. are_typed E i g (map field_of ys)) (left_none g fs e)
+  fields_end all g e so = so ∙ ap (λ ys. are_typed E i g (map field_of ys)) (drop_end g fs e)

@@ -3,18 +3,16 @@
 ghost use Rattle.std.specs.Prelude.{◌≡◌, ◌<◌, ◌≤◌, ◌^◌, IsTrue, length, map, drop};
 ghost use Rattle.std.specs.List.{list_all};
 ghost use Rattle.ac_types.specs.First.{first_failing};
-ghost use Rattle.ac_types.specs.ReadTypes.{constraint_of};
 ghost use Rattle.ac_terms.specs.Read.{environment_of, entry_of, field_of};
-ghost use Rattle.ac_rules.specs.Links.{is_exact};
 ghost use Rattle.ac_acceptance.specs.Causes.{first_at, uncovering, not_valuable, unlike, unlinked};
 ghost use Rattle.ac_acceptance.specs.Counted.{has_counted};
 ghost use Rattle.ac_causes.specs.Entries.{Finds};
 ghost use Rattle.ac_causes.specs.inner.Asked.{asked, has_value};
 
 use crate::fault::PartFault;
+use ac_link::is_exact;
 use ac_modules::{covers, like_missing, valuable};
 use ac_terms::{Def, Entry, Env, Field};
-use ac_types::Constraint;
 
 /// A question to an entry.
 #[derive(Clone, Copy)]
@@ -126,15 +124,6 @@ fn unlike(def: u32, entry: &Entry) -> Option<PartFault>
             }
         }
         Def::Mark(_) => None,
-    }
-}
-
-fn is_exact(constraint: &Constraint) -> bool
-    ensures { result ≡ is_exact (constraint_of constraint.now) }
-{
-    match constraint {
-        Constraint::Ranges { atoms: _, star: _ } => false,
-        Constraint::Exact(_) => true,
     }
 }
 

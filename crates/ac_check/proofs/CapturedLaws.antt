@@ -6,7 +6,8 @@ use Rattle.ac_types.specs.Types.{Typ, TInt, TBool, TStr, TUnit, TExn, TTuple, TL
 use Rattle.ac_types.proofs.Same.{both_true}
 use Rattle.ac_terms.specs.Terms.{Home, Pattern, PWild, PVar, PInt, PBool, PStr, PUnit, PTuple, PNil, PCons, PAbsent, PPresent, PExn, PExnOf, Patterns, no_patterns, pattern', Expr, Int, Boolean, Str, Unit', Exn, ExnOf, Tuple, Nil, Empty, Present, Cons, Var, Own, Ref, Lam, Rec, App, Let, If, Seq, Match, Try, Raise, Prim, Marshal, Unmarshal, Val, Evaluated, Bracket, Exprs, no_exprs, expr, Arms, no_arms, arm}
 use Rattle.ac_terms.specs.Defs.{Environment}
-use Rattle.ac_terms.specs.PrimitiveTypes.{has_text, primitive_type}
+use Rattle.ac_types.specs.Exceptions.{has_text}
+use Rattle.ac_terms.specs.PrimitiveTypes.{primitive_type}
 use Rattle.ac_terms.specs.TermTyping.{has, both_same, also, last_of}
 use Rattle.ac_rules.specs.Views.{Coloured}
 use Rattle.ac_rules.specs.Typing.{Scope, bind, bind_all, type_of, types_of, arm_types, one_of, type_applied, type_seen, kept_in, variables, variables_of_all, variables_joined}

@@ -59,7 +59,8 @@ pub fn type_of(
 /// type is written out.
 pub fn check_value(alloc: Global, env: &Env, t: &Ty, v: &PVal) -> Result<(), CheckFault>
     requires { length env.now.entries < 2 ^ 32 }
-    ensures accepted { OnOk result (Holds (environment_of env.now) (value_of v.now) (typ_of t.now)) }
+    ensures accepted { OnOk result (Holds (environment_of env.now) (value_of v.now)
+        (typ_of t.now)) }
     ensures refused { IfErr result (λ f. RefusesWhere f (holds Coloured false
         (environment_of env.now) (value_of v.now) (typ_of t.now))) }
 {

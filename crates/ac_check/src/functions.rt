@@ -9,8 +9,9 @@ ghost use Rattle.ac_rules.specs.Typing.{fields_of, is_function_home};
 ghost use Rattle.ac_check.specs.inner.Captured.{declared_agrees, travels_with};
 
 use ac_terms::{Def, Env, Exn, Home, Term};
+use ac_types::exceptions::has_text;
 use ac_types::{Many, Memory, Ty};
-use ac_typing::{declared_type, has_text, is_bare};
+use ac_typing::{declared_type, is_bare};
 use ac_views::{Site, ends, head, is_seen_as};
 use std::alloc::Global;
 
@@ -24,7 +25,7 @@ pub fn is_exception(exn: &Exn) -> bool
     }
 }
 
-/// How many fields a home has.
+// How many fields a home has.
 #[tactic(auto, using(ac_terms::proofs::EnvLaws::env_laws))]
 fn field_count(env: &Env, home: Home) -> usize
     ensures { result ≡ length (fields_of (environment_of env.now) (home_of home)) }
@@ -42,7 +43,7 @@ fn field_count(env: &Env, home: Home) -> usize
     }
 }
 
-/// Whether a home is the main program or a module.
+// Whether a home is the main program or a module.
 #[tactic(auto, using(ac_terms::proofs::EnvLaws::env_laws))]
 fn is_function_home(env: &Env, home: Home) -> bool
     ensures { result ≡ is_function_home (environment_of env.now) (home_of home) }
@@ -60,8 +61,8 @@ fn is_function_home(env: &Env, home: Home) -> bool
     }
 }
 
-/// Whether a function has in its home a type as that home sees it, where the variables around it have
-/// the types `vars`, the newest first, and each captured value counts as of the type beside it.
+// Whether a function has in its home a type as that home sees it, where the variables around it have
+// the types `vars`, the newest first, and each captured value counts as of the type beside it.
 fn is_declared_as<'a>(
     alloc: Global,
     env: &'a Env,

@@ -14,7 +14,7 @@ use Rattle.ac_clashes.proofs.KnownLaws.{position_more}
 use Rattle.ac_terms.specs.Defs.{Environment, Entry, names}
 use Rattle.ac_terms.specs.Names.{text_of_entry}
 use Rattle.ac_rules.specs.Coherent.{IsCoherent}
-use Rattle.ac_rules.specs.Packets.{named_from, clashes, alike, differ, first_clash, Cause, Clash}
+use Rattle.ac_rules.specs.Packets.{named_from, clashes, alike, differ, first_clash, PacketCause, Clash}
 use Rattle.ac_terms.proofs.TestLaws.{not_false, lt_is}
 use Rattle.ac_rules.proofs.ViewLaws.{within}
 use Rattle.ac_rules.proofs.EarlierLaws.{position-first, position-later, no_first}
@@ -188,7 +188,7 @@ module _ (E A : Environment) (i : ℕ) (l : i < length A) where
   many_before = length-append (all_known E) (take i (all_known A)) ∙ ap₂ (λ a b. a + b) (as_many_known E) (taken (all_known A) i (let s : length (all_known A) ≡ length A = as_many_known A in omega (arith, l, s)))
 
   -- one step of the search
-  abbrev after : Option ℕ → Option Cause
+  abbrev after : Option ℕ → Option PacketCause
   after o = elim o [ Some j ↦ Some (Clash i j) | None ↦ first_clash sha256 (known_before E A i ++ known_of A i ∷ []) (suc i) (drop (suc i) (all_known A)) ]
 
   pub clash_step : first_clash sha256 (known_before E A i) i (drop i (all_known A)) ≡ after (position (clashes sha256 (known_of A i)) (known_before E A i))

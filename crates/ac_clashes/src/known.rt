@@ -8,7 +8,7 @@ ghost use Rattle.ac_terms.specs.Defs.{names as are_named};
 ghost use Rattle.ac_terms.specs.Names.{text_of_entry};
 ghost use Rattle.ac_terms.specs.Read.{environment_of, name_of_code};
 ghost use Rattle.ac_rules.specs.Coherent.{IsCoherent};
-ghost use Rattle.ac_rules.specs.Packets.{Cause, clashes, differ, first_clash};
+ghost use Rattle.ac_rules.specs.Packets.{PacketCause, clashes, differ, first_clash};
 ghost use Rattle.ac_clashes.specs.inner.Known.{all_known, known_at, known_before, known_of, name_found, text_under, texted, HasOneText};
 
 use ac_canon::{def_text, has_text};
@@ -17,8 +17,8 @@ use ac_types::{Memory, Name};
 use std::alloc::Global;
 use std::collections::BTreeMap;
 
-/// The number of the least definition with a text of each name: the entries are counted first, then
-/// the packet's definitions.
+// The number of the least definition with a text of each name: the entries are counted first, then
+// the packet's definitions.
 type Names = BTreeMap<[u8; 32], u32>;
 
 // The name of entry `i`, where it has a text.
@@ -111,7 +111,8 @@ fn clash_of(
     requires found { (n : Bytes) → name_found names.now n ≡ known_at
         (known_before (environment_of env.now) (environment_of alone.now) i) n }
     requires one { HasOneText (known_before (environment_of env.now) (environment_of alone.now) i) }
-    ensures { IfOk result (λ o. o ≡ position (clashes sha256 (known_of (environment_of alone.now) i))
+    ensures { IfOk result (λ o. o ≡ position (clashes sha256
+        (known_of (environment_of alone.now) i))
         (known_before (environment_of env.now) (environment_of alone.now) i)) }
 {
     let Some(name) = texted_name(alone, i) else {
@@ -134,7 +135,7 @@ fn clash_of(
 pub fn clash(alloc: Global, env: &Env, alone: &Env) -> Result<Option<(u32, u32)>, Memory>
     requires coherent { IsCoherent (environment_of env.now) }
     requires few { length env.now.entries + length alone.now.entries < 2 ^ 32 }
-    ensures { IfOk result (λ o. option_map (λ p. Cause.Clash p.0 p.1) o ≡ first_clash sha256
+    ensures { IfOk result (λ o. option_map (λ p. PacketCause.Clash p.0 p.1) o ≡ first_clash sha256
         (all_known (environment_of env.now)) 0 (all_known (environment_of alone.now))) }
 {
     let many = env.entries.len();

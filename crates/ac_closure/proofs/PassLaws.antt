@@ -210,8 +210,3 @@ module _ (find : Bytes → Option ℕ) (E : Environment) (mark : ℕ) where
       ap (λ js. chosen_below find E mark j (with_parts find set (def_parts (packet_form mark j e))) ++ js) (reverse-append is (j ∷ []))
       ∙ sym (append_assoc (chosen_below find E mark j (with_parts find set (def_parts (packet_form mark j e)))) (j ∷ []) (reverse is))
       ∙ ap (λ js. js ++ reverse is) (sym (turn_in k j set e p chosen at))
-
-  pub kept_out : (k j : ℕ) (set : List Bool) → k ≡ suc j → get_or set j false ≡ false → chosen_below find E mark j set ≡ chosen_below find E mark k set
-  kept_out k j set p left =
-      sym (ap (λ n. chosen_below find E mark n set) p
-      ∙ ap (chose j set) left)

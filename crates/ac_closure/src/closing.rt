@@ -43,8 +43,8 @@ pub fn needed(
     }
 }
 
-// The entry of the mark of that name.
-fn mark_at(entries: &[Entry], mark: &Text) -> Option<usize>
+/// The first entry that is the mark of that name; `None` where there is none.
+pub fn mark_at(entries: &[Entry], mark: &Text) -> Option<usize>
     ensures { result ≡ mark_at (map entry_of entries.now) mark.now.0 }
 {
     entries.iter().position(|entry| is_mark(mark, entry))

@@ -10,5 +10,5 @@ mod set;
 mod terms;
 mod types;
 
-pub use closing::needed;
+pub use closing::{mark_at, needed};
 pub use fault::NeedFault;

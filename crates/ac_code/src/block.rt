@@ -1,3 +1,5 @@
+// Blocks of instructions.
+
 use crate::instr::Instr;
 use ac_terms::{Home, Term};
 use ac_types::{Many, Ty};

@@ -1,3 +1,5 @@
+// The instructions of the machine.
+
 use ac_terms::Pat;
 use ac_types::{Text, Ty, Word};
 

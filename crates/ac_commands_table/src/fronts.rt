@@ -8,7 +8,7 @@ const READ_LINE: &[u8] = b"acute: read fault\n";
 
 const WRITE_LINE: &[u8] = b"acute: write fault\n";
 
-/// The line of a fault that stands last on errors, if one does, and what stands in front of it.
+// The line of a fault that stands last on errors, if one does, and what stands in front of it.
 fn parted(errors: &[u8]) -> (&[u8], &[u8]) {
     if let Some(front) = errors.strip_suffix(READ_LINE) {
         return (front, READ_LINE);

@@ -6,7 +6,7 @@ use Rattle.ac_terms.specs.Defs.{Environment}
 use Rattle.ac_code.specs.Code.{Code}
 use Rattle.ac_code.specs.declared.instr.CodeId.{CodeId}
 use Rattle.ac_generate.specs.Generated.{value_generated, value_number}
-use Rattle.ac_meaning.specs.Packing.{Packing, Refuses, Packs, Landing, Sinks, Lands}
+use Rattle.ac_meaning.specs.Packing.{Packing, CannotPack, Packs, Landing, Sinks, Lands}
 use Rattle.ac_meaning.specs.ReadExn.{exn_of}
 use Rattle.ac_simulation.specs.Running.{with_more}
 use Rattle.ac_crossing.specs.declared.fault.CrossFault.{CrossFault}
@@ -15,7 +15,7 @@ use Rattle.ac_crossing.specs.declared.fault.CrossFault.TheVariants as fault
 -- the string that a value is packed into, or the exception of why it is not; want of memory says nothing
 abbrev pub Departs : Packing → Result Text CrossFault → Type 0
 Departs p (Ok s) = p ≡ Packs s.0
-Departs p (Err (fault.Raise e)) = p ≡ Refuses (exn_of e)
+Departs p (Err (fault.Raise e)) = p ≡ CannotPack (exn_of e)
 Departs p (Err fault.Memory) = Unit {0}
 
 -- over definitions E and code K a value has landed: the definitions are F then and the code L, with that of the new entries and then that of the value, which stands in this block

@@ -11,7 +11,7 @@ use Rattle.ac_pieces.specs.Readers.{NoneRead}
 use Rattle.ac_pieces.specs.ExactReading.{passing}
 use Rattle.ac_pieces.proofs.Tags.{no_tag, tag_read}
 use Rattle.ac_pieces.proofs.Steps.{refused_by}
-use Rattle.ac_decode.specs.ExactTerms.{exact_pattern_table, exact_pattern, exact_term_table, exact_term, exact_value_table, exact_value}
+use Rattle.ac_decode.specs.inner.ExactTerms.{exact_pattern_table, exact_pattern, exact_term_table, exact_term, exact_value_table, exact_value}
 
 module _ (read_type : Bool → ReadsPart Typ) where
   pub no_pattern_deeper : (n : ℕ) (bs : Bytes) → n ≡ 0 → exact_pattern read_type n bs ≡ None

@@ -8,8 +8,8 @@ use Rattle.ac_terms.specs.Defs.{Packet}
 use Rattle.ac_terms.specs.Spelling.{packet_bytes}
 use Rattle.ac_terms.specs.Bounds.{Spells}
 use Rattle.ac_pieces.specs.ExactTypes.{exact_type}
-use Rattle.ac_decode.specs.ExactPackets.{exact_packet}
-use Rattle.ac_decode.specs.Decoding.{then_end, to_the_end}
+use Rattle.ac_decode.specs.inner.ExactPackets.{exact_packet}
+use Rattle.ac_decode.specs.inner.Ends.{then_end, to_the_end}
 use Rattle.ac_decode.proofs.PacketsExact.{packet_sound, packet_back}
 
 ended : {A : Type 0} (o : Option (A × Bytes)) (a : A) (rest : Bytes) → option_and_then then_end o ≡ Some (a, rest) → (o ≡ Some (a, [])) × (rest ≡ [])

@@ -1,5 +1,5 @@
 -- An int that was read is one of eight bytes.
-use Rattle.std.proofs.Common.{◌≡◌, sym, ap, true, ◌^◌, Some}
+use Rattle.std.proofs.Common.{◌≡◌, true, ◌^◌, Some}
 use Rattle.std.specs.Prelude.{ℤ, pos, negsuc}
 use Rattle.std.specs.Int.{w64}
 use Rattle.std.specs.Int.RustNames.{FitsSigned}
@@ -15,7 +15,3 @@ integer_fits (negsuc n) e = record { sfits = lt_true n (2 ^ 63) e }
 
 pub read_fits : (bs : Bytes) (z : ℤ) (left : Bytes) → exact_eight bs ≡ Some (z, left) → FitsSigned w64 z
 read_fits bs z left e = integer_fits z (eight_is_exact.sound bs z left e).fits
-
--- so it stays what it is
-pub int_stays : {A : Type 0} (f : ℤ → A) (z : ℤ) (left : Bytes) (bs : Bytes) → exact_eight bs ≡ Some (z, left) → (y : ℤ) → (FitsSigned w64 z → y ≡ z) → f z ≡ f y
-int_stays f z left bs e y is = ap f (sym (is (read_fits bs z left e)))

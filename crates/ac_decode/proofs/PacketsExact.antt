@@ -24,8 +24,8 @@ use Rattle.ac_pieces.proofs.Exact.{Took, IsExact, Once, once, twice, exact_passi
 use Rattle.ac_pieces.proofs.Tables.{table_sound, sound_nothing, sound_one}
 use Rattle.ac_pieces.proofs.Pieces.{Is, byte_is_exact, four_is_exact, two_is_exact, lower_is_exact, upper_is_exact, long_count_is_exact, version_is_exact, constraint_is_exact, resolves_is_exact}
 use Rattle.ac_pieces.proofs.TypesExact.{SmallType, SmallAll, SmallSig, type_is_exact, all_typed_is_exact, sig_is_exact}
-use Rattle.ac_decode.specs.ExactTerms.{exact_value}
-use Rattle.ac_decode.specs.ExactPackets.{mark_of_packets, field_made, exact_mark, exact_first, exact_head, exact_field, exact_fields, exact_module, exact_import, exact_def, exact_defs, exact_packet}
+use Rattle.ac_decode.specs.inner.ExactTerms.{exact_value}
+use Rattle.ac_decode.specs.inner.ExactPackets.{mark_of_packets, field_made, exact_mark, exact_first, exact_head, exact_field, exact_fields, exact_module, exact_import, exact_def, exact_defs, exact_packet}
 use Rattle.ac_decode.proofs.PartsSmall.{small_join, small_left, small_right}
 use Rattle.ac_decode.proofs.TermsExact.{ProperValue, term_is_exact, value_is_exact}
 use Rattle.ac_decode.proofs.DefBounds.{few, few_from, sig_fits, sig_small, sig_from, typed_parts, typed_fits, typed_small, typed_from, ProperField, fits_field, field_parts, fields_fit, fields_nest, fields_small, fields_from}

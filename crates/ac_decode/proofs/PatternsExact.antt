@@ -9,7 +9,7 @@ use Rattle.ac_types.proofs.Same.{both_true, and_true}
 use Rattle.ac_types.specs.Limits.{longest_string}
 use Rattle.ac_types.specs.Types.{Bytes, Typ, is_small}
 use Rattle.ac_terms.specs.Terms.{Pattern, PWild, PVar, PInt, PBool, PStr, PUnit, PTuple, PNil, PCons, PAbsent, PPresent, PExn, PExnOf, Patterns, no_patterns, pattern'}
-use Rattle.ac_terms.specs.PrimitiveTypes.{has_text}
+use Rattle.ac_types.specs.Exceptions.{has_text}
 use Rattle.ac_terms.specs.Nesting.{pattern_nesting, pattern_depth}
 use Rattle.ac_terms.specs.Parts.{pattern_types, all_pattern_types}
 use Rattle.ac_terms.specs.Spelling.{one_written, pattern_count}
@@ -24,7 +24,7 @@ use Rattle.ac_pieces.proofs.Exact.{Took, IsExact}
 use Rattle.ac_pieces.proofs.Tables.{SoundFrom, table_sound, sound_nothing, sound_give, sound_one, sound_two}
 use Rattle.ac_pieces.proofs.Pieces.{eight_is_exact, truth_is_exact, text_is_exact, width_is_exact}
 use Rattle.ac_pieces.proofs.TypesExact.{SmallType, exact_counted}
-use Rattle.ac_decode.specs.ExactTerms.{is_exn, exact_pattern_table, exact_pattern}
+use Rattle.ac_decode.specs.inner.ExactTerms.{is_exn, exact_pattern_table, exact_pattern}
 use Rattle.ac_decode.proofs.Texts.{sound_text, back_with_text, back_without_text}
 
 -- patterns of at most that nesting

@@ -8,7 +8,8 @@ use Rattle.ac_types.proofs.Same.{both_true, and_true}
 use Rattle.ac_types.specs.Limits.{longest_string}
 use Rattle.ac_types.specs.Types.{Bytes, Typ, is_small}
 use Rattle.ac_terms.specs.Terms.{Pattern, Expr, Int, Boolean, Str, Unit', Exn, ExnOf, Tuple, Nil, Empty, Present, Cons, Var, Own, Ref, Lam, Rec, App, Let, If, Seq, Match, Try, Raise, Prim, Marshal, Unmarshal, Val, Evaluated, Bracket, Exprs, no_exprs, expr, Arms, no_arms, arm, PValue, KInt, KBool, KStr, KUnit, KExn, KTuple, KList, KAbsent, KPresent, KFun, PValues, no_pvalues, pvalue}
-use Rattle.ac_terms.specs.PrimitiveTypes.{has_text, Rule, primitives}
+use Rattle.ac_types.specs.Exceptions.{has_text}
+use Rattle.ac_terms.specs.PrimitiveTypes.{Rule, primitives}
 use Rattle.ac_terms.specs.Nesting.{nesting, depth, arm_depth, value_nesting, value_depth}
 use Rattle.ac_terms.specs.Parts.{OfType, pattern_types, term_parts, all_term_parts, arm_parts, value_parts, all_value_parts}
 use Rattle.ac_terms.specs.Spelling.{one_written, two_written, four_written, type_count, term_count, arm_count, value_count}
@@ -22,7 +23,7 @@ use Rattle.ac_pieces.proofs.Exact.{Took, IsExact, once, twice, times_sound, exac
 use Rattle.ac_pieces.proofs.Tables.{SoundAt, SoundFrom, table_sound, sound_nothing, sound_give, sound_one, sound_two, sound_three}
 use Rattle.ac_pieces.proofs.Pieces.{two_is_exact, four_is_exact, eight_is_exact, truth_is_exact, lower_is_exact, text_is_exact, width_is_exact, long_count_is_exact}
 use Rattle.ac_pieces.proofs.TypesExact.{SmallType, exact_counted}
-use Rattle.ac_decode.specs.ExactTerms.{several, exact_primitive, exact_several, exact_captured, exact_cases, an_arm, exact_pattern, exact_term_table, exact_value_table, exact_term, exact_value}
+use Rattle.ac_decode.specs.inner.ExactTerms.{several, exact_primitive, exact_several, exact_captured, exact_cases, an_arm, exact_pattern, exact_term_table, exact_value_table, exact_term, exact_value}
 use Rattle.ac_decode.proofs.PartsSmall.{small_join, small_left, small_right, types_as_parts}
 use Rattle.ac_decode.proofs.Texts.{primitive_is_exact, home_is_exact, sound_text, back_with_text, back_without_text}
 use Rattle.ac_decode.proofs.PatternsExact.{Proper, pattern_is_exact, without_text, text_exn}

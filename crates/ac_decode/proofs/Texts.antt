@@ -4,7 +4,7 @@ use mathlib.Core.Bool.{true≢false}
 use Rattle.ac_types.proofs.FirstLaws.{some_eq}
 use Rattle.ac_types.specs.Types.{Bytes}
 use Rattle.ac_terms.specs.Terms.{Home, Main, In}
-use Rattle.ac_terms.specs.PrimitiveTypes.{has_text}
+use Rattle.ac_types.specs.Exceptions.{has_text}
 use Rattle.ac_terms.specs.Spelling.{byte, two_written, home_bytes}
 use Rattle.ac_terms.specs.Bounds.{is_two, fits_home}
 use Rattle.ac_terms.specs.PacketReading.{ReadsPart, one, read_with_text, home_number}
@@ -13,7 +13,7 @@ use Rattle.ac_pieces.specs.ExactReading.{exact_two}
 use Rattle.ac_pieces.proofs.Exact.{Took, IsExact, once, twice, exact_passing, exact_as}
 use Rattle.ac_pieces.proofs.Tables.{SoundAt}
 use Rattle.ac_pieces.proofs.Pieces.{Is, byte_is_exact, two_is_exact}
-use Rattle.ac_decode.specs.ExactTerms.{is_exn, exact_exn, names_primitive, exact_primitive, exact_home, exact_with_text}
+use Rattle.ac_decode.specs.inner.ExactTerms.{is_exn, exact_exn, names_primitive, exact_primitive, exact_home, exact_with_text}
 
 pub exn_is_exact : IsExact exact_exn (Is is_exn) byte
 unfolding exact_exn

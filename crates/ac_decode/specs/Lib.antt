@@ -1,4 +1,2 @@
-pub mod ExactTerms
-pub mod ExactPackets
 pub mod inner
 pub mod Decoding

@@ -1,1 +1,4 @@
 pub mod Follows
+pub mod ExactPackets
+pub mod ExactTerms
+pub mod Ends

@@ -4,8 +4,8 @@ ghost use Rattle.std.specs.Prelude.{List, [], ◌∷◌, map, option_and_then, s
 ghost use Rattle.ac_terms.specs.Defs.{Def, AModule, AnImport};
 ghost use Rattle.ac_terms.specs.Read.{field_of, module_of_code, import_of_code, pdef_of};
 ghost use Rattle.ac_terms.specs.PacketReading.{ReadsPart, times};
-ghost use Rattle.ac_pieces.specs.Readers.{HasRead};
-ghost use Rattle.ac_decode.specs.ExactPackets.{exact_field, exact_fields, exact_module, exact_import, def_table, exact_def, exact_defs};
+ghost use Rattle.ac_pieces.specs.Readers.{ReadsAs};
+ghost use Rattle.ac_decode.specs.inner.ExactPackets.{exact_field, exact_fields, exact_module, exact_import, def_table, exact_def, exact_defs};
 
 use crate::terms::term;
 use ac_bytes::Cursor;
@@ -21,9 +21,9 @@ use std::alloc::Global;
 pub const DEEPEST: u32 = 500;
 
 // A field.
-#[tactic(auto, unfolding(crate::specs::ExactPackets::exact_field))]
+#[tactic(auto, unfolding(crate::specs::inner::ExactPackets::exact_field))]
 fn field<T: Types>(alloc: Global, cursor: &mut Cursor<'_>, types: &T) -> Result<Field, Fault>
-    ensures { HasRead field_of result (exact_field (T.reads_type types.now) cursor.old.left)
+    ensures { ReadsAs field_of result (exact_field (T.reads_type types.now) cursor.old.left)
         cursor.new.left }
 {
     let name = lower(alloc, cursor)?;
@@ -39,7 +39,7 @@ fn some_fields<T: Types>(
     types: &T,
     count: u16,
 ) -> Result<Many<Field>, Fault>
-    ensures { HasRead (map field_of) result (times [] (λ x xs. x ∷ xs)
+    ensures { ReadsAs (map field_of) result (times [] (λ x xs. x ∷ xs)
         (exact_field (T.reads_type types.now)) count cursor.old.left) cursor.new.left }
 {
     let mut items = Many::new(alloc);
@@ -51,9 +51,9 @@ fn some_fields<T: Types>(
 }
 
 // The fields of a module.
-#[tactic(auto, unfolding(crate::specs::ExactPackets::exact_fields))]
+#[tactic(auto, unfolding(crate::specs::inner::ExactPackets::exact_fields))]
 fn fields<T: Types>(alloc: Global, cursor: &mut Cursor<'_>, types: &T) -> Result<Many<Field>, Fault>
-    ensures { HasRead (map field_of) result
+    ensures { ReadsAs (map field_of) result
         (exact_fields (T.reads_type types.now) cursor.old.left) cursor.new.left }
 {
     let count = long_count(cursor, 0, 1024)?;
@@ -61,9 +61,9 @@ fn fields<T: Types>(alloc: Global, cursor: &mut Cursor<'_>, types: &T) -> Result
 }
 
 // A module behind its tag.
-#[tactic(auto, unfolding(crate::specs::ExactPackets::exact_module))]
+#[tactic(auto, unfolding(crate::specs::inner::ExactPackets::exact_module))]
 fn module<T: Types>(alloc: Global, cursor: &mut Cursor<'_>, types: &T) -> Result<Module, Fault>
-    ensures { HasRead (λ m. AModule (module_of_code m)) result
+    ensures { ReadsAs (λ m. AModule (module_of_code m)) result
         (exact_module (T.reads_type types.now) cursor.old.left) cursor.new.left }
 {
     let name = upper(alloc, cursor)?;
@@ -81,9 +81,9 @@ fn module<T: Types>(alloc: Global, cursor: &mut Cursor<'_>, types: &T) -> Result
 }
 
 // An import behind its tag.
-#[tactic(auto, unfolding(crate::specs::ExactPackets::exact_import))]
+#[tactic(auto, unfolding(crate::specs::inner::ExactPackets::exact_import))]
 fn import<T: Types>(alloc: Global, cursor: &mut Cursor<'_>, types: &T) -> Result<Import, Fault>
-    ensures { HasRead (λ i. AnImport (import_of_code i)) result
+    ensures { ReadsAs (λ i. AnImport (import_of_code i)) result
         (exact_import (T.reads_type types.now) cursor.old.left) cursor.new.left }
 {
     let name = upper(alloc, cursor)?;
@@ -102,7 +102,7 @@ fn import<T: Types>(alloc: Global, cursor: &mut Cursor<'_>, types: &T) -> Result
 
 // A definition.
 fn def<T: Types>(alloc: Global, cursor: &mut Cursor<'_>, types: &T) -> Result<PDef, Fault>
-    ensures { HasRead pdef_of result (exact_def (T.reads_type types.now) cursor.old.left)
+    ensures { ReadsAs pdef_of result (exact_def (T.reads_type types.now) cursor.old.left)
         cursor.new.left }
 {
     let at = cursor.place();
@@ -118,7 +118,7 @@ fn def_behind<T: Types>(
     at: usize,
     tag: u8,
 ) -> Result<PDef, Fault>
-    ensures { HasRead pdef_of result (option_and_then (λ (g : ReadsPart Def). g cursor.old.left)
+    ensures { ReadsAs pdef_of result (option_and_then (λ (g : ReadsPart Def). g cursor.old.left)
         (slice_get (def_table (T.reads_type types.now)) tag)) cursor.new.left }
 {
     match tag {
@@ -135,7 +135,7 @@ fn some_defs<T: Types>(
     types: &T,
     count: u16,
 ) -> Result<Many<PDef>, Fault>
-    ensures { HasRead (map pdef_of) result (times [] (λ x xs. x ∷ xs)
+    ensures { ReadsAs (map pdef_of) result (times [] (λ x xs. x ∷ xs)
         (exact_def (T.reads_type types.now)) count cursor.old.left) cursor.new.left }
 {
     let mut items = Many::new(alloc);
@@ -147,13 +147,13 @@ fn some_defs<T: Types>(
 }
 
 /// The definitions of a packet.
-#[tactic(auto, unfolding(crate::specs::ExactPackets::exact_defs))]
+#[tactic(auto, unfolding(crate::specs::inner::ExactPackets::exact_defs))]
 pub fn defs<T: Types>(
     alloc: Global,
     cursor: &mut Cursor<'_>,
     types: &T,
 ) -> Result<Many<PDef>, Fault>
-    ensures { HasRead (map pdef_of) result (exact_defs (T.reads_type types.now) cursor.old.left)
+    ensures { ReadsAs (map pdef_of) result (exact_defs (T.reads_type types.now) cursor.old.left)
         cursor.new.left }
 {
     let count = two(cursor)?;

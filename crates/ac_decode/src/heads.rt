@@ -3,21 +3,27 @@
 
 ghost use Rattle.std.specs.Prelude.{◌≡◌, ℕ, Bool, true, false, Some, None, option_and_then, slice_get, MatchOption, IfOk};
 ghost use Rattle.ac_terms.specs.Terms.{Pattern, PInt, PExn, PExnOf, Expr, Int, Exn as ExnAlone, ExnOf, Ref, Rec, PValue, KInt, KExn};
-ghost use Rattle.ac_terms.specs.PrimitiveTypes.{has_text, primitives};
+ghost use Rattle.ac_types.specs.Exceptions.{has_text};
+ghost use Rattle.ac_terms.specs.PrimitiveTypes.{primitives};
 ghost use Rattle.ac_terms.specs.Read.{pattern_of, expr_of, home_of, value_of};
 ghost use Rattle.ac_terms.specs.PacketReading.{ReadsPart, one, two_parts_read, three, argument_count};
 ghost use Rattle.ac_pieces.specs.ExactReading.{exact_two, exact_eight, exact_lower, exact_text};
-ghost use Rattle.ac_pieces.specs.Readers.{HasRead, ReadsOn};
-ghost use Rattle.ac_decode.specs.ExactTerms.{names_primitive, exact_exn, exact_primitive, exact_home, exact_several, exact_with_text, exact_pattern_table, exact_term_table, exact_value_table};
+ghost use Rattle.ac_pieces.specs.Readers.{ReadsAs, ReadsOn};
+ghost use Rattle.ac_decode.specs.inner.ExactTerms.{names_primitive, exact_exn, exact_primitive, exact_home, exact_several, exact_with_text, exact_pattern_table, exact_term_table, exact_value_table};
 ghost use Rattle.ac_decode.specs.inner.Follows.{pattern_follows, term_follows, value_follows};
 
 use ac_bytes::Cursor;
 use ac_pieces::{Fault, Types, byte, eight, four, joined, lower, text, truth, two, width};
 use ac_terms::{Exn, Home, PVal, Pat, Term};
 use ac_types::Ty;
+use ac_types::exceptions::{RESOLVE_FAILURE, has_text};
+use ac_types::primitives::{
+    ADD, CONCAT, DIV, EQ, LENGTH, LT, MUL, NEG, NOT, OF_INT, PRINT_INT, PRINT_STRING, RECEIVE, REM,
+    SEND, SUB, SUB_STRING,
+};
 use std::alloc::Global;
 
-/// The most bytes of a string.
+// The most bytes of a string.
 const LONGEST: u32 = 1_048_576;
 
 /// A pattern by its tag.
@@ -119,21 +125,14 @@ pub enum ValueHead {
     Fun(Home),
 }
 
-// Whether the exception of that number has a text.
-fn has_text(number: u8) -> bool
-    ensures { result ≡ has_text number }
-{
-    number <= 1 || (6 <= number && number <= 9)
-}
-
 // The number of an exception.
-#[tactic(auto, unfolding(crate::specs::ExactTerms::exact_exn))]
+#[tactic(auto, unfolding(crate::specs::inner::ExactTerms::exact_exn))]
 fn exn(cursor: &mut Cursor<'_>) -> Result<u8, Fault>
-    ensures { HasRead (λ (n : ℕ). n) result (exact_exn cursor.old.left) cursor.new.left }
+    ensures { ReadsAs (λ (n : ℕ). n) result (exact_exn cursor.old.left) cursor.new.left }
 {
     let at = cursor.place();
     let number = byte(cursor)?;
-    if number > 9 {
+    if number > RESOLVE_FAILURE {
         return Err(Fault::Misfit { at });
     }
     Ok(number)
@@ -145,16 +144,17 @@ fn arity(number: u8) -> Option<u8>
         (λ n. (names_primitive number ≡ true) × (n ≡ argument_count primitives number)) }
 {
     match number {
-        0 | 1 | 2 | 3 | 4 | 6 | 7 | 8 => Some(2),
-        5 | 9 | 10 | 11 | 12 | 13 | 14 | 15 | 16 => Some(1),
+        ADD | SUB | MUL | DIV | REM | EQ | LT | CONCAT => Some(2),
+        NEG | NOT | PRINT_INT | PRINT_STRING | SEND | RECEIVE => Some(1),
+        LENGTH | SUB_STRING | OF_INT => Some(1),
         _ => None,
     }
 }
 
 // The number of a primitive.
-#[tactic(auto, unfolding(crate::specs::ExactTerms::exact_primitive))]
+#[tactic(auto, unfolding(crate::specs::inner::ExactTerms::exact_primitive))]
 fn primitive(cursor: &mut Cursor<'_>) -> Result<(u8, u8), Fault>
-    ensures number { HasRead (λ (p : ℕ × ℕ). p.0) result (exact_primitive cursor.old.left)
+    ensures number { ReadsAs (λ (p : ℕ × ℕ). p.0) result (exact_primitive cursor.old.left)
         cursor.new.left }
     ensures arguments { IfOk result (λ p. p.1 ≡ argument_count primitives p.0) }
 {
@@ -167,9 +167,9 @@ fn primitive(cursor: &mut Cursor<'_>) -> Result<(u8, u8), Fault>
 }
 
 // A function's home.
-#[tactic(auto, unfolding(crate::specs::ExactTerms::exact_home))]
+#[tactic(auto, unfolding(crate::specs::inner::ExactTerms::exact_home))]
 fn home(cursor: &mut Cursor<'_>) -> Result<Home, Fault>
-    ensures { HasRead home_of result (exact_home cursor.old.left) cursor.new.left }
+    ensures { ReadsAs home_of result (exact_home cursor.old.left) cursor.new.left }
 {
     match two(cursor)? {
         0 => Ok(Home::Main),
@@ -178,9 +178,9 @@ fn home(cursor: &mut Cursor<'_>) -> Result<Home, Fault>
 }
 
 // How many parts a sequence has.
-#[tactic(auto, unfolding(crate::specs::ExactTerms::exact_several))]
+#[tactic(auto, unfolding(crate::specs::inner::ExactTerms::exact_several))]
 fn several(cursor: &mut Cursor<'_>) -> Result<u32, Fault>
-    ensures { HasRead (λ (n : ℕ). n) result (exact_several cursor.old.left) cursor.new.left }
+    ensures { ReadsAs (λ (n : ℕ). n) result (exact_several cursor.old.left) cursor.new.left }
 {
     let at = cursor.place();
     let n = four(cursor)?;
@@ -191,7 +191,7 @@ fn several(cursor: &mut Cursor<'_>) -> Result<u32, Fault>
 }
 
 /// The head of a pattern behind its tag, which stands at that place.
-#[tactic(auto, using(ac_canon::proofs::PatternForms::pattern_forms))]
+#[tactic(auto, using(ac_terms::proofs::PatternForms::pattern_forms))]
 pub fn pattern_head<T: Types>(
     alloc: Global,
     cursor: &mut Cursor<'_>,
@@ -221,7 +221,7 @@ pub fn pattern_head<T: Types>(
 }
 
 // That of an exception.
-#[tactic(auto, using(ac_canon::proofs::PatternForms::pattern_forms))]
+#[tactic(auto, using(ac_terms::proofs::PatternForms::pattern_forms))]
 fn pattern_exn(cursor: &mut Cursor<'_>) -> Result<PatHead, Fault>
     ensures { (f : ReadsPart Pattern) → ReadsOn (λ h. pattern_follows f h cursor.new.left) result
         (exact_with_text PExn PExnOf f cursor.old.left) }
@@ -328,7 +328,7 @@ fn recursive<T: Types>(alloc: Global, cursor: &mut Cursor<'_>, types: &T) -> Res
 }
 
 /// The head of a packed value behind its tag, which stands at that place.
-#[tactic(auto, using(ac_canon::proofs::ValueForms::value_forms))]
+#[tactic(auto, using(ac_terms::proofs::ValueForms::value_forms))]
 pub fn value_head(
     alloc: Global,
     cursor: &mut Cursor<'_>,
@@ -356,7 +356,7 @@ pub fn value_head(
 }
 
 // That of an exception.
-#[tactic(auto, using(ac_canon::proofs::ValueForms::value_forms))]
+#[tactic(auto, using(ac_terms::proofs::ValueForms::value_forms))]
 fn value_exn(alloc: Global, cursor: &mut Cursor<'_>) -> Result<ValueHead, Fault>
     ensures { (f : ReadsPart Expr) (g : ReadsPart PValue) →
         ReadsOn (λ h. value_follows f g h cursor.new.left) result

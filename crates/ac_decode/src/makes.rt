@@ -16,7 +16,8 @@ use ac_types::{Box, Many, Ty};
 /// A tuple.
 #[tactic(auto, using(ac_canon::proofs::PatternForms::pattern_laws))]
 pub fn pat_tuple(parts: Result<Many<Pat>, Fault>) -> Result<Pat, Fault>
-    ensures { MadeOfRead (λ (ps : List Pat). patterns (map pattern_of ps)) pattern_of PTuple parts result }
+    ensures { MadeOfRead (λ (ps : List Pat). patterns (map pattern_of ps)) pattern_of PTuple parts
+        result }
 {
     let parts = parts?;
     Ok(Pat::Tuple(parts))
@@ -25,7 +26,8 @@ pub fn pat_tuple(parts: Result<Many<Pat>, Fault>) -> Result<Pat, Fault>
 /// A list's first element and the rest.
 #[tactic(auto, using(ac_canon::proofs::PatternForms::pattern_laws))]
 pub fn pat_cons(both: Result<(Box<Pat>, Box<Pat>), Fault>) -> Result<Pat, Fault>
-    ensures { MadeOfRead {A = Pattern × Pattern} (λ p. (pattern_of p.0, pattern_of p.1)) pattern_of (λ p. PCons p.0 p.1) both
+    ensures { MadeOfRead {A = Pattern × Pattern} (λ p. (pattern_of p.0, pattern_of p.1)) pattern_of
+        (λ p. PCons p.0 p.1) both
         result }
 {
     let (head, tail) = both?;
@@ -81,7 +83,8 @@ fn put_around(kind: Around, inner: Box<Term>) -> Term
 /// A term of two.
 #[tactic(auto, using(ac_canon::proofs::ValueForms::term_laws))]
 pub fn joint(kind: Joint, both: Result<(Box<Term>, Box<Term>), Fault>) -> Result<Term, Fault>
-    ensures { MadeOfRead {A = Expr × Expr} (λ p. (expr_of p.0, expr_of p.1)) expr_of (λ p. put_joint kind p.0 p.1) both
+    ensures { MadeOfRead {A = Expr × Expr} (λ p. (expr_of p.0, expr_of p.1)) expr_of
+        (λ p. put_joint kind p.0 p.1) both
         result }
 {
     match both {
@@ -108,7 +111,8 @@ fn put_joint(kind: Joint, a: Box<Term>, b: Box<Term>) -> Term
 /// A choice.
 #[tactic(auto, using(ac_canon::proofs::ValueForms::term_laws))]
 pub fn choice(all: Result<(Box<Term>, (Box<Term>, Box<Term>)), Fault>) -> Result<Term, Fault>
-    ensures { MadeOfRead {A = Expr × (Expr × Expr)} (λ p. (expr_of p.0, (expr_of p.1.0, expr_of p.1.1))) expr_of
+    ensures { MadeOfRead {A = Expr × (Expr × Expr)}
+        (λ p. (expr_of p.0, (expr_of p.1.0, expr_of p.1.1))) expr_of
         (λ p. If p.0 p.1.0 p.1.1) all result }
 {
     let (test, (so, otherwise)) = all?;
@@ -159,7 +163,8 @@ pub fn captured(ty: Ty, value: Result<PVal, Fault>) -> Result<Term, Fault>
 /// A tuple of packed values.
 #[tactic(auto, using(ac_canon::proofs::ValueForms::value_laws))]
 pub fn value_tuple(parts: Result<Many<PVal>, Fault>) -> Result<PVal, Fault>
-    ensures { MadeOfRead (λ (vs : List PVal). pvalues (map value_of vs)) value_of KTuple parts result }
+    ensures { MadeOfRead (λ (vs : List PVal). pvalues (map value_of vs)) value_of KTuple parts
+        result }
 {
     let parts = parts?;
     Ok(PVal::Tuple(parts))
@@ -168,7 +173,8 @@ pub fn value_tuple(parts: Result<Many<PVal>, Fault>) -> Result<PVal, Fault>
 /// A list of packed values.
 #[tactic(auto, using(ac_canon::proofs::ValueForms::value_laws))]
 pub fn value_list(parts: Result<Many<PVal>, Fault>) -> Result<PVal, Fault>
-    ensures { MadeOfRead (λ (vs : List PVal). pvalues (map value_of vs)) value_of KList parts result }
+    ensures { MadeOfRead (λ (vs : List PVal). pvalues (map value_of vs)) value_of KList parts
+        result }
 {
     let parts = parts?;
     Ok(PVal::List(parts))

@@ -5,9 +5,10 @@ ghost use Rattle.ac_terms.specs.Read.{packet_of};
 ghost use Rattle.ac_terms.specs.Bounds.{Spells};
 ghost use Rattle.ac_types.specs.Types.{Bytes};
 ghost use Rattle.ac_pieces.specs.ExactTypes.{exact_type};
-ghost use Rattle.ac_pieces.specs.Readers.{HasRead};
-ghost use Rattle.ac_decode.specs.ExactPackets.{exact_mark, exact_first, exact_packet};
-ghost use Rattle.ac_decode.specs.Decoding.{OnFormat, to_the_end};
+ghost use Rattle.ac_pieces.specs.Readers.{ReadsAs};
+ghost use Rattle.ac_decode.specs.inner.ExactPackets.{exact_mark, exact_first, exact_packet};
+ghost use Rattle.ac_decode.specs.inner.Ends.{to_the_end};
+ghost use Rattle.ac_decode.specs.Decoding.{OnFormat};
 
 use crate::defs::{DEEPEST, defs};
 use crate::terms::value;
@@ -17,10 +18,10 @@ use ac_terms::Packet;
 use ac_types::Memory;
 use std::alloc::Global;
 
-/// The most bytes of a packet.
+// The most bytes of a packet.
 const LONGEST_PACKET: usize = 1_048_576;
 
-/// What a packet begins with: `ACUP` as a number.
+// What a packet begins with: `ACUP` as a number.
 const MARK: u32 = 0x41435550;
 
 /// Why bytes are not read as a packet.
@@ -36,9 +37,9 @@ pub enum DecodeFault {
 }
 
 // What a packet begins with.
-#[tactic(auto, unfolding(crate::specs::ExactPackets::exact_mark))]
+#[tactic(auto, unfolding(crate::specs::inner::ExactPackets::exact_mark))]
 fn mark(cursor: &mut Cursor<'_>) -> Result<u32, Fault>
-    ensures { HasRead (λ (n : ℕ). n) result (exact_mark cursor.old.left) cursor.new.left }
+    ensures { ReadsAs (λ (n : ℕ). n) result (exact_mark cursor.old.left) cursor.new.left }
 {
     let at = cursor.place();
     let n = four(cursor)?;
@@ -49,9 +50,9 @@ fn mark(cursor: &mut Cursor<'_>) -> Result<u32, Fault>
 }
 
 // The version behind it.
-#[tactic(auto, unfolding(crate::specs::ExactPackets::exact_first))]
+#[tactic(auto, unfolding(crate::specs::inner::ExactPackets::exact_first))]
 fn first(cursor: &mut Cursor<'_>) -> Result<u8, Fault>
-    ensures { HasRead (λ (n : ℕ). n) result (exact_first cursor.old.left) cursor.new.left }
+    ensures { ReadsAs (λ (n : ℕ). n) result (exact_first cursor.old.left) cursor.new.left }
 {
     let at = cursor.place();
     let n = byte(cursor)?;
@@ -62,9 +63,9 @@ fn first(cursor: &mut Cursor<'_>) -> Result<u8, Fault>
 }
 
 // A packet.
-#[tactic(auto, unfolding(crate::specs::ExactPackets::exact_packet))]
+#[tactic(auto, unfolding(crate::specs::inner::ExactPackets::exact_packet))]
 fn packet<T: Types>(alloc: Global, cursor: &mut Cursor<'_>, types: &T) -> Result<Packet, Fault>
-    ensures { HasRead packet_of result (exact_packet (T.reads_type types.now) cursor.old.left)
+    ensures { ReadsAs packet_of result (exact_packet (T.reads_type types.now) cursor.old.left)
         cursor.new.left }
 {
     let _mark = mark(cursor)?;
@@ -77,7 +78,7 @@ fn packet<T: Types>(alloc: Global, cursor: &mut Cursor<'_>, types: &T) -> Result
 
 // The packet, where nothing is left behind it.
 fn whole(alloc: Global, bytes: &[u8]) -> Result<Packet, Fault>
-    ensures { HasRead packet_of result (to_the_end (exact_packet exact_type) bytes.now) [] }
+    ensures { ReadsAs packet_of result (to_the_end (exact_packet exact_type) bytes.now) [] }
 {
     let mut cursor = Cursor::new(bytes);
     let packet = packet(alloc, &mut cursor, &InFull)?;

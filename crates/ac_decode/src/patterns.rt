@@ -4,8 +4,8 @@ ghost use Rattle.std.specs.Prelude.{List, map};
 ghost use Rattle.ac_terms.specs.Terms.{no_patterns, pattern', patterns};
 ghost use Rattle.ac_terms.specs.Read.{pattern_of};
 ghost use Rattle.ac_terms.specs.PacketReading.{pair, times};
-ghost use Rattle.ac_pieces.specs.Readers.{HasRead};
-ghost use Rattle.ac_decode.specs.ExactTerms.{exact_pattern};
+ghost use Rattle.ac_pieces.specs.Readers.{ReadsAs};
+ghost use Rattle.ac_decode.specs.inner.ExactTerms.{exact_pattern};
 
 use crate::heads::{PatHead, pattern_head};
 use crate::makes::{pat_cons, pat_exn, pat_present, pat_tuple};
@@ -23,7 +23,7 @@ pub fn pattern<T: Types>(
     types: &T,
     depth: u32,
 ) -> Result<Pat, Fault>
-    ensures { HasRead pattern_of result
+    ensures { ReadsAs pattern_of result
         (exact_pattern (T.reads_type types.now) depth cursor.old.left) cursor.new.left }
 {
     let at = cursor.place();
@@ -50,7 +50,7 @@ fn boxed_pattern<T: Types>(
     types: &T,
     depth: u32,
 ) -> Result<Box<Pat>, Fault>
-    ensures { HasRead pattern_of result
+    ensures { ReadsAs pattern_of result
         (exact_pattern (T.reads_type types.now) depth cursor.old.left) cursor.new.left }
 {
     let pat = pattern(alloc, cursor, types, depth)?;
@@ -65,7 +65,7 @@ fn two_patterns<T: Types>(
     types: &T,
     depth: u32,
 ) -> Result<(Box<Pat>, Box<Pat>), Fault>
-    ensures { HasRead (λ p. (pattern_of p.0, pattern_of p.1)) result
+    ensures { ReadsAs (λ p. (pattern_of p.0, pattern_of p.1)) result
         (pair (exact_pattern (T.reads_type types.now) depth)
         (exact_pattern (T.reads_type types.now) depth) cursor.old.left) cursor.new.left }
 {
@@ -82,7 +82,7 @@ fn all_patterns<T: Types>(
     count: u8,
     depth: u32,
 ) -> Result<Many<Pat>, Fault>
-    ensures { HasRead (λ (ps : List Pat). patterns (map pattern_of ps)) result
+    ensures { ReadsAs (λ (ps : List Pat). patterns (map pattern_of ps)) result
         (times no_patterns pattern' (exact_pattern (T.reads_type types.now) depth) count
         cursor.old.left) cursor.new.left }
 {

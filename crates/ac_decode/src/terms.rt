@@ -7,8 +7,8 @@ ghost use Rattle.ac_terms.specs.Bounds.{is_lambda};
 ghost use Rattle.ac_terms.specs.PacketReading.{ReadsPart, pair, times};
 ghost use Rattle.ac_canon.specs.inner.Arms.{arm_of};
 ghost use Rattle.ac_pieces.specs.ExactReading.{passing};
-ghost use Rattle.ac_pieces.specs.Readers.{HasRead};
-ghost use Rattle.ac_decode.specs.ExactTerms.{an_arm, exact_cases, exact_pattern, exact_term_table, exact_term, exact_value};
+ghost use Rattle.ac_pieces.specs.Readers.{ReadsAs};
+ghost use Rattle.ac_decode.specs.inner.ExactTerms.{an_arm, exact_cases, exact_pattern, exact_term_table, exact_term, exact_value};
 
 use crate::heads::{Head, ValueHead, term_head, value_head};
 use crate::makes::{
@@ -32,7 +32,7 @@ pub fn term<T: Types>(
     within: bool,
     depth: u32,
 ) -> Result<Term, Fault>
-    ensures { HasRead expr_of result
+    ensures { ReadsAs expr_of result
         (exact_term (T.reads_type types.now) within depth cursor.old.left) cursor.new.left }
 {
     let at = cursor.place();
@@ -62,7 +62,7 @@ fn boxed_term<T: Types>(
     within: bool,
     depth: u32,
 ) -> Result<Box<Term>, Fault>
-    ensures { HasRead expr_of result
+    ensures { ReadsAs expr_of result
         (exact_term (T.reads_type types.now) within depth cursor.old.left) cursor.new.left }
 {
     let term = term(alloc, cursor, types, within, depth)?;
@@ -78,7 +78,7 @@ fn two_terms<T: Types>(
     within: bool,
     depth: u32,
 ) -> Result<(Box<Term>, Box<Term>), Fault>
-    ensures { HasRead (λ p. (expr_of p.0, expr_of p.1)) result
+    ensures { ReadsAs (λ p. (expr_of p.0, expr_of p.1)) result
         (pair (exact_term (T.reads_type types.now) within depth)
         (exact_term (T.reads_type types.now) within depth) cursor.old.left) cursor.new.left }
 {
@@ -95,7 +95,7 @@ fn three_terms<T: Types>(
     within: bool,
     depth: u32,
 ) -> Result<(Box<Term>, (Box<Term>, Box<Term>)), Fault>
-    ensures { HasRead (λ p. (expr_of p.0, (expr_of p.1.0, expr_of p.1.1))) result
+    ensures { ReadsAs (λ p. (expr_of p.0, (expr_of p.1.0, expr_of p.1.1))) result
         (pair (exact_term (T.reads_type types.now) within depth)
         (pair (exact_term (T.reads_type types.now) within depth)
         (exact_term (T.reads_type types.now) within depth)) cursor.old.left) cursor.new.left }
@@ -114,7 +114,7 @@ fn all_terms<T: Types>(
     count: u32,
     depth: u32,
 ) -> Result<Many<Term>, Fault>
-    ensures { HasRead (λ (ts : List Term). exprs (map expr_of ts)) result
+    ensures { ReadsAs (λ (ts : List Term). exprs (map expr_of ts)) result
         (times no_exprs expr (exact_term (T.reads_type types.now) within depth) count
         cursor.old.left) cursor.new.left }
 {
@@ -135,7 +135,7 @@ fn with_arms<T: Types>(
     within: bool,
     depth: u32,
 ) -> Result<(Box<Term>, Many<Arm>), Fault>
-    ensures { HasRead (λ p. (expr_of p.0, arms (map arm_of p.1))) result
+    ensures { ReadsAs (λ p. (expr_of p.0, arms (map arm_of p.1))) result
         (pair (exact_term (T.reads_type types.now) within depth)
         (exact_cases (exact_pattern (T.reads_type types.now) depth)
         (exact_term (T.reads_type types.now) within depth)) cursor.old.left) cursor.new.left }
@@ -153,7 +153,7 @@ fn counted_arms<T: Types>(
     within: bool,
     depth: u32,
 ) -> Result<Many<Arm>, Fault>
-    ensures { HasRead (λ (cs : List Arm). arms (map arm_of cs)) result
+    ensures { ReadsAs (λ (cs : List Arm). arms (map arm_of cs)) result
         (exact_cases (exact_pattern (T.reads_type types.now) depth)
         (exact_term (T.reads_type types.now) within depth) cursor.old.left) cursor.new.left }
 {
@@ -171,7 +171,7 @@ fn all_arms<T: Types>(
     count: u16,
     depth: u32,
 ) -> Result<Many<Arm>, Fault>
-    ensures { HasRead (λ (cs : List Arm). arms (map arm_of cs)) result
+    ensures { ReadsAs (λ (cs : List Arm). arms (map arm_of cs)) result
         (times no_arms an_arm (pair (exact_pattern (T.reads_type types.now) depth)
         (exact_term (T.reads_type types.now) within depth)) count cursor.old.left)
         cursor.new.left }
@@ -193,7 +193,7 @@ fn one_arm<T: Types>(
     within: bool,
     depth: u32,
 ) -> Result<Arm, Fault>
-    ensures { HasRead arm_of result
+    ensures { ReadsAs arm_of result
         (pair (exact_pattern (T.reads_type types.now) depth)
         (exact_term (T.reads_type types.now) within depth) cursor.old.left) cursor.new.left }
 {
@@ -210,7 +210,7 @@ pub fn value<T: Types>(
     types: &T,
     depth: u32,
 ) -> Result<PVal, Fault>
-    ensures { HasRead value_of result
+    ensures { ReadsAs value_of result
         (exact_value (T.reads_type types.now) depth cursor.old.left) cursor.new.left }
 {
     let at = cursor.place();
@@ -237,7 +237,7 @@ fn boxed_value<T: Types>(
     types: &T,
     depth: u32,
 ) -> Result<Box<PVal>, Fault>
-    ensures { HasRead value_of result
+    ensures { ReadsAs value_of result
         (exact_value (T.reads_type types.now) depth cursor.old.left) cursor.new.left }
 {
     let value = value(alloc, cursor, types, depth)?;
@@ -252,7 +252,7 @@ fn function<T: Types>(
     types: &T,
     depth: u32,
 ) -> Result<Box<Term>, Fault>
-    ensures { HasRead expr_of result
+    ensures { ReadsAs expr_of result
         (passing is_lambda (exact_term (T.reads_type types.now) true depth) cursor.old.left)
         cursor.new.left }
 {
@@ -270,7 +270,7 @@ fn all_values<T: Types>(
     count: u32,
     depth: u32,
 ) -> Result<Many<PVal>, Fault>
-    ensures { HasRead (λ (vs : List PVal). pvalues (map value_of vs)) result
+    ensures { ReadsAs (λ (vs : List PVal). pvalues (map value_of vs)) result
         (times no_pvalues pvalue (exact_value (T.reads_type types.now) depth) count
         cursor.old.left) cursor.new.left }
 {

@@ -15,7 +15,7 @@ use Rattle.ac_scopes.specs.Definitions.{after_spec, spec_type, spec_value, signa
 use Rattle.std.proofs.lemmas.List.{length-append, length-map}
 use Rattle.ac_scopes.specs.Scopes.{NameScope, after_all, each_in}
 use Rattle.ac_scopes.specs.Searches.{least, least_in}
-use Rattle.ac_elaborate.proofs.Lists.{drop_next, drop_end}
+use Rattle.ac_types.proofs.Loops.{drop_next, drop_end}
 use Rattle.ac_elaborate.proofs.Within.{none_left, none_right}
 
 module _ {A B : Type 0} (read : A → B) (after : NameScope → B → NameScope) where

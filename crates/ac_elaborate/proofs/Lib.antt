@@ -1,11 +1,9 @@
 pub mod Crowds
 pub mod Growing
 pub mod Kept
-pub mod Lists
 pub mod Made
 pub mod PatternForms
 pub mod Surfaced
 pub mod TermLaws
 pub mod Terms
-pub mod TreeLaws
 pub mod Within

@@ -13,7 +13,7 @@ use Rattle.ac_terms.specs.declared.pat.Pat.{Pat}
 use Rattle.ac_scopes.specs.Scopes.{NameScope}
 use Rattle.ac_scopes.specs.Written.{pattern_in, patterns_in, in_arm, term_in, terms_in, arms_in}
 use Rattle.ac_elaborate.specs.inner.Arms.{read_arm}
-use Rattle.ac_elaborate.proofs.Lists.{built_all}
+use Rattle.ac_types.proofs.Loops.{built_all}
 
 abbrev pub pattern_made : NameScope → SPat → Pattern
 pattern_made S p = pattern_in S (pat_of p)

@@ -1,4 +1,4 @@
-// Definitions.
+// The definitions that trees become.
 
 ghost use Rattle.std.specs.Prelude.{◌≡◌, ◌∷◌, [], ℕ, map, None, option_map, unwrap_or, IfOk};
 ghost use Rattle.ac_types.specs.Sigs.{MyName};
@@ -79,7 +79,7 @@ fn module(
     })
 }
 
-/// A version, `myname` where there is none.
+// A version, `myname` where there is none.
 fn version_or_own(alloc: Global, version: &Option<Version>) -> Result<Version, Memory>
     ensures { IfOk result (λ v. version_of v ≡
         unwrap_or (option_map version_of version.now) (MyName ∷ [])) }
@@ -122,7 +122,7 @@ fn import(
     })
 }
 
-/// The types of a likespec, none where there is no likespec.
+// The types of a likespec, none where there is no likespec.
 fn like_or_none(
     alloc: Global,
     front: &Front,
@@ -138,7 +138,7 @@ fn like_or_none(
     }
 }
 
-/// What an import asks for: by exact name the name that the entry keeps which is called so.
+// What an import asks for: by exact name the name that the entry keeps which is called so.
 fn constraint(alloc: Global, front: &Front, wants: &SWants) -> Result<Constraint, Memory>
     requires { unbound_wants (front_of front.now) (wants_of wants.now) ≡ None }
     ensures { IfOk result (λ c. constraint_of c ≡ constraint_in (front_of front.now) (wants_of

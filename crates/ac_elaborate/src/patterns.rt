@@ -1,4 +1,4 @@
-// Patterns.
+// The patterns that trees become, and the variables that they bind.
 
 ghost use Rattle.std.specs.Prelude.{◌≡◌, ◌++◌, ◌∷◌, [], map, IfOk};
 ghost use Rattle.ac_terms.specs.Terms.{patterns};
@@ -73,7 +73,7 @@ pub fn variables(alloc: Global, tree: &SPat) -> Result<Many<SName>, Memory>
     add_variables(alloc, tree, Many::new(alloc))
 }
 
-/// These names, and behind them the variables of a pattern.
+// These names, and behind them the variables of a pattern.
 #[cycle(add_variables)]
 #[tactic(auto, using(crate::proofs::PatternForms::pat_tree_forms))]
 fn add_variables(alloc: Global, tree: &SPat, found: Many<SName>) -> Result<Many<SName>, Memory>
@@ -118,7 +118,7 @@ fn add_variables_of_all(
     Ok(names)
 }
 
-/// These names, and behind them this one.
+// These names, and behind them this one.
 fn with_name(alloc: Global, found: Many<SName>, name: &SName) -> Result<Many<SName>, Memory>
     ensures { IfOk result (λ names.
         map name_of names ≡ map name_of found ++ (name_of name.now ∷ [])) }

@@ -55,7 +55,7 @@ pub fn build(alloc: Global, surface: &Surface, env: Env) -> Result<RawProgram, M
     Ok(RawProgram { env, main })
 }
 
-/// The scope at the front: a module by itself sees the entries by their names, a program doesn't.
+// The scope at the front: a module by itself sees the entries by their names, a program doesn't.
 fn first(alloc: Global, env: Env, expr: &Option<SExpr>) -> Result<Front, Memory>
     requires names { IsTrue (list_all keeps_name (environment_of env)) }
     requires few { length (environment_of env) < 2 ^ 32 }
@@ -68,7 +68,7 @@ fn first(alloc: Global, env: Env, expr: &Option<SExpr>) -> Result<Front, Memory>
     }
 }
 
-/// The scope behind some definitions.
+// The scope behind some definitions.
 fn defs(alloc: Global, front: Front, trees: &[SDef]) -> Result<Front, Memory>
     requires bound { least_in (after_def sha256) unbound_in_def (front_of front) (map
         def_tree_of trees.now)
@@ -89,7 +89,7 @@ fn defs(alloc: Global, front: Front, trees: &[SDef]) -> Result<Front, Memory>
     Ok(front)
 }
 
-/// The term of the expression, `()` where there is none.
+// The term of the expression, `()` where there is none.
 #[tactic(auto, using(crate::proofs::TermLaws::made_laws))]
 fn main_term(alloc: Global, front: &Front, tree: &Option<SExpr>) -> Result<Term, Memory>
     requires { option_and_then (found large (front_of front.now)) (option_map tree_of tree.now)

@@ -37,7 +37,7 @@ pub struct Items<'a> {
 }
 
 impl<'a> Items<'a> {
-    /// With one more.
+    // With one more.
     fn with(self, alloc: Global, item: &SField) -> Result<Items<'a>, Memory>
         requires crowd { found_in_field crowd (outer_of self.abbrevs.outer) (field_tree_of
             item.now) ≡ None }
@@ -48,7 +48,8 @@ impl<'a> Items<'a> {
             map typed_of self.entry.abbrevs.types
             ++ item_type (outer_of self.entry.abbrevs.outer) (field_tree_of item.now)) }
         ensures fields { IfOk result (λ r. map field_of r.fields ≡
-            map field_of self.entry.fields ++ item_field (outer_of self.entry.abbrevs.outer) (field_tree_of
+            map field_of self.entry.fields ++ item_field (outer_of self.entry.abbrevs.outer)
+            (field_tree_of
             item.now)) }
     {
         match item {
@@ -98,7 +99,7 @@ impl<'a> Items<'a> {
     }
 }
 
-/// A field of a struct.
+// A field of a struct.
 fn field(
     alloc: Global,
     name: &SName,

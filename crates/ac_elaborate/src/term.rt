@@ -21,7 +21,7 @@ use ac_terms::{Arm, Term};
 use ac_types::{Box, Many, Memory, both};
 use std::alloc::Global;
 
-/// The primitive that a tree names.
+// The primitive that a tree names.
 #[tactic(auto, using(ac_syntax::proofs::ReadLaws::expr_laws))]
 fn primitive_at(tree: &SExpr) -> Option<Primitive>
     ensures { option_map read_primitive result ≡ primitive_at (tree_of tree.now) }
@@ -32,7 +32,7 @@ fn primitive_at(tree: &SExpr) -> Option<Primitive>
     }
 }
 
-/// An application; an applied primitive takes its argument.
+// An application; an applied primitive takes its argument.
 #[tactic(auto, using(crate::proofs::TermLaws::made_laws))]
 fn applied(
     alloc: Global,
@@ -53,7 +53,7 @@ fn applied(
     }
 }
 
-/// A choice that is true where the first is.
+// A choice that is true where the first is.
 #[tactic(auto, using(crate::proofs::TermLaws::made_laws))]
 fn or(
     alloc: Global,
@@ -177,7 +177,7 @@ fn boxed<'a>(alloc: Global, tree: &'a SExpr, scope: &'a Scope<'a>) -> Result<Box
     Box::new(alloc, term(alloc, tree, scope)?)
 }
 
-/// A body that sees one more variable.
+// A body that sees one more variable.
 #[cycle(term)]
 fn under<'a>(
     alloc: Global,
@@ -195,7 +195,7 @@ fn under<'a>(
     boxed(alloc, body, &inner)
 }
 
-/// The body of a function with a name, which sees the function and its argument.
+// The body of a function with a name, which sees the function and its argument.
 #[cycle(term)]
 fn in_fun<'a>(
     alloc: Global,
@@ -215,7 +215,7 @@ fn in_fun<'a>(
     under(alloc, body, argument, &outer)
 }
 
-/// A function with a name, of its types and its body.
+// A function with a name, of its types and its body.
 #[tactic(auto, using(crate::proofs::TermLaws::made_laws))]
 fn rec(
     alloc: Global,
@@ -232,7 +232,7 @@ fn rec(
     Ok(Term::Rec(from, to, body))
 }
 
-/// The same in a box.
+// The same in a box.
 fn boxed_rec(
     alloc: Global,
     from: &SType,
@@ -276,7 +276,7 @@ fn arms<'a>(alloc: Global, cases: &'a [SArm], scope: &'a Scope<'a>) -> Result<Ma
     Ok(found)
 }
 
-/// An arm, whose body sees the pattern's variables.
+// An arm, whose body sees the pattern's variables.
 #[cycle(term)]
 #[tactic(auto, using(ac_syntax::proofs::ReadLaws::expr_laws))]
 fn arm<'a>(alloc: Global, case: &'a SArm, scope: &'a Scope<'a>) -> Result<Arm, Memory>

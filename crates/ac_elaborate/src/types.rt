@@ -49,7 +49,8 @@ impl<'a> Abbrevs<'a> {
         ensures outer { IfOk result (λ r. outer_of r.outer ≡
             after_abbrev (outer_of self.entry.outer) (abbrev_of a.now)) }
         ensures types { IfOk result (λ r. map typed_of r.types ≡
-            map typed_of self.entry.types ++ abbrev_type (outer_of self.entry.outer) (abbrev_of a.now)) }
+            map typed_of self.entry.types ++ abbrev_type (outer_of self.entry.outer)
+            (abbrev_of a.now)) }
     {
         let Abbrevs { outer, types } = self;
         let mut types = types;
@@ -79,7 +80,7 @@ pub fn like(alloc: Global, front: &Front, abbrevs: &[SAbbrev]) -> Result<Many<Ty
     Ok(types)
 }
 
-/// The first specs of a signature, and the scope behind them.
+// The first specs of a signature, and the scope behind them.
 #[derive(Drop)]
 struct Specs<'a> {
     outer: Outer<'a>,
@@ -88,14 +89,16 @@ struct Specs<'a> {
 }
 
 impl<'a> Specs<'a> {
-    /// With one more.
+    // With one more.
     fn with(self, alloc: Global, spec: &SSpec) -> Result<Specs<'a>, Memory>
         ensures outer { IfOk result (λ r. outer_of r.outer ≡
             after_spec (outer_of self.entry.outer) (spec_of spec.now)) }
         ensures types { IfOk result (λ r. map sig_type_of r.types ≡
-            map sig_type_of self.entry.types ++ spec_type (outer_of self.entry.outer) (spec_of spec.now)) }
+            map sig_type_of self.entry.types ++ spec_type (outer_of self.entry.outer)
+            (spec_of spec.now)) }
         ensures vals { IfOk result (λ r. map typed_of r.vals ≡
-            map typed_of self.entry.vals ++ spec_value (outer_of self.entry.outer) (spec_of spec.now)) }
+            map typed_of self.entry.vals ++ spec_value (outer_of self.entry.outer)
+            (spec_of spec.now)) }
     {
         match spec {
             SSpec::Abstract(name) => self.with_abstract(alloc, name),
@@ -145,7 +148,8 @@ impl<'a> Specs<'a> {
         ensures outer { IfOk result (λ r. outer_of r.outer ≡ outer_of self.entry.outer) }
         ensures types { IfOk result (λ r. r.types ≡ self.entry.types) }
         ensures vals { IfOk result (λ r. map typed_of r.vals ≡ map typed_of self.entry.vals
-            ++ spec_value (outer_of self.entry.outer) (ValSpec (name_of name.now) (type_of tree.now))) }
+            ++ spec_value (outer_of self.entry.outer)
+            (ValSpec (name_of name.now) (type_of tree.now))) }
     {
         let Specs { outer, types, vals } = self;
         let mut vals = vals;

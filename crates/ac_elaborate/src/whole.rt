@@ -36,7 +36,7 @@ pub fn elaborate(alloc: Global, surface: &Surface, env: Env) -> Result<RawProgra
     Ok(raw)
 }
 
-/// Whether the surface has no fault, or its first.
+// Whether the surface has no fault, or its first.
 fn check_faults(alloc: Global, surface: &Surface, env: &Env) -> Result<(), ScopeFault>
     ensures sound { OnOk result (surface_fault sha256 (environment_of env.now) (surface_of
         surface.now)

@@ -4,7 +4,7 @@ ghost use Rattle.std.specs.Prelude.{◌≤◌, length};
 
 use ac_page::Page;
 
-/// The most bytes of a line that are shown in front of a place, and as many from it on.
+// The most bytes of a line that are shown in front of a place, and as many from it on.
 const SHOWN: usize = 100;
 
 // A byte that a terminal may take for a command is shown as `?`.

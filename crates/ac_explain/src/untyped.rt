@@ -10,7 +10,7 @@ use ac_types::{Many, Memory, Ty};
 use ac_views::{Site, is_view_of};
 use std::alloc::Global;
 
-/// More steps than lead from a whole expression to any part of it.
+// More steps than lead from a whole expression to any part of it.
 const STEPS: usize = 1000;
 
 /// Where an expression stands: among which entries, in which home, and how many own fields and how

@@ -6,3 +6,4 @@ pub mod Levels
 pub mod Words
 pub mod Atoms
 pub mod NoForms
+pub mod LastOperands

@@ -67,7 +67,7 @@ impl Head {
     }
 }
 
-/// A type with this symbol behind it.
+// A type with this symbol behind it.
 fn type_before<'s, 't>(
     alloc: Global,
     symbol: Symbol,
@@ -152,7 +152,7 @@ pub fn function_head<'s, 't>(
     Ok((head, rest))
 }
 
-/// A type behind which a part ends.
+// A type behind which a part ends.
 fn last_type<'s, 't>(alloc: Global, signs: &'s [Sign<'t>]) -> Result<(SType, &'s [Sign<'t>]), Stop>
     ensures found { IfOk result (λ x. IsLastType (read_signs signs.now) (type_of x.0)
         (read_signs x.1.now)) }

@@ -20,7 +20,7 @@ use ac_syntax::{SArm, Sign, Stop, Symbol, after, here, refused_at};
 use ac_types::{Box, Many, primitives};
 use std::alloc::Global;
 
-/// An expression with this symbol behind it.
+// An expression with this symbol behind it.
 #[cycle(expressions)]
 fn before<'s, 't>(
     alloc: Global,
@@ -41,7 +41,7 @@ fn before<'s, 't>(
     Ok((tree, rest))
 }
 
-/// An arm, and the height of its expression.
+// An arm, and the height of its expression.
 #[cycle(expressions)]
 fn arm<'s, 't>(
     alloc: Global,
@@ -63,7 +63,7 @@ fn arm<'s, 't>(
     Ok(((SArm { pat, body }, height), rest))
 }
 
-/// Arms and their `end`, with the height of the highest.
+// Arms and their `end`, with the height of the highest.
 #[cycle(expressions)]
 fn arms<'s, 't>(
     alloc: Global,
@@ -90,7 +90,7 @@ fn arms<'s, 't>(
     Ok(((arms, height), end))
 }
 
-/// What stands behind a `match` or a `try`.
+// What stands behind a `match` or a `try`.
 #[cycle(expressions)]
 fn choice<'s, 't>(
     alloc: Global,
@@ -111,7 +111,7 @@ fn choice<'s, 't>(
     Ok((Choice { of, arms, height }, rest))
 }
 
-/// The tuple of a first expression and those behind its comma.
+// The tuple of a first expression and those behind its comma.
 #[cycle(expressions)]
 fn tuple<'s, 't>(
     alloc: Global,
@@ -142,7 +142,7 @@ fn tuple<'s, 't>(
     Ok((build::tuple(alloc, at, parts, height)?, end))
 }
 
-/// What stands behind a `(`.
+// What stands behind a `(`.
 #[cycle(expressions)]
 fn opened<'s, 't>(
     alloc: Global,
@@ -181,7 +181,7 @@ fn opened<'s, 't>(
     tuple(alloc, depth - 1, at, first, behind)
 }
 
-/// A leaf, what stands in parentheses, a `match` or a `try`.
+// A leaf, what stands in parentheses, a `match` or a `try`.
 #[cycle(expressions)]
 fn atom<'s, 't>(
     alloc: Global,
@@ -214,7 +214,7 @@ fn atom<'s, 't>(
     Ok((Parsed { tree, height: 1 }, rest))
 }
 
-/// An atom behind a word that takes it, or an atom with its arguments.
+// An atom behind a word that takes it, or an atom with its arguments.
 #[cycle(expressions)]
 fn app<'s, 't>(
     alloc: Global,
@@ -240,7 +240,7 @@ fn app<'s, 't>(
     Ok((build::prefixed_by(alloc, at, prefix, item)?, rest))
 }
 
-/// An atom with its arguments; no word that takes one stands here.
+// An atom with its arguments; no word that takes one stands here.
 #[cycle(expressions)]
 fn applied<'s, 't>(
     alloc: Global,
@@ -267,7 +267,7 @@ fn applied<'s, 't>(
     Ok((function, rest))
 }
 
-/// A function and the argument that stands here.
+// A function and the argument that stands here.
 #[cycle(expressions)]
 fn next_argument<'s, 't>(
     alloc: Global,
@@ -289,7 +289,7 @@ fn next_argument<'s, 't>(
     Ok((build::application(alloc, at, function, argument)?, rest))
 }
 
-/// What stands behind a `-`.
+// What stands behind a `-`.
 #[cycle(expressions)]
 fn minus<'s, 't>(
     alloc: Global,
@@ -312,7 +312,7 @@ fn minus<'s, 't>(
     Ok((build::operation(alloc, at, primitives::NEG, operand)?, rest))
 }
 
-/// A `-` or a `not` with its operand, or an application.
+// A `-` or a `not` with its operand, or an application.
 #[cycle(expressions)]
 fn unary<'s, 't>(
     alloc: Global,
@@ -342,7 +342,7 @@ fn unary<'s, 't>(
     app(alloc, depth, signs)
 }
 
-/// A left side and its operator with the operand of this level that stands here.
+// A left side and its operator with the operand of this level that stands here.
 #[cycle(expressions)]
 fn right_side<'s, 't>(
     alloc: Global,
@@ -369,7 +369,7 @@ fn right_side<'s, 't>(
     Ok((build::join(alloc, at, operator, left, right)?, rest))
 }
 
-/// Operands with the operators of a level that group to the left.
+// Operands with the operators of a level that group to the left.
 #[cycle(expressions)]
 fn to_left<'s, 't>(
     alloc: Global,
@@ -399,7 +399,7 @@ fn to_left<'s, 't>(
     Ok((left, rest))
 }
 
-/// What follows a first operand at a level whose operators group to the right.
+// What follows a first operand at a level whose operators group to the right.
 #[cycle(expressions)]
 fn to_right<'s, 't>(
     alloc: Global,
@@ -430,7 +430,7 @@ fn to_right<'s, 't>(
     right_side(alloc, level, depth - 1, at, operator, first, behind)
 }
 
-/// A left side and its operator with the right side here, the last operator of this level.
+// A left side and its operator with the right side here, the last operator of this level.
 #[cycle(expressions)]
 fn compared<'s, 't>(
     alloc: Global,
@@ -460,7 +460,7 @@ fn compared<'s, 't>(
     }
 }
 
-/// What follows a first operand at a level with at most one operator.
+// What follows a first operand at a level with at most one operator.
 #[cycle(expressions)]
 fn once<'s, 't>(
     alloc: Global,
@@ -491,7 +491,7 @@ fn once<'s, 't>(
     compared(alloc, level, depth - 1, at, operator, first, behind)
 }
 
-/// An operand of this level or tighter.
+// An operand of this level or tighter.
 #[cycle(expressions)]
 fn binary<'s, 't>(
     alloc: Global,
@@ -522,7 +522,7 @@ fn binary<'s, 't>(
     }
 }
 
-/// What stands behind a `let` that is not recursive.
+// What stands behind a `let` that is not recursive.
 #[cycle(expressions)]
 fn let_in<'s, 't>(
     alloc: Global,
@@ -543,7 +543,7 @@ fn let_in<'s, 't>(
     Ok((build::let_in(alloc, at, binder, bound, body)?, rest))
 }
 
-/// What stands behind a `let rec`.
+// What stands behind a `let rec`.
 #[cycle(expressions)]
 fn let_rec<'s, 't>(
     alloc: Global,
@@ -565,7 +565,7 @@ fn let_rec<'s, 't>(
     Ok((build::let_rec(alloc, at, head, bound, body)?, rest))
 }
 
-/// What stands behind a `fun`.
+// What stands behind a `fun`.
 #[cycle(expressions)]
 fn fun<'s, 't>(
     alloc: Global,
@@ -586,7 +586,7 @@ fn fun<'s, 't>(
     Ok((build::fun(alloc, at, binder, body)?, rest))
 }
 
-/// What stands behind a `rec`.
+// What stands behind a `rec`.
 #[cycle(expressions)]
 fn rec<'s, 't>(
     alloc: Global,
@@ -606,7 +606,7 @@ fn rec<'s, 't>(
     Ok((build::rec(alloc, at, head, body)?, rest))
 }
 
-/// What stands behind an `if`.
+// What stands behind an `if`.
 #[cycle(expressions)]
 fn if_else<'s, 't>(
     alloc: Global,
@@ -627,7 +627,7 @@ fn if_else<'s, 't>(
     Ok((build::if_else(alloc, at, test, so, otherwise)?, rest))
 }
 
-/// What stands behind a `marshal`.
+// What stands behind a `marshal`.
 #[cycle(expressions)]
 fn marshal<'s, 't>(
     alloc: Global,
@@ -649,7 +649,7 @@ fn marshal<'s, 't>(
     Ok((build::marshal(alloc, at, mark, value, ty)?, rest))
 }
 
-/// What stands behind an `unmarshal`.
+// What stands behind an `unmarshal`.
 #[cycle(expressions)]
 fn unmarshal<'s, 't>(
     alloc: Global,
@@ -670,7 +670,7 @@ fn unmarshal<'s, 't>(
     Ok((build::unmarshal(alloc, at, text, ty)?, rest))
 }
 
-/// What stands behind a `raise`.
+// What stands behind a `raise`.
 #[cycle(expressions)]
 fn raise<'s, 't>(
     alloc: Global,
@@ -690,7 +690,7 @@ fn raise<'s, 't>(
     Ok((build::raise(alloc, at, exception, ty)?, rest))
 }
 
-/// What stands behind the first word of a part.
+// What stands behind the first word of a part.
 #[cycle(expressions)]
 fn keyword_part<'s, 't>(
     alloc: Global,
@@ -723,7 +723,7 @@ fn keyword_part<'s, 't>(
     }
 }
 
-/// What is closed or swallows.
+// What is closed or swallows.
 #[cycle(expressions)]
 fn part<'s, 't>(
     alloc: Global,
@@ -745,7 +745,7 @@ fn part<'s, 't>(
     keyword_part(alloc, keyword, depth, here(signs), behind)
 }
 
-/// The sequence of a first part and those behind its `;`.
+// The sequence of a first part and those behind its `;`.
 #[cycle(expressions)]
 fn sequence<'s, 't>(
     alloc: Global,

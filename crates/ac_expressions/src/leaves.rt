@@ -29,7 +29,7 @@ fn base_kind(symbol: Symbol) -> Option<SExprKind>
     }
 }
 
-/// A field of another module: what stands behind the module's name.
+// A field of another module: what stands behind the module's name.
 fn field<'s, 't>(
     alloc: Global,
     at: u32,

@@ -17,7 +17,7 @@ use ac_types::exceptions::{DIVISION_BY_ZERO, END_OF_FILE, MATCH_FAILURE, NOT_FOU
 use ac_types::{Box, Many, Memory};
 use std::alloc::Global;
 
-/// How high a pattern by itself may be.
+// How high a pattern by itself may be.
 const HIGHEST_PATTERN: u32 = 500;
 
 /// A pattern, and its height.
@@ -43,7 +43,7 @@ impl ParsedPat {
     }
 }
 
-/// A list's head and tail.
+// A list's head and tail.
 #[tactic(auto, using(crate::proofs::PatLaws::pat_laws))]
 fn cons(alloc: Global, at: u32, head: ParsedPat, tail: ParsedPat) -> Result<ParsedPat, Memory>
     requires low { max head.height tail.height < 2 ^ 32 - 1 }
@@ -63,7 +63,7 @@ fn cons(alloc: Global, at: u32, head: ParsedPat, tail: ParsedPat) -> Result<Pars
     })
 }
 
-/// A pattern with the word that takes it.
+// A pattern with the word that takes it.
 #[tactic(auto, using(crate::proofs::PatLaws::pat_laws))]
 fn prefixed_by(alloc: Global, at: u32, prefix: Prefix, item: ParsedPat) -> Result<ParsedPat, Memory>
     requires low { item.height < 2 ^ 32 - 1 }
@@ -87,7 +87,7 @@ fn prefixed_by(alloc: Global, at: u32, prefix: Prefix, item: ParsedPat) -> Resul
     }
 }
 
-/// A variable with its type.
+// A variable with its type.
 #[tactic(auto, using(crate::proofs::PatLaws::pat_laws))]
 fn variable(at: u32, binder: Binder) -> ParsedPat
     ensures tree { pat_of result.tree ≡ PatVar at (binder_of binder).0 (binder_of binder).1 }
@@ -119,7 +119,7 @@ fn base_kind(symbol: Symbol) -> Option<SPatKind>
     }
 }
 
-/// A number behind its `-`.
+// A number behind its `-`.
 fn negative<'s, 't>(at: u32, signs: &'s [Sign<'t>]) -> Result<(SPat, &'s [Sign<'t>]), Stop>
     ensures found { IfOk result (λ x. PatLeafAt (Fixed at Symbol.Minus ∷ read_signs signs.now)
         (pat_of x.0) (read_signs x.1.now)) }
@@ -134,7 +134,7 @@ fn negative<'s, 't>(at: u32, signs: &'s [Sign<'t>]) -> Result<(SPat, &'s [Sign<'
     Ok((SPat { at, kind }, rest))
 }
 
-/// The empty list: what stands behind a `[`.
+// The empty list: what stands behind a `[`.
 fn nil<'s, 't>(at: u32, signs: &'s [Sign<'t>]) -> Result<(SPat, &'s [Sign<'t>]), Stop>
     ensures found { IfOk result (λ x. PatLeafAt (Fixed at Symbol.OpenSquare ∷ read_signs signs.now)
         (pat_of x.0) (read_signs x.1.now)) }
@@ -147,7 +147,7 @@ fn nil<'s, 't>(at: u32, signs: &'s [Sign<'t>]) -> Result<(SPat, &'s [Sign<'t>]),
     Ok((SPat { at, kind }, rest))
 }
 
-/// A pattern that is one sign.
+// A pattern that is one sign.
 fn one_sign<'s, 't>(alloc: Global, signs: &'s [Sign<'t>]) -> Result<(SPat, &'s [Sign<'t>]), Stop>
     ensures found { IfOk result (λ x. PatLeafAt (read_signs signs.now) (pat_of x.0)
         (read_signs x.1.now)) }
@@ -177,7 +177,7 @@ fn one_sign<'s, 't>(alloc: Global, signs: &'s [Sign<'t>]) -> Result<(SPat, &'s [
     }
 }
 
-/// A pattern that is a leaf and begins with no `(`.
+// A pattern that is a leaf and begins with no `(`.
 fn leaf<'s, 't>(alloc: Global, signs: &'s [Sign<'t>]) -> Result<(SPat, &'s [Sign<'t>]), Stop>
     ensures found { IfOk result (λ x. PatLeafAt (read_signs signs.now) (pat_of x.0)
         (read_signs x.1.now)) }
@@ -195,7 +195,7 @@ fn leaf<'s, 't>(alloc: Global, signs: &'s [Sign<'t>]) -> Result<(SPat, &'s [Sign
     one_sign(alloc, signs)
 }
 
-/// The tuple of a first pattern and those behind its comma.
+// The tuple of a first pattern and those behind its comma.
 #[cycle(patterns)]
 fn tuple<'s, 't>(
     alloc: Global,
@@ -231,7 +231,7 @@ fn tuple<'s, 't>(
     Ok((ParsedPat { tree, height }, end))
 }
 
-/// What stands behind a `(`.
+// What stands behind a `(`.
 #[cycle(patterns)]
 fn opened<'s, 't>(
     alloc: Global,
@@ -267,7 +267,7 @@ fn opened<'s, 't>(
     tuple(alloc, depth, at, first, behind)
 }
 
-/// A leaf, or a pattern in parentheses.
+// A leaf, or a pattern in parentheses.
 #[cycle(patterns)]
 fn single<'s, 't>(
     alloc: Global,
@@ -290,7 +290,7 @@ fn single<'s, 't>(
     Ok((ParsedPat { tree, height: 1 }, rest))
 }
 
-/// A single pattern, or one behind a word that takes it.
+// A single pattern, or one behind a word that takes it.
 #[cycle(patterns)]
 fn prefixed<'s, 't>(
     alloc: Global,
@@ -313,7 +313,7 @@ fn prefixed<'s, 't>(
     Ok((prefixed_by(alloc, at, prefix, item)?, rest))
 }
 
-/// A pattern of at most this height.
+// A pattern of at most this height.
 #[cycle(patterns)]
 fn whole<'s, 't>(
     alloc: Global,

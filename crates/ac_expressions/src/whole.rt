@@ -11,7 +11,7 @@ use crate::expressions::expr;
 use ac_syntax::{SExpr, Sign, Stop};
 use std::alloc::Global;
 
-/// How high an expression may be.
+// How high an expression may be.
 const HIGHEST: u32 = 500;
 
 /// The expression at the front, taken as long as it can be, and what is left. It has a height of at

@@ -1,5 +1,5 @@
 -- Files that are read one after another.
-use Rattle.std.proofs.Common.{◌≡◌, ◌<◌, ◌+◌, ℕ, zero, suc, List, [], ◌∷◌, ◌++◌, length, get_or, map, take, drop, Bool, Option, refl, sym, ap, subst, arith}
+use Rattle.std.proofs.Common.{◌≡◌, ◌<◌, ◌+◌, ℕ, zero, suc, List, [], ◌∷◌, ◌++◌, length, get_or, map, take, drop, Bool, Option, refl, ap, subst, arith}
 use Rattle.std.specs.Borrow.{Bor}
 use Rattle.ac_types.specs.Types.{Bytes}
 use Rattle.ac_types.specs.declared.text.Text.{Text}
@@ -43,10 +43,6 @@ text_more files [] [] name text are is = (is, tt)
 text_more files [] (x ∷ texts) name text are is = absurd are
 text_more files (n ∷ names) [] name text are is = absurd are
 text_more files (n ∷ names) (x ∷ texts) name text are is = (are.0, text_more files names texts name text are.1 is)
-
--- the same texts of the same files
-pub texts_same : (files : Bytes → Reading) (names : List Bytes) (a b : List Text) → b ≡ a → AreTexts files names a → AreTexts files names b
-texts_same files names a b is are = subst (λ (texts : List Text). AreTexts files names texts) (sym is) are
 
 module _ {Files : Type 0} (reads : Bytes → Files → Files → Type 0) (none : (name : Bytes) (a : Files) → reads name a a) where
   -- where nothing is read

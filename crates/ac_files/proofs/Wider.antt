@@ -6,12 +6,13 @@ use Rattle.ac_types.specs.Types.{Bytes}
 use Rattle.ac_outside.specs.Outside.{Contents}
 use Rattle.ac_shelf.specs.ShelfLists.{Listed, ShelfAnswer, Lists, listed_uris}
 use Rattle.ac_rules.specs.Modules.{are_distinct}
-use Rattle.ac_rules.specs.Coherent.{is_uri}
+use Rattle.ac_types.specs.Limits.{is_uri}
+use Rattle.ac_shelf.proofs.GoodLists.{good_list}
 use Rattle.ac_acceptance.specs.Accepting.{Shelved, IsShelf}
 use Rattle.ac_load.specs.Loading.{shelf_of}
 use Rattle.ac_load.specs.declared.shelf.Shelf.{Shelf}
 use Rattle.ac_files.specs.Files.{FilesSeen, Reading, files_read, IsTextOf}
-use Rattle.ac_files.specs.ProgramTexts.{ReadRose, AreListed, ListSays, IsShelfBy, no_list, listed, HasBadLine, bad_line, ReadsFail, of_list, of_listed, of_program}
+use Rattle.ac_files.specs.ProgramTexts.{ReadRose, AreListed, ListSays, IsShelfBy, no_list, listed, ReadsFail, of_list, of_listed}
 use Rattle.ac_files.specs.inner.Failing.{LinesGive, EntriesFail, LinesFail, ShelfFails, of_the_list, of_an_entry}
 
 -- from s to v there is all from t to u
@@ -46,9 +47,6 @@ module _ {told : Bool} {s t u v : FilesSeen} (w : Within told s t u v) where
   wide_shelf no_list = no_list
   wide_shelf (listed xs {shelf} says are) = listed xs (wide_says says) (wide_listed xs shelf are)
 
-  pub wide_line : {list : Option Bytes} {n : ℕ} → HasBadLine (files_read told t u) list n → HasBadLine (files_read told s v) list n
-  wide_line (bad_line says) = bad_line (wide_says says)
-
   pub wide_entries : {xs : List Listed} → EntriesFail (files_read told t u) xs → EntriesFail (files_read told s v) xs
   wide_entries x = record { before = x.before; after = x.after; entry = x.entry; among = x.among; rose = wide_rose x.entry.file x.rose }
 
@@ -57,15 +55,6 @@ module _ {told : Bool} {s t u v : FilesSeen} (w : Within told s t u v) where
 
   pub wide_lines : {text : Bytes} → LinesFail (files_read told t u) text → LinesFail (files_read told s v) text
   wide_lines x = record { listed = x.listed; says = x.says; fails = wide_entries x.fails }
-
-  pub wide_fails : {list : Option Bytes} → ShelfFails (files_read told t u) list → ShelfFails (files_read told s v) list
-  wide_fails (of_the_list {list} rose) = of_the_list (wide_rose list rose)
-  wide_fails (of_an_entry before after x says rose) = of_an_entry before after x (wide_says says) (wide_rose x.file rose)
-
-  pub wide_reads : {program : Bytes} {list : Option Bytes} → ReadsFail (files_read told t u) program list → ReadsFail (files_read told s v) program list
-  wide_reads (of_list {list} rose) = of_list (wide_rose list rose)
-  wide_reads (of_listed before after x says rose) = of_listed before after x (wide_says says) (wide_rose x.file rose)
-  wide_reads {program} (of_program shelf is rose) = of_program shelf (wide_shelf is) (wide_rose program rose)
 
 -- the texts that are read don't depend on the counts behind them
 later_listed : (told : Bool) (s u v : FilesSeen) (xs : List Listed) (shelf : List Shelved) → AreListed (files_read told s u) xs shelf → AreListed (files_read told s v) xs shelf
@@ -146,3 +135,18 @@ uris_fit files (x ∷ xs) (y ∷ shelf) are = ap₂ (λ (u : Bytes) (b : Bool). 
 -- they are a shelf where the list's are so
 pub is_shelf_by : (files : Bytes → Reading) (xs : List Listed) (shelf : List Shelved) → AreListed files xs shelf → IsTrue (list_all (λ (x : Listed). is_uri x.uri) xs) → IsTrue (are_distinct (listed_uris xs)) → IsShelf shelf
 is_shelf_by files xs shelf are fit apart = record { uris = uris_fit files xs shelf are ∙ fit; distinct = ap are_distinct (uris_same files xs shelf are) ∙ apart }
+
+same_count : (files : Bytes → Reading) (xs : List Listed) (shelf : List Shelved) → AreListed files xs shelf → length shelf ≡ length xs
+same_count files [] [] are = refl
+same_count files [] (y ∷ shelf) are = absurd are
+same_count files (x ∷ xs) [] are = absurd are
+same_count files (x ∷ xs) (y ∷ shelf) are = ap suc (same_count files xs shelf are.1.1)
+
+-- what stands beside a program is a shelf
+pub good_shelf : (files : Bytes → Reading) (list : Option Bytes) (shelf : List Shelved) → IsShelfBy files list shelf → IsShelf shelf × (length shelf ≤ 256)
+good_shelf files None _ no_list = (record { uris = refl; distinct = refl }, omega arith)
+good_shelf files (Some list) shelf (listed xs says are) =
+    let good = good_list says.text xs says.is_answer in
+    let same = same_count files xs shelf are in
+    let few = good.few in
+    (is_shelf_by files xs shelf are good.uris good.apart, omega (arith, same, few))

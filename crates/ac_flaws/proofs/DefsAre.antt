@@ -1,11 +1,9 @@
 -- What is wrong with definitions by what is known is what is wrong with them in the scope.
-use Rattle.std.proofs.Common.{◌≡◌, ◌∙◌, ap, refl, sym, suc, ℕ, Bool, true, false, List, [], ◌∷◌, ◌++◌, map, length, Option, Some, None}
+use Rattle.std.proofs.Common.{◌≡◌, ◌∙◌, ap, refl, sym, suc, ℕ, Bool, true, false, List, [], ◌∷◌, map, length, Option, Some, None}
 use Rattle.std.specs.Prelude.{is_some, ◌||◌, flat_map, option_map, if◌then◌else◌, unwrap_or}
 use Rattle.std.specs.List.{list_any}
-use Rattle.std.proofs.Math.Path.{fun_ext}
 use Rattle.ac_types.specs.Types.{Bytes, Typ, TMine, same_bytes}
-use Rattle.ac_types.specs.Sigs.{named_type, type_under, Resolve}
-use Rattle.ac_terms.specs.Defs.{Def}
+use Rattle.ac_types.specs.Sigs.{named_type, type_under}
 use Rattle.ac_syntax.specs.Trees.{NameAt, Tree, AbbrevTree, SpecTree, AbstractSpec, ManifestSpec, ValSpec, SigTree, FieldTree, AbbrevField, ValField, WantsTree, WantsVersion, WantsName, DefTree, ModuleDef, ImportDef, MarkDef}
 use Rattle.ac_scopes.specs.Standard.{beside_name}
 use Rattle.ac_scopes.specs.Scopes.{NameScope, binders_to, own_number, definition, plain_type, scope_with, each_in}
@@ -14,14 +12,14 @@ use Rattle.ac_scopes.specs.Definitions.{after_abbrev, after_spec, after_field, s
 use Rattle.ac_scopes.specs.Searches.{least, least_in, found_in_abbrev, found_in_spec, found_in_field}
 use Rattle.ac_scopes.specs.Unbound.{unless, unbound, unbound_wants, unbound_in_def}
 use Rattle.ac_scopes.specs.Repeated.{repeated, repeated_in_def, repeated_in_sig, repeated_in_like, repeated_in_lists, standard_name, spec_type_name, spec_value_name, field_type_name, field_value_name}
-use Rattle.ac_scopes.specs.Counts.{over, items_limit, many_items, many_in_sig, many_in_struct, many_atoms, many_in_lists, large, large_in_def}
+use Rattle.ac_scopes.specs.Counts.{over, items_limit, many_in_sig, many_in_struct, many_atoms, large, large_in_def}
 use Rattle.ac_flaws.specs.declared.flaws.Flaws.{Flaws}
 use Rattle.ac_flaws.specs.declared.size.Size.{Size}
 use Rattle.ac_flaws.specs.declared.types.Measured.{Measured}
-use Rattle.ac_flaws.specs.inner.Joined.{no_flaws, missing, counts, flaws_joined}
+use Rattle.ac_flaws.specs.inner.Joined.{missing, counts, flaws_joined}
 use Rattle.ac_flaws.specs.inner.Known.{Known, Behind, known_outside, put, size_of, size_of_leaf}
 use Rattle.ac_flaws.specs.inner.ExprFlaws.{place_unless, flaws}
-use Rattle.ac_flaws.specs.inner.DefFlaws.{size_in, past_abbrev, past_spec, past_field, abbrev_flaws, spec_flaws, field_flaws, flaws_in, spec_size, spec_sizes, is_listed, shown, list_flaws, abbrev_name, sig_flaws, struct_flaws, like_flaws, wants_flaws, name_flaws, demand_flaws, def_flaws, past_def}
+use Rattle.ac_flaws.specs.inner.DefFlaws.{size_in, past_abbrev, past_spec, past_field, abbrev_flaws, spec_flaws, field_flaws, flaws_in, spec_sizes, is_listed, shown, list_flaws, abbrev_name, wants_flaws, name_flaws, demand_flaws, def_flaws, past_def}
 use Rattle.ac_flaws.specs.inner.SurfaceFlaws.{size_of_manifest, behind_signature, past_entry}
 use Rattle.ac_flaws.proofs.Leasts.{least-none, least-comm, least-assoc, three, same, joined-assoc, joined_across, both_joined}
 use Rattle.ac_flaws.proofs.Scoping.{any_first}

@@ -1,14 +1,14 @@
 -- What is wrong with expressions by what is known is what is wrong with them in the scope.
-use Rattle.std.proofs.Common.{◌≡◌, ◌∙◌, ap, refl, sym, ℕ, Bool, true, false, List, [], ◌∷◌, Option, Some, None}
+use Rattle.std.proofs.Common.{◌≡◌, ◌∙◌, ap, refl, ℕ, Bool, true, false, List, [], ◌∷◌, Option, Some, None}
 use Rattle.std.specs.Prelude.{is_some, ◌||◌, option_map, option_and_then}
 use Rattle.ac_types.specs.First.{or_else}
 use Rattle.ac_types.specs.Types.{Bytes}
 use Rattle.ac_terms.specs.Terms.{Expr, Var, Own}
-use Rattle.ac_syntax.specs.Trees.{NameAt, TypeTree, PatTree, Tree, ExInt, ExBool, ExStr, ExUnit, ExExn, ExExnOf, ExTuple, ExNil, ExAbsent, ExPresent, ExCons, ExVar, ExOf, ExFun, ExRec, ExApp, ExLet, ExLetRec, ExIf, ExSeq, ExMatch, ExTry, ExRaise, ExAnd, ExOr, ExOp, ExMarshal, ExUnmarshal, Trees, no_trees, tree, ArmTrees, no_arm_trees, arm_tree}
+use Rattle.ac_syntax.specs.Trees.{NameAt, TypeTree, Tree, ExInt, ExBool, ExStr, ExUnit, ExExn, ExExnOf, ExTuple, ExNil, ExAbsent, ExPresent, ExCons, ExVar, ExOf, ExFun, ExRec, ExApp, ExLet, ExLetRec, ExIf, ExSeq, ExMatch, ExTry, ExRaise, ExAnd, ExOr, ExOp, ExMarshal, ExUnmarshal, Trees, no_trees, tree, ArmTrees, no_arm_trees, arm_tree}
 use Rattle.ac_scopes.specs.Standard.{NamedPrimitive, is_standard, primitive_named}
 use Rattle.ac_scopes.specs.Scopes.{NameScope, own_number, binders_to, definition, before_dot, value_outside, primitive_function, plain_value, dotted_value, scope_with}
 use Rattle.ac_scopes.specs.Written.{variables}
-use Rattle.ac_scopes.specs.Searches.{least, tree_count, arms_written, found, found_in_all, found_in_arms}
+use Rattle.ac_scopes.specs.Searches.{tree_count, arms_written, found, found_in_all, found_in_arms}
 use Rattle.ac_scopes.specs.Unbound.{unless, unbound_behind, unbound_pattern, unbound}
 use Rattle.ac_scopes.specs.Repeated.{repeated_name, repeated}
 use Rattle.ac_scopes.specs.Counts.{over, width_limit, arms_limit, large_pattern, large}
@@ -16,10 +16,10 @@ use Rattle.ac_flaws.specs.declared.flaws.Flaws.{Flaws}
 use Rattle.ac_flaws.specs.inner.Joined.{counts, repeats, flaws_joined}
 use Rattle.ac_flaws.specs.inner.Known.{Known, is_value_behind}
 use Rattle.ac_flaws.specs.inner.TypeFlaws.{type_flaws, pat_flaws}
-use Rattle.ac_flaws.specs.inner.ExprFlaws.{place_unless, place_behind, leaf_flaws, variable_flaws, dotted_flaws, flaws, flaws_of_all, flaws_of_arms}
+use Rattle.ac_flaws.specs.inner.ExprFlaws.{place_unless, place_behind, leaf_flaws, flaws, flaws_of_all, flaws_of_arms}
 use Rattle.ac_flaws.proofs.Leasts.{least-none, three, same, joined-assoc, both_joined}
 use Rattle.ac_flaws.proofs.Knowing.{Knows, outer-is, is_value_behind-is}
-use Rattle.ac_flaws.proofs.TypesAre.{type_faults, type_flaws-are, pattern_faults, pat_flaws-are}
+use Rattle.ac_flaws.proofs.TypesAre.{type_faults, type_flaws-are, pat_flaws-are}
 
 abbrev pub faults : NameScope → Tree → Flaws
 faults S e = record { unbound = found unbound S e; repeated = found repeated S e; count = found large S e }

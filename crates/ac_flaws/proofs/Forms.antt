@@ -1,5 +1,5 @@
 -- The equations of the readings, as the proofs of this crate use them.
-use Rattle.std.proofs.Common.{◌≡◌, append_assoc, append-nil}
+use Rattle.std.proofs.Common.{append_assoc, append-nil}
 use Rattle.ac_types.proofs.SizeLaws.{type_laws as typ_laws}
 use Rattle.ac_syntax.proofs.TypeLaws.{type_laws}
 use Rattle.ac_syntax.proofs.ReadLaws.{pat_laws, expr_laws}

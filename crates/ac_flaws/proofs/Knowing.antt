@@ -12,8 +12,7 @@ use Rattle.ac_terms.specs.Terms.{Expr, Ref}
 use Rattle.ac_terms.specs.Defs.{Environment, Entry, Def, AModule, AnImport, AMark, signature, signature_at, name_at}
 use Rattle.ac_scopes.specs.Standard.{is_standard, beside_name}
 use Rattle.ac_scopes.specs.Scopes.{NameScope, scope_behind, own_number, definition, before_dot, type_outside, value_outside, plain_type, dotted_type, external_names, with_entry, after_all}
-use Rattle.ac_flaws.specs.declared.size.Size.{Size}
-use Rattle.ac_flaws.specs.inner.Known.{Known, Behind, known_outside, called, dotted_size, is_value_behind, size_of, size_of_leaf, put}
+use Rattle.ac_flaws.specs.inner.Known.{Known, Behind, known_outside, called, dotted_size, is_value_behind, size_of, put}
 use Rattle.ac_flaws.specs.inner.SurfaceFlaws.{size_of_manifest, behind_signature, past_entry, past_entries, no_outer}
 use Rattle.ac_flaws.proofs.Sizes.{leaf-cut, size_of-with_mine}
 

@@ -1,9 +1,9 @@
 -- The least of what is there: order and nesting don't matter.
-use Rattle.std.proofs.Common.{◌≡◌, ◌∙◌, ap, refl, sym, arith, ℕ, suc, ◌+◌, ◌<◌, min, List, [], ◌∷◌, length, drop, get_or, Option, Some, None}
+use Rattle.std.proofs.Common.{◌≡◌, ◌∙◌, ap, refl, sym, arith, ℕ, ◌+◌, ◌<◌, min, List, [], ◌∷◌, length, drop, get_or, Option, Some, None}
 use Rattle.ac_scopes.specs.Searches.{least}
 use Rattle.ac_flaws.specs.declared.flaws.Flaws.{Flaws}
 use Rattle.ac_flaws.specs.inner.Joined.{no_flaws, flaws_joined}
-use Rattle.ac_flaws.proofs.Loops.{drop_next, drop_end}
+use Rattle.ac_types.proofs.Loops.{drop_next, drop_end}
 
 min_assoc : (a b c : ℕ) → min (min a b) c ≡ min a (min b c)
 min_assoc a b c = omega arith

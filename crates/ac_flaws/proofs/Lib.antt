@@ -4,11 +4,9 @@ pub mod ExprsAre
 pub mod Forms
 pub mod Knowing
 pub mod Leasts
-pub mod Loops
 pub mod Lookups
 pub mod Repeats
 pub mod Scoping
 pub mod Sizes
 pub mod SurfacesAre
-pub mod TreeLaws
 pub mod TypesAre

@@ -1,7 +1,7 @@
 -- Maps and sets as what is known: what one more name changes.
 use Rattle.std.proofs.Common.{◌≡◌, ◌∙◌, ap, refl, sym, ℕ, ◌+◌, ◌<◌, Bool, true, false, cond, Bor, List, [], ◌∷◌, ◌++◌, map, length, drop, get_or, Option, Some, None}
 use Rattle.std.specs.Prelude.{option_map, is_some, if◌then◌else◌}
-use Rattle.std.specs.Ordering.{nat_cmp, is_eq}
+use Rattle.std.specs.Ordering.{nat_cmp}
 use Rattle.std.specs.Cmp.Lexicographic.{slice_cmp}
 use Rattle.std.specs.BTreeMap as tree_map
 use Rattle.std.specs.BTreeSet as tree_set
@@ -23,7 +23,7 @@ use Rattle.ac_flaws.specs.inner.Known.{Known, Behind, known_outside, put, add}
 use Rattle.ac_flaws.specs.inner.DefFlaws.{past_spec, spec_size, spec_sizes}
 use Rattle.ac_flaws.specs.inner.SurfaceFlaws.{size_of_manifest, no_outer}
 use Rattle.ac_flaws.specs.inner.Reads.{under, has, behind_of, outer_of}
-use Rattle.ac_flaws.proofs.Loops.{drop_next, drop_end}
+use Rattle.ac_types.proofs.Loops.{drop_next, drop_end}
 
 -- some reference to these bytes
 abbrev to_bytes : Bytes → Bor Bytes

@@ -14,7 +14,7 @@ use Rattle.ac_scopes.specs.Repeated.{place_where_there, repeated_name}
 use Rattle.ac_flaws.specs.declared.named.Named.{Named}
 use Rattle.ac_flaws.specs.inner.DefFlaws.{is_listed}
 use Rattle.ac_flaws.specs.inner.Reads.{named}
-use Rattle.ac_flaws.proofs.Loops.{drop_next, drop_end}
+use Rattle.ac_types.proofs.Loops.{drop_next, drop_end}
 use Rattle.ac_flaws.proofs.Leasts.{least-assoc, least-none}
 
 -- the words of the first names

@@ -5,12 +5,12 @@ use Rattle.ac_types.specs.Types.{Bytes}
 use Rattle.ac_terms.specs.Defs.{Environment}
 use Rattle.ac_syntax.specs.Trees.{Tree, DefTree, ProgramTree}
 use Rattle.ac_scopes.specs.Scopes.{NameScope, scope_behind, after_all}
-use Rattle.ac_scopes.specs.Definitions.{def_in, entry_in, after_def}
-use Rattle.ac_scopes.specs.Searches.{least, least_in, found}
+use Rattle.ac_scopes.specs.Definitions.{entry_in, after_def}
+use Rattle.ac_scopes.specs.Searches.{least_in, found}
 use Rattle.ac_scopes.specs.Unbound.{unbound, unbound_in_def}
 use Rattle.ac_scopes.specs.Repeated.{repeated, repeated_in_def}
 use Rattle.ac_scopes.specs.Counts.{large, large_in_def}
-use Rattle.ac_scopes.specs.Surfaces.{first_scope, first_unbound, first_repeated, least_passed, surface_fault}
+use Rattle.ac_scopes.specs.Surfaces.{first_scope, surface_fault}
 use Rattle.ac_flaws.specs.declared.flaws.Flaws.{Flaws}
 use Rattle.ac_flaws.specs.inner.Joined.{flaws_joined}
 use Rattle.ac_flaws.specs.inner.Known.{Behind, known_outside}

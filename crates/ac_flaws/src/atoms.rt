@@ -8,10 +8,10 @@ ghost use Rattle.ac_flaws.specs.inner.Joined.{counts};
 use crate::flaws::Flaws;
 use ac_types::Resolve;
 
-/// The most atoms of a resolvespec.
+// The most atoms of a resolvespec.
 const ATOMS_LIMIT: u32 = 16;
 
-/// The most bytes of a URI in it.
+// The most bytes of a URI in it.
 const URI_LIMIT: u32 = 1024;
 
 /// What is wrong with the atoms of a resolvespec.

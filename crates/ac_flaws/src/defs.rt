@@ -1,4 +1,4 @@
-// Definitions.
+// Why definitions are refused for their names and counts.
 
 ghost use Rattle.std.specs.Prelude.{◌≡◌, [], map, option_map, unwrap_or, IfOk, OnOk};
 ghost use Rattle.ac_types.specs.ReadTypes.{resolve_of};
@@ -108,7 +108,7 @@ fn import_flaws<'a>(
     })
 }
 
-/// What is wrong with the name of an import, what it wants and where it looks for it.
+// What is wrong with the name of an import, what it wants and where it looks for it.
 fn demand_flaws<'a>(
     externals: &Externals<'a>,
     name: &SName,
@@ -133,7 +133,7 @@ fn wants_flaws<'a>(externals: &Externals<'a>, wants: &'a SWants) -> Flaws
     }
 }
 
-/// The names of the standard modules are taken.
+// The names of the standard modules are taken.
 fn name_flaws(name: &SName) -> Flaws
     ensures { result ≡ name_flaws (name_of name.now) }
 {
@@ -143,7 +143,7 @@ fn name_flaws(name: &SName) -> Flaws
     Flaws::none()
 }
 
-/// What is wrong with a struct.
+// What is wrong with a struct.
 fn struct_flaws<'a>(
     alloc: Global,
     externals: &Externals<'a>,
@@ -210,7 +210,7 @@ fn walk_abbrev<'a>(scan: &mut Scan<'_, 'a>, alias: &'a SAbbrev) -> Result<Flaws,
     Ok(found.flaws())
 }
 
-/// What is wrong with a likespec.
+// What is wrong with a likespec.
 fn like_flaws<'a>(
     alloc: Global,
     externals: &Externals<'a>,

@@ -23,13 +23,13 @@ use ac_syntax::{SArm, SExpr, SExprKind, SName, SPat, SType};
 use ac_types::{Memory, Word};
 use std::alloc::Global;
 
-/// The most arms of a match or a try.
+// The most arms of a match or a try.
 const ARMS_LIMIT: u32 = 1024;
 
-/// The most variables in scope at one place.
+// The most variables in scope at one place.
 const SCOPE_LIMIT: u32 = 65535;
 
-/// What is wrong with a leaf: too many variables may be in scope.
+// What is wrong with a leaf: too many variables may be in scope.
 #[tactic(auto, using(crate::proofs::Counted::over_laws))]
 fn leaf(scope: &Scope) -> Flaws
     ensures { result ≡ leaf_flaws (names_in scope.now) }
@@ -37,7 +37,7 @@ fn leaf(scope: &Scope) -> Flaws
     Flaws::counted(SCOPE_LIMIT, depth(scope))
 }
 
-/// What is wrong with a variable or a field.
+// What is wrong with a variable or a field.
 fn variable<'a>(at: u32, word: &'a Word, scan: &Scan<'_, 'a>, scope: &Scope) -> Flaws
     ensures { result ≡ variable_flaws (known_of scan.now) (names_in scope.now) at word.now }
 {
@@ -47,7 +47,7 @@ fn variable<'a>(at: u32, word: &'a Word, scan: &Scan<'_, 'a>, scope: &Scope) -> 
     Flaws::missing(Some(at))
 }
 
-/// What is wrong with a name behind a definition's name and a dot.
+// What is wrong with a name behind a definition's name and a dot.
 fn dotted<'a>(owner: &'a SName, name: &'a SName, scan: &Scan<'_, 'a>) -> Flaws
     ensures { result ≡ dotted_flaws (known_of scan.now) (name_of owner.now) (name_of name.now) }
 {
@@ -60,7 +60,7 @@ fn dotted<'a>(owner: &'a SName, name: &'a SName, scan: &Scan<'_, 'a>) -> Flaws
     }
 }
 
-/// A name isn't in scope, where a test fails.
+// A name isn't in scope, where a test fails.
 fn unless(there: bool, at: u32) -> Flaws
     ensures { result ≡ missing (place_unless there at) }
 {
@@ -79,7 +79,8 @@ pub fn flaws<'s, 'a>(
     scan: &Scan<'_, 'a>,
     scope: &'s Scope<'s, 'a>,
 ) -> Result<Flaws, Memory>
-    ensures { IfOk result (λ f. f ≡ flaws (known_of scan.now) (names_in scope.now) (expr_of tree.now)) }
+    ensures { IfOk result (λ f. f ≡ flaws (known_of scan.now) (names_in scope.now)
+        (expr_of tree.now)) }
 {
     match &tree.kind {
         SExprKind::Int(_) => Ok(leaf(scope)),
@@ -180,7 +181,7 @@ pub fn flaws<'s, 'a>(
     }
 }
 
-/// What is wrong with a body that sees one more variable.
+// What is wrong with a body that sees one more variable.
 #[cycle(flaws)]
 #[tactic(auto, using(crate::proofs::Scoping::scope_laws))]
 fn under<'s, 'a>(
@@ -190,13 +191,14 @@ fn under<'s, 'a>(
     scan: &Scan<'_, 'a>,
     scope: &'s Scope<'s, 'a>,
 ) -> Result<Flaws, Memory>
-    ensures { IfOk result (λ f. f ≡ flaws (known_of scan.now) (name.now.word ∷ names_in scope.now) (expr_of body.now)) }
+    ensures { IfOk result (λ f. f ≡ flaws (known_of scan.now) (name.now.word ∷ names_in scope.now)
+        (expr_of body.now)) }
 {
     let inner = Scope::Inner(scope, name);
     flaws(alloc, body, scan, &inner)
 }
 
-/// What is wrong with the body of a function with a name, which sees the function and its argument.
+// What is wrong with the body of a function with a name, which sees the function and its argument.
 #[cycle(flaws)]
 #[tactic(auto, using(crate::proofs::Scoping::scope_laws))]
 fn in_fun<'s, 'a>(
@@ -207,14 +209,15 @@ fn in_fun<'s, 'a>(
     scan: &Scan<'_, 'a>,
     scope: &'s Scope<'s, 'a>,
 ) -> Result<Flaws, Memory>
-    ensures { IfOk result (λ f. f ≡ flaws (known_of scan.now) (argument.now.word ∷ name.now.word ∷ names_in scope.now)
+    ensures { IfOk result (λ f. f ≡ flaws (known_of scan.now)
+        (argument.now.word ∷ name.now.word ∷ names_in scope.now)
         (expr_of body.now)) }
 {
     let outer = Scope::Inner(scope, name);
     under(alloc, body, argument, scan, &outer)
 }
 
-/// What is wrong with the types of a function with a name, and with what sees it.
+// What is wrong with the types of a function with a name, and with what sees it.
 fn with_types<'a>(
     ty: &'a SType,
     to: &'a SType,
@@ -264,7 +267,7 @@ fn arms<'s, 'a>(
     Ok(found)
 }
 
-/// What is wrong with an arm, whose body sees the pattern's variables.
+// What is wrong with an arm, whose body sees the pattern's variables.
 #[cycle(flaws)]
 #[tactic(auto, using(crate::proofs::Forms::arm_forms))]
 fn arm<'s, 'a>(
@@ -273,7 +276,8 @@ fn arm<'s, 'a>(
     scan: &Scan<'_, 'a>,
     scope: &'s Scope<'s, 'a>,
 ) -> Result<Flaws, Memory>
-    ensures { IfOk result (λ f. f ≡ arm_flaws (known_of scan.now) (names_in scope.now) (arm_of case.now)) }
+    ensures { IfOk result (λ f. f ≡ arm_flaws (known_of scan.now) (names_in scope.now)
+        (arm_of case.now)) }
 {
     let names = variables(alloc, &case.pat)?;
     let pattern = pattern(alloc, &case.pat, names.as_slice(), scan)?;
@@ -282,7 +286,7 @@ fn arm<'s, 'a>(
     Ok(pattern.join(body))
 }
 
-/// What is wrong with a pattern that has these variables.
+// What is wrong with a pattern that has these variables.
 fn pattern<'a>(
     alloc: Global,
     tree: &'a SPat,

@@ -94,7 +94,7 @@ impl Flaws {
     }
 }
 
-/// One more than the limit, where a count passes it.
+// One more than the limit, where a count passes it.
 fn over(limit: u32, count: usize) -> Option<u32>
     requires { limit < 2 ^ 31 }
     ensures { result ≡ over limit count }

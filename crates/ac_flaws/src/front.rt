@@ -55,7 +55,7 @@ fn put_sig<'a>(
     put_outside(externals, name, outside)
 }
 
-/// What a signature shows behind a dot.
+// What a signature shows behind a dot.
 fn seen<'a>(alloc: Global, sig: &'a Sig) -> Result<Outside<'a>, Memory>
     ensures { IfOk result (λ o. behind_of o ≡ behind_signature (sig_of sig.now)) }
 {
@@ -64,7 +64,7 @@ fn seen<'a>(alloc: Global, sig: &'a Sig) -> Result<Outside<'a>, Memory>
     Ok(Outside { types, values })
 }
 
-/// The size of the first type of each name.
+// The size of the first type of each name.
 fn sizes_of<'a>(alloc: Global, types: &'a [SigType]) -> Result<Sizes<'a>, Memory>
     ensures { IfOk result (λ s. (t : Bytes) → under s t
         ≡ option_map size_of_manifest (type_under t (map sig_type_of types.now))) }

@@ -13,7 +13,7 @@ use ac_syntax::{SAbbrev, SDef, SDefKind, SField, SSpec};
 use ac_types::{Memory, Text};
 use std::alloc::Global;
 
-/// The most types, and the most values, of a signature, a struct or a likespec.
+// The most types, and the most values, of a signature, a struct or a likespec.
 const ITEMS_LIMIT: u32 = 1024;
 
 /// What is wrong with a list of names, that of a signature, a struct or a likespec.

@@ -34,18 +34,19 @@ impl<'a> Named<'a> {
     }
 }
 
-/// Some names.
+// Some names.
 #[derive(Drop)]
 struct Listed<'a> {
-    /// Their bytes.
+    // Their bytes.
     words: BTreeSet<&'a [u8]>,
-    /// The least place of a name that stands before it too.
+    // The least place of a name that stands before it too.
     repeated: Option<u32>,
 }
 
-/// Some names, and which of them is repeated first.
+// Some names, and which of them is repeated first.
 fn list_names<'a>(alloc: Global, names: &[Named<'a>]) -> Result<Listed<'a>, Memory>
-    ensures words { IfOk result (λ l. (x : Bytes) → has l.words x ≡ is_listed (map named names.now) x) }
+    ensures words { IfOk result (λ l. (x : Bytes) → has l.words x ≡ is_listed
+        (map named names.now) x) }
     ensures repeated { IfOk result (λ l. l.repeated ≡ repeated_name [] (map named names.now)) }
 {
     let mut words = BTreeSet::new(alloc);
@@ -74,7 +75,7 @@ pub fn repeated_name(alloc: Global, names: &[Named]) -> Result<Option<u32>, Memo
     Ok(all.repeated)
 }
 
-/// The place, where the name wasn't added.
+// The place, where the name wasn't added.
 fn unless(added: bool, at: u32) -> Option<u32>
     ensures { result ≡ (if added then None else Some at) }
 {

@@ -1,4 +1,4 @@
-// Patterns.
+// Why patterns are refused for their names and counts, and the variables that they bind.
 
 ghost use Rattle.std.specs.Prelude.{◌≡◌, ◌++◌, ◌∷◌, [], map, IfOk};
 ghost use Rattle.ac_syntax.specs.Trees.{pat_trees};
@@ -60,7 +60,7 @@ pub fn variables<'a>(alloc: Global, tree: &'a SPat) -> Result<Vec<Named<'a>>, Me
     add_variables(tree, Vec::new(alloc))
 }
 
-/// These names, and behind them the variables of a pattern.
+// These names, and behind them the variables of a pattern.
 #[cycle(add_variables)]
 #[tactic(auto, using(crate::proofs::Forms::pat_forms))]
 fn add_variables<'a>(tree: &'a SPat, found: Vec<Named<'a>>) -> Result<Vec<Named<'a>>, Memory>

@@ -22,7 +22,7 @@ pub enum Scope<'s, 'a> {
     Arm(&'s Scope<'s, 'a>, &'s [Named<'a>]),
 }
 
-/// Past this number no variable is counted.
+// Past this number no variable is counted.
 const MOST: usize = 65536;
 
 /// How many variables are in scope, at most 65,536.
@@ -44,14 +44,12 @@ pub fn is_bound(scope: &Scope, word: &Word) -> bool
 {
     match scope {
         Scope::Empty => false,
-        Scope::Inner(outer, name) => {
-            name.word.text().as_slice() == word.text().as_slice() || is_bound(outer, word)
-        }
+        Scope::Inner(outer, name) => name.word.is(word) || is_bound(outer, word),
         Scope::Arm(outer, names) => is_among(names, word) || is_bound(outer, word),
     }
 }
 
-/// Whether a name is among these.
+// Whether a name is among these.
 fn is_among(names: &[Named], word: &Word) -> bool
     ensures { result ≡ list_any (λ (n : Named). same_bytes n.word.now word.now) names.now }
 {

@@ -54,7 +54,7 @@ pub fn sig<'a>(
     })
 }
 
-/// What is wrong with the types of a signature, and the size of the first type of each name.
+// What is wrong with the types of a signature, and the size of the first type of each name.
 #[derive(Drop)]
 struct Walked<'a> {
     flaws: Flaws,
@@ -106,7 +106,7 @@ fn walk_spec<'a>(
     }
 }
 
-/// Puts a type into the scope, and among those that are seen from outside.
+// Puts a type into the scope, and among those that are seen from outside.
 fn put<'a>(
     scan: &mut Scan<'_, 'a>,
     types: &mut Sizes<'a>,

@@ -25,7 +25,7 @@ use ac_types::Memory;
 use std::alloc::Global;
 use std::collections::BTreeMap;
 
-/// The most definitions of a program.
+// The most definitions of a program.
 const DEFINITIONS_LIMIT: u32 = 4096;
 
 /// Why a program, or a module by itself, is refused behind the entries in front of it, for a name
@@ -54,7 +54,7 @@ fn surface_flaws(alloc: Global, surface: &Surface, env: &Env) -> Result<Flaws, M
     Ok(lists.join(rest))
 }
 
-/// The definitions in front: a program sees none, a module by itself the entries.
+// The definitions in front: a program sees none, a module by itself the entries.
 fn first_externals<'a>(
     alloc: Global,
     expr: &Option<SExpr>,
@@ -69,7 +69,7 @@ fn first_externals<'a>(
     }
 }
 
-/// The marks' names, and how many definitions there are.
+// The marks' names, and how many definitions there are.
 fn defs_flaws(alloc: Global, defs: &[SDef]) -> Result<Flaws, Memory>
     ensures { IfOk result (λ f. f ≡ defs_flaws (map def_tree_of defs.now)) }
 {
@@ -83,7 +83,7 @@ fn defs_flaws(alloc: Global, defs: &[SDef]) -> Result<Flaws, Memory>
     })
 }
 
-/// What is wrong with definitions and the expression behind them.
+// What is wrong with definitions and the expression behind them.
 fn rest_flaws<'a>(
     alloc: Global,
     front: Externals<'a>,
@@ -103,7 +103,7 @@ fn rest_flaws<'a>(
     Ok(found.join(main))
 }
 
-/// What is wrong with the expression.
+// What is wrong with the expression.
 #[tactic(auto, using(crate::proofs::Scoping::scope_laws))]
 fn main_flaws<'a>(
     alloc: Global,

@@ -19,10 +19,10 @@ use ac_types::Word;
 /// The most parts of a tuple, of its type and of its pattern.
 pub const WIDTH_LIMIT: u32 = 16;
 
-/// The greatest height of a type written out.
+// The greatest height of a type written out.
 const HEIGHT_LIMIT: u32 = 100;
 
-/// The most parts of a type written out.
+// The most parts of a type written out.
 const PARTS_LIMIT: u32 = 4096;
 
 /// What is wrong with a type's names and tuples, and its size.
@@ -35,7 +35,7 @@ pub struct Measured {
 }
 
 impl Measured {
-    /// Of a type without parts, in scope.
+    // Of a type without parts, in scope.
     fn leaf(size: Size) -> Measured
         ensures { result ≡ leaf_of None (Some size) }
     {
@@ -45,7 +45,7 @@ impl Measured {
         }
     }
 
-    /// Of a name that isn't in scope.
+    // Of a name that isn't in scope.
     fn unbound(at: u32) -> Measured
         ensures { result ≡ leaf_of (Some at) None }
     {
@@ -55,7 +55,7 @@ impl Measured {
         }
     }
 
-    /// Of no type.
+    // Of no type.
     fn none() -> Measured
         ensures { result ≡ no_type }
     {
@@ -65,7 +65,7 @@ impl Measured {
         }
     }
 
-    /// Of a type around this one.
+    // Of a type around this one.
     fn around(self) -> Measured
         ensures { result ≡ measured_around self }
     {
@@ -75,7 +75,7 @@ impl Measured {
         }
     }
 
-    /// Of two types side by side.
+    // Of two types side by side.
     fn beside(self, other: Measured) -> Measured
         ensures { result ≡ measured_both self other }
     {
@@ -85,7 +85,7 @@ impl Measured {
         }
     }
 
-    /// With what else is wrong.
+    // With what else is wrong.
     fn with(self, flaws: Flaws) -> Measured
         ensures { result ≡ measured_with flaws self }
     {
@@ -152,7 +152,7 @@ fn all<'a>(trees: &'a [SType], scan: &Scan<'_, 'a>) -> Measured
     found
 }
 
-/// Of a type with a plain name.
+// Of a type with a plain name.
 fn local<'a>(at: u32, word: &'a Word, scan: &Scan<'_, 'a>) -> Measured
     ensures { result ≡ leaf_of (unless ((known_of scan.now).types word.now) at)
         ((known_of scan.now).types word.now) }
@@ -163,7 +163,7 @@ fn local<'a>(at: u32, word: &'a Word, scan: &Scan<'_, 'a>) -> Measured
     }
 }
 
-/// Of a type behind a dot.
+// Of a type behind a dot.
 fn dotted<'a>(owner: &'a SName, name: &'a SName, scan: &Scan<'_, 'a>) -> Measured
     ensures { result ≡ leaf_of
         (unbound_behind (is_some (called (known_of scan.now) owner.now.word))

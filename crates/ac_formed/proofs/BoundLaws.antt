@@ -28,9 +28,6 @@ module_fields m h =
     let a : length m.fields ≤ 1024 = subst (λ n. n ≤ 1024) (length-map m.fields field_of) (le_true (length (map field_of m.fields)) 1024 (module_bounds (module_of_code m) h).few_fields) in
     omega (arith, a)
 
-pub import_specs : (i : code_import.Import) → fits_def (AnImport (import_of_code i)) ≡ true → length i.sig.types + length i.sig.vals < 2 ^ 32
-import_specs i h = let a = few_specs i.sig (import_bounds (import_of_code i) h).sig in omega (arith, a)
-
 pub import_types : (i : code_import.Import) → fits_def (AnImport (import_of_code i)) ≡ true → length i.sig.types < 2 ^ 32
 import_types i h = let a = few_specs i.sig (import_bounds (import_of_code i) h).sig in omega (arith, a)
 

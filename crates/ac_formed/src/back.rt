@@ -12,9 +12,9 @@ use ac_parts::{Test, import_passes, module_passes};
 use ac_terms::{Def, Entry, Env, Home};
 use ac_types::{Ty, Word, small};
 
-/// The test of the parts of definition `below`: references go to earlier definitions that have a
-/// signature, abstract types that are mentioned are of earlier ones, types are small, and no
-/// captured value stands there.
+// The test of the parts of definition `below`: references go to earlier definitions that have a
+// signature, abstract types that are mentioned are of earlier ones, types are small, and no
+// captured value stands there.
 #[derive(Clone, Copy)]
 struct Back<'a> {
     env: &'a Env,

@@ -31,7 +31,8 @@ fn manifest_closed(sig: &Sig, types: &[SigType]) -> bool
 }
 
 fn spec_closed(sig: &Sig, x: &SigType) -> bool
-    ensures { result ≡ option_map_or (is_closed (sig_of sig.now)) (sig_type_of x.now).manifest true }
+    ensures { result ≡ option_map_or (is_closed (sig_of sig.now)) (sig_type_of x.now).manifest
+        true }
 {
     match &x.manifest {
         None => true,

@@ -10,7 +10,7 @@ ghost use Rattle.ac_rules.specs.Modules.{are_distinct, is_distinct_sig, has_dist
 use ac_terms::{Def, Field};
 use ac_types::{Sig, SigType, TyField, Word};
 
-/// What has a name.
+// What has a name.
 trait Named {
     /// The name.
     ghost named: { Self → Bytes };
@@ -48,7 +48,7 @@ fn has_name<T: Named>(xs: &[T], name: &Word) -> bool
     ensures { result ≡ list_any (same_bytes name.now) (map T.named xs.now) }
 {
     for x in xs {
-        if name.text().as_slice() == x.name().text().as_slice() {
+        if name.is(x.name()) {
             return true;
         }
     }

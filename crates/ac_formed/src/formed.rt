@@ -57,7 +57,8 @@ fn has_sound_likes(def: &Def) -> bool
 fn has_sound_def(alloc: Global, env: &Env, i: u32, def: &Def) -> Result<bool, Memory>
     requires entries { length env.now.entries < 2 ^ 32 }
     requires fits { IsTrue (fits_def (def_of_code def.now)) }
-    ensures { IfOk result (λ b. b ≡ has_seen_fields (environment_of env.now) i (def_of_code def.now)) }
+    ensures { IfOk result (λ b. b ≡ has_seen_fields (environment_of env.now) i
+        (def_of_code def.now)) }
 {
     match def {
         Def::Module(m) => has_sound_fields(alloc, env, i, m),
@@ -71,7 +72,8 @@ fn has_sound_def(alloc: Global, env: &Env, i: u32, def: &Def) -> Result<bool, Me
 fn is_well_formed(alloc: Global, env: &Env, i: u32, def: &Def) -> Result<bool, Memory>
     requires entries { length env.now.entries < 2 ^ 32 }
     requires fits { IsTrue (fits_def (def_of_code def.now)) }
-    ensures { IfOk result (λ b. b ≡ is_well_formed (environment_of env.now) i (def_of_code def.now)) }
+    ensures { IfOk result (λ b. b ≡ is_well_formed (environment_of env.now) i
+        (def_of_code def.now)) }
 {
     let spoken = speaks_back(env, i, def);
     let asked = has_distinct_names(def) & (has_closed_sig(def) & has_sound_likes(def));

@@ -1,13 +1,12 @@
 -- How far patterns, terms and packed values nest, test by test.
-use Rattle.std.proofs.Common.{◌≡◌, refl, sym, ap, ◌∙◌, ℕ, zero, suc, ◌+◌, ◌≤◌, true, false, arith}
+use Rattle.std.proofs.Common.{◌≡◌, ℕ, ◌+◌, ◌≤◌, true, false, arith}
 use Rattle.std.specs.Prelude.{◌&&◌, nat_le, max}
 use Rattle.std.proofs.lemmas.Bool.Decides.{nat_tests}
 use Rattle.ac_terms.specs.Terms.{Pattern, PWild, Expr, Int, PValue, KInt}
 use Rattle.ac_terms.specs.Nesting.{pattern_nesting, nesting, value_nesting}
-use Rattle.ac_terms.proofs.ReadLaws.{term_laws as read_terms}
-use Rattle.ac_canon.proofs.PatternForms.{pattern_forms}
+use Rattle.ac_terms.proofs.PatternForms.{pattern_forms}
 use Rattle.ac_canon.proofs.TermForms.{term_forms}
-use Rattle.ac_canon.proofs.ValueForms.{value_forms}
+use Rattle.ac_terms.proofs.ValueForms.{value_forms}
 
 -- one level down
 pub nests_under : (n m : ℕ) → nat_le (n + 1) (m + 1) ≡ nat_le n m

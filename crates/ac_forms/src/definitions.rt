@@ -19,7 +19,7 @@ use ac_terms::Env;
 use ac_types::{Memory, Text};
 use std::alloc::Global;
 
-/// The most bytes of a packet.
+// The most bytes of a packet.
 const LONGEST: usize = 1_048_576;
 
 /// Whether the forms of some entries nest little, whatever their numbers.

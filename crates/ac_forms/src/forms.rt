@@ -22,12 +22,13 @@ use ac_terms::{Def, Entry, Field, Import, Module, Seen};
 use ac_types::{Constraint, Many, Memory, Name, Resolve, Text, both};
 use std::alloc::Global;
 
-/// How far the terms of a packet may nest.
+// How far the terms of a packet may nest.
 const DEEPEST: u32 = 500;
 
 /// Whether the form of an entry nests little. It stands before the mark or not.
 pub fn form_nests(entry: &Entry, before: bool) -> bool
-    ensures { let e = entry_of entry.now in result ≡ nests_little (form_of e.def e.name e.seen before) }
+    ensures { let e = entry_of entry.now in result ≡ nests_little
+        (form_of e.def e.name e.seen before) }
 {
     match &entry.def {
         Def::Module(m) => match &entry.name {
@@ -41,7 +42,8 @@ pub fn form_nests(entry: &Entry, before: bool) -> bool
 
 // Whether the terms of some fields nest little.
 fn fields_nest(fields: &[Field]) -> bool
-    ensures { result ≡ list_all (λ (n : ℕ). nat_le n 500) (map (λ (f : FieldOf). nesting f.term) (map field_of fields.now)) }
+    ensures { result ≡ list_all (λ (n : ℕ). nat_le n 500)
+        (map (λ (f : FieldOf). nesting f.term) (map field_of fields.now)) }
 {
     for field in fields {
         if !term_nests(&field.term, DEEPEST) {

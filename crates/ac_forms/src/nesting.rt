@@ -8,7 +8,7 @@ ghost use Rattle.ac_canon.specs.inner.Arms.{arm_of};
 
 use ac_terms::{Arm, PVal, Pat, Term};
 
-/// Whether a pattern nests at most so far.
+// Whether a pattern nests at most so far.
 // Each part is looked at (`&`): an `&&` would be one more branch of the proof.
 #[cycle(pat)]
 #[tactic(auto, using(crate::proofs::NestingLaws::pattern_laws))]

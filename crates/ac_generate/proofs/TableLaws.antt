@@ -1,5 +1,5 @@
 -- What the adding of blocks to a table needs.
-use Rattle.std.proofs.Common.{◌≡◌, ℕ, zero, suc, ◌+◌, ◌<◌, List, [], ◌∷◌, ◌++◌, length, length-append, map, take, drop, drop-cons, get_or, add-one, Option, None, Some, Result, Ok, Err, IfOk, refl, sym, ap, ap₂, ◌∙◌, arith, append_assoc}
+use Rattle.std.proofs.Common.{◌≡◌, ℕ, zero, suc, ◌+◌, List, [], ◌∷◌, ◌++◌, length, length-append, map, take, Option, None, Some, Result, Ok, Err, IfOk, refl, sym, ap, ap₂, ◌∙◌, arith}
 use Rattle.std.proofs.lemmas.List.{map-append, length-map, append-nil}
 use Rattle.std.proofs.Math.Seq.{take-append_seam}
 use Rattle.std.specs.Prelude.{option_map, option_and_then, slice_get}
@@ -12,10 +12,9 @@ use Rattle.ac_terms.specs.declared.env.Env as code_env
 use Rattle.ac_code.specs.declared.instr.Instr as code_instr
 use Rattle.ac_generate.specs.declared.writer.Writer as code_writer
 use Rattle.ac_terms.proofs.EnvLaws.{entry_get}
-use Rattle.ac_terms.specs.declared.def.Field as code_field
 use Rattle.ac_terms.specs.Terms.{Home, In, Expr, PValue}
 use Rattle.ac_terms.specs.Defs.{Module, Def, Entry, Environment, module_of, module_at}
-use Rattle.ac_terms.specs.Read.{home_of, field_of, expr_of, def_of_code, entry_of, environment_of}
+use Rattle.ac_terms.specs.Read.{home_of, def_of_code, entry_of, environment_of}
 use Rattle.ac_code.specs.declared.block.Block as code_block
 use Rattle.ac_code.specs.declared.instr.CodeId.{CodeId}
 use Rattle.ac_code.specs.Code.{Instr, Block, Code}
@@ -128,25 +127,6 @@ module _ (v : PValue) (d0 d : Draft) (K : Code) (n : ℕ) (h0 : d0 ≡ fresh n) 
 
   pub value_numbered : (k m : ℕ) → m ≡ n → k ≡ m + length d.blocks → k ≡ value_number v K
   value_numbered k m hm h = h ∙ ap₂ ◌+◌ (hm ∙ hn) (ap length value_blocks_are ∙ value_block_count v (length K.blocks))
-
--- one more field
-pub field_next : (c : Home) (fs : List code_field.Field) (i : ℕ) (f : code_field.Field) (K K' whole : Code) → i < length fs → f ≡ get_or fs i f → K' ≡ generated c (expr_of f.term) K → fields_generated c (map field_of (drop i fs)) K ≡ whole → fields_generated c (map field_of (drop (i + 1) fs)) K' ≡ whole
-field_next c fs i f K K' whole lt is h inv =
-    let rest = drop (i + 1) fs in
-    let e : drop i fs ≡ f ∷ rest = drop-cons fs i f lt ∙ ap₂ (λ x k. x ∷ drop k fs) (sym is) (sym (add-one i)) in
-    ap (fields_generated c (map field_of rest)) h ∙ ap (λ (l : List code_field.Field). fields_generated c (map field_of l) K) (sym e) ∙ inv
-
-pub number_next : (c : Home) (fs : List code_field.Field) (i : ℕ) (f : code_field.Field) (K K' : Code) (ids new : List CodeId) (id : CodeId) (whole : List ℕ) → i < length fs → f ≡ get_or fs i f → K' ≡ generated c (expr_of f.term) K → id.0 ≡ block_number (expr_of f.term) K → new ≡ ids ++ id ∷ [] →
-    map block_id ids ++ field_numbers c (map field_of (drop i fs)) K ≡ whole → map block_id new ++ field_numbers c (map field_of (drop (i + 1) fs)) K' ≡ whole
-number_next c fs i f K K' ids new id whole lt is h hid hnew inv =
-    let rest = drop (i + 1) fs in
-    let e : drop i fs ≡ f ∷ rest = drop-cons fs i f lt ∙ ap₂ (λ x k. x ∷ drop k fs) (sym is) (sym (add-one i)) in
-    let grown = generated c (expr_of f.term) K in
-    ap₂ (λ (l : List CodeId) (X : Code). map block_id l ++ field_numbers c (map field_of rest) X) hnew h
-    ∙ ap (λ (l : List ℕ). l ++ field_numbers c (map field_of rest) grown) (map-append block_id ids (id ∷ []))
-    ∙ append_assoc (map block_id ids) (block_id id ∷ []) (field_numbers c (map field_of rest) grown)
-    ∙ ap (λ (k : ℕ). map block_id ids ++ (k ∷ field_numbers c (map field_of rest) grown)) hid
-    ∙ ap (λ (l : List code_field.Field). map block_id ids ++ field_numbers c (map field_of l) K) (sym e) ∙ inv
 
 -- the numbers of an entry's fields, kept
 pub placed_map : (i : ℕ) (ids : List CodeId) (fs : List (List CodeId)) → map (map block_id) (placed i ids fs) ≡ placed i (map block_id ids) (map (map block_id) fs)

@@ -5,7 +5,9 @@ use Rattle.std.proofs.lemmas.List.{append-nil, append_assoc, map-append, map-set
 use Rattle.ac_code.specs.Code as instr
 use Rattle.ac_generate.specs.inner.Drafts.{Draft, put, put_all}
 use Rattle.ac_generate.specs.Sizes.{unbind}
-use Rattle.ac_generate.proofs.FormLaws.{typ_of-Fun, pattern_forms, scope_forms}
+use Rattle.ac_types.proofs.SizeLaws.{typ_of-Fun}
+use Rattle.ac_terms.proofs.PatternForms.{pattern_forms}
+use Rattle.ac_generate.proofs.FormLaws.{scope_forms}
 
 pub ruleset writer_laws = (append-nil, map-append, map-set, set_past)
 

@@ -1,15 +1,13 @@
 -- The equations of the forms whose writing has many steps, with an equation for each step.
-use Rattle.std.proofs.Common.{◌≡◌, ℕ, ◌+◌, ◌<◌, List, [], ◌∷◌, ◌++◌, length, map, drop, drop-cons, get_or, add-one, reverse, Result, Ok, Err, OnOk, refl, sym, ap, ap₂, ◌∙◌}
+use Rattle.std.proofs.Common.{◌≡◌, ℕ, ◌+◌, List, [], ◌∷◌, ◌++◌, reverse, Result, Ok, Err, OnOk, refl, sym, ap, ap₂, ◌∙◌}
 use Rattle.ac_types.specs.Types.{Typ, TFun}
-use Rattle.ac_terms.specs.declared.term.Term.{Term}
-use Rattle.ac_terms.specs.Read.{expr_of}
-use Rattle.ac_terms.specs.Terms.{Home, Pattern, Expr, Lam, Rec, If, Match, Try, exprs, Arms, KFun}
+use Rattle.ac_terms.specs.Terms.{Home, Pattern, Expr, Lam, Rec, If, Match, Try, Arms, KFun}
 use Rattle.ac_terms.specs.Parts.{pattern_types}
 use Rattle.ac_code.specs.Code as instr
 use Rattle.ac_code.specs.Code.{Instr}
 use Rattle.ac_generate.specs.Sizes.{bound, unbind}
-use Rattle.ac_generate.specs.inner.Drafts.{Draft, address, count, put, put_all, set_at, jumps_at, begun, ended, wrote, wrote_rest, wrote_arm, wrote_arms, arm_end, ends, wrote_value}
-use Rattle.ac_generate.proofs.DraftLaws.{wrote_Rec, wrote_KLam, wrote_KRec, wrote_later}
+use Rattle.ac_generate.specs.inner.Drafts.{Draft, address, count, put, put_all, set_at, jumps_at, begun, ended, wrote, wrote_arm, wrote_arms, arm_end, ends, wrote_value}
+use Rattle.ac_generate.proofs.DraftLaws.{wrote_Rec, wrote_KLam, wrote_KRec}
 use Rattle.ac_generate.proofs.JumpLaws.{open_jump, wrote_If, wrote_Match, wrote_Try, wrote_one_arm, arm_address}
 
 pub on_ok : {A E P Q : Type 0} (r : Result A E) → (P → Q) → OnOk r P → OnOk r Q
@@ -70,13 +68,3 @@ module _ (c : Home) (G H' : List Typ) (q : Pattern) (b : Expr) (d d1 d2 d3 : Dra
 
   pub arm_ended : (end : ℕ) → end ≡ address d3 → end ≡ arm_end q b (address d)
   arm_ended end he = he ∙ ap address body_written ∙ arm_address c G q b d
-
--- one more part of a sequence
-pub part_written : (c : Home) (G : List Typ) (parts : List Term) (i : ℕ) (t : Term) (d dropped new whole : Draft) → i < length parts → t ≡ get_or parts i t → dropped ≡ put instr.Drop d → new ≡ wrote c G (expr_of t) dropped →
-    wrote_rest c G (exprs (map expr_of (drop i parts))) d ≡ whole → wrote_rest c G (exprs (map expr_of (drop (i + 1) parts))) new ≡ whole
-part_written c G parts i t d dropped new whole lt is hd hn inv =
-    let rest = drop (i + 1) parts in
-    let e : drop i parts ≡ t ∷ rest = drop-cons parts i t lt ∙ ap₂ (λ x k. x ∷ drop k parts) (sym is) (sym (add-one i)) in
-    ap (wrote_rest c G (exprs (map expr_of rest))) (hn ∙ ap (wrote c G (expr_of t)) hd)
-    ∙ sym (wrote_later c G (expr_of t) (exprs (map expr_of rest)) d)
-    ∙ ap (λ (l : List Term). wrote_rest c G (exprs (map expr_of l)) d) (sym e) ∙ inv

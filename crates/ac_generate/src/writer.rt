@@ -203,7 +203,7 @@ impl Writer {
         Ok(number)
     }
 
-    /// The number of the next finished block.
+    // The number of the next finished block.
     #[tactic(auto, unfolding(crate::specs::inner::Drafts::draft_of))]
     fn number(&self) -> Result<CodeId, Memory>
         ensures { IfOk result (λ id. id.0 ≡ count (draft_of self.now)) }
@@ -215,7 +215,7 @@ impl Writer {
     }
 }
 
-/// Puts an item at an address of a list, where the list has that address.
+// Puts an item at an address of a list, where the list has that address.
 #[tactic(auto, using(crate::proofs::WriterLaws::writer_laws))]
 fn put_at<T: Drop>(items: &mut Vec<T>, at: usize, item: T)
     ensures { items.new.items ≡ set items.old.items at item }
@@ -225,7 +225,7 @@ fn put_at<T: Drop>(items: &mut Vec<T>, at: usize, item: T)
     }
 }
 
-/// The block of a lambda, of the code of its body.
+// The block of a lambda, of the code of its body.
 #[tactic(auto, using(crate::proofs::WriterLaws::writer_laws))]
 fn lambda_block(
     alloc: Global,
@@ -248,7 +248,7 @@ fn lambda_block(
     })
 }
 
-/// These instructions, and a return behind them.
+// These instructions, and a return behind them.
 #[tactic(auto, using(crate::proofs::WriterLaws::writer_laws))]
 fn returning(body: Vec<Instr>) -> Result<Many<Instr>, Memory>
     ensures { IfOk result (λ is. map instr_of is ≡ map instr_of body.items ++ Return ∷ []) }

@@ -11,10 +11,10 @@ use Rattle.ac_terms.specs.Heads.{Head, before, pattern_heads, term_heads, all_te
 use Rattle.ac_terms.specs.Renumbered.{renumbered, all_renumbered, arms_renumbered, value_renumbered, values_renumbered}
 use Rattle.ac_terms.proofs.HeadLaws.{spelling, packed_spelled}
 use Rattle.ac_rules.specs.Faults.{Fault, part_fault, first_fault}
-use Rattle.ac_heads.specs.Outcomes.{Outcome, On, Stopped, unless, after}
+use Rattle.ac_heads.specs.Outcomes.{WalkEnd, On, Stopped, unless, after}
 
 -- the first fault, or these bytes
-abbrev pub outcome : Option Fault → Bytes → Outcome
+abbrev pub outcome : Option Fault → Bytes → WalkEnd
 outcome None bs = On bs
 outcome (Some f) bs = Stopped f
 

@@ -7,7 +7,7 @@ use Rattle.ac_types.specs.Limits.{longest_packet}
 use Rattle.ac_types.specs.Types.{Bytes}
 use Rattle.ac_terms.specs.Heads.{Head, next_head, before}
 use Rattle.ac_rules.specs.Faults.{Depth, Function, Size, part_fault}
-use Rattle.ac_heads.specs.Outcomes.{Outcome, On, Stopped, unless, after, Puts}
+use Rattle.ac_heads.specs.Outcomes.{WalkEnd, On, Stopped, unless, after, Puts}
 use Rattle.ac_heads.specs.declared.stop.Stop.{Stop}
 
 lt_is : (n m : ℕ) → n < m → nat_lt n m ≡ true
@@ -49,7 +49,7 @@ can_not_travel bs d cs hs p = let a = not_lt 500 d p in rw a refl
 pub preceded_head : (bs cs : Bytes) (h : Head) (hs : List Head) → after (bs ++ cs) (h ∷ hs) ≡ after bs (before cs (h ∷ hs))
 unfolding after
 preceded_head bs cs h hs =
-    ap₂ (λ (n : ℕ) (o : Outcome). unless (part_fault 500 longest_packet n h) o)
+    ap₂ (λ (n : ℕ) (o : WalkEnd). unless (part_fault 500 longest_packet n h) o)
     (omega (arith, length-append bs cs, length-append cs h.bytes))
     (ap (λ x. after x hs) (append_assoc bs cs h.bytes))
 

@@ -8,17 +8,17 @@ use Rattle.ac_heads.specs.declared.stop.Stop.{Stop}
 use Rattle.ac_heads.specs.declared.stop.Stop.TheVariants as stop
 
 -- all are written, or a fault stops
-pub data Outcome : Type 0 where
-  On : Bytes → Outcome
-  Stopped : Fault → Outcome
+pub data WalkEnd : Type 0 where
+  On : Bytes → WalkEnd
+  Stopped : Fault → WalkEnd
 
 -- the outcome, unless there is a fault already
-abbrev pub unless : Option Fault → Outcome → Outcome
+abbrev pub unless : Option Fault → WalkEnd → WalkEnd
 unless None o = o
 unless (Some f) o = Stopped f
 
 -- these bytes with those of some parts behind them, up to the first part that fails
-unfoldable pub after : Bytes → List Head → Outcome
+unfoldable pub after : Bytes → List Head → WalkEnd
 after bs [] = On bs
 after bs (h ∷ hs) = unless (part_fault 500 longest_packet (length bs + length h.bytes) h) (after (bs ++ h.bytes) hs)
 
@@ -30,9 +30,9 @@ fault_in stop.Size = Some Size
 fault_in stop.Memory = None
 
 -- where a walk stops at a fault, it stops there whatever comes behind these heads
-abbrev pub Stops : Stop → Bytes → List Head → Type 0
-Stops e bs hs = (f : Fault) → fault_in e ≡ Some f → (ks : List Head) → after bs (hs ++ ks) ≡ Stopped f
+abbrev pub StopsWalk : Stop → Bytes → List Head → Type 0
+StopsWalk e bs hs = (f : Fault) → fault_in e ≡ Some f → (ks : List Head) → after bs (hs ++ ks) ≡ Stopped f
 
 -- the head is written, or the walk stops in it
 abbrev pub Puts : Result Unit Stop → Head → Bytes → Bytes → Type 0
-Puts r h old new = MatchResult r (λ _. (hs : List Head) → after new hs ≡ after old (h ∷ hs)) (λ e. Stops e old (h ∷ []))
+Puts r h old new = MatchResult r (λ _. (hs : List Head) → after new hs ≡ after old (h ∷ hs)) (λ e. StopsWalk e old (h ∷ []))

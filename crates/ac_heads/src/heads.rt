@@ -10,7 +10,7 @@ use ac_types::{Text, Word};
 
 /// The greatest nesting of a part.
 pub const DEEPEST: u32 = 500;
-/// The most bytes of a packet.
+// The most bytes of a packet.
 const LONGEST: usize = 1_048_576;
 
 /// Writes the head of a part that nests so deep. Stops where it nests too far, or where too much is

@@ -4,7 +4,7 @@ ghost use Rattle.std.specs.Prelude.{◌≡◌, ◌∷◌, [], suc, false, IfOk};
 ghost use Rattle.ac_types.specs.Types.{Bytes};
 ghost use Rattle.ac_terms.specs.Spelling.{four_written};
 ghost use Rattle.ac_terms.specs.Heads.{next_head};
-ghost use Rattle.ac_heads.specs.Outcomes.{Stops};
+ghost use Rattle.ac_heads.specs.Outcomes.{StopsWalk};
 
 use crate::heads::{DEEPEST, count};
 use crate::stop::Stop;
@@ -13,7 +13,7 @@ use ac_types::{Memory, Text};
 /// Why a walk stops at what can't travel.
 #[tactic(auto, using(crate::proofs::HeadLaws::head_laws))]
 pub fn stays(nesting: u32) -> Stop
-    ensures { (text bytes : Bytes) → Stops result text
+    ensures { (text bytes : Bytes) → StopsWalk result text
         (record { nesting = nesting; travels = false; bytes = bytes } ∷ []) }
 {
     if nesting > DEEPEST {
@@ -25,7 +25,7 @@ pub fn stays(nesting: u32) -> Stop
 
 /// Why it stops at a list of so many items, the first of which can't travel.
 pub fn lost(text: &mut Text, nesting: u32, items: usize) -> Stop
-    ensures { (bytes : Bytes) → Stops result text.old.0
+    ensures { (bytes : Bytes) → StopsWalk result text.old.0
         (next_head nesting (0x07 ∷ four_written items) ∷
         record { nesting = suc nesting; travels = false; bytes = bytes } ∷ []) }
 {

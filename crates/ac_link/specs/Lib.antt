@@ -1,1 +1,2 @@
 pub mod LinkFaults
+pub mod inner

@@ -8,4 +8,4 @@ mod signature;
 
 pub use fault::{LinkFault, When};
 pub use link::link_ok;
-pub use resolving::resolve;
+pub use resolving::{is_exact, resolve};

@@ -2,7 +2,6 @@
 
 ghost use Rattle.std.specs.Prelude.{◌≡◌, ◌+◌, ◌<◌, ◌^◌, length, map, option_map};
 ghost use Rattle.std.specs.Result.{result_err};
-ghost use Rattle.ac_types.specs.Types.{same_bytes};
 ghost use Rattle.ac_types.specs.First.{first_failing, first_some};
 ghost use Rattle.ac_types.specs.ReadTypes.{atom_of, range_of, sig_type_of, sig_of};
 ghost use Rattle.ac_terms.specs.Read.{name_of_code, module_of_code, import_of_code, environment_of};
@@ -12,7 +11,7 @@ ghost use Rattle.ac_link.specs.LinkFaults.{fault_of};
 use crate::fault::LinkFault;
 use crate::signature::{missing_type, missing_val};
 use ac_terms::{Def, Env, Import, Module};
-use ac_types::{Constraint, Name, Range, Sig, SigType, Word, same_types, type_named};
+use ac_types::{Constraint, Name, Range, Sig, SigType, same_types, type_named};
 use ac_version::fit;
 
 /// Whether an import may link to entry `j`; if not, the first condition that fails.
@@ -51,14 +50,14 @@ fn link_fault(env: &Env, import: &Import, j: u32) -> Option<LinkFault>
     }
 }
 
-/// The first condition that fails between a module and an import by version.
+// The first condition that fails between a module and an import by version.
 fn by_version(m: &Module, import: &Import, ranges: &[Range], star: bool) -> Option<LinkFault>
     requires { length import.now.sig.types + length import.now.sig.vals < 2 ^ 32 }
     ensures { option_map fault_of result ≡ first_some
         (by_version (module_of_code m.now) (import_of_code import.now) (map range_of ranges.now)
         star) }
 {
-    if !same_words(&m.name, &import.name) {
+    if !m.name.is(&import.name) {
         return Some(LinkFault::External);
     }
     if !fit(ranges, star, m.version.atoms.as_slice()) {
@@ -73,14 +72,14 @@ fn by_version(m: &Module, import: &Import, ranges: &[Range], star: bool) -> Opti
     }
 }
 
-/// The first condition that fails between a module and an import by exact name.
+// The first condition that fails between a module and an import by exact name.
 fn by_name(m: &Module, import: &Import, kept: &Option<Name>, name: &Name) -> Option<LinkFault>
     requires { length import.now.sig.types + length import.now.sig.vals < 2 ^ 32 }
     ensures { option_map fault_of result ≡ first_some
         (by_name (module_of_code m.now) (import_of_code import.now)
         (option_map name_of_code kept.now) name.now.0) }
 {
-    if !same_words(&m.name, &import.name) {
+    if !m.name.is(&import.name) {
         return Some(LinkFault::External);
     }
     if let Some(spec) = missing_spec(true, &m.sig, &import.sig) {
@@ -93,7 +92,7 @@ fn by_name(m: &Module, import: &Import, kept: &Option<Name>, name: &Name) -> Opt
     }
 }
 
-/// The first spec that a module's signature lacks, types first.
+// The first spec that a module's signature lacks, types first.
 fn missing_spec(exact: bool, found: &Sig, wanted: &Sig) -> Option<u32>
     requires { length wanted.now.types + length wanted.now.vals < 2 ^ 32 }
     ensures { result ≡ missing_spec exact (sig_of found.now) (sig_of wanted.now) }
@@ -107,8 +106,8 @@ fn missing_spec(exact: bool, found: &Sig, wanted: &Sig) -> Option<u32>
     }
 }
 
-/// The first abstract type of an import whose representation in the module isn't the likespec's
-/// type.
+// The first abstract type of an import whose representation in the module isn't the likespec's
+// type.
 fn unlike(m: &Module, import: &Import) -> Option<u32>
     requires { length import.now.sig.types + length import.now.sig.vals < 2 ^ 32 }
     ensures { result ≡ unlike (module_of_code m.now) (import_of_code import.now) }
@@ -145,10 +144,4 @@ fn is_like(m: &Module, import: &Import, spec: &SigType) -> bool
             Some(other) => same_types(ty, other),
         },
     }
-}
-
-fn same_words(a: &Word, b: &Word) -> bool
-    ensures { result ≡ same_bytes a.now b.now }
-{
-    a.text().as_slice() == b.text().as_slice()
 }

@@ -5,7 +5,8 @@ ghost use Rattle.ac_types.specs.Sigs.{HereAlready};
 ghost use Rattle.ac_types.specs.ReadTypes.{constraint_of, resolve_of};
 ghost use Rattle.ac_terms.specs.Read.{import_of_code, environment_of, seen_of};
 ghost use Rattle.ac_rules.specs.Links.{InPacket, is_exact, latest, gives, linked};
-ghost use Rattle.ac_link.specs.LinkFaults.{when_of, comes_from, is_candidate};
+ghost use Rattle.ac_link.specs.inner.Candidates.{comes_from, is_candidate};
+ghost use Rattle.ac_link.specs.LinkFaults.{when_of};
 
 use crate::fault::When;
 use crate::link::link_ok;
@@ -27,7 +28,7 @@ pub fn resolve(env: &Env, import: &Import, when: When) -> Option<u32>
     None
 }
 
-/// The entry that one atom gives.
+// The entry that one atom gives.
 fn gives(env: &Env, import: &Import, when: When, atom: &Resolve) -> Option<u32>
     requires entries { length env.now.entries < 2 ^ 32 }
     requires specs { length import.now.sig.types + length import.now.sig.vals < 2 ^ 32 }
@@ -47,7 +48,7 @@ fn gives(env: &Env, import: &Import, when: When, atom: &Resolve) -> Option<u32>
     }
 }
 
-/// What is there already as a packet comes: an own module, or by exact name one that has arrived.
+// What is there already as a packet comes: an own module, or by exact name one that has arrived.
 fn here_already(env: &Env, import: &Import) -> Option<u32>
     requires entries { length env.now.entries < 2 ^ 32 }
     requires specs { length import.now.sig.types + length import.now.sig.vals < 2 ^ 32 }
@@ -64,7 +65,7 @@ fn here_already(env: &Env, import: &Import) -> Option<u32>
     }
 }
 
-/// The entries among which an atom looks.
+// The entries among which an atom looks.
 #[derive(Clone, Copy)]
 enum Origin<'a> {
     Own,
@@ -72,8 +73,8 @@ enum Origin<'a> {
     Arrived,
 }
 
-/// The latest entry of an origin to which the import may link. A signature is compared only where
-/// origin, external name and version fit.
+// The latest entry of an origin to which the import may link. A signature is compared only where
+// origin, external name and version fit.
 fn latest(env: &Env, import: &Import, origin: Origin) -> Option<u32>
     requires entries { length env.now.entries < 2 ^ 32 }
     requires specs { length import.now.sig.types + length import.now.sig.vals < 2 ^ 32 }
@@ -90,7 +91,7 @@ fn latest(env: &Env, import: &Import, origin: Origin) -> Option<u32>
     None
 }
 
-/// Whether entry `j` comes from there, and the import may link to it.
+// Whether entry `j` comes from there, and the import may link to it.
 #[tactic(auto, using(ac_terms::proofs::EnvLaws::env_laws))]
 fn is_candidate(env: &Env, import: &Import, origin: Origin, j: usize) -> bool
     requires entries { length env.now.entries < 2 ^ 32 }
@@ -119,7 +120,8 @@ fn comes_from(origin: Origin, seen: &Seen) -> bool
     }
 }
 
-fn is_exact(constraint: &Constraint) -> bool
+/// Whether a constraint is a name, and no ranges of versions.
+pub fn is_exact(constraint: &Constraint) -> bool
     ensures { result ≡ is_exact (constraint_of constraint.now) }
 {
     match constraint {

@@ -31,8 +31,8 @@ pub fn missing_val(exact: bool, found: &Sig, wanted: &Sig) -> Option<usize>
         .position(|spec| !has_val_spec(exact, found, wanted, spec))
 }
 
-/// An abstract type is abstract in the module, or by version manifest; a manifest one is manifest
-/// there and equal.
+// An abstract type is abstract in the module, or by version manifest; a manifest one is manifest
+// there and equal.
 fn has_type_spec(exact: bool, found: &Sig, wanted: &Sig, spec: &SigType) -> bool
     ensures { result ≡ has_type_spec exact (sig_of found.now) (sig_type_of spec.now) }
 {
@@ -48,7 +48,7 @@ fn has_type_spec(exact: bool, found: &Sig, wanted: &Sig, spec: &SigType) -> bool
     }
 }
 
-/// A value is there with an equal type.
+// A value is there with an equal type.
 fn has_val_spec(exact: bool, found: &Sig, wanted: &Sig, spec: &TyField) -> bool
     ensures { result ≡ has_val_spec exact (sig_of found.now) (typed_of spec.now) }
 {
@@ -58,8 +58,8 @@ fn has_val_spec(exact: bool, found: &Sig, wanted: &Sig, spec: &TyField) -> bool
     }
 }
 
-/// Whether a type of a module's signature is one of an import's: by exact name as it is, by
-/// version as the module has it.
+// Whether a type of a module's signature is one of an import's: by exact name as it is, by
+// version as the module has it.
 fn is_equal(exact: bool, found: &Sig, wanted: &Sig, ty: &Ty, other: &Ty) -> bool
     ensures { result ≡ is_equal exact (sig_of found.now) (Some (typ_of ty.now)) (typ_of other.now) }
 {

@@ -17,7 +17,7 @@ const HAS_X: Shape = Shape {
     behind: b"",
 };
 
-/// What an import by version asks of the version: ranges, and whether a star follows.
+// What an import by version asks of the version: ranges, and whether a star follows.
 type Wanted = (&'static [Range], bool);
 
 const ANY: Wanted = (&[], true);
@@ -39,11 +39,11 @@ const MEETINGS: [(&[Range], bool, bool); 9] = [
     (&[Range::One(2)], true, false),
 ];
 
-/// A fault by version and one by exact name.
+// A fault by version and one by exact name.
 type Faults = (Option<LinkFault>, Option<LinkFault>);
 
-/// The signatures of a module and of an import, and the faults between them by version and by
-/// exact name.
+// The signatures of a module and of an import, and the faults between them by version and by
+// exact name.
 #[derive(Clone, Copy)]
 struct Case {
     module: Shape,
@@ -75,12 +75,12 @@ fn shape(parts: [&'static [u8]; 3]) -> Shape {
     }
 }
 
-/// That spec isn't there.
+// That spec isn't there.
 fn lacks(spec: u32) -> Option<LinkFault> {
     Some(LinkFault::Signature { spec })
 }
 
-/// That abstract type has another representation than the likespec says.
+// That abstract type has another representation than the likespec says.
 fn unlike(spec: u32) -> Option<LinkFault> {
     Some(LinkFault::Like { spec })
 }
@@ -92,7 +92,7 @@ impl Make {
         Ok(Env { entries })
     }
 
-    /// One own module under its name.
+    // One own module under its name.
     fn alone(self, letter: u8, version: &[Atom], shape: Shape) -> Made<Env> {
         let module = self.module(letter, version, shape)?;
         self.only(Def::Module(module), Some(NAME))
@@ -103,7 +103,7 @@ impl Make {
         self.only(Def::Mark(text), None)
     }
 
-    /// An import of that name.
+    // An import of that name.
     fn import_alone(self) -> Made<Env> {
         let import = self.exact(EMPTY, NAME)?;
         self.only(Def::Import(import), Some(NAME))
@@ -117,7 +117,7 @@ impl Make {
         self.import(import, Constraint::Exact(Name([name; 32])), b"H")
     }
 
-    /// The fault of an import by version.
+    // The fault of an import by version.
     fn by_version(
         self,
         env: &Env,
@@ -131,13 +131,13 @@ impl Make {
         fault(env, &import, j)
     }
 
-    /// The fault of an import by exact name.
+    // The fault of an import by exact name.
     fn by_name(self, env: &Env, j: u32, import: Shape, name: u8) -> Made<Option<LinkFault>> {
         let import = self.exact(import, name)?;
         fault(env, &import, j)
     }
 
-    /// The faults of an import by any version and of one by the entry's name.
+    // The faults of an import by any version and of one by the entry's name.
     fn both_faults(self, env: &Env, j: u32, import: Shape) -> Made<Faults> {
         both(
             self.by_version(env, j, import, ANY),

@@ -34,7 +34,7 @@ impl Make {
         Box::new(self.0, ty?)
     }
 
-    /// The identifier of that letter.
+    // The identifier of that letter.
     fn word(self, letter: u8) -> Made<Word> {
         let bytes = [letter];
         match Word::new(Text::from_slice(self.0, bytes.as_slice())?) {
@@ -55,13 +55,13 @@ impl Make {
         self.word(letter).map(Ty::Mine)
     }
 
-    /// The type `t` of the definition whose name has that byte throughout.
+    // The type `t` of the definition whose name has that byte throughout.
     fn of_name(self, byte: u8) -> Made<Ty> {
         self.word(b't').map(|word| Ty::Abs(Name([byte; 32]), word))
     }
 
-    /// The type of that letter: `t` and `u` are own types, `L` and `F` have the own type `t` where
-    /// `l` and `f` have bool, and a digit is the type `t` of the definition of that name.
+    // The type of that letter: `t` and `u` are own types, `L` and `F` have the own type `t` where
+    // `l` and `f` have bool, and a digit is the type `t` of the definition of that name.
     fn ty(self, letter: u8) -> Made<Ty> {
         match letter {
             b'i' => Ok(Ty::Int),
@@ -149,7 +149,7 @@ impl Make {
         })
     }
 
-    /// `S` is `Static_Link` and `H` is `Here_Already`; any other letter is a URI.
+    // `S` is `Static_Link` and `H` is `Here_Already`; any other letter is a URI.
     fn resolvespec(self, letters: &[u8]) -> Made<Many<Resolve>> {
         let mut all = Many::new(self.0);
         for letter in letters {

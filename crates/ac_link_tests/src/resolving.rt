@@ -6,10 +6,10 @@ use ac_terms::{Def, Entry, Env, Seen};
 use ac_types::{Atom, Constraint, Many, Name, Range, both};
 use std::test::Fail;
 
-/// Entries of four letters, a resolvespec, and what it gives at load and in a packet. Of an entry
-/// the letters are where it comes from (`o` own, `a` arrived, else the URI on the shelf), its
-/// external name, the last number of its version, which its name has throughout, and the type of
-/// its value `k`, or `!` for a mark and `>` for an import.
+// Entries of four letters, a resolvespec, and what it gives at load and in a packet. Of an entry
+// the letters are where it comes from (`o` own, `a` arrived, else the URI on the shelf), its
+// external name, the last number of its version, which its name has throughout, and the type of
+// its value `k`, or `!` for a mark and `>` for an import.
 #[derive(Clone, Copy)]
 struct Case {
     entries: &'static [u8],
@@ -38,7 +38,7 @@ const K: Shape = Shape {
     behind: b"",
 };
 
-/// What is given at load and in a packet.
+// What is given at load and in a packet.
 type Given = (Option<u32>, Option<u32>);
 
 impl Make {
@@ -100,12 +100,12 @@ impl Make {
         self.given(entries, by, constraint)
     }
 
-    /// For the import by any version.
+    // For the import by any version.
     fn given_by_version(self, row: Case) -> Made<Given> {
         self.ranged(row.entries, row.by, [].as_slice(), true)
     }
 
-    /// For the import by the exact name of modules of version 1.1.
+    // For the import by the exact name of modules of version 1.1.
     fn given_by_name(self, row: Case) -> Made<Given> {
         self.given(row.entries, row.by, Constraint::Exact(Name([b'1'; 32])))
     }

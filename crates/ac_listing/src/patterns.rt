@@ -1,4 +1,4 @@
-// Patterns.
+// The listing of patterns.
 
 ghost use Rattle.std.specs.Prelude.{◌≡◌, ◌++◌, [], map, OnOk};
 ghost use Rattle.ac_terms.specs.Terms.{patterns};

@@ -1,4 +1,4 @@
-// Types.
+// The listing of types.
 
 ghost use Rattle.std.specs.Prelude.{◌≡◌, ◌++◌, [], map, OnOk};
 ghost use Rattle.ac_types.specs.Types.{typs};

@@ -7,14 +7,14 @@ use Rattle.ac_terms.specs.Defs.{Environment}
 use Rattle.ac_meaning.specs.Loads.{IsLoaded}
 use Rattle.ac_meaning.proofs.Sources.{fits_source}
 use Rattle.ac_acceptance.specs.Accepting.{Shelved, IsShelf}
-use Rattle.ac_acceptance.specs.Ready.{IsReady}
+use Rattle.ac_acceptance.specs.Ready.{IsWellLoaded}
 use Rattle.ac_acceptance.proofs.OneAnswer.{not_both}
 use Rattle.ac_acceptance.proofs.Coherence.{accepted_ready}
 use Rattle.ac_load.specs.Kinds.{of_cause}
 use Rattle.ac_load.specs.Loading.{Loads, Rejects}
 use Rattle.ac_load.specs.declared.kind.Kind.{Kind}
 
-ready_loaded : (E : Environment) (e : Expr) (T : Typ) → IsReady E e T → IsLoaded E e T
+ready_loaded : (E : Environment) (e : Expr) (T : Typ) → IsWellLoaded E e T → IsLoaded E e T
 ready_loaded E e T r = record { program = record { coherent = r.coherent; typed = r.typed; source = fits_source e r.fits }; fits = r.fits; known = r.known }
 
 pub loads_ready : (text : Bytes) (shelf : List Shelved) (E : Environment) (e : Expr) (T : Typ) → IsShelf shelf → length shelf ≤ 256 → Loads text shelf E e T → IsLoaded E e T

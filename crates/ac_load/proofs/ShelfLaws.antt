@@ -14,7 +14,7 @@ use Rattle.ac_syntax.specs.declared.fault.ParseFault.{ParseFault}
 use Rattle.ac_syntax.specs.declared.fault.ParseFault.TheVariants as parse
 use Rattle.ac_parser.specs.Texts.{HasTree, Refused, IsTextFault}
 use Rattle.ac_acceptance.specs.Causes.{Cause, NoTree, loaded, cause}
-use Rattle.ac_acceptance.specs.Accepting.{Shelved, IsShelf, Gives, nothing, a_module, IsRefused, no_tree, with_tree, Refuses, of_shelf, of_program}
+use Rattle.ac_acceptance.specs.Accepting.{Shelved, IsShelf, GivesEntries, nothing, a_module, IsRefused, no_tree, with_tree, Refuses, of_shelf, of_program}
 use Rattle.std.specs.List.{list_all}
 use Rattle.ac_outer.specs.Entries.{keeps_name}
 use Rattle.ac_elaborate.proofs.Kept.{all_named}
@@ -83,13 +83,13 @@ module_taken E s p F e T has t = record {
 }
 
 -- one text of the shelf more
-gives_more : {E F : Environment} {before : List Shelved} (s : Shelved) → Gives sha256 E before F → (G : Environment) → IsModuleTaken F s G → Gives sha256 E (before ++ s ∷ []) G
-gives_more {E} s nothing G t = a_module t.part (subst (λ (H : Environment). Gives sha256 (loaded sha256 E (Shelf s.uri) t.tree) [] H) (sym t.entries) nothing)
+gives_more : {E F : Environment} {before : List Shelved} (s : Shelved) → GivesEntries sha256 E before F → (G : Environment) → IsModuleTaken F s G → GivesEntries sha256 E (before ++ s ∷ []) G
+gives_more {E} s nothing G t = a_module t.part (subst (λ (H : Environment). GivesEntries sha256 (loaded sha256 E (Shelf s.uri) t.tree) [] H) (sym t.entries) nothing)
 gives_more s (a_module part more) G t = a_module part (gives_more s more G t)
 
 -- what stands in front of a part
 abbrev pub Before : List Shelved → ℕ → Environment → Type 0
-Before shelf n E = Gives sha256 [] (take n shelf) E
+Before shelf n E = GivesEntries sha256 [] (take n shelf) E
 
 coherent_before : (shelf : List Shelved) (n : ℕ) (E : Environment) → IsShelf shelf → length shelf ≤ 256 → Before shelf n E → IsCoherent E × (length E ≤ 256)
 coherent_before shelf n E good few b =
@@ -129,7 +129,7 @@ module _ (xs : List ShelfEntry) (i : ℕ) (x : ShelfEntry) (within : i < length 
       length-take-le i texts (omega (arith, a, within))
 
   pub before_next : (E F : Environment) → Before texts i E → IsModuleTaken E (shelved x) F → Before texts (i + 1) F
-  before_next E F b t = subst (λ (l : List Shelved). Gives sha256 [] l F) (sym take_next) (gives_more (shelved x) b F t)
+  before_next E F b t = subst (λ (l : List Shelved). GivesEntries sha256 [] l F) (sym take_next) (gives_more (shelved x) b F t)
 
   pub rejects_here : (text : Bytes) (E : Environment) (kind : Kind) (part : ℕ) → part ≡ i + 1 → Before texts i E → Says kind (RejectsPart IsModule E (Shelf (shelved x).uri) (shelved x).text kind) → Says kind (Rejects text texts part kind)
   rejects_here text E kind part e b r =
@@ -147,8 +147,8 @@ module _ (xs : List ShelfEntry) (n : ℕ) (E : Environment) (text : Bytes) (past
   whole : take n shelf ≡ shelf
   whole = ap (λ (k : ℕ). take k shelf) (past ∙ sym (length-map xs shelved)) ∙ take-length shelf
 
-  all_given : Gives sha256 [] shelf E
-  all_given = subst (λ (l : List Shelved). Gives sha256 [] l E) whole b
+  all_given : GivesEntries sha256 [] shelf E
+  all_given = subst (λ (l : List Shelved). GivesEntries sha256 [] l E) whole b
 
   pub rejects_last : (kind : Kind) → Says kind (RejectsPart IsProgram E Own' text kind) → Says kind (Rejects text shelf 0 kind)
   rejects_last kind r = says kind (of_causes (λ c q. of_program all_given q) kind) r

@@ -10,7 +10,7 @@ use std::test::Fail;
 
 type Made<T> = Result<T, Memory>;
 
-/// What makes modules and types.
+// What makes modules and types.
 #[derive(Clone, Copy)]
 struct Make(Global);
 
@@ -27,7 +27,7 @@ impl Make {
         Ok(parts)
     }
 
-    /// The identifier of that letter.
+    // The identifier of that letter.
     fn word(self, letter: u8) -> Made<Word> {
         let bytes = [letter];
         match Word::new(Text::from_slice(self.0, bytes.as_slice())?) {
@@ -56,8 +56,8 @@ impl Make {
         self.word(letter).map(Ty::Mine)
     }
 
-    /// The type of that letter: a capital has the own types `t` and `u` where its small letter has
-    /// bool and int.
+    // The type of that letter: a capital has the own types `t` and `u` where its small letter has
+    // bool and int.
     fn ty(self, letter: u8) -> Made<Ty> {
         match letter {
             b'i' => Ok(Ty::Int),
@@ -77,7 +77,7 @@ impl Make {
         }
     }
 
-    /// `.` stands for an abstract type.
+    // `.` stands for an abstract type.
     fn manifest(self, letter: u8) -> Made<Option<Ty>> {
         if letter == b'.' {
             Ok(None)
@@ -159,8 +159,8 @@ impl Make {
     }
 }
 
-/// A module: the types and the values of its signature, the types and the fields of its struct,
-/// each as pairs of letters; and the spec that isn't covered.
+// A module: the types and the values of its signature, the types and the fields of its struct,
+// each as pairs of letters; and the spec that isn't covered.
 #[derive(Clone, Copy)]
 struct Shape {
     types: &'static [u8],
@@ -186,7 +186,7 @@ fn of_pairs(
     }
 }
 
-/// The first spec that isn't covered. The signatures here are short.
+// The first spec that isn't covered. The signatures here are short.
 fn uncovered(module: &Module) -> Option<u32> {
     if module.sig.types.len() < 10 && module.sig.vals.len() < 10 {
         covers(module).err()
@@ -221,7 +221,7 @@ fn signatures(rt: HostRuntime) -> Result<(), Fail> {
     Ok(())
 }
 
-/// The first type without a likespec. The signatures here are short.
+// The first type without a likespec. The signatures here are short.
 fn missing(import: &Import) -> Option<u32> {
     if import.sig.types.len() < 10 {
         like_missing(import)

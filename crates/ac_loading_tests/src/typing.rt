@@ -9,13 +9,13 @@ fn boxed(alloc: Global, ty: Result<Ty, Memory>) -> Result<Box<Ty>, Memory> {
     Box::new(alloc, ty?)
 }
 
-/// The type of functions from a type to itself.
+// The type of functions from a type to itself.
 fn doubled(alloc: Global, ty: Ty) -> Result<Ty, Memory> {
     let from = boxed(alloc, ty.copy(alloc));
     both(from, boxed(alloc, Ok(ty))).map(|(from, to)| Ty::Fun(from, to))
 }
 
-/// A list of functions: a type of 4,096 parts.
+// A list of functions: a type of 4,096 parts.
 fn wide(alloc: Global) -> Result<Ty, Memory> {
     let mut ty = Ty::Int;
     for _ in 0..11u8 {

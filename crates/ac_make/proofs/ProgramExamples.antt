@@ -3,7 +3,7 @@ use Rattle.std.proofs.Common.{◌≡◌, ◌++◌, length, refl}
 use Rattle.std.specs.Prelude.{codes}
 use Rattle.std.specs.Fmt.{digits}
 use Rattle.ac_make.specs.Draws.{draw}
-use Rattle.ac_make.specs.Programs.{get_line, program_text}
+use Rattle.ac_make.specs.ProgramText.{get_line, program_text}
 
 -- one module, from seed 1
 pub one_module : program_text 1 1 ≡

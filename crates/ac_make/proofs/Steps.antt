@@ -3,7 +3,7 @@ use Rattle.std.proofs.Common.{◌≡◌, ℕ, zero, suc, ◌+◌, ◌*◌, ◌++
 use Rattle.std.specs.List.{flat_map, range_with_len}
 use Rattle.ac_types.specs.Types.{Bytes}
 use Rattle.ac_make.specs.Draws.{next_state, state_after, drawn, draw}
-use Rattle.ac_make.specs.Programs.{module_lines, module_text, of_each}
+use Rattle.ac_make.specs.ProgramText.{module_lines, module_text, of_each}
 
 -- m stands behind n numbers from a on
 flat_map_range : (text : ℕ → Bytes) (a n m : ℕ) → m ≡ a + n → flat_map text (range_with_len a (suc n)) ≡ flat_map text (range_with_len a n) ++ text m

@@ -2,7 +2,7 @@
 
 ghost use Rattle.std.specs.Prelude.{◌≡◌, ◌++◌, IfOk, OnOk, string_bytes};
 ghost use Rattle.std.specs.Fmt.{decimal};
-ghost use Rattle.ac_make.specs.Programs.{module_name, got_of_made, head_line, make_line, get_line, get_body, print_line};
+ghost use Rattle.ac_make.specs.ProgramText.{module_name, got_of_made, head_line, make_line, get_line, get_body, print_line};
 
 use ac_types::{Memory, Text};
 use std::alloc::{AllocError, Global};

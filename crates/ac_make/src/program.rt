@@ -1,7 +1,7 @@
 // A generated program: its modules, and a print of each.
 
 ghost use Rattle.std.specs.Prelude.{◌≡◌, ◌++◌, IfOk, OnOk};
-ghost use Rattle.ac_make.specs.Programs.{module_lines, module_text, print_line, of_each, program_text};
+ghost use Rattle.ac_make.specs.ProgramText.{module_lines, module_text, print_line, of_each, program_text};
 
 use crate::draws::Draws;
 use crate::lines::{put_get, put_head, put_make, put_print};

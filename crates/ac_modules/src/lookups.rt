@@ -15,7 +15,7 @@ pub fn field_type<'a>(fields: &'a [Field], name: &Word) -> Option<&'a Ty>
         (map field_of fields.now) }
 {
     for x in fields {
-        if x.name.text().as_slice() == name.text().as_slice() {
+        if x.name.is(name) {
             return Some(&x.ty);
         }
     }

@@ -26,9 +26,9 @@ pub struct NameTable {
 
 impl Model for NameTable {
     ghost use Rattle.std.specs.Prelude.{map};
-    ghost use Rattle.ac_names.specs.Table.{Table};
+    ghost use Rattle.ac_names.specs.Table.{KnownNames};
 
-    ghost Value = { Table };
+    ghost Value = { KnownNames };
 
     ghost view = { λ t. map (λ e. (e.0, e.1.0)) t.texts.entries };
 }

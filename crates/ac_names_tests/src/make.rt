@@ -34,7 +34,7 @@ fn fields(alloc: Global, n: i64) -> Result<Many<Field>, Memory> {
     Ok(fields)
 }
 
-/// `module NAME : sig val y : int end = struct val y : int = N end`.
+// `module NAME : sig val y : int end = struct val y : int = N end`.
 fn module(alloc: Global, name: &[u8], n: i64) -> Result<Module, Memory> {
     let atoms = Many::from_slice(alloc, [Atom::MyName].as_slice())?;
     Ok(Module {

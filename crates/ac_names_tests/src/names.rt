@@ -38,7 +38,7 @@ fn digests_are_those_of_the_standard(rt: HostRuntime) {
     );
 }
 
-/// The name of the module of that external name and number.
+// The name of the module of that external name and number.
 fn named(alloc: Global, name: &[u8], n: i64) -> Result<Option<Name>, Memory> {
     let env = alone(alloc, name, n)?;
     if !has_name(&env, 0) {

@@ -17,7 +17,7 @@ use Rattle.ac_terms.specs.Read.{entry_of, def_of_code, name_of_code}
 use Rattle.ac_scopes.specs.Standard.{beside_name}
 use Rattle.ac_scopes.specs.Scopes.{NameScope, scope_behind, external_names, with_entry, after_all}
 use Rattle.ac_outer.specs.Entries.{keeps_name, is_called, own_entry}
-use Rattle.ac_outer.proofs.Lists.{drop_next, drop_end, take_next, take_end}
+use Rattle.ac_types.proofs.Loops.{drop_next, drop_end, take_next, take_end}
 
 and_intro : (a b : Bool) → a ≡ true → b ≡ true → (a && b) ≡ true
 and_intro true b h k = k

@@ -1,5 +1,4 @@
 pub mod FrontLaws
-pub mod Lists
 pub mod OuterLaws
 pub mod Places
 pub mod Scoping

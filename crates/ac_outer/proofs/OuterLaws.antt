@@ -1,5 +1,5 @@
 -- What the look-ups find, as the definitions have it.
-use Rattle.std.proofs.Common.{◌≡◌, ◌∙◌, ap, refl, sym, arith, ℕ, ◌<◌, ◌≤◌, Bool, true, false, not, List, [], ◌∷◌, map, length, Option, Some, None}
+use Rattle.std.proofs.Common.{◌≡◌, ◌∙◌, ap, refl, arith, ℕ, ◌<◌, ◌≤◌, Bool, true, false, not, List, [], ◌∷◌, map, length, Option, Some, None}
 use Rattle.std.specs.Prelude.{option_map, option_and_then, unwrap_or, slice_get}
 use Rattle.std.proofs.lemmas.List.{length-map}
 use Rattle.ac_types.specs.First.{given}
@@ -7,7 +7,7 @@ use Rattle.ac_types.specs.Types.{Bytes, Typ, TAbs, TMine, with_mine, same_bytes}
 use Rattle.ac_types.specs.Sigs.{Signature, named_type, type_under}
 use Rattle.ac_types.specs.ReadTypes.{typ_of}
 use Rattle.ac_types.specs.declared.ty.Ty.{Ty}
-use Rattle.ac_terms.specs.Terms.{Expr, Ref}
+use Rattle.ac_terms.specs.Terms.{Ref}
 use Rattle.ac_terms.specs.Defs.{Environment, Entry, signature}
 use Rattle.ac_types.proofs.SizeLaws.{type_laws}
 use Rattle.ac_types.specs.declared.text.Word.{Word}
@@ -18,7 +18,7 @@ use Rattle.ac_outer.proofs.VariableForms.{variable_laws}
 use Rattle.ac_terms.proofs.EnvLaws.{entry_get}
 use Rattle.ac_scopes.specs.Standard.{beside_name, is_standard}
 use Rattle.ac_scopes.specs.Scopes.{NameScope, dotted_type, type_outside, value_outside, own_number}
-use Rattle.ac_outer.specs.Entries.{entry_type, entry_value}
+use Rattle.ac_outer.specs.inner.Shown.{entry_type, entry_value}
 use Rattle.ac_outer.specs.Fronts.{read_type}
 use Rattle.ac_outer.specs.inner.Places.{word_of}
 use Rattle.ac_outer.proofs.Scoping.{own-within}

@@ -15,10 +15,7 @@ use Rattle.ac_syntax.specs.ReadTrees.{name_of, type_of, type_kind_of, type_kind_
 use Rattle.ac_syntax.proofs.TypeLaws.{type_out, type_kind_out, read_type_kind}
 use Rattle.ac_scopes.specs.Scopes.{NameScope}
 use Rattle.ac_scopes.specs.Written.{type_in, types_in}
-use Rattle.ac_outer.proofs.Lists.{built_all}
-
-pub typ_of-Fun : (from to : Ty) → typ_of (variants.Fun from to) ≡ TFun (typ_of from) (typ_of to)
-typ_of-Fun from to = typ_out (variants.Fun from to) ∙ ap (λ x. typ_layer (map-Ty Ty Typ typ_of x)) (variants.outs-Fun from to)
+use Rattle.ac_types.proofs.Loops.{built_all}
 
 -- the parts of a type that is sealed
 pub sealed_function : (name : Bytes) (t from to : Ty) → t ≡ variants.Fun from to → with_mine (TAbs name) (typ_of t) ≡ TFun (with_mine (TAbs name) (typ_of from)) (with_mine (TAbs name) (typ_of to))

@@ -7,7 +7,8 @@ ghost use Rattle.ac_types.specs.Sigs.{named_type, type_under};
 ghost use Rattle.ac_types.specs.ReadTypes.{typ_of, sig_of};
 ghost use Rattle.ac_terms.specs.Defs.{signature};
 ghost use Rattle.ac_terms.specs.Read.{def_of_code, entry_of};
-ghost use Rattle.ac_outer.specs.Entries.{keeps_name, entry_type, entry_value};
+ghost use Rattle.ac_outer.specs.inner.Shown.{entry_type, entry_value};
+ghost use Rattle.ac_outer.specs.Entries.{keeps_name};
 
 use crate::sealed::sealed;
 use ac_terms::{Def, Entry};
@@ -28,7 +29,7 @@ pub fn type_outside(alloc: Global, entry: &Entry, t: &Word) -> Result<Option<Ty>
     }
 }
 
-/// A type of a signature, from outside: its manifest type, or it is abstract.
+// A type of a signature, from outside: its manifest type, or it is abstract.
 #[tactic(auto, using(ac_types::proofs::SizeLaws::type_laws))]
 fn spec_outside(alloc: Global, sig: &Sig, name: &Name, t: &Word) -> Result<Option<Ty>, Memory>
     ensures { IfOk result (λ o. option_map typ_of o ≡
@@ -54,7 +55,7 @@ pub fn has_value(entry: &Entry, x: &Word) -> bool
     }
 }
 
-/// The signature of a definition, which a mark has none of.
+// The signature of a definition, which a mark has none of.
 fn signature(def: &Def) -> Option<&Sig>
     ensures { option_map sig_of (option_copied result) ≡ signature (def_of_code def.now) }
 {

@@ -111,7 +111,7 @@ impl Front {
     }
 }
 
-/// The names that call entries, with that of one more, but for a mark's.
+// The names that call entries, with that of one more, but for a mark's.
 fn calling(alloc: Global, names: Latest<u32>, def: &Def, number: u32) -> Result<Latest<u32>, Memory>
     ensures { IfOk result (λ l. l ≡ external_names (def_of_code def.now) number names) }
 {

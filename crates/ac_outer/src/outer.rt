@@ -78,7 +78,8 @@ impl<'a> Outer<'a> {
     /// Behind a field.
     pub fn with_field(self, alloc: Global, name: &SName) -> Result<Outer<'a>, Memory>
         requires { length (outer_of self).fields < 65536 }
-        ensures { IfOk result (λ o. outer_of o ≡ with_field (name_of name.now) (outer_of self.entry)) }
+        ensures { IfOk result (λ o. outer_of o ≡ with_field (name_of name.now)
+            (outer_of self.entry)) }
     {
         let Outer {
             env,
@@ -136,7 +137,7 @@ impl<'a> Outer<'a> {
         }
     }
 
-    /// What a name behind that of an entry means.
+    // What a name behind that of an entry means.
     fn shown(&self, alloc: Global, m: &Word, x: &Word) -> Result<Option<Term>, Memory>
         ensures { IfOk result (λ o. option_map expr_of o ≡ option_and_then
             (value_outside (outer_of self.now).entries x.now)
@@ -151,7 +152,7 @@ impl<'a> Outer<'a> {
         }
     }
 
-    /// The entry that a name in front of a dot calls, where it shows the value behind it.
+    // The entry that a name in front of a dot calls, where it shows the value behind it.
     fn showing(&self, m: &Word, x: &Word) -> Option<u32>
         ensures { option_map (λ j. Ref j x.now) result ≡
             option_and_then (value_outside (outer_of self.now).entries x.now) (before_dot

@@ -86,7 +86,7 @@ impl Primitive {
     }
 }
 
-/// The type of a string with two ints.
+// The type of a string with two ints.
 #[tactic(auto, using(crate::proofs::TermForms::primitive_forms))]
 fn text_and_range(alloc: Global) -> Result<Ty, Memory>
     ensures { IfOk result (λ ty. typ_of ty ≡ (read_primitive Sub).argument) }

@@ -21,11 +21,11 @@ pub enum Variables<'a> {
     Arm(&'a Variables<'a>, &'a [SName]),
 }
 
-/// A number that no variable has: past it, none is counted.
+// A number that no variable has: past it, none is counted.
 const NO_VARIABLE: usize = 65536;
 
-/// How many binders stand between a name and its own, at most 65,536, `None` exactly where it isn't
-/// in scope.
+// How many binders stand between a name and its own, at most 65,536, `None` exactly where it isn't
+// in scope.
 #[tactic(auto, using(crate::proofs::VariableForms::variable_laws))]
 fn binders_to(variables: &Variables, word: &Word) -> Option<usize>
     ensures { result ≡ option_map (λ i. min i 65536) (binders_to word.now (names_in
@@ -34,7 +34,7 @@ fn binders_to(variables: &Variables, word: &Word) -> Option<usize>
     match variables {
         Variables::Empty => None,
         Variables::Inner(outer, name) => {
-            if name.word.text().as_slice() == word.text().as_slice() {
+            if name.word.is(word) {
                 return Some(0);
             }
             let i = binders_to(outer, word)?;
@@ -59,7 +59,7 @@ pub fn number_of(variables: &Variables, word: &Word) -> Option<u16>
     Some(number as u16)
 }
 
-/// How many of these names stand behind the last that is this one.
+// How many of these names stand behind the last that is this one.
 fn behind(names: &[SName], word: &Word) -> Option<usize>
     ensures { (outer : List Bytes) → binders_to word.now
         (scope_with (map name_of names.now) outer) ≡ passed result (length names.now)
@@ -68,7 +68,7 @@ fn behind(names: &[SName], word: &Word) -> Option<usize>
     let mut left = names.len();
     while left > 0 {
         left -= 1;
-        if names[left].word.text().as_slice() == word.text().as_slice() {
+        if names[left].word.is(word) {
             return Some(names.len() - 1 - left);
         }
     }

@@ -45,16 +45,16 @@ Follows answer (Refused n g) new = (answer ≡ answers.Bad n g) × (new ≡ Refu
 Follows answer Lost new = (answer ≡ answers.Memory) × (new ≡ Lost)
 
 -- what is answered where these bytes were kept or left, and what is left then
-abbrev pub Gives : FrameGot → Bytes → Reader → Bytes → Type 0
-Gives (answers.Frame s) all new left = next_frame all ≡ Whole s.0 left
-Gives answers.End all new left = (all ≡ []) × (left ≡ [])
-Gives (answers.Bad n g) all new left = (next_frame all ≡ Bad n g) × (left ≡ drop g all)
-Gives answers.Failed all new left = all ≡ held new ++ left
-Gives answers.Memory all new left = Unit {0}
+abbrev pub AnswersFrame : FrameGot → Bytes → Reader → Bytes → Type 0
+AnswersFrame (answers.Frame s) all new left = next_frame all ≡ Whole s.0 left
+AnswersFrame answers.End all new left = (all ≡ []) × (left ≡ [])
+AnswersFrame (answers.Bad n g) all new left = (next_frame all ≡ Bad n g) × (left ≡ drop g all)
+AnswersFrame answers.Failed all new left = all ≡ held new ++ left
+AnswersFrame answers.Memory all new left = Unit {0}
 
 -- the same of every reader: one that has met no frame, or has lost memory, takes nothing
 abbrev pub Receives : FrameGot → Reader → Bytes → Reader → Bytes → Type 0
-Receives answer (Keeps taken_bytes) left new now = Gives answer (taken_bytes ++ left) new now
+Receives answer (Keeps taken_bytes) left new now = AnswersFrame answer (taken_bytes ++ left) new now
 Receives answer (Refused n g) left new now = now ≡ left
 Receives answer Lost left new now = now ≡ left
 
@@ -63,7 +63,7 @@ abbrev pub taken_bytes : Part → Bytes
 taken_bytes p = p.head.0 ++ p.body.0
 
 -- a part of a frame has no more bytes than the frame
-pub record IsPart (head body : Bytes) : Type 0 where
+pub record IsFramePart (head body : Bytes) : Type 0 where
   pub short : length head ≤ 4
   pub none : length head < 4 → body ≡ []
   pub over : longest_frame < from_be_bytes w32 head → body ≡ []

@@ -3,7 +3,7 @@ ghost use Rattle.std.specs.Prelude.{◌≡◌, ◌≢◌, ◌<◌, ◌≤◌, �
 ghost use Rattle.std.specs.Int.{from_be_bytes, w32};
 ghost use Rattle.ac_types.specs.Types.{Bytes};
 ghost use Rattle.ac_outside.specs.Outside.{Rose};
-ghost use Rattle.ac_outside.specs.FrameReaders.{Keeps, Follows, Receives, IsPart, ReaderGoesOn, Gives, taken_bytes, reader, left_by};
+ghost use Rattle.ac_outside.specs.FrameReaders.{Keeps, Follows, Receives, IsFramePart, ReaderGoesOn, AnswersFrame, taken_bytes, reader, left_by};
 
 use crate::filling::{Fill, fill_to};
 use crate::traits::Source;
@@ -43,13 +43,13 @@ pub struct Frames {
 }
 
 impl Model for Frames {
-    ghost use Rattle.ac_outside.specs.FrameReaders.{Reader, IsPart, taken_bytes, reader};
+    ghost use Rattle.ac_outside.specs.FrameReaders.{Reader, IsFramePart, taken_bytes, reader};
 
     ghost Value = { Reader };
 
     ghost view = { λ s. reader s.stop (taken_bytes s.part) };
 
-    ghost invariant = { λ s. IsPart s.part.head.0 s.part.body.0 };
+    ghost invariant = { λ s. IsFramePart s.part.head.0 s.part.body.0 };
 }
 
 // What is kept of a frame.
@@ -120,12 +120,13 @@ fn stop_after(answer: &FrameGot) -> Option<Stop>
 
 // Goes on with a frame.
 fn read_frame<S: Source>(alloc: Global, part: &mut Part, source: &mut S) -> FrameGot
-    requires { IsPart part.old.head.0 part.old.body.0 }
-    ensures part { IsPart part.new.head.0 part.new.body.0 }
+    requires { IsFramePart part.old.head.0 part.old.body.0 }
+    ensures part { IsFramePart part.new.head.0 part.new.body.0 }
     ensures goes { ReaderGoesOn result (taken_bytes part.old)
         (left_by result (taken_bytes part.new)) }
     ensures gives { IsTrue S.told →
-        Gives result (taken_bytes part.old ++ S.left source.old) (left_by result (taken_bytes part.new))
+        AnswersFrame result (taken_bytes part.old ++ S.left source.old)
+        (left_by result (taken_bytes part.new))
         (S.left source.new) }
     ensures cause { result ≡ FrameGot.Failed →
         Rose (S.read_faults source.old) (S.read_faults source.new) }
@@ -147,7 +148,7 @@ fn read_frame<S: Source>(alloc: Global, part: &mut Part, source: &mut S) -> Fram
 fn ended(head: &[u8]) -> FrameGot
     requires { length head.now < 4 }
     ensures goes { ReaderGoesOn result head.now (left_by result head.now) }
-    ensures gives { Gives result head.now (left_by result head.now) [] }
+    ensures gives { AnswersFrame result head.now (left_by result head.now) [] }
     ensures read { result ≢ FrameGot.Failed }
 {
     if head.is_empty() {
@@ -161,13 +162,14 @@ fn ended(head: &[u8]) -> FrameGot
 
 // Goes on behind a length.
 fn read_body<S: Source>(alloc: Global, part: &mut Part, source: &mut S) -> FrameGot
-    requires part { IsPart part.old.head.0 part.old.body.0 }
+    requires part { IsFramePart part.old.head.0 part.old.body.0 }
     requires head { length part.old.head.0 ≡ 4 }
-    ensures part { IsPart part.new.head.0 part.new.body.0 }
+    ensures part { IsFramePart part.new.head.0 part.new.body.0 }
     ensures goes { ReaderGoesOn result (taken_bytes part.old)
         (left_by result (taken_bytes part.new)) }
     ensures gives { IsTrue S.told →
-        Gives result (taken_bytes part.old ++ S.left source.old) (left_by result (taken_bytes part.new))
+        AnswersFrame result (taken_bytes part.old ++ S.left source.old)
+        (left_by result (taken_bytes part.new))
         (S.left source.new) }
     ensures cause { result ≡ FrameGot.Failed →
         Rose (S.read_faults source.old) (S.read_faults source.new) }

@@ -1,17 +1,17 @@
 // Packing.
 
-ghost use Rattle.std.specs.Prelude.{◌≡◌, ◌≤◌, Some, None, Err, length, map, MatchResult};
+ghost use Rattle.std.specs.Prelude.{◌≡◌, ◌≤◌, Some, None, Err, length, MatchResult};
 ghost use Rattle.ac_types.specs.Limits.{longest_packet};
 ghost use Rattle.ac_types.specs.ReadTypes.{typ_of};
 ghost use Rattle.ac_terms.specs.Heads.{packed_heads};
-ghost use Rattle.ac_terms.specs.Read.{entry_of, environment_of};
+ghost use Rattle.ac_terms.specs.Read.{environment_of};
 ghost use Rattle.ac_terms.specs.Terms.{PValue};
 ghost use Rattle.ac_code.specs.ReadCode.{code_of};
 ghost use Rattle.ac_values.specs.Values.{stands_as};
 ghost use Rattle.ac_rules.specs.Coherent.{IsCoherent};
 ghost use Rattle.ac_terms.specs.Defs.{Packet};
 ghost use Rattle.ac_rules.specs.Faults.{first_fault, whole, whole_fault, marshalled};
-ghost use Rattle.ac_rules.specs.Needed.{is_mark, mark_at, packet_of_entries};
+ghost use Rattle.ac_rules.specs.Needed.{mark_at, packet_of_entries};
 ghost use Rattle.ac_meaning.specs.BarePacking.{bare_packed};
 ghost use Rattle.ac_simulation.specs.Stands.{stands};
 ghost use Rattle.ac_forms.specs.Forms.{AllBelow};
@@ -20,11 +20,11 @@ ghost use Rattle.ac_pack.specs.inner.Faults.{of_stop, of_need};
 ghost use Rattle.ac_pack.specs.inner.Needs.{AreChosen};
 
 use crate::packet::bytes;
-use ac_closure::{NeedFault, needed};
+use ac_closure::{NeedFault, mark_at, needed};
 use ac_code::CodeTable;
 use ac_forms::forms_nest;
 use ac_heads::Stop;
-use ac_terms::{Def, Entry, Env};
+use ac_terms::Env;
 use ac_types::{Many, Text, Ty};
 use ac_values::{Store, Value};
 use ac_visit::write;
@@ -87,24 +87,6 @@ pub fn pack(
     match mark_at(env.entries.as_slice(), mark) {
         None => Err(PackFault::Mark),
         Some(at) => marked(alloc, env, table, store, mark, at, *value, ty),
-    }
-}
-
-// The entry of the mark of that name.
-fn mark_at(entries: &[Entry], mark: &Text) -> Option<usize>
-    ensures { result ≡ mark_at (map entry_of entries.now) mark.now.0 }
-{
-    entries.iter().position(|entry| is_mark(mark, entry))
-}
-
-// Whether an entry is the mark of that name.
-fn is_mark(mark: &Text, entry: &Entry) -> bool
-    ensures { result ≡ is_mark mark.now.0 (entry_of entry.now) }
-{
-    match &entry.def {
-        Def::Module(_) => false,
-        Def::Import(_) => false,
-        Def::Mark(name) => name.as_slice() == mark.as_slice(),
     }
 }
 

@@ -5,12 +5,12 @@ use Rattle.ac_syntax.specs.Signs.{Sign, Lower, Upper, Fixed}
 use Rattle.ac_syntax.specs.Trees.{NameAt, TypeTree, AbbrevTree, SigTree}
 use Rattle.ac_syntax.specs.TypeForms.{IsType, Whole}
 use Rattle.ac_syntax.specs.Programs.{IsSig}
-use Rattle.ac_syntax.specs.PartParsing.{SymbolAt, NoSymbol, LowerAt, NoLower, NoType, NoSig}
+use Rattle.ac_syntax.specs.PartParsing.{SymbolAt, NoSymbol, LowerAt, NoType}
 use Rattle.ac_syntax.specs.declared.sign.Symbol.{Symbol}
 use Rattle.ac_syntax.specs.declared.sign.Symbol.TheVariants.{Colon, Equals}
 use Rattle.ac_syntax.proofs.UniqueTypes.{tail_eq, same_type}
 use Rattle.ac_syntax.proofs.UniquePrograms.{same_sig}
-use Rattle.ac_parser.specs.inner.ProgramParsing.{UpperAt, NoUpper, OnlyRead, NoRead, Anything, AbbrevAt, NoAbbrev, HeadAt}
+use Rattle.ac_parser.specs.inner.ProgramParsing.{UpperAt, OnlyRead, NoRead, Anything, AbbrevAt, NoAbbrev, HeadAt}
 
 pub head_eq : {x y : Sign} {r s : List Sign} → x ∷ r ≡ y ∷ s → x ≡ y
 head_eq e = cc
@@ -42,9 +42,6 @@ sig_at {r} {s} {t} {T} e p = subst (λ (u : List Sign). IsSig u T t) (sym e) p
 -- behind a `type`
 
 module _ (ts : List Sign) where
-  pub unnamed : NoLower ts → NoAbbrev ts
-  unnamed none a rest x = none a.name _ x.is
-
   module _ (name : NameAt) (rest : List Sign) (at : LowerAt name ts rest) where
     pub no_equals : NoSymbol Equals rest → NoAbbrev ts
     no_equals none a end x = none x.inner (record { at = x.equals; is = tail_eq (sym at ∙ x.is) })
@@ -55,9 +52,6 @@ module _ (ts : List Sign) where
 
       pub untyped : NoType 100 Whole behind → NoAbbrev ts
       untyped none a end x = none a.ty end (type_at (tail_eq (tail_eq (sym opened ∙ x.is))) x.ty)
-
-      pub abbreviated : (T : TypeTree) (end : List Sign) → IsType behind T end → AbbrevAt ts (record { name = name; ty = T }) end
-      abbreviated T end t = record { inner = behind; equals = e.at; is = opened; ty = t }
 
 pub same_abbrev : {ts r s : List Sign} {a b : AbbrevTree} → AbbrevAt ts a r → AbbrevAt ts b s → (a ≡ b) × (r ≡ s)
 same_abbrev {a = a} {b = b} x y =
@@ -76,9 +70,6 @@ same_head {a = a} {b = b} x y =
     (head_same a b n t.tree, t.rest)
 
 module _ (ts : List Sign) where
-  pub untitled : NoUpper ts → NoRead HeadAt Anything ts
-  untitled none a rest x next = none a.0 _ x.is
-
   module _ (name : NameAt) (rest : List Sign) (at : UpperAt name ts rest) where
     pub no_colon : NoSymbol Colon rest → NoRead HeadAt Anything ts
     no_colon none a end x next = none x.inner (record { at = x.colon; is = tail_eq (sym at ∙ x.is) })
@@ -86,9 +77,6 @@ module _ (ts : List Sign) where
     module _ (behind : List Sign) (e : SymbolAt Colon rest behind) where
       titled : ts ≡ Upper name.at name.word ∷ Fixed e.at Colon ∷ behind
       titled = at ∙ ap (λ (l : List Sign). Upper name.at name.word ∷ l) e.is
-
-      pub unsigned : NoSig behind → NoRead HeadAt Anything ts
-      unsigned none a end x next = none a.1 end (sig_at (tail_eq (tail_eq (sym titled ∙ x.is))) x.sig)
 
       pub headed : (σ : SigTree) (end : List Sign) → IsSig behind σ end → OnlyRead HeadAt Anything ts (name, σ) end
       headed σ end t =

@@ -10,7 +10,7 @@ use Rattle.ac_syntax.specs.PartParsing.{SymbolAt, NoSymbol}
 use Rattle.ac_syntax.specs.declared.sign.Symbol.TheVariants.{By, Comma, Equals, Import, Like, NameWord, Struct, Version}
 use Rattle.ac_syntax.proofs.Exceptions.{nothing_there, same_value}
 use Rattle.ac_syntax.proofs.UniqueTypes.{tail_eq}
-use Rattle.ac_parser.specs.inner.ProgramParsing.{UpperAt, NoUpper, OnlyRead, NoRead, Anything, NoComma, NoVToken, StructOf, HeadAt, ConstraintAt, LikeAt, NameWanted, DemandAt, by_version, by_name, ResolveAt, NoResolve}
+use Rattle.ac_parser.specs.inner.ProgramParsing.{UpperAt, OnlyRead, NoRead, Anything, NoComma, NoVToken, StructOf, HeadAt, ConstraintAt, LikeAt, NameWanted, DemandAt, by_version, by_name, ResolveAt, NoResolve}
 use Rattle.ac_parser.proofs.Fronts.{head_eq, upper_eq, name_eq}
 use Rattle.ac_parser.proofs.VersionSteps.{nothing_is_none, first_no_vtoken}
 
@@ -91,9 +91,6 @@ module _ (a : ℕ) (ts : List Sign) where
   unequal none n rest x next = none _ (record { at = x.equals; is = tail_eq x.is })
 
   module _ (behind : List Sign) (e : SymbolAt Equals ts behind) where
-    pub unnamed : NoUpper behind → NoRead NameWanted Anything (Fixed a NameWord ∷ ts)
-    unnamed none n rest x next = none n _ (tail_eq (sym e.is ∙ tail_eq x.is))
-
     module _ (name : NameAt) (later : List Sign) (at : UpperAt name behind later) where
       named : ts ≡ Fixed e.at Equals ∷ Upper name.at name.word ∷ later
       named = e.is ∙ ap (λ (l : List Sign). Fixed e.at Equals ∷ l) at

@@ -1,5 +1,5 @@
 -- The steps of the parsers of definitions and programs, over lists of signs.
-use Rattle.std.proofs.Common.{◌≡◌, ℕ, List, [], ◌∷◌, ◌++◌, Some, None, refl, sym, ◌∙◌, ap, subst, append_assoc, append-nil, length, arith}
+use Rattle.std.proofs.Common.{◌≡◌, ℕ, List, [], ◌∷◌, ◌++◌, Some, None, refl, sym, ◌∙◌, ap, subst, append_assoc, append-nil, arith}
 use Rattle.ac_types.specs.Types.{Bytes}
 use Rattle.ac_syntax.specs.Signs.{Sign, Str, Fixed, here}
 use Rattle.ac_syntax.specs.ReadSigns.{read_signs}
@@ -197,7 +197,3 @@ module _ (ts us : List Sign) (at : ℕ) (is : ts ≡ Fixed at Module ∷ us) whe
     module_tree e =
         subst (λ (l : List Sign). IsModule l (record { defs = d ∷ []; expr = None })) (sym is)
         (module_is (subst (λ (l : List Sign). ParsesDef (Fixed at Module ∷ us) d l) e o.reads))
-
-pub not_empty : (signs : List code.Sign) → (length signs ≡ 0 → ⊥) → read_signs signs ≡ [] → ⊥
-not_empty [] none is = none refl
-not_empty (x ∷ xs) none is = nothing_is_none (sym is)

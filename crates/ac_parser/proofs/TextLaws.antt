@@ -105,9 +105,6 @@ pub fault_of : (G : List Sign → ProgramTree → Type 0) (text : Bytes) (tokens
 fault_of G text tokens s e read memory none = read.short
 fault_of G text tokens s e read (at_place here) none = syntax read none here
 
-pub has_tree : (G : List Sign → ProgramTree → Type 0) (text : Bytes) (tokens : List Token) (tree : ProgramTree) → IsRead text tokens → G (signs tokens) tree → HasTree G text tree
-has_tree G text tokens tree read t = record { tokens = tokens; read = read; is = t }
-
 pub unread_fault : (G : List Sign → ProgramTree → Type 0) (text : Bytes) (e : ParseFault) → IsUnread text e → IsTextFault G text e
 unread_fault G text (fault.TooLong len) u = unread u
 unread_fault G text (fault.Lexical at) u = unread u

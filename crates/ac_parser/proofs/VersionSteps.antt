@@ -5,27 +5,20 @@ use Rattle.std.proofs.Math.Seq.{drop-cons}
 use Rattle.std.proofs.Math.ListN.{drop_of_length-le}
 use Rattle.ac_types.specs.Sigs.{Atom, Constraint, Ranges, Exact}
 use Rattle.ac_version.specs.declared.read.VToken.{VToken}
-use Rattle.ac_version.specs.declared.read.VersionFault.{VersionFault}
 use Rattle.ac_version.specs.declared.read.VersionFault.TheVariants as bad
-use Rattle.ac_version.specs.VersionReading.{IsVersion, NoVersion, ReadsConstraint, NoConstraint, OnBad}
+use Rattle.ac_version.specs.VersionReading.{IsVersion, ReadsConstraint}
 use Rattle.ac_version.proofs.Unique.{same_version, same_constraint}
 use Rattle.ac_syntax.specs.Signs.{Sign, Fixed}
 use Rattle.ac_syntax.specs.declared.sign.Sign as code
 use Rattle.ac_syntax.specs.ReadSigns.{read_sign, read_signs}
 use Rattle.ac_syntax.specs.Programs.{vtoken_of, VTokens, no_vtokens, vtoken_, ParsesVersion, no_version, version}
-use Rattle.ac_syntax.specs.PartParsing.{OnSyntax, SymbolAt, NoSymbol}
-use Rattle.ac_syntax.specs.declared.stop.Stop.{Stop}
+use Rattle.ac_syntax.specs.PartParsing.{SymbolAt, NoSymbol}
 use Rattle.ac_syntax.specs.declared.stop.Stop.TheVariants as stop
 use Rattle.ac_syntax.specs.declared.sign.Symbol.TheVariants.{Equals, Version}
 use Rattle.ac_syntax.proofs.Exceptions.{nothing_there, same_value}
 use Rattle.ac_syntax.proofs.UniqueTypes.{tail_eq}
-use Rattle.ac_parser.specs.inner.ProgramParsing.{OnlyRead, NoRead, Anything, NoVToken, BeginsEquals, VersionAt, ConstraintAt, stopped}
+use Rattle.ac_parser.specs.inner.ProgramParsing.{OnlyRead, NoRead, Anything, NoVToken, BeginsEquals, VersionAt, ConstraintAt}
 use Rattle.ac_parser.proofs.Fronts.{head_eq}
-
--- what a fault says of the tokens, a stop says of the signs
-pub stop_of : (P Q : Type 0) (f : VersionFault) (e : Stop) → stopped f e → (P → Q) → OnBad f P → OnSyntax e Q
-stop_of P Q bad.Memory e is g p = subst (λ (x : Stop). OnSyntax x Q) (sym is) tt
-stop_of P Q bad.Bad e is g p = subst (λ (x : Stop). OnSyntax x Q) (sym is.1) (g p)
 
 pub nothing_is_none : {P : Type 0} {x : Sign} {r : List Sign} → [] ≡ x ∷ r → P
 nothing_is_none e = cc
@@ -86,9 +79,6 @@ unversioned_only none (version {a = a} p v) = absurd (none _ (record { at = a; i
 version_at : {r s t : List Sign} {a : Option (List Atom)} → r ≡ s → ParsesVersion s a t → ParsesVersion r a t
 version_at {r} {s} {t} {a} e p = subst (λ (u : List Sign). ParsesVersion u a t) (sym e) p
 
-version_to : {r s t : List Sign} {a : Option (List Atom)} → s ≡ t → ParsesVersion r a t → ParsesVersion r a s
-version_to {r} {s} {t} {a} e p = subst (λ (u : List Sign). ParsesVersion r a u) (sym e) p
-
 module _ (ts : List Sign) where
   pub unversioned : NoSymbol Version ts → OnlyRead ParsesVersion BeginsEquals ts None ts
   unversioned none = record { reads = no_version; only = λ b other p next. unversioned_only none p }
@@ -102,20 +92,12 @@ module _ (ts : List Sign) where
           (is ∙ ap Some (same_version (subst (λ (l : List VToken). IsVersion l others) o.0 w) v), o.1));
     }
 
-    pub bad_version : NoVersion vs → NoRead ParsesVersion BeginsEquals ts
-    bad_version none b other p next = version_only at.is p next (λ ws others is q w.
-        let o = tokens.only ws other q (equals_no_vtoken other next) in
-        none others (subst (λ (l : List VToken). IsVersion l others) o.0 w))
-
 -- the `=` and the `struct` behind it
 
 equals_behind : {a : ℕ} {rest : List Sign} → BeginsEquals (Fixed a Equals ∷ rest)
 equals_behind {a} {rest} = (rest, record { at = a; is = refl })
 
 module _ (ts : List Sign) where
-  pub no_version_at : NoRead ParsesVersion BeginsEquals ts → NoRead VersionAt Anything ts
-  no_version_at none b other x next = none b _ x.parses equals_behind
-
   module _ (v : Option (List Atom)) (rest : List Sign) (o : OnlyRead ParsesVersion BeginsEquals ts v rest) where
     left : {b : Option (List Atom)} {other : List Sign} (x : VersionAt ts b other) → (b ≡ v) × (Fixed x.equals Equals ∷ other ≡ rest)
     left x = o.only _ _ x.parses equals_behind
@@ -123,22 +105,12 @@ module _ (ts : List Sign) where
     pub no_equals : NoSymbol Equals rest → NoRead VersionAt Anything ts
     no_equals none b other x next = none _ (record { at = x.equals; is = sym (left x).1 })
 
-    pub version_read : (end : List Sign) → SymbolAt Equals rest end → OnlyRead VersionAt Anything ts v end
-    version_read end e = record {
-      reads = record { equals = e.at; parses = version_to (sym e.is) o.reads };
-      only = λ b other x next. ((left x).0, tail_eq ((left x).1 ∙ e.is));
-    }
-
 -- constraints
 
 constraint_only : (vs : List VToken) (a b : Constraint) → ReadsConstraint vs a → ReadsConstraint vs b → a ≡ b
 constraint_only vs (Ranges r s) (Ranges q t) p o = let e = same_constraint p o in let x = e.ranges in let y = e.star in cc
 constraint_only vs (Ranges r s) (Exact n) p o = absurd o
 constraint_only vs (Exact n) b p o = absurd p
-
-reads_ranges : {P : Type 0} (vs : List VToken) (a : Constraint) → NoConstraint vs → ReadsConstraint vs a → P
-reads_ranges vs (Ranges r s) none p = absurd (none r s p)
-reads_ranges vs (Exact n) none p = absurd p
 
 module _ (ts : List Sign) (vs : List VToken) (rest : List Sign) (tokens : OnlyRead VTokens NoVToken ts vs rest) where
   pub constraint_read : (c : Constraint) → ReadsConstraint vs c → OnlyRead ConstraintAt NoVToken ts c rest
@@ -148,11 +120,6 @@ module _ (ts : List Sign) (vs : List VToken) (rest : List Sign) (tokens : OnlyRe
         let o = tokens.only x.vs other x.tokens next in
         (constraint_only vs b c (subst (λ (l : List VToken). ReadsConstraint l b) o.0 x.is) is, o.1);
   }
-
-  pub bad_constraint : NoConstraint vs → NoRead ConstraintAt NoVToken ts
-  bad_constraint none b other x next =
-      let o = tokens.only x.vs other x.tokens next in
-      reads_ranges vs b none (subst (λ (l : List VToken). ReadsConstraint l b) o.0 x.is)
 
 -- a pass over the signs from the front
 module _ (signs : List code.Sign) (i len : ℕ) (vs : List VToken) (read : VTokens (read_signs signs) vs (read_signs (drop i signs))) (count : len ≡ i) where

@@ -1,4 +1,4 @@
-// Definitions.
+// The definitions that signs begin with.
 
 ghost use Rattle.std.specs.Prelude.{◌≡◌, ◌<◌, ◌∷◌, length, IfOk, IfErr, IfSome, MatchOption};
 ghost use Rattle.ac_syntax.specs.Signs.{Fixed};
@@ -14,7 +14,7 @@ use crate::modules::module;
 use ac_syntax::{SDef, SDefKind, Sign, Stop, Symbol, after, here, refused_at};
 use std::alloc::Global;
 
-/// The mark behind the `mark` that stands at this place.
+// The mark behind the `mark` that stands at this place.
 fn mark<'s, 't>(
     alloc: Global,
     at: u32,

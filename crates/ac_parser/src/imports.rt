@@ -18,7 +18,7 @@ use ac_syntax::{
 use ac_types::{Many, Memory, Resolve};
 use std::alloc::Global;
 
-/// The likespec of an import, where one is written, and the `by` behind it.
+// The likespec of an import, where one is written, and the `by` behind it.
 fn likespec<'s, 't>(
     alloc: Global,
     signs: &'s [Sign<'t>],
@@ -41,7 +41,7 @@ fn likespec<'s, 't>(
     Ok((Some(found), rest))
 }
 
-/// The definition behind the `name` of an import, and the `by` behind it.
+// The definition behind the `name` of an import, and the `by` behind it.
 fn name_wanted<'s, 't>(
     alloc: Global,
     signs: &'s [Sign<'t>],
@@ -65,7 +65,7 @@ fn name_wanted<'s, 't>(
     Ok((name, rest))
 }
 
-/// What stands between an import's `version` and the places where it looks.
+// What stands between an import's `version` and the places where it looks.
 fn demand<'s, 't>(
     alloc: Global,
     signs: &'s [Sign<'t>],
@@ -85,7 +85,7 @@ fn demand<'s, 't>(
     Ok(((SWants::Ranges(constraint), like), rest))
 }
 
-/// A place where an import looks, at the front.
+// A place where an import looks, at the front.
 fn next_resolve<'s, 't>(
     alloc: Global,
     signs: &'s [Sign<'t>],
@@ -108,7 +108,7 @@ fn next_resolve<'s, 't>(
     }
 }
 
-/// The places where an import looks, all that stand here.
+// The places where an import looks, all that stand here.
 fn resolves<'s, 't>(
     alloc: Global,
     signs: &'s [Sign<'t>],

@@ -47,7 +47,7 @@ pub fn abbreviations<'s, 't>(
     }
 }
 
-/// The field behind a `val`.
+// The field behind a `val`.
 fn value_field<'s, 't>(
     alloc: Global,
     signs: &'s [Sign<'t>],
@@ -73,7 +73,7 @@ fn value_field<'s, 't>(
     Ok((SField::Val(name, ty.tree, body), end))
 }
 
-/// The field at the front.
+// The field at the front.
 fn field<'s, 't>(alloc: Global, signs: &'s [Sign<'t>]) -> Result<(SField, &'s [Sign<'t>]), Stop>
     ensures field { IfOk result (λ x. ItemAt ParsesFields (read_signs signs.now) (field_tree_of x.0)
         (read_signs x.1.now)) }
@@ -91,7 +91,7 @@ fn field<'s, 't>(alloc: Global, signs: &'s [Sign<'t>]) -> Result<(SField, &'s [S
     Ok((SField::Abbrev(found), rest))
 }
 
-/// The `struct` of a module, its fields and its `end`.
+// The `struct` of a module, its fields and its `end`.
 fn fields<'s, 't>(
     alloc: Global,
     signs: &'s [Sign<'t>],

@@ -14,7 +14,7 @@ use ac_syntax::{SDef, Sign, Stop, Surface, Symbol, after, here, refused_at};
 use ac_types::Many;
 use std::alloc::Global;
 
-/// The definitions that a program begins with, and what is left, where no definition begins.
+// The definitions that a program begins with, and what is left, where no definition begins.
 fn definitions<'s, 't>(
     alloc: Global,
     signs: &'s [Sign<'t>],
@@ -40,7 +40,7 @@ fn definitions<'s, 't>(
     }
 }
 
-/// The tree behind which nothing is left.
+// The tree behind which nothing is left.
 fn at_end<T: Drop>(tree: T, rest: &[Sign<'_>]) -> Result<T, Stop>
     ensures same { IfOk result (λ t. t ≡ tree) }
     ensures end { IfOk result (λ _. read_signs rest.now ≡ []) }

@@ -11,7 +11,7 @@ use ac_syntax::{ParseFault, Stop, Surface, deep, signs};
 use ac_types::Many;
 use std::alloc::Global;
 
-/// The tokens of a text, where it is not too long, has tokens and is shallow.
+// The tokens of a text, where it is not too long, has tokens and is shallow.
 fn tokens(alloc: Global, text: &[u8]) -> Result<Many<Token>, ParseFault>
     ensures read { IfOk result (λ tokens. IsRead text.now tokens) }
     ensures fault { IfErr result (λ e. IsUnread text.now e) }
@@ -28,7 +28,7 @@ fn tokens(alloc: Global, text: &[u8]) -> Result<Many<Token>, ParseFault>
     }
 }
 
-/// The place of the token before which so many are left, the end of the text where none is left.
+// The place of the token before which so many are left, the end of the text where none is left.
 fn place(tokens: &[Token], left: usize, end: u32) -> u32
     ensures { IsPlace tokens.now end result }
 {
@@ -38,7 +38,7 @@ fn place(tokens: &[Token], left: usize, end: u32) -> u32
     }
 }
 
-/// Why the tokens of a text of this length have no tree.
+// Why the tokens of a text of this length have no tree.
 fn fault(tokens: &[Token], len: usize, stop: Stop) -> ParseFault
     requires { len ≤ 1048576 }
     ensures { FaultAt tokens.now len stop result }

@@ -13,7 +13,7 @@ use ac_types::{Constraint, Memory, Version};
 use ac_version::{VToken, VersionFault, read_constraint, read_version};
 use std::alloc::Global;
 
-/// What a sign is in a version or a constraint.
+// What a sign is in a version or a constraint.
 fn vtoken(sign: &Sign<'_>) -> Option<VToken>
     ensures { result ≡ vtoken_of (read_sign sign.now) }
 {
@@ -27,7 +27,7 @@ fn vtoken(sign: &Sign<'_>) -> Option<VToken>
     }
 }
 
-/// The tokens of a version or a constraint at the front, all that stand there.
+// The tokens of a version or a constraint at the front, all that stand there.
 fn vtokens<'s, 't>(
     alloc: Global,
     signs: &'s [Sign<'t>],
@@ -49,7 +49,7 @@ fn vtokens<'s, 't>(
     Ok((tokens, rest))
 }
 
-/// Why the tokens of a version or a constraint, which begin here, are none.
+// Why the tokens of a version or a constraint, which begin here, are none.
 fn bad(fault: VersionFault, signs: &[Sign<'_>]) -> Stop
     ensures { stopped fault result }
 {
@@ -59,7 +59,7 @@ fn bad(fault: VersionFault, signs: &[Sign<'_>]) -> Stop
     }
 }
 
-/// The version behind a module's signature, where one is written.
+// The version behind a module's signature, where one is written.
 fn written<'s, 't>(
     alloc: Global,
     signs: &'s [Sign<'t>],

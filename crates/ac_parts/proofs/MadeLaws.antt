@@ -1,7 +1,6 @@
 -- The reading of what is made with other numbers, and lists of it.
-use Rattle.std.proofs.Common.{◌≡◌, ◌∙◌, ap, refl, sym, ℕ, ◌+◌, ◌<◌, List, [], ◌∷◌, ◌++◌, map, length, take, get_or, add-one}
-use Rattle.std.proofs.Math.Seq.{take-suc, take-length}
-use Rattle.std.proofs.lemmas.List.{map-append}
+use Rattle.std.proofs.Common.{◌≡◌, ◌∙◌, ap, refl, ℕ, List, [], ◌∷◌, map, length, take}
+use Rattle.ac_types.proofs.Loops.{built_all}
 use Rattle.ac_terms.specs.declared.term.Term.{Term}
 use Rattle.ac_terms.specs.declared.term.Arm.{Arm}
 use Rattle.ac_terms.specs.declared.term.PVal.{PVal}
@@ -12,25 +11,13 @@ use Rattle.ac_terms.specs.Read.{expr_of, value_of, field_of}
 use Rattle.ac_terms.specs.Renumbered.{renumbered, all_renumbered, arms_renumbered, value_renumbered, values_renumbered, field_renumbered}
 use Rattle.ac_canon.specs.inner.Arms.{arm_of}
 use Rattle.ac_terms.proofs.ReadLaws.{term_laws as read_terms}
-use Rattle.ac_canon.proofs.TermForms.{expr_of-Match, expr_of-Try, expr_of-ExnOf}
+use Rattle.ac_terms.proofs.TermForms.{expr_of-ExnOf}
+use Rattle.ac_canon.proofs.TermForms.{expr_of-Match, expr_of-Try}
 use Rattle.ac_canon.proofs.ValueForms.{value_laws as value_forms}
 
 pub ruleset made_laws = (read_terms, expr_of-Match, expr_of-Try, expr_of-ExnOf)
 
 pub ruleset value_laws = (value_forms)
-
--- a list of what is made of each element of another
-take_next : {A : Type 0} (i : ℕ) (xs : List A) (x : A) → i < length xs → x ≡ get_or xs i x → take (i + 1) xs ≡ take i xs ++ x ∷ []
-take_next i xs x h e = rw (add-one, take-suc xs i x) (ap (λ y. take i xs ++ y ∷ []) (sym e))
-
-pub built : {A B C : Type 0} (g : A → C) (f : B → C) (old new : List A) (y : A) (i : ℕ) (xs : List B) (x : B)
-    → map g old ≡ map f (take i xs) → i < length xs → x ≡ get_or xs i x → new ≡ old ++ y ∷ [] → g y ≡ f x → map g new ≡ map f (take (i + 1) xs)
-built g f old new y i xs x so h is pushed made =
-    ap (map g) pushed ∙ map-append g old (y ∷ []) ∙ ap (λ l. l ++ g y ∷ []) so ∙ ap (λ z. map f (take i xs) ++ z ∷ []) made
-    ∙ sym (ap (map f) (take_next i xs x h is) ∙ map-append f (take i xs) (x ∷ []))
-
-pub built_all : {A B C : Type 0} (g : A → C) (f : B → C) (made : List A) (i : ℕ) (xs : List B) → i ≡ length xs → map g made ≡ map f (take i xs) → map g made ≡ map f xs
-built_all g f made i xs e so = so ∙ ap (map f) (ap (λ n. take n xs) e ∙ take-length xs)
 
 module _ (f : ℕ → ℕ) where
   abbrev pub term_made : Term → Expr

@@ -5,31 +5,11 @@ use Rattle.std.proofs.lemmas.Grind.{common_steps}
 use Rattle.std.proofs.lemmas.List.Folds.{list_all-append}
 use Rattle.ac_types.specs.Types.{Typ}
 use Rattle.ac_terms.specs.Parts.{Portion, OfType}
-use Rattle.ac_terms.specs.declared.pat.Pat.{Pat, out-Pat, map-Pat, fold_out-Pat}
 use Rattle.ac_terms.specs.declared.pat.Pat.TheViews as pat_views
-use Rattle.ac_terms.specs.declared.term.Term.{Term}
-use Rattle.ac_terms.specs.declared.term.Arm.{Arm}
-use Rattle.ac_terms.specs.declared.term.PVal.{PVal}
-use Rattle.ac_terms.specs.declared.term.PVal.TheOpen.{PVal-F}
-use Rattle.ac_terms.specs.declared.term.PVal.TheFolds.{map-PVal, fold_out-PVal}
-use Rattle.ac_terms.specs.declared.term.PVal.TheViews.{out-PVal}
-use Rattle.ac_terms.specs.Terms.{Pattern, Expr, PValue}
-use Rattle.ac_terms.specs.Read.{pattern_of, pattern_layer, expr_of, value_of, value_layer, expr_layer, arm_layer}
-use Rattle.ac_terms.proofs.ReadLaws.{read_arm, term_laws as read_terms}
-use Rattle.ac_canon.proofs.PatternForms.{pattern_of-Tuple}
+use Rattle.ac_terms.proofs.ReadLaws.{term_laws as read_terms}
+use Rattle.ac_terms.proofs.PatternForms.{pattern_out, pattern_of-Tuple}
 use Rattle.ac_canon.proofs.TermForms.{expr_of-Match, expr_of-Try}
-use Rattle.ac_canon.proofs.ValueForms.{value_of-Tuple, value_of-List}
-
-pub pattern_out : (p : Pat) → pattern_of p ≡ pattern_layer (map-Pat Pat Pattern pattern_of (out-Pat p))
-unfolding pattern_of
-pattern_out p = fold_out-Pat Pattern pattern_layer p
-
-abbrev read_value : PVal-F PVal Term Arm → PValue
-read_value x = value_layer (map-PVal PVal Term Arm PValue Expr (Pattern × Expr) value_of expr_of read_arm x)
-
-pub value_out : (v : PVal) → value_of v ≡ read_value (out-PVal v)
-unfolding expr_of value_of read_arm
-value_out v = fold_out-PVal PValue Expr (Pattern × Expr) value_layer expr_layer arm_layer v
+use Rattle.ac_terms.proofs.ValueForms.{value_out, value_of-Tuple, value_of-List}
 
 -- the types of variables, as parts
 pub types_pass : (p : Portion → Bool) (Ts : List Typ) → list_all p (map OfType Ts) ≡ list_all (λ (U : Typ). p (OfType U)) Ts

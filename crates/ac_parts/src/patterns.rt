@@ -15,7 +15,8 @@ use ac_terms::Pat;
 #[cycle(pat)]
 #[tactic(auto, using(crate::proofs::WalkLaws::pattern_laws))]
 pub fn pattern_passes<T: Test>(pat: &Pat, test: &T) -> bool
-    ensures { result ≡ list_all (λ (U : Typ). T.passes test.now (OfType U)) (pattern_types (pattern_of pat.now)) }
+    ensures { result ≡ list_all (λ (U : Typ). T.passes test.now (OfType U))
+        (pattern_types (pattern_of pat.now)) }
 {
     match pat {
         Pat::Var(ty) => test.passes_type(ty),

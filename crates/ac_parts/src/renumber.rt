@@ -11,7 +11,7 @@ use ac_terms::{Arm, Home, PVal, Term};
 use ac_types::{Box, Many, Memory, both};
 use std::alloc::Global;
 
-/// The number that stands for a number, 0 where none does.
+// The number that stands for a number, 0 where none does.
 fn number_in(numbers: &[u32], k: u32) -> u32
     ensures { result ≡ number_in numbers.now k }
 {
@@ -21,7 +21,7 @@ fn number_in(numbers: &[u32], k: u32) -> u32
     }
 }
 
-/// The home with another number.
+// The home with another number.
 fn home_renumbered(numbers: &[u32], home: Home) -> Home
     ensures { home_of result ≡ home_by (number_in numbers.now) (home_of home) }
 {

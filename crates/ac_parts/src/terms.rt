@@ -63,7 +63,8 @@ pub fn term_passes<T: Test>(term: &Term, test: &T) -> bool
 #[cycle(term)]
 #[tactic(auto, using(crate::proofs::WalkLaws::term_laws))]
 fn terms_pass<T: Test>(terms: &[Term], test: &T) -> bool
-    ensures { result ≡ list_all (T.passes test.now) (all_term_parts (exprs (map expr_of terms.now))) }
+    ensures { result ≡ list_all (T.passes test.now)
+        (all_term_parts (exprs (map expr_of terms.now))) }
 {
     for term in terms {
         if !term_passes(term, test) {

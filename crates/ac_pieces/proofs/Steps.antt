@@ -5,7 +5,7 @@ use Rattle.ac_types.specs.Types.{Bytes}
 use Rattle.ac_terms.specs.PacketReading.{ReadsPart, one, two_parts_read, three, pair}
 use Rattle.ac_pieces.specs.declared.fault.Fault.{Fault}
 use Rattle.ac_pieces.specs.declared.fault.Fault.TheVariants as fault
-use Rattle.ac_pieces.specs.Readers.{NoneRead, HasRead, MadeOfRead}
+use Rattle.ac_pieces.specs.Readers.{NoneRead, ReadsAs, MadeOfRead}
 
 abbrev with_made : {A B : Type 0} → (A → B) → A × Bytes → B × Bytes
 with_made c p = (c p.0, p.1)
@@ -14,8 +14,8 @@ with_made c p = (c p.0, p.1)
 pub refused_by : {A : Type 0} {a b : Option A} (e : Fault) → a ≡ b → NoneRead e b → NoneRead e a
 refused_by e is r = subst (NoneRead e) (sym is) r
 
-pub answered_by : {X A : Type 0} (view : X → A) (r : Result X Fault) (left : Bytes) {a b : Option (A × Bytes)} → a ≡ b → HasRead view r b left → HasRead view r a left
-answered_by view r left is p = subst (λ o. HasRead view r o left) (sym is) p
+pub answered_by : {X A : Type 0} (view : X → A) (r : Result X Fault) (left : Bytes) {a b : Option (A × Bytes)} → a ≡ b → ReadsAs view r b left → ReadsAs view r a left
+answered_by view r left is p = subst (λ o. ReadsAs view r o left) (sym is) p
 
 none_refused : {A : Type 0} {o : Option A} (e : Fault) → o ≡ None → NoneRead e o
 none_refused (fault.Misfit at) is = is
@@ -29,7 +29,7 @@ refused_one c o fault.Short r = ap (option_map (with_made c)) r
 refused_one c o fault.Memory r = tt
 
 pub made : {X Y A B : Type 0} (view : X → A) (seen : Y → B) (c : A → B) (r : Result X Fault) (r' : Result Y Fault) (o : Option (A × Bytes)) (left : Bytes) →
-    HasRead view r o left → MadeOfRead view seen c r r' → HasRead seen r' (option_map (with_made c) o) left
+    ReadsAs view r o left → MadeOfRead view seen c r r' → ReadsAs seen r' (option_map (with_made c) o) left
 made view seen c (Ok x) (Ok y) o left a m = ap (option_map (with_made c)) a ∙ ap (λ z. Some (z, left)) (sym m)
 made view seen c (Err e) (Err f) o left a m = subst (λ d. NoneRead d (option_map (with_made c) o)) (sym m) (refused_one c o e a)
 made view seen c (Ok x) (Err f) o left a m = absurd m
@@ -78,6 +78,6 @@ joined_makes {X} {Y} {A} {B} view seen x r (Ok p) j = subst (λ q. MadeOfRead {B
 joined_makes {X} {Y} {A} {B} view seen x r (Err e) j = subst (λ q. MadeOfRead {B = A × B} seen (λ (z : X × Y). (view z.0, seen z.1)) (λ b. (view x, b)) q (Err e)) (sym j) refl
 
 pub joined_read : {X Y A B : Type 0} (view : X → A) (seen : Y → B) (f : ReadsPart A) (g : ReadsPart B) (bs mid left : Bytes) (x : X) (r : Result Y Fault) (s : Result (X × Y) Fault) →
-    f bs ≡ Some (view x, mid) → HasRead seen r (g mid) left → Joined x r s → HasRead (λ (p : X × Y). (view p.0, seen p.1)) s (pair f g bs) left
+    f bs ≡ Some (view x, mid) → ReadsAs seen r (g mid) left → Joined x r s → ReadsAs (λ (p : X × Y). (view p.0, seen p.1)) s (pair f g bs) left
 joined_read {X} {Y} view seen f g bs mid left x r s e a j =
     answered_by (λ (p : X × Y). (view p.0, seen p.1)) s left (second_read f g bs (view x) mid e) (made seen (λ (p : X × Y). (view p.0, seen p.1)) (λ b. (view x, b)) r s (g mid) left a (joined_makes view seen x r s j))

@@ -5,7 +5,7 @@ use Rattle.ac_types.specs.Types.{Bytes}
 use Rattle.ac_terms.specs.PacketReading.{ReadsPart, read_byte, tagged}
 use Rattle.ac_pieces.specs.declared.fault.Fault.{Fault}
 use Rattle.ac_pieces.specs.declared.fault.Fault.TheVariants as fault
-use Rattle.ac_pieces.specs.Readers.{NoneRead, HasRead}
+use Rattle.ac_pieces.specs.Readers.{NoneRead, ReadsAs}
 use Rattle.ac_pieces.proofs.Taken.{byte_front, no_byte}
 
 pub tag_read : {A : Type 0} (table : List (ReadsPart A)) (bs : Bytes) (tag : ℕ) (mid : Bytes) → read_byte bs ≡ Some (tag, mid) → tagged table bs ≡ option_and_then (λ (g : ReadsPart A). g mid) (slice_get table tag)
@@ -22,5 +22,5 @@ no_tag table bs fault.Memory r = tt
 
 -- what is read behind it is read with it
 pub after_tag : {X A : Type 0} (view : X → A) (table : List (ReadsPart A)) (bs : Bytes) (tag : ℕ) (mid : Bytes) (r : Result X Fault) (left : Bytes) → read_byte bs ≡ Some (tag, mid) →
-    HasRead view r (option_and_then (λ (g : ReadsPart A). g mid) (slice_get table tag)) left → HasRead view r (tagged table bs) left
-after_tag view table bs tag mid r left e a = subst (λ o. HasRead view r o left) (sym (tag_read table bs tag mid e)) a
+    ReadsAs view r (option_and_then (λ (g : ReadsPart A). g mid) (slice_get table tag)) left → ReadsAs view r (tagged table bs) left
+after_tag view table bs tag mid r left e a = subst (λ o. ReadsAs view r o left) (sym (tag_read table bs tag mid e)) a

@@ -1,4 +1,4 @@
 pub mod ExactReading
 pub mod ExactTypes
 pub mod Readers
-pub mod Follows
+pub mod inner

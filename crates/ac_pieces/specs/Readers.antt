@@ -11,9 +11,9 @@ NoneRead fault.Short read = read ≡ None
 NoneRead fault.Memory read = Unit {0}
 
 -- it gives, seen so, what is read, and leaves what is left
-abbrev pub HasRead : {X A : Type 0} → (X → A) → Result X Fault → Option (A × Bytes) → Bytes → Type 0
-HasRead view (Ok x) read left = read ≡ Some (view x, left)
-HasRead view (Err e) read left = NoneRead e read
+abbrev pub ReadsAs : {X A : Type 0} → (X → A) → Result X Fault → Option (A × Bytes) → Bytes → Type 0
+ReadsAs view (Ok x) read left = read ≡ Some (view x, left)
+ReadsAs view (Err e) read left = NoneRead e read
 
 -- what it gives says how reading goes on
 abbrev pub ReadsOn : {X A : Type 0} → (X → Option A) → Result X Fault → Option A → Type 0

@@ -3,7 +3,7 @@
 ghost use Rattle.std.specs.Prelude.{ℕ, ℤ, Bool};
 ghost use Rattle.ac_terms.specs.PacketReading.{read_byte};
 ghost use Rattle.ac_pieces.specs.ExactReading.{exact_two, exact_four, exact_eight, exact_truth, exact_name, exact_width, exact_count, exact_long_count};
-ghost use Rattle.ac_pieces.specs.Readers.{HasRead};
+ghost use Rattle.ac_pieces.specs.Readers.{ReadsAs};
 
 use crate::fault::Fault;
 use ac_bytes::Cursor;
@@ -11,7 +11,7 @@ use ac_types::Name;
 
 /// A byte.
 pub fn byte(cursor: &mut Cursor<'_>) -> Result<u8, Fault>
-    ensures { HasRead (λ (n : ℕ). n) result (read_byte cursor.old.left) cursor.new.left }
+    ensures { ReadsAs (λ (n : ℕ). n) result (read_byte cursor.old.left) cursor.new.left }
 {
     match cursor.take_u8() {
         None => Err(Fault::Short),
@@ -22,7 +22,7 @@ pub fn byte(cursor: &mut Cursor<'_>) -> Result<u8, Fault>
 /// A number of two bytes.
 #[tactic(auto, using(crate::proofs::Taken::two_short))]
 pub fn two(cursor: &mut Cursor<'_>) -> Result<u16, Fault>
-    ensures { HasRead (λ (n : ℕ). n) result (exact_two cursor.old.left) cursor.new.left }
+    ensures { ReadsAs (λ (n : ℕ). n) result (exact_two cursor.old.left) cursor.new.left }
 {
     match cursor.take_u16() {
         None => Err(Fault::Short),
@@ -33,7 +33,7 @@ pub fn two(cursor: &mut Cursor<'_>) -> Result<u16, Fault>
 /// A number of four bytes.
 #[tactic(auto, using(crate::proofs::Taken::four_short))]
 pub fn four(cursor: &mut Cursor<'_>) -> Result<u32, Fault>
-    ensures { HasRead (λ (n : ℕ). n) result (exact_four cursor.old.left) cursor.new.left }
+    ensures { ReadsAs (λ (n : ℕ). n) result (exact_four cursor.old.left) cursor.new.left }
 {
     match cursor.take_u32() {
         None => Err(Fault::Short),
@@ -44,7 +44,7 @@ pub fn four(cursor: &mut Cursor<'_>) -> Result<u32, Fault>
 /// A signed number of eight bytes.
 #[tactic(auto, using(crate::proofs::Taken::eight_short))]
 pub fn eight(cursor: &mut Cursor<'_>) -> Result<i64, Fault>
-    ensures { HasRead (λ (z : ℤ). z) result (exact_eight cursor.old.left) cursor.new.left }
+    ensures { ReadsAs (λ (z : ℤ). z) result (exact_eight cursor.old.left) cursor.new.left }
 {
     match cursor.take_i64() {
         None => Err(Fault::Short),
@@ -54,7 +54,7 @@ pub fn eight(cursor: &mut Cursor<'_>) -> Result<i64, Fault>
 
 /// A truth value: 0 or 1.
 pub fn truth(cursor: &mut Cursor<'_>) -> Result<bool, Fault>
-    ensures { HasRead (λ (b : Bool). b) result (exact_truth cursor.old.left) cursor.new.left }
+    ensures { ReadsAs (λ (b : Bool). b) result (exact_truth cursor.old.left) cursor.new.left }
 {
     let at = cursor.place();
     let n = byte(cursor)?;
@@ -70,7 +70,7 @@ pub fn truth(cursor: &mut Cursor<'_>) -> Result<bool, Fault>
 /// A name of 32 bytes.
 #[tactic(auto, using(crate::proofs::Taken::name_taken, crate::proofs::Taken::name_short))]
 pub fn name(cursor: &mut Cursor<'_>) -> Result<Name, Fault>
-    ensures { HasRead (λ (n : Name). n.0) result (exact_name cursor.old.left) cursor.new.left }
+    ensures { ReadsAs (λ (n : Name). n.0) result (exact_name cursor.old.left) cursor.new.left }
 {
     match cursor.take_name() {
         None => Err(Fault::Short),
@@ -81,7 +81,7 @@ pub fn name(cursor: &mut Cursor<'_>) -> Result<Name, Fault>
 /// How many parts a tuple has.
 #[tactic(auto, unfolding(crate::specs::ExactReading::exact_width))]
 pub fn width(cursor: &mut Cursor<'_>) -> Result<u8, Fault>
-    ensures { HasRead (λ (n : ℕ). n) result (exact_width cursor.old.left) cursor.new.left }
+    ensures { ReadsAs (λ (n : ℕ). n) result (exact_width cursor.old.left) cursor.new.left }
 {
     let at = cursor.place();
     let n = byte(cursor)?;
@@ -94,7 +94,7 @@ pub fn width(cursor: &mut Cursor<'_>) -> Result<u8, Fault>
 /// A count in one byte.
 #[tactic(auto, unfolding(crate::specs::ExactReading::exact_count))]
 pub fn count(cursor: &mut Cursor<'_>, least: u8, most: u8) -> Result<u8, Fault>
-    ensures { HasRead (λ (n : ℕ). n) result (exact_count least most cursor.old.left)
+    ensures { ReadsAs (λ (n : ℕ). n) result (exact_count least most cursor.old.left)
         cursor.new.left }
 {
     let at = cursor.place();
@@ -108,7 +108,7 @@ pub fn count(cursor: &mut Cursor<'_>, least: u8, most: u8) -> Result<u8, Fault>
 /// A count in two bytes.
 #[tactic(auto, unfolding(crate::specs::ExactReading::exact_long_count))]
 pub fn long_count(cursor: &mut Cursor<'_>, least: u16, most: u16) -> Result<u16, Fault>
-    ensures { HasRead (λ (n : ℕ). n) result (exact_long_count least most cursor.old.left)
+    ensures { ReadsAs (λ (n : ℕ). n) result (exact_long_count least most cursor.old.left)
         cursor.new.left }
 {
     let at = cursor.place();

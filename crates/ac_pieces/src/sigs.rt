@@ -6,7 +6,7 @@ ghost use Rattle.ac_types.specs.Sigs.{Typed_name, Sig_type};
 ghost use Rattle.ac_types.specs.ReadTypes.{typ_of, typed_of, sig_type_of, sig_of};
 ghost use Rattle.ac_terms.specs.PacketReading.{ReadsPart, times};
 ghost use Rattle.ac_pieces.specs.ExactTypes.{manifest_table, exact_manifest, exact_sig_type, exact_typed, exact_all_typed, exact_sig_types, exact_sig};
-ghost use Rattle.ac_pieces.specs.Readers.{HasRead};
+ghost use Rattle.ac_pieces.specs.Readers.{ReadsAs};
 
 use crate::fault::{Fault, joined};
 use crate::numbers::{byte, long_count};
@@ -22,7 +22,7 @@ fn manifest<T: Types>(
     cursor: &mut Cursor<'_>,
     types: &T,
 ) -> Result<Option<Ty>, Fault>
-    ensures { HasRead (option_map typ_of) result
+    ensures { ReadsAs (option_map typ_of) result
         (exact_manifest (T.reads_type types.now) cursor.old.left) cursor.new.left }
 {
     let at = cursor.place();
@@ -38,7 +38,7 @@ fn manifest_behind<T: Types>(
     at: usize,
     tag: u8,
 ) -> Result<Option<Ty>, Fault>
-    ensures { HasRead (option_map typ_of) result
+    ensures { ReadsAs (option_map typ_of) result
         (option_and_then (λ (g : ReadsPart _). g cursor.old.left)
         (slice_get (manifest_table (T.reads_type types.now)) tag)) cursor.new.left }
 {
@@ -52,7 +52,7 @@ fn manifest_behind<T: Types>(
 // A type of a signature.
 #[tactic(auto, unfolding(crate::specs::ExactTypes::exact_sig_type))]
 fn sig_type<T: Types>(alloc: Global, cursor: &mut Cursor<'_>, types: &T) -> Result<SigType, Fault>
-    ensures { HasRead sig_type_of result
+    ensures { ReadsAs sig_type_of result
         (exact_sig_type (T.reads_type types.now) cursor.old.left) cursor.new.left }
 {
     let name = lower(alloc, cursor)?;
@@ -67,7 +67,7 @@ fn some_sig_types<T: Types>(
     types: &T,
     count: u16,
 ) -> Result<Many<SigType>, Fault>
-    ensures { HasRead (map sig_type_of) result (times [] (λ x xs. x ∷ xs)
+    ensures { ReadsAs (map sig_type_of) result (times [] (λ x xs. x ∷ xs)
         (exact_sig_type (T.reads_type types.now)) count cursor.old.left) cursor.new.left }
 {
     let mut items = Many::new(alloc);
@@ -85,7 +85,7 @@ fn sig_types<T: Types>(
     cursor: &mut Cursor<'_>,
     types: &T,
 ) -> Result<Many<SigType>, Fault>
-    ensures { HasRead (map sig_type_of) result
+    ensures { ReadsAs (map sig_type_of) result
         (exact_sig_types (T.reads_type types.now) cursor.old.left) cursor.new.left }
 {
     let n = long_count(cursor, 0, 1024)?;
@@ -100,7 +100,7 @@ fn typed<T: Types>(
     types: &T,
     own: bool,
 ) -> Result<TyField, Fault>
-    ensures { HasRead typed_of result
+    ensures { ReadsAs typed_of result
         (exact_typed (T.reads_type types.now) own cursor.old.left) cursor.new.left }
 {
     let name = lower(alloc, cursor)?;
@@ -116,7 +116,7 @@ fn some_typed<T: Types>(
     own: bool,
     count: u16,
 ) -> Result<Many<TyField>, Fault>
-    ensures { HasRead (map typed_of) result (times [] (λ x xs. x ∷ xs)
+    ensures { ReadsAs (map typed_of) result (times [] (λ x xs. x ∷ xs)
         (exact_typed (T.reads_type types.now) own) count cursor.old.left) cursor.new.left }
 {
     let mut items = Many::new(alloc);
@@ -135,7 +135,7 @@ pub fn all_typed<T: Types>(
     types: &T,
     own: bool,
 ) -> Result<Many<TyField>, Fault>
-    ensures { HasRead (map typed_of) result
+    ensures { ReadsAs (map typed_of) result
         (exact_all_typed (T.reads_type types.now) own cursor.old.left) cursor.new.left }
 {
     let n = long_count(cursor, 0, 1024)?;
@@ -145,7 +145,7 @@ pub fn all_typed<T: Types>(
 /// A signature.
 #[tactic(auto, unfolding(crate::specs::ExactTypes::exact_sig))]
 pub fn sig<T: Types>(alloc: Global, cursor: &mut Cursor<'_>, types: &T) -> Result<Sig, Fault>
-    ensures { HasRead sig_of result (exact_sig (T.reads_type types.now) cursor.old.left)
+    ensures { ReadsAs sig_of result (exact_sig (T.reads_type types.now) cursor.old.left)
         cursor.new.left }
 {
     let sig_types = sig_types(alloc, cursor, types)?;

@@ -3,7 +3,7 @@
 ghost use Rattle.std.specs.Prelude.{◌≡◌, ℕ, List};
 ghost use Rattle.ac_terms.specs.Read.{bytes_of};
 ghost use Rattle.ac_pieces.specs.ExactReading.{exact_word, exact_lower, exact_upper, exact_text, begins_low, begins_high};
-ghost use Rattle.ac_pieces.specs.Readers.{HasRead};
+ghost use Rattle.ac_pieces.specs.Readers.{ReadsAs};
 
 use crate::fault::Fault;
 use ac_bytes::Cursor;
@@ -13,7 +13,7 @@ use std::alloc::Global;
 // An identifier.
 #[tactic(auto, using(crate::proofs::Taken::no_length, crate::proofs::Taken::word_short))]
 fn identifier(alloc: Global, cursor: &mut Cursor<'_>) -> Result<Word, Fault>
-    ensures { HasRead (λ (w : List ℕ). w) result (exact_word cursor.old.left) cursor.new.left }
+    ensures { ReadsAs (λ (w : List ℕ). w) result (exact_word cursor.old.left) cursor.new.left }
 {
     let at = cursor.place();
     let Some(count) = cursor.take_u8() else {
@@ -49,7 +49,7 @@ fn begins_high(word: &Word) -> bool
 /// An identifier that begins with a lower letter or `_`.
 #[tactic(auto, unfolding(crate::specs::ExactReading::exact_lower))]
 pub fn lower(alloc: Global, cursor: &mut Cursor<'_>) -> Result<Word, Fault>
-    ensures { HasRead (λ (w : List ℕ). w) result (exact_lower cursor.old.left) cursor.new.left }
+    ensures { ReadsAs (λ (w : List ℕ). w) result (exact_lower cursor.old.left) cursor.new.left }
 {
     let at = cursor.place();
     let word = identifier(alloc, cursor)?;
@@ -62,7 +62,7 @@ pub fn lower(alloc: Global, cursor: &mut Cursor<'_>) -> Result<Word, Fault>
 /// An identifier that begins with an upper letter.
 #[tactic(auto, unfolding(crate::specs::ExactReading::exact_upper))]
 pub fn upper(alloc: Global, cursor: &mut Cursor<'_>) -> Result<Word, Fault>
-    ensures { HasRead (λ (w : List ℕ). w) result (exact_upper cursor.old.left) cursor.new.left }
+    ensures { ReadsAs (λ (w : List ℕ). w) result (exact_upper cursor.old.left) cursor.new.left }
 {
     let at = cursor.place();
     let word = identifier(alloc, cursor)?;
@@ -75,7 +75,7 @@ pub fn upper(alloc: Global, cursor: &mut Cursor<'_>) -> Result<Word, Fault>
 /// A string of at most so many bytes.
 #[tactic(auto, using(crate::proofs::Taken::no_long_length, crate::proofs::Taken::text_short))]
 pub fn text(alloc: Global, cursor: &mut Cursor<'_>, most: u32) -> Result<Text, Fault>
-    ensures { HasRead bytes_of result (exact_text most cursor.old.left) cursor.new.left }
+    ensures { ReadsAs bytes_of result (exact_text most cursor.old.left) cursor.new.left }
 {
     let at = cursor.place();
     let Some(count) = cursor.take_u32() else {

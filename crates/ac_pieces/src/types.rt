@@ -6,8 +6,8 @@ ghost use Rattle.ac_types.specs.ReadTypes.{typ_of};
 ghost use Rattle.ac_terms.specs.PacketReading.{ReadsPart, one, two_parts_read, pair, times};
 ghost use Rattle.ac_pieces.specs.ExactReading.{exact_name, exact_lower};
 ghost use Rattle.ac_pieces.specs.ExactTypes.{exact_type_table, exact_type_of, exact_type};
-ghost use Rattle.ac_pieces.specs.Readers.{HasRead, ReadsOn, MadeOfRead};
-ghost use Rattle.ac_pieces.specs.Follows.{type_follows};
+ghost use Rattle.ac_pieces.specs.Readers.{ReadsAs, ReadsOn, MadeOfRead};
+ghost use Rattle.ac_pieces.specs.inner.Follows.{type_follows};
 
 use crate::fault::{Fault, joined};
 use crate::numbers::{byte, name, width};
@@ -23,7 +23,7 @@ pub trait Types {
 
     /// A type.
     fn read_type(&self, alloc: Global, cursor: &mut Cursor<'_>, own: bool) -> Result<Ty, Fault>
-        ensures { HasRead typ_of result (reads_type self.now own cursor.old.left)
+        ensures { ReadsAs typ_of result (reads_type self.now own cursor.old.left)
             cursor.new.left };
 }
 
@@ -57,7 +57,7 @@ pub enum TypeHead {
 // An abstract type.
 #[tactic(auto, using(ac_canon::proofs::TypeForms::type_laws))]
 fn abstract_type(alloc: Global, cursor: &mut Cursor<'_>) -> Result<Ty, Fault>
-    ensures { HasRead typ_of result (two_parts_read TAbs exact_name exact_lower cursor.old.left)
+    ensures { ReadsAs typ_of result (two_parts_read TAbs exact_name exact_lower cursor.old.left)
         cursor.new.left }
 {
     let name = name(cursor)?;
@@ -68,7 +68,7 @@ fn abstract_type(alloc: Global, cursor: &mut Cursor<'_>) -> Result<Ty, Fault>
 // An own abstract type.
 #[tactic(auto, using(ac_canon::proofs::TypeForms::type_laws))]
 fn own_type(alloc: Global, cursor: &mut Cursor<'_>) -> Result<Ty, Fault>
-    ensures { HasRead typ_of result (one TMine exact_lower cursor.old.left) cursor.new.left }
+    ensures { ReadsAs typ_of result (one TMine exact_lower cursor.old.left) cursor.new.left }
 {
     let word = lower(alloc, cursor)?;
     Ok(Ty::Mine(word))
@@ -138,7 +138,8 @@ fn option(item: Result<Box<Ty>, Fault>) -> Result<Ty, Fault>
 // A function.
 #[tactic(auto, using(ac_canon::proofs::TypeForms::type_laws))]
 fn function(both: Result<(Box<Ty>, Box<Ty>), Fault>) -> Result<Ty, Fault>
-    ensures { MadeOfRead {A = Typ × Typ} (λ p. (typ_of p.0, typ_of p.1)) typ_of (λ p. TFun p.0 p.1) both
+    ensures { MadeOfRead {A = Typ × Typ} (λ p. (typ_of p.0, typ_of p.1)) typ_of
+        (λ p. TFun p.0 p.1) both
         result }
 {
     let (from, to) = both?;
@@ -148,7 +149,7 @@ fn function(both: Result<(Box<Ty>, Box<Ty>), Fault>) -> Result<Ty, Fault>
 // A type of at most that height.
 #[cycle(types)]
 fn type_of(alloc: Global, cursor: &mut Cursor<'_>, own: bool, depth: u32) -> Result<Ty, Fault>
-    ensures { HasRead typ_of result (exact_type_of own depth cursor.old.left) cursor.new.left }
+    ensures { ReadsAs typ_of result (exact_type_of own depth cursor.old.left) cursor.new.left }
 {
     let at = cursor.place();
     if depth == 0 {
@@ -169,7 +170,7 @@ fn type_of(alloc: Global, cursor: &mut Cursor<'_>, own: bool, depth: u32) -> Res
 // The same in a box.
 #[cycle(types)]
 fn boxed(alloc: Global, cursor: &mut Cursor<'_>, own: bool, depth: u32) -> Result<Box<Ty>, Fault>
-    ensures { HasRead typ_of result (exact_type_of own depth cursor.old.left) cursor.new.left }
+    ensures { ReadsAs typ_of result (exact_type_of own depth cursor.old.left) cursor.new.left }
 {
     let ty = type_of(alloc, cursor, own, depth)?;
     Ok(Box::new(alloc, ty)?)
@@ -183,7 +184,7 @@ fn two_types(
     own: bool,
     depth: u32,
 ) -> Result<(Box<Ty>, Box<Ty>), Fault>
-    ensures { HasRead (λ p. (typ_of p.0, typ_of p.1)) result
+    ensures { ReadsAs (λ p. (typ_of p.0, typ_of p.1)) result
         (pair (exact_type_of own depth) (exact_type_of own depth) cursor.old.left)
         cursor.new.left }
 {
@@ -200,7 +201,7 @@ fn all(
     count: u8,
     depth: u32,
 ) -> Result<Many<Ty>, Fault>
-    ensures { HasRead (λ (tys : List Ty). typs (map typ_of tys)) result
+    ensures { ReadsAs (λ (tys : List Ty). typs (map typ_of tys)) result
         (times no_types typ (exact_type_of own depth) count cursor.old.left) cursor.new.left }
 {
     let mut items = Many::new(alloc);
@@ -214,7 +215,7 @@ fn all(
 // A small type.
 #[tactic(auto, unfolding(crate::specs::ExactTypes::exact_type))]
 fn small_type(alloc: Global, cursor: &mut Cursor<'_>, own: bool) -> Result<Ty, Fault>
-    ensures { HasRead typ_of result (exact_type own cursor.old.left) cursor.new.left }
+    ensures { ReadsAs typ_of result (exact_type own cursor.old.left) cursor.new.left }
 {
     let at = cursor.place();
     let ty = type_of(alloc, cursor, own, 100)?;

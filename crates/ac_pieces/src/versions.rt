@@ -4,7 +4,7 @@ ghost use Rattle.std.specs.Prelude.{ℕ, List, [], ◌∷◌, map, option_and_th
 ghost use Rattle.ac_types.specs.ReadTypes.{atom_of, range_of, constraint_of, resolve_of};
 ghost use Rattle.ac_terms.specs.PacketReading.{ReadsPart, times};
 ghost use Rattle.ac_pieces.specs.ExactReading.{atom_table, exact_atom, exact_version, range_table, exact_range, exact_ranges, constraint_table, exact_constraint, resolve_table, exact_resolve, exact_resolves};
-ghost use Rattle.ac_pieces.specs.Readers.{HasRead};
+ghost use Rattle.ac_pieces.specs.Readers.{ReadsAs};
 
 use crate::fault::Fault;
 use crate::numbers::{byte, count, four, name, truth};
@@ -15,7 +15,7 @@ use std::alloc::Global;
 
 // A part of a version.
 fn atom(cursor: &mut Cursor<'_>) -> Result<Atom, Fault>
-    ensures { HasRead atom_of result (exact_atom cursor.old.left) cursor.new.left }
+    ensures { ReadsAs atom_of result (exact_atom cursor.old.left) cursor.new.left }
 {
     let at = cursor.place();
     let tag = byte(cursor)?;
@@ -24,7 +24,7 @@ fn atom(cursor: &mut Cursor<'_>) -> Result<Atom, Fault>
 
 // The same behind its tag, which stands at that place.
 fn atom_behind(cursor: &mut Cursor<'_>, at: usize, tag: u8) -> Result<Atom, Fault>
-    ensures { HasRead atom_of result (option_and_then (λ (g : ReadsPart _). g cursor.old.left)
+    ensures { ReadsAs atom_of result (option_and_then (λ (g : ReadsPart _). g cursor.old.left)
         (slice_get atom_table tag)) cursor.new.left }
 {
     match tag {
@@ -36,7 +36,7 @@ fn atom_behind(cursor: &mut Cursor<'_>, at: usize, tag: u8) -> Result<Atom, Faul
 
 // So many parts of a version.
 fn atoms(alloc: Global, cursor: &mut Cursor<'_>, count: u8) -> Result<Many<Atom>, Fault>
-    ensures { HasRead (map atom_of) result
+    ensures { ReadsAs (map atom_of) result
         (times [] (λ x xs. x ∷ xs) exact_atom count cursor.old.left) cursor.new.left }
 {
     let mut items = Many::new(alloc);
@@ -50,7 +50,7 @@ fn atoms(alloc: Global, cursor: &mut Cursor<'_>, count: u8) -> Result<Many<Atom>
 /// A version: 1 to 8 parts.
 #[tactic(auto, unfolding(crate::specs::ExactReading::exact_version))]
 pub fn version(alloc: Global, cursor: &mut Cursor<'_>) -> Result<Version, Fault>
-    ensures { HasRead (λ v. map atom_of v.atoms) result (exact_version cursor.old.left)
+    ensures { ReadsAs (λ v. map atom_of v.atoms) result (exact_version cursor.old.left)
         cursor.new.left }
 {
     let n = count(cursor, 1, 8)?;
@@ -60,7 +60,7 @@ pub fn version(alloc: Global, cursor: &mut Cursor<'_>) -> Result<Version, Fault>
 
 // The numbers that a constraint allows at one place.
 fn range(cursor: &mut Cursor<'_>) -> Result<Range, Fault>
-    ensures { HasRead range_of result (exact_range cursor.old.left) cursor.new.left }
+    ensures { ReadsAs range_of result (exact_range cursor.old.left) cursor.new.left }
 {
     let at = cursor.place();
     let tag = byte(cursor)?;
@@ -69,7 +69,7 @@ fn range(cursor: &mut Cursor<'_>) -> Result<Range, Fault>
 
 // The same behind its tag, which stands at that place.
 fn range_behind(cursor: &mut Cursor<'_>, at: usize, tag: u8) -> Result<Range, Fault>
-    ensures { HasRead range_of result (option_and_then (λ (g : ReadsPart _). g cursor.old.left)
+    ensures { ReadsAs range_of result (option_and_then (λ (g : ReadsPart _). g cursor.old.left)
         (slice_get range_table tag)) cursor.new.left }
 {
     match tag {
@@ -87,7 +87,7 @@ fn range_behind(cursor: &mut Cursor<'_>, at: usize, tag: u8) -> Result<Range, Fa
 
 // So many of them.
 fn all_ranges(alloc: Global, cursor: &mut Cursor<'_>, count: u8) -> Result<Many<Range>, Fault>
-    ensures { HasRead (map range_of) result
+    ensures { ReadsAs (map range_of) result
         (times [] (λ x xs. x ∷ xs) exact_range count cursor.old.left) cursor.new.left }
 {
     let mut items = Many::new(alloc);
@@ -101,7 +101,7 @@ fn all_ranges(alloc: Global, cursor: &mut Cursor<'_>, count: u8) -> Result<Many<
 // Ranges and whether there is a star: without ranges there is one.
 #[tactic(auto, unfolding(crate::specs::ExactReading::exact_ranges))]
 fn ranges(alloc: Global, cursor: &mut Cursor<'_>) -> Result<(Many<Range>, bool), Fault>
-    ensures { HasRead (λ p. (map range_of p.0, p.1)) result (exact_ranges cursor.old.left)
+    ensures { ReadsAs (λ p. (map range_of p.0, p.1)) result (exact_ranges cursor.old.left)
         cursor.new.left }
 {
     let at = cursor.place();
@@ -116,7 +116,7 @@ fn ranges(alloc: Global, cursor: &mut Cursor<'_>) -> Result<(Many<Range>, bool),
 
 /// A constraint.
 pub fn constraint(alloc: Global, cursor: &mut Cursor<'_>) -> Result<Constraint, Fault>
-    ensures { HasRead constraint_of result (exact_constraint cursor.old.left) cursor.new.left }
+    ensures { ReadsAs constraint_of result (exact_constraint cursor.old.left) cursor.new.left }
 {
     let at = cursor.place();
     let tag = byte(cursor)?;
@@ -130,7 +130,7 @@ fn constraint_behind(
     at: usize,
     tag: u8,
 ) -> Result<Constraint, Fault>
-    ensures { HasRead constraint_of result (option_and_then (λ (g : ReadsPart _). g cursor.old.left)
+    ensures { ReadsAs constraint_of result (option_and_then (λ (g : ReadsPart _). g cursor.old.left)
         (slice_get constraint_table tag)) cursor.new.left }
 {
     match tag {
@@ -145,7 +145,7 @@ fn constraint_behind(
 
 // A place where an import looks for its module.
 fn resolve(alloc: Global, cursor: &mut Cursor<'_>) -> Result<Resolve, Fault>
-    ensures { HasRead resolve_of result (exact_resolve cursor.old.left) cursor.new.left }
+    ensures { ReadsAs resolve_of result (exact_resolve cursor.old.left) cursor.new.left }
 {
     let at = cursor.place();
     let tag = byte(cursor)?;
@@ -159,7 +159,7 @@ fn resolve_behind(
     at: usize,
     tag: u8,
 ) -> Result<Resolve, Fault>
-    ensures { HasRead resolve_of result (option_and_then (λ (g : ReadsPart _). g cursor.old.left)
+    ensures { ReadsAs resolve_of result (option_and_then (λ (g : ReadsPart _). g cursor.old.left)
         (slice_get resolve_table tag)) cursor.new.left }
 {
     match tag {
@@ -172,7 +172,7 @@ fn resolve_behind(
 
 // So many of them.
 fn places(alloc: Global, cursor: &mut Cursor<'_>, count: u8) -> Result<Many<Resolve>, Fault>
-    ensures { HasRead (map resolve_of) result
+    ensures { ReadsAs (map resolve_of) result
         (times [] (λ x xs. x ∷ xs) exact_resolve count cursor.old.left) cursor.new.left }
 {
     let mut items = Many::new(alloc);
@@ -186,7 +186,7 @@ fn places(alloc: Global, cursor: &mut Cursor<'_>, count: u8) -> Result<Many<Reso
 /// A resolvespec: 1 to 16 places.
 #[tactic(auto, unfolding(crate::specs::ExactReading::exact_resolves))]
 pub fn resolves(alloc: Global, cursor: &mut Cursor<'_>) -> Result<Many<Resolve>, Fault>
-    ensures { HasRead (map resolve_of) result (exact_resolves cursor.old.left) cursor.new.left }
+    ensures { ReadsAs (map resolve_of) result (exact_resolves cursor.old.left) cursor.new.left }
 {
     let n = count(cursor, 1, 16)?;
     places(alloc, cursor, n)

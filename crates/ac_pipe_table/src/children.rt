@@ -4,8 +4,8 @@ use std::process::{Child, Command, Stdio};
 use std::time::Duration;
 use std::{env, io, thread};
 
-/// How often a child is asked whether it has ended, and the milliseconds between. In all it has
-/// half a minute.
+// How often a child is asked whether it has ended, and the milliseconds between. In all it has
+// half a minute.
 const TURNS: u32 = 3000;
 
 const PAUSE: u64 = 10;

@@ -3,8 +3,8 @@
 use crate::children::{Ended, joined};
 use std::io::{self, Write};
 
-/// The words of a writer, and those of its reader. The last writer sends more than a pipe holds,
-/// and its reader ends after the first frame.
+// The words of a writer, and those of its reader. The last writer sends more than a pipe holds,
+// and its reader ends after the first frame.
 const ROWS: [(&str, &str); 3] = [
     ("run sender.ac --out -", "run receiver.ac --in -"),
     ("run tax_sender.ac --out -", "run tax_receiver.ac --in -"),

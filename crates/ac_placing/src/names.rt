@@ -26,7 +26,8 @@ struct Behind<'a> {
 impl<'a> Spelling for Behind<'a> {
     ghost spelled_type = { λ _ T. type_bytes T };
 
-    ghost spelled_reference = { λ s j. kept (environment_of s.env.now ++ map entry_of s.more.now) j };
+    ghost spelled_reference = { λ s j. kept (environment_of s.env.now ++ map entry_of
+        s.more.now) j };
 
     fn put_type(&self, out: &mut Out, ty: &Ty) -> Result<(), Memory> {
         put_type(out, ty)

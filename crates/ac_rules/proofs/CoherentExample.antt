@@ -11,7 +11,8 @@ use Rattle.ac_terms.specs.Defs.{Environment, Entry, Def, Seen, Own', Shelf, Arri
 use Rattle.ac_terms.specs.Names.{text_of_def, text_of_entry, name_of_entry}
 use Rattle.ac_terms.specs.Bounds.{fits_def}
 use Rattle.ac_terms.proofs.Samples.{six}
-use Rattle.ac_rules.specs.Coherent.{Each, IsCoherent, IsLinked, IsAModule, is_uri}
+use Rattle.ac_types.specs.Limits.{is_uri}
+use Rattle.ac_rules.specs.Coherent.{Each, IsCoherent, IsLinked, IsAModule}
 
 abbrev entry : Entry
 entry = record { def = six; name = option_map sha256 (text_of_def [] six); seen = Own'; link = None }

@@ -8,7 +8,8 @@ use Rattle.ac_types.proofs.Same.{both_true, same_eq}
 use Rattle.ac_types.specs.Types.{Bytes, Typ, TInt, TBool, TStr, TUnit, TExn, TTuple, TFun, TOpt, TList, Typs, typ, agree}
 use Rattle.ac_terms.specs.Terms.{Home, Main, In, PValue, Expr, Exprs, expr, Arms, Int, Boolean, Str, Unit', Exn, ExnOf, Tuple, Nil, Empty, Var, App, Lam, Let, If, Seq, Match, Try, Raise, Rec, Prim, Unmarshal, Marshal, Val, Present, Cons, Own, Ref}
 use Rattle.ac_terms.specs.Defs.{Environment, Module, Def, AModule, AnImport, AMark, module_of, signature, def_of, module_at}
-use Rattle.ac_terms.specs.PrimitiveTypes.{has_text, is_exception, primitive_type}
+use Rattle.ac_types.specs.Exceptions.{has_text}
+use Rattle.ac_terms.specs.PrimitiveTypes.{is_exception, primitive_type}
 use Rattle.ac_terms.specs.TermTyping.{has, both_same, also, last_of}
 use Rattle.ac_rules.specs.Views.{Mode, Plain, Coloured, view, are_known}
 use Rattle.ac_rules.specs.Typing.{Scope, bind, field_type, ref_type, HasType, type_applied, kept_in, holds, type_seen, types_of, arm_types, one_of, a_list, an_option, variables_joined, is_home, is_function_home}

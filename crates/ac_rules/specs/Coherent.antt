@@ -1,6 +1,7 @@
 -- Coherent environments: what holds of every environment that a program has.
 use Rattle.std.specs.Prelude.{◌≡◌, ℕ, ◌<◌, ◌≤◌, ◌&&◌, Bool, true, nat_le, List, [], ◌∷◌, length, filter_map, Option, Some, None, option_and_then, slice_get, IsTrue}
 use Rattle.ac_types.specs.Types.{Bytes}
+use Rattle.ac_types.specs.Limits.{is_uri}
 use Rattle.ac_terms.specs.Defs.{Environment, Entry, Def, AModule, AnImport, AMark, Seen, Own', Shelf, Arrived, def_of, name_at}
 use Rattle.ac_terms.specs.Names.{text_of_entry, name_of_entry}
 use Rattle.ac_terms.specs.Bounds.{fits_def}
@@ -37,10 +38,6 @@ uri_of e = elim e.seen [ Own' ↦ None | Shelf u ↦ Some u | Arrived ↦ None ]
 
 abbrev pub mark_of : Entry → Option Bytes
 mark_of e = elim e.def [ AModule m ↦ None | AnImport i ↦ None | AMark t ↦ Some t ]
-
--- a URI has 1 to 1,024 bytes
-abbrev pub is_uri : Bytes → Bool
-is_uri u = nat_le 1 (length u) && nat_le (length u) 1024
 
 abbrev pub IsAModule : Def → Type 0
 IsAModule (AModule m) = Unit {0}

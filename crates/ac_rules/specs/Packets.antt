@@ -50,13 +50,13 @@ abbrev pub find_def : Environment → Def → Option ℕ → Option ℕ
 find_def E d link = position (λ (e : Entry). same_def d e.def && same_link link e.link) E
 
 -- why a packet is refused, in the order of the causes
-pub data Cause : Type 0 where
-  Definition : ℕ → Cause
-  Clash : ℕ → ℕ → Cause
-  Full : ℕ → Cause
-  Unresolved : ℕ → Cause
-  WrongType : Cause
-  NoValue : Cause
+pub data PacketCause : Type 0 where
+  Definition : ℕ → PacketCause
+  Clash : ℕ → ℕ → PacketCause
+  Full : ℕ → PacketCause
+  Unresolved : ℕ → PacketCause
+  WrongType : PacketCause
+  NoValue : PacketCause
 
 -- the environment, and the places, after a definition
 abbrev pub Placed : Type 0
@@ -113,7 +113,7 @@ module _ (digest : Bytes → Bytes) where
   places E ds = place_all E (E, []) ds
 
   -- 1: the first definition that isn't well formed among the packet's definitions alone
-  abbrev pub ill_formed : List Def → Option Cause
+  abbrev pub ill_formed : List Def → Option PacketCause
   ill_formed ds = option_map Definition (first_wrong 0 (is_well_formed (alone ds)) ds)
 
   -- 2: the first definition with the name of an entry or an earlier definition that has another text, and the least such; the packet's definitions are counted after the entries
@@ -138,15 +138,15 @@ module _ (digest : Bytes → Bytes) where
   abbrev pub clashes : Named → Named → Bool
   clashes a b = alike a.0 b.0 && differ a.1 b.1
 
-  abbrev pub first_clash : List Named → ℕ → List Named → Option Cause
+  abbrev pub first_clash : List Named → ℕ → List Named → Option PacketCause
   first_clash known i [] = None
   first_clash known i (a ∷ rest) = elim (position (clashes a) known) [ Some j ↦ Some (Clash i j) | None ↦ first_clash (known ++ a ∷ []) (suc i) rest ]
 
-  abbrev pub clash : Environment → List Def → Option Cause
+  abbrev pub clash : Environment → List Def → Option PacketCause
   clash E ds = first_clash (named_from 0 E E) 0 (named_from 0 (alone ds) (alone ds))
 
   -- 3: more entries than there may be
-  abbrev pub too_many : Environment → List Def → Option Cause
+  abbrev pub too_many : Environment → List Def → Option PacketCause
   too_many E ds = given (nat_lt 65535 (length (places E ds).0)) (Some (Full (length (places E ds).0)))
 
   -- 4: the first import without a link
@@ -155,11 +155,11 @@ module _ (digest : Bytes → Bytes) where
   is_resolved E (AnImport i) = is_some (linked E i InPacket)
   is_resolved E (AMark t) = true
 
-  abbrev pub unresolved : Environment → List Def → Option Cause
+  abbrev pub unresolved : Environment → List Def → Option PacketCause
   unresolved E ds = option_map Unresolved (first_failing (is_resolved E) ds)
 
   -- 5: another type
-  abbrev pub wrong_type : Packet → Typ → Option Cause
+  abbrev pub wrong_type : Packet → Typ → Option PacketCause
   wrong_type p T = given (not (same p.ty T)) (Some WrongType)
 
   -- 6: what the type and the value speak of is of the packet, a home is no import by version, and the value holds
@@ -184,17 +184,17 @@ module _ (digest : Bytes → Bytes) where
       list_all (is_home_there p.defs) (part_homes (value_parts p.value)) &&
       holds Coloured false (places E p.defs).0 (value_there E p) T
 
-  abbrev pub no_value : Environment → Packet → Typ → Option Cause
+  abbrev pub no_value : Environment → Packet → Typ → Option PacketCause
   no_value E p T = given (not (is_value E p T)) (Some NoValue)
 
   -- the first cause that applies
-  abbrev pub cause : Environment → Packet → Typ → Option Cause
+  abbrev pub cause : Environment → Packet → Typ → Option PacketCause
   cause E p T =
       first_some (ill_formed p.defs ∷ clash E p.defs ∷ too_many E p.defs ∷ unresolved E p.defs ∷ wrong_type p T ∷ no_value E p T ∷ [])
 
 -- a packet is refused at a type, for the first cause that applies
-abbrev pub Refuses : Environment → Packet → Typ → Cause → Type 0
-Refuses E p T c = cause sha256 E p T ≡ Some c
+abbrev pub RefusesPacket : Environment → Packet → Typ → PacketCause → Type 0
+RefusesPacket E p T c = cause sha256 E p T ≡ Some c
 
 -- a packet is accepted at a type where none applies; E' is E with the new entries, and v the value over it
 pub record Accepts (E : Environment) (p : Packet) (T : Typ) (E' : Environment) (v : PValue) : Type 0 where

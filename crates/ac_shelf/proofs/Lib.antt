@@ -1,3 +1,4 @@
 pub mod Lines
 pub mod Reached
+pub mod GoodLists
 mod ShelfExamples

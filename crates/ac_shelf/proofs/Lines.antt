@@ -10,7 +10,7 @@ use Rattle.ac_types.specs.Types.{Bytes, same_bytes}
 use Rattle.ac_types.proofs.FirstLaws.{none≢some, some_eq}
 use Rattle.ac_types.proofs.Same.{both_true, and_true, bytes_eq, bytes_refl}
 use Rattle.ac_rules.specs.Modules.{are_distinct}
-use Rattle.ac_rules.specs.Coherent.{is_uri}
+use Rattle.ac_types.specs.Limits.{is_uri}
 use Rattle.ac_shelf.specs.declared.list.ShelfLine as code_line
 use Rattle.ac_shelf.specs.ShelfLists.{Listed, is_space, is_listed_file, pair_of, listed_of, is_feed, in_front, lines, line_has, without_feed, has_form, had_of, entry_of_line, entries_of, listed_uris, are_good}
 use Rattle.ac_shelf.specs.inner.Behind.{are_few, fits_behind}

@@ -1,11 +1,11 @@
 -- How far the lines of a list have been gone through.
-use Rattle.std.proofs.Common.{◌≡◌, ◌<◌, ◌≤◌, ◌+◌, ◌&&◌, ℕ, Bool, true, false, List, [], ◌∷◌, ◌++◌, length, refl, sym, ◌∙◌, ap, arith, length-append}
+use Rattle.std.proofs.Common.{◌≡◌, ◌<◌, ◌≤◌, ◌+◌, ◌&&◌, ℕ, Bool, true, false, List, [], ◌∷◌, ◌++◌, length, sym, ◌∙◌, ap, arith, length-append}
 use Rattle.std.specs.Prelude.{nat_le, cond}
 use Rattle.std.specs.List.{concat, list_all}
 use Rattle.std.proofs.lemmas.Bool.{leb-true, le-leb, lt-leb}
 use Rattle.ac_types.specs.Types.{Bytes}
 use Rattle.ac_types.proofs.Same.{both_true}
-use Rattle.ac_rules.specs.Coherent.{is_uri}
+use Rattle.ac_types.specs.Limits.{is_uri}
 use Rattle.ac_shelf.specs.ShelfLists.{Listed, Lists, BadLine, lines, line_has, without_feed, has_form, had_of, entries_of, are_good, answer_behind, shelf_answer}
 use Rattle.ac_shelf.specs.inner.Behind.{are_few, fits_behind}
 use Rattle.ac_shelf.proofs.Lines.{good_more, concat_more, entries_more, all_uris}
@@ -19,9 +19,6 @@ pub record Reached (text rest : Bytes) (number place : ℕ) (xs : List Listed) :
   pub place_is : place ≡ length (concat before)
   pub counted : number ≤ place
   pub entries : xs ≡ entries_of before
-
-pub at_start : (text : Bytes) → Reached text text 0 0 []
-at_start text = record { before = []; good = refl; answer = refl; number_is = refl; place_is = refl; counted = omega arith; entries = refl }
 
 module _ {text rest : Bytes} {number place : ℕ} {xs : List Listed} (r : Reached text rest number place xs) where
   pub within : place ≤ 65536
@@ -52,11 +49,6 @@ module _ {text rest : Bytes} {number place : ℕ} {xs : List Listed} (r : Reache
     pub too_long : 65536 < place + length line → shelf_answer text ≡ BadLine (number + 1)
     too_long lt =
         next false (ap (λ (b : Bool). b && fits_behind xs (line_has (without_feed line))) (lt-leb (place + length line) 65536 lt))
-        ∙ ap (λ (n : ℕ). BadLine (n + 1)) (sym r.number_is)
-
-    pub unfit : place + length line ≤ 65536 → false ≡ fits_behind xs (line_has (without_feed line)) → shelf_answer text ≡ BadLine (number + 1)
-    unfit le is =
-        next false (ap (λ (b : Bool). b && fits_behind xs (line_has (without_feed line))) (le-leb (place + length line) 65536 le) ∙ sym is)
         ∙ ap (λ (n : ℕ). BadLine (n + 1)) (sym r.number_is)
 
     pub go_on : (ys : List Listed) → 0 < length line → place + length line ≤ 65536 → true ≡ fits_behind xs (line_has (without_feed line)) → ys ≡ xs ++ had_of (line_has (without_feed line)) → Reached text behind (number + 1) (place + length line) ys

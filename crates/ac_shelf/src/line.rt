@@ -2,7 +2,7 @@
 
 ghost use Rattle.std.specs.Prelude.{◌≡◌, ◌==◌, [], ◌∷◌, ◌++◌, ◌<◌, true, false, length, Some, None, MatchOption};
 ghost use Rattle.std.specs.List.{before_first, after_first, list_any, position, position_or_len};
-ghost use Rattle.ac_rules.specs.Coherent.{is_uri};
+ghost use Rattle.ac_types.specs.Limits.{is_uri};
 ghost use Rattle.ac_shelf.specs.ShelfLists.{is_space, is_listed_file, lines, pair_of, without_feed};
 
 // The place of the first such byte.
@@ -47,7 +47,8 @@ pub fn without_feed(line: &[u8]) -> &[u8]
 /// The URI and the FILE of a line that isn't empty, where it has such a form.
 pub fn pair_in<'a>(line: &'a [u8]) -> Option<(&'a [u8], &'a str)>
     ensures { let pair = pair_of (before_first is_space line.now) (after_first is_space line.now) in
-        MatchOption result (pair ≡ None) (λ p. pair ≡ Some (record { uri = p.0.now; file = p.1.now } ∷ [])) }
+        MatchOption result (pair ≡ None) (λ p. pair ≡ Some
+        (record { uri = p.0.now; file = p.1.now } ∷ [])) }
 {
     let at = place_of(b' ', line);
     if at == line.len() || !is_uri(&line[..at]) {
@@ -65,7 +66,8 @@ fn is_uri(uri: &[u8]) -> bool
 
 // The FILE of these bytes.
 fn file_of(bytes: &[u8]) -> Option<&str>
-    ensures { MatchOption result (is_listed_file bytes.now ≡ false) (λ file. (is_listed_file bytes.now ≡ true) × (file.now ≡ bytes.now)) }
+    ensures { MatchOption result (is_listed_file bytes.now ≡ false)
+        (λ file. (is_listed_file bytes.now ≡ true) × (file.now ≡ bytes.now)) }
 {
     if bytes.is_empty() || has_space(bytes) {
         return None;

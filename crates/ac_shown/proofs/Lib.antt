@@ -1,2 +1,1 @@
 mod NamesExamples
-pub mod NamesSteps

@@ -6,7 +6,7 @@ use Rattle.ac_syntax.specs.Patterns.{exception_sign, exception_with_string}
 use Rattle.ac_syntax.specs.Expressions.{Operator, operator_of, is_bare, Level, Expr, Part, Binary, After, Unary, App, Args, Atom, Ending, Closed, Swallow, Parses, alone, sequence, let_in, let_rec, fun, rec, if_else, marshal, unmarshal, raise, operators, binary, unary, stop, left, right, once, minus, negative, not_, app, some, exn_with_string, applied, no_argument, argument, number, string, true_, false_, unit, exn, var, of_module, parens, tuple, nil, none, match_with, try_with, symbol_begins_atom, begins_atom, operator_front, symbol_front, sign_front, front, looseness}
 use Rattle.ac_syntax.specs.declared.sign.Symbol.{Symbol}
 use Rattle.ac_syntax.specs.declared.sign.Symbol.TheVariants.{Semicolon, Minus, Not, SomeWord, Let, Fun, Rec, If, Marshal, Unmarshal, Raise, Star, Slash, Mod, Plus, Caret, Cons, Equals, Less, And, Or, Failure, InvalidArgument, NotFound, DivisionByZero, MatchFailure, EndOfFile, SysError, MarshalFailure, UnmarshalFailure, ResolveFailure}
-use Rattle.ac_syntax.proofs.Exceptions.{apart, nothing_there}
+use Rattle.ac_syntax.proofs.Exceptions.{nothing_there}
 
 -- the level that begins with this symbol: 1 an atom, 2 an app, 3 a unary, 4 a part, 5 none
 abbrev pub other_rank : Symbol → ℕ
@@ -84,15 +84,6 @@ atom_begins (nil T) = refl
 atom_begins (none T) = refl
 atom_begins (match_with p q) = refl
 atom_begins (try_with p q) = refl
-
-atoms_rank : (ts : List Sign) → begins_atom ts ≡ true → rank ts ≡ 1
-atoms_rank [] e = apart e
-atoms_rank (Int a n ∷ ts) e = refl
-atoms_rank (Str a x ∷ ts) e = refl
-atoms_rank (Lower a x ∷ ts) e = refl
-atoms_rank (Upper a x ∷ ts) e = refl
-atoms_rank (Fixed a t ∷ ts) e = atom_rank t e
-atoms_rank (Other a ∷ ts) e = apart e
 
 other_rank_low : (t : Symbol) → other_rank t ≤ 5
 other_rank_low SomeWord = omega arith

@@ -5,6 +5,7 @@ pub mod LeftOver
 pub mod OnStop
 pub mod Exceptions
 pub mod ReadLaws
+pub mod TreeLaws
 pub mod SameSymbol
 pub mod Depth
 pub mod TypeLaws

@@ -3,20 +3,14 @@ use Rattle.std.proofs.Common.{◌≡◌, ℕ, List, [], ◌∷◌, ◌++◌, ref
 use Rattle.ac_types.specs.Types.{Bytes}
 use Rattle.ac_syntax.specs.Signs.{Sign, Lower, Fixed, here}
 use Rattle.ac_syntax.specs.Trees.{NameAt, TypeTree, SpecTree, AbstractSpec, ManifestSpec, ValSpec, SigTree}
-use Rattle.ac_syntax.specs.TypeForms.{IsType, Whole}
+use Rattle.ac_syntax.specs.TypeForms.{IsType}
 use Rattle.ac_syntax.specs.Programs.{ParsesSpecs, no_specs, abstract_type, manifest_type, value, IsSig, sig}
-use Rattle.ac_syntax.specs.PartParsing.{SymbolAt, NoSymbol, LowerAt, NoLower, NoType, OtherSpecs, SpecAt, NoSpecs, NoSig}
+use Rattle.ac_syntax.specs.PartParsing.{SymbolAt, NoSymbol, LowerAt, NoLower, OtherSpecs, SpecAt, NoSpecs, NoSig}
 use Rattle.ac_syntax.specs.declared.sign.Symbol.TheVariants.{End, TypeWord, Val, Equals, Colon, Sig}
 use Rattle.ac_syntax.proofs.UniqueTypes.{same_type}
 
 pub specs_at : {r s t : List Sign} {a : List SpecTree} → r ≡ s → ParsesSpecs s a t → ParsesSpecs r a t
 specs_at {r} {s} {t} {a} e p = subst (λ (u : List Sign). ParsesSpecs u a t) (sym e) p
-
-head_eq : {x y : Sign} {r s : List Sign} → x ∷ r ≡ y ∷ s → x ≡ y
-head_eq e = cc
-
-name_eq : {a b : ℕ} {w v : Bytes} {r s : List Sign} → Lower a w ∷ r ≡ Lower b v ∷ s → (a ≡ b) × (w ≡ v)
-name_eq e = let h = head_eq e in (ap (λ (x : Sign). elim x [ Lower c u ↦ c | _ ↦ 0 ]) h, ap (λ (x : Sign). elim x [ Lower c u ↦ u | _ ↦ [] ]) h)
 
 type_at : {r s t : List Sign} {T : TypeTree} → r ≡ s → IsType s T t → IsType r T t
 type_at {r} {s} {t} {T} e p = subst (λ (u : List Sign). IsType u T t) (sym e) p
@@ -39,18 +33,11 @@ manifest_forth {b = b} {x = x} T (manifest_type {specs = specs} U p) =
     let d = same_type U T in
     record { others = _; is = ap (λ (t : TypeTree). ManifestSpec (record { name = record { at = b; word = x }; ty = t }) ∷ specs) d.tree; parses = specs_at (sym d.rest) p }
 
-manifest_none : {a b c : ℕ} {x : Bytes} {behind end : List Sign} {specs : List SpecTree} → NoType 100 Whole behind → ParsesSpecs (Fixed a TypeWord ∷ Lower b x ∷ Fixed c Equals ∷ behind) specs end → ⊥
-manifest_none none (abstract_type p) = elim p [ ]
-manifest_none none (manifest_type T p) = none _ _ T
-
 value_forth : {a b c : ℕ} {x : Bytes} {T : TypeTree} {behind rest end : List Sign} {specs : List SpecTree} → IsType behind T rest
     → ParsesSpecs (Fixed a Val ∷ Lower b x ∷ Fixed c Colon ∷ behind) specs end → OtherSpecs (ValSpec (record { at = b; word = x }) T) rest specs end
 value_forth {b = b} {x = x} T (value {specs = specs} U p) =
     let d = same_type U T in
     record { others = _; is = ap (λ (t : TypeTree). ValSpec (record { at = b; word = x }) t ∷ specs) d.tree; parses = specs_at (sym d.rest) p }
-
-value_none : {a b c : ℕ} {x : Bytes} {behind end : List Sign} {specs : List SpecTree} → NoType 100 Whole behind → ParsesSpecs (Fixed a Val ∷ Lower b x ∷ Fixed c Colon ∷ behind) specs end → ⊥
-value_none none (value T p) = none _ _ T
 
 module _ (a : ℕ) (ts rest : List Sign) (name : NameAt) (at : LowerAt name ts rest) where
   pub abstract_spec : NoSymbol Equals rest → SpecAt (Fixed a TypeWord ∷ ts) (AbstractSpec name) rest
@@ -68,9 +55,6 @@ module _ (a : ℕ) (ts rest : List Sign) (name : NameAt) (at : LowerAt name ts r
     forth = λ specs r p. manifest_forth t (specs_at (sym (with_equals behind e)) p);
   }
 
-  pub no_manifest : (behind : List Sign) → SymbolAt Equals rest behind → NoType 100 Whole behind → NoSpecs (Fixed a TypeWord ∷ ts)
-  no_manifest behind e none specs end p = manifest_none none (specs_at (sym (with_equals behind e)) p)
-
   with_colon : (behind : List Sign) (e : SymbolAt Colon rest behind) → Fixed a Val ∷ ts ≡ Fixed a Val ∷ Lower name.at name.word ∷ Fixed e.at Colon ∷ behind
   with_colon behind e = ap (λ (l : List Sign). Fixed a Val ∷ l) (at ∙ ap (λ (l : List Sign). Lower name.at name.word ∷ l) e.is)
 
@@ -80,9 +64,6 @@ module _ (a : ℕ) (ts rest : List Sign) (name : NameAt) (at : LowerAt name ts r
     forth = λ specs r p. value_forth t (specs_at (sym (with_colon behind e)) p);
   }
 
-  pub no_val : (behind : List Sign) → SymbolAt Colon rest behind → NoType 100 Whole behind → NoSpecs (Fixed a Val ∷ ts)
-  no_val behind e none specs end p = value_none none (specs_at (sym (with_colon behind e)) p)
-
   no_colon_after : {b : ℕ} {x : Bytes} {r end : List Sign} {specs : List SpecTree} → NoSymbol Colon r → ParsesSpecs (Fixed a Val ∷ Lower b x ∷ r) specs end → ⊥
   no_colon_after none (value {c = c} T p) = none _ (record { at = c; is = refl })
 
@@ -91,12 +72,6 @@ module _ (a : ℕ) (ts rest : List Sign) (name : NameAt) (at : LowerAt name ts r
 
 pub unnamed_val : (a : ℕ) (ts : List Sign) → NoLower ts → NoSpecs (Fixed a Val ∷ ts)
 unnamed_val a ts none specs end (value {b = b} {x = x} T p) = none (record { at = b; word = x }) _ refl
-
-pub spec_at : (ts us rest : List Sign) (s : SpecTree) → ts ≡ us → SpecAt us s rest → SpecAt ts s rest
-spec_at ts us rest s e o = subst (λ (l : List Sign). SpecAt l s rest) (sym e) o
-
-pub no_specs_at : (ts us : List Sign) → ts ≡ us → NoSpecs us → NoSpecs ts
-no_specs_at ts us e none = subst (λ (l : List Sign). NoSpecs l) (sym e) none
 
 -- neither `type`, `val` nor `end`
 pub no_spec_word : (ts : List Sign) → NoSymbol TypeWord ts → NoSymbol Val ts → NoSymbol End ts → NoSpecs ts

@@ -261,9 +261,6 @@ pub record FactorsRead (D : ℕ) (first : TypeTree) (ts : List Sign) (parts : Li
   pub tree : IsTypeTree D Suffixed start last rest
   pub is : parts ≡ before ++ last ∷ []
 
-pub second_read : (D : ℕ) (first second : TypeTree) (ts rest : List Sign) → IsTypeTree D Suffixed ts second rest → FactorsRead D first ts (first ∷ second ∷ []) rest
-second_read D first second ts rest o = record { before = first ∷ []; start = ts; so_far = no_factors_yet D first ts; last = second; tree = o; is = refl }
-
 pub second_none : (D : ℕ) (first : TypeTree) (ts : List Sign) → NoType D Suffixed ts → NoFactors D ts
 second_none D first ts none = factors_none D first ts (first ∷ []) ts (no_factors_yet D first ts) none
 
@@ -362,9 +359,6 @@ module _ (D : ℕ) (ts : List Sign) (t : TypeTree) (rest : List Sign) (so : Suff
 
 -- single types
 
-pub leaf_tree : (D : ℕ) (ts r : List Sign) (t : TypeTree) → 0 < D → LeafAt ts t r → IsTypeTree D Single ts t r
-leaf_tree D ts r t h at = record { parses = at.parses; stops = front_positive r; low = let leaf : type_height t ≡ 1 = at.leaf in omega arith }
-
 pub parens_tree : (D : ℕ) (ts inner s r : List Sign) (t : TypeTree) → SymbolAt Open ts inner → IsTypeTree D Whole inner t s → SymbolAt Close s r → IsTypeTree D Single ts t r
 parens_tree D ts inner s r t opened o closed = record {
   parses =
@@ -379,10 +373,6 @@ inner_of e opened = at_same (tail_eq (sym opened.is ∙ e.opened.is)) e.parses
 
 pub unopened_none : (D : ℕ) (ts : List Sign) → NoLeaf ts → NoSymbol Open ts → NoType D Single ts
 unopened_none D ts leaf none t r o = let e = leaf t r o.parses in none e.inner e.opened
-
-pub enclosed_none : (D : ℕ) (ts inner : List Sign) → NoLeaf ts → SymbolAt Open ts inner → NoType D Whole inner → NoType D Single ts
-enclosed_none D ts inner leaf opened none t r o =
-    let e = leaf t r o.parses in none t (Fixed e.close Close ∷ r) (record { parses = inner_of e opened; stops = omega arith; low = o.low })
 
 pub unclosed_none : (D : ℕ) (ts inner s : List Sign) (u : TypeTree) → NoLeaf ts → SymbolAt Open ts inner → IsTypeTree D Whole inner u s → NoSymbol Close s → NoType D Single ts
 unclosed_none D ts inner s u leaf opened w none t r o =
@@ -434,9 +424,3 @@ unnamed_none a w ts behind at none t r p = upper_leaf (λ b c x is. absurd (none
 pub qualified_leaf : (a : ℕ) (w : Bytes) (ts behind rest : List Sign) (x : NameAt) (v : TypeTree) → SymbolAt Dot ts behind → LowerAt x behind rest → v ≡ TyOf a (record { at = a; word = w }) x → LeafAt (Upper a w ∷ ts) v rest
 qualified_leaf a w ts behind rest x v at is same =
     leaf_at_signs (ap (λ (l : List Sign). Upper a w ∷ l) (at.is ∙ ap (λ (l : List Sign). Fixed at.at Dot ∷ l) is)) same (record { parses = of_module; leaf = refl })
-
-pub upper_leaf_at : (a : ℕ) (w : Bytes) (ts us rest : List Sign) (v : TypeTree) → ts ≡ Upper a w ∷ us → LeafAt (Upper a w ∷ us) v rest → LeafAt ts v rest
-upper_leaf_at a w ts us rest v is at = leaf_at_signs is refl at
-
-pub no_upper_leaf : (a : ℕ) (w : Bytes) (ts us : List Sign) → ts ≡ Upper a w ∷ us → NoLeaf (Upper a w ∷ us) → NoLeaf ts
-no_upper_leaf a w ts us is none = at_signs is none

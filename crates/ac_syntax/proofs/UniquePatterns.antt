@@ -1,6 +1,6 @@
 -- Signs have at most one pattern at their front behind which nothing goes on with it.
-use Rattle.std.proofs.Common.{◌≡◌, ◌<◌, ℕ, Bool, true, false, List, [], ◌∷◌, Some, refl, sym, ◌∙◌, ap, subst, arith}
-use Rattle.ac_syntax.specs.Signs.{Sign, Int, Str, Lower, Upper, Fixed, Other}
+use Rattle.std.proofs.Common.{◌≡◌, ◌<◌, ℕ, Bool, true, false, List, ◌∷◌, Some, refl, sym, ◌∙◌, ap, subst, arith}
+use Rattle.ac_syntax.specs.Signs.{Sign, Int, Str, Lower, Fixed}
 use Rattle.ac_syntax.specs.Trees.{PatTree, PatTrees, no_pat_trees, pat_tree}
 use Rattle.ac_syntax.specs.Patterns.{exception_sign, exception_with_string, PatLevel, Single, ParsesPat, ParsesPats, no_cons, cons, some, exn_with_string, single, wild, var, number, negative, string, true_, false_, unit, nil, none, exn, parens, tuple, last_pat, more_pats, pat_front, PatStops, IsPattern}
 use Rattle.ac_syntax.specs.declared.sign.Symbol.{Symbol}
@@ -75,16 +75,6 @@ close_begins_none (cons p q) = close_begins_none p
 close_begins_none (exn_with_string e p) = nothing_there e
 close_begins_none (single p) = single_not p refl
 close_begins_none (exn e) = nothing_there e
-
-pat_front_positive : (ts : List Sign) → 0 < pat_front ts
-pat_front_positive [] = omega arith
-pat_front_positive (Int a n ∷ ts) = omega arith
-pat_front_positive (Str a x ∷ ts) = omega arith
-pat_front_positive (Lower a x ∷ ts) = omega arith
-pat_front_positive (Upper a x ∷ ts) = omega arith
-pat_front_positive (Other a ∷ ts) = omega arith
-pat_front_positive (Fixed a Cons ∷ ts) = omega arith
-pat_front_positive (Fixed a s ∷ ts) = omega arith
 
 cons_goes_on : {P : Type 0} {a : ℕ} (r s : List Sign) → r ≡ Fixed a Cons ∷ s → 1 < pat_front r → P
 cons_goes_on r s is h = absurd (omega (arith, ap pat_front is))

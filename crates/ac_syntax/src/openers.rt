@@ -7,7 +7,7 @@ ghost use Rattle.ac_syntax.specs.Openers.{opens_part, closes_part, open_after, I
 use crate::sign::{Symbol, symbol_of};
 use ac_lexer::{Token, TokenKind};
 
-/// How many openers may be unclosed.
+// How many openers may be unclosed.
 const DEEPEST: u32 = 200;
 
 impl Symbol {

@@ -17,7 +17,7 @@ use crate::types::{HIGHEST_TYPE, whole_type};
 use ac_lexer::Token;
 use std::alloc::Global;
 
-/// The place of the token before which so many are left, of the last one where none is left.
+// The place of the token before which so many are left, of the last one where none is left.
 fn place_before(tokens: &[Token], left: usize) -> u32 {
     let number = tokens.len().saturating_sub(left.max(1));
     match tokens.get(number) {
@@ -37,7 +37,7 @@ fn fault(tokens: &[Token], stop: Stop) -> ParseFault
     }
 }
 
-/// The signs from this number on.
+// The signs from this number on.
 fn from_number<'s, 't>(signs: &'s [Sign<'t>], from: u32) -> &'s [Sign<'t>]
     ensures { result.now ≡ drop from signs.now }
 {
@@ -45,7 +45,7 @@ fn from_number<'s, 't>(signs: &'s [Sign<'t>], from: u32) -> &'s [Sign<'t>]
     &signs[start..]
 }
 
-/// The number of the token behind what was read, where these signs are left.
+// The number of the token behind what was read, where these signs are left.
 fn number_behind(all: &[Sign<'_>], rest: &[Sign<'_>]) -> Result<u32, ParseFault>
     ensures number { IfOk result (λ n. n ≡ length all.now - length rest.now) }
     ensures memory { IfErr result (λ e. e ≡ ParseFault.Memory) }

@@ -15,7 +15,7 @@ use crate::types::{HIGHEST_TYPE, whole_type};
 use ac_types::Many;
 use std::alloc::Global;
 
-/// The spec behind a `type`.
+// The spec behind a `type`.
 fn type_spec<'s, 't>(alloc: Global, signs: &'s [Sign<'t>]) -> Result<(SSpec, &'s [Sign<'t>]), Stop>
     ensures spec { IfOk result (λ x. (a : ℕ) →
         SpecAt (Fixed a Symbol.TypeWord ∷ read_signs signs.now) (spec_of x.0)
@@ -34,7 +34,7 @@ fn type_spec<'s, 't>(alloc: Global, signs: &'s [Sign<'t>]) -> Result<(SSpec, &'s
     Ok((SSpec::Manifest(SAbbrev { name, ty: ty.tree }), end))
 }
 
-/// The spec behind a `val`.
+// The spec behind a `val`.
 fn value_spec<'s, 't>(alloc: Global, signs: &'s [Sign<'t>]) -> Result<(SSpec, &'s [Sign<'t>]), Stop>
     ensures spec { IfOk result (λ x. (a : ℕ) →
         SpecAt (Fixed a Symbol.Val ∷ read_signs signs.now) (spec_of x.0) (read_signs x.1.now)) }
@@ -52,7 +52,7 @@ fn value_spec<'s, 't>(alloc: Global, signs: &'s [Sign<'t>]) -> Result<(SSpec, &'
     Ok((SSpec::Val(name, ty.tree), end))
 }
 
-/// The spec at the front.
+// The spec at the front.
 fn spec<'s, 't>(alloc: Global, signs: &'s [Sign<'t>]) -> Result<(SSpec, &'s [Sign<'t>]), Stop>
     ensures spec { IfOk result (λ x. SpecAt (read_signs signs.now) (spec_of x.0)
         (read_signs x.1.now)) }

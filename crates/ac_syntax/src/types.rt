@@ -33,7 +33,7 @@ pub enum Suffix {
     Opt,
 }
 
-/// A `list` or an `option` at the front.
+// A `list` or an `option` at the front.
 fn next_suffix<'s, 't>(signs: &'s [Sign<'t>]) -> Option<(Suffix, &'s [Sign<'t>])>
     ensures found { MatchOption result (NoSuffix (read_signs signs.now))
         (λ x. SymbolAt (suffix_symbol x.0) (read_signs signs.now) (read_signs x.1.now)) }
@@ -46,7 +46,7 @@ fn next_suffix<'s, 't>(signs: &'s [Sign<'t>]) -> Option<(Suffix, &'s [Sign<'t>])
     Some((Suffix::Opt, rest))
 }
 
-/// A type with a suffix.
+// A type with a suffix.
 #[tactic(auto, using(crate::proofs::TypeLaws::type_laws))]
 fn with_suffix(alloc: Global, suffix: Suffix, at: u32, item: ParsedType) -> Result<ParsedType, Stop>
     requires low { item.height < 2 ^ 32 - 1 }
@@ -67,7 +67,7 @@ fn with_suffix(alloc: Global, suffix: Suffix, at: u32, item: ParsedType) -> Resu
     })
 }
 
-/// A function's type.
+// A function's type.
 #[tactic(auto, using(crate::proofs::TypeLaws::type_laws))]
 fn function(alloc: Global, at: u32, from: ParsedType, to: ParsedType) -> Result<ParsedType, Stop>
     requires low { max from.height to.height < 2 ^ 32 - 1 }
@@ -105,7 +105,7 @@ fn base_kind(symbol: Symbol) -> Option<STypeKind>
     }
 }
 
-/// A type of another module: what stands behind its name.
+// A type of another module: what stands behind its name.
 fn qualified<'s, 't>(
     alloc: Global,
     at: u32,
@@ -129,7 +129,7 @@ fn qualified<'s, 't>(
     Ok(Some((SType { at, kind }, rest)))
 }
 
-/// A type at the front that is a leaf.
+// A type at the front that is a leaf.
 fn leaf<'s, 't>(
     alloc: Global,
     signs: &'s [Sign<'t>],
@@ -156,7 +156,7 @@ fn leaf<'s, 't>(
     }
 }
 
-/// A leaf, or a type in parentheses.
+// A leaf, or a type in parentheses.
 #[cycle(types)]
 fn single<'s, 't>(
     alloc: Global,
@@ -185,7 +185,7 @@ fn single<'s, 't>(
     Ok((tree, rest))
 }
 
-/// A type with its suffixes.
+// A type with its suffixes.
 #[cycle(types)]
 fn suffixed<'s, 't>(
     alloc: Global,
@@ -210,7 +210,7 @@ fn suffixed<'s, 't>(
     Ok((item, rest))
 }
 
-/// A type, or a tuple of several.
+// A type, or a tuple of several.
 #[cycle(types)]
 fn product<'s, 't>(
     alloc: Global,
@@ -233,7 +233,7 @@ fn product<'s, 't>(
     tuple(alloc, depth, here(signs), first, behind)
 }
 
-/// The tuple of a first type and those behind its `*`.
+// The tuple of a first type and those behind its `*`.
 #[cycle(types)]
 fn tuple<'s, 't>(
     alloc: Global,

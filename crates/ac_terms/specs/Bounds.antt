@@ -1,5 +1,5 @@
 -- What has a spelling, and which bytes spell a packet.
-use Rattle.std.specs.Prelude.{◌≡◌, ℕ, ℤ, pos, negsuc, zero, suc, ◌==◌, ◌+◌, ◌^◌, ◌≤◌, ◌&&◌, ◌||◌, Bool, true, false, nat_lt, nat_le, nat_eq, List, [], ◌∷◌, length, map, None, IsTrue, slice_index}
+use Rattle.std.specs.Prelude.{◌≡◌, ℕ, ℤ, pos, negsuc, zero, suc, ◌==◌, ◌+◌, ◌^◌, ◌≤◌, ◌&&◌, ◌||◌, Bool, true, false, not, nat_lt, nat_le, nat_eq, List, [], ◌∷◌, length, map, None, IsTrue, slice_index}
 use Rattle.std.specs.List.{list_all}
 use Rattle.std.specs.Option.{option_map_or}
 use Rattle.ac_types.specs.Limits.{longest_string, longest_packet}
@@ -8,7 +8,8 @@ use Rattle.ac_types.specs.Types.{Bytes, Typ, TInt, TBool, TStr, TUnit, TExn, TTu
 use Rattle.ac_terms.specs.Terms.{Home, Main, In, Pattern, PWild, PVar, PInt, PBool, PStr, PUnit, PTuple, PNil, PCons, PAbsent, PPresent, PExn, PExnOf, Patterns, no_patterns, pattern', Expr, Int, Boolean, Str, Unit', Exn, ExnOf, Tuple, Nil, Empty, Present, Cons, Var, Own, Ref, Lam, Rec, App, Let, If, Seq, Match, Try, Raise, Prim, Marshal, Unmarshal, Val, Evaluated, Bracket, Exprs, no_exprs, expr, Arms, no_arms, arm, PValue, KInt, KBool, KStr, KUnit, KExn, KTuple, KList, KAbsent, KPresent, KFun, PValues, no_pvalues, pvalue}
 use Rattle.ac_types.specs.Sigs.{Typed_name, Sig_type, Signature, Atom, Number, MyName, Range, One, Between, UpTo, From, Constraint, Ranges, Exact, Resolve, StaticLink, HereAlready, Uri}
 use Rattle.ac_terms.specs.Defs.{Field, Def, AModule, AnImport, AMark, Packet}
-use Rattle.ac_terms.specs.PrimitiveTypes.{has_text, is_exception, Rule, primitives}
+use Rattle.ac_types.specs.Exceptions.{has_text}
+use Rattle.ac_terms.specs.PrimitiveTypes.{is_exception, Rule, primitives}
 use Rattle.ac_terms.specs.Spelling.{type_count, pattern_count, term_count, arm_count, value_count, packet_bytes}
 use Rattle.ac_terms.specs.Nesting.{nesting, value_nesting}
 use Rattle.ac_terms.specs.Parts.{Portion, part_types, def_parts, value_parts}
@@ -119,6 +120,38 @@ is_lambda (Unmarshal T e) = false
 is_lambda (Val T v) = false
 is_lambda (Evaluated T v) = false
 is_lambda (Bracket c T e) = false
+
+-- whether a term is a lambda, or a recursive one where that is wanted
+abbrev pub is_wanted : Expr → Bool → Bool
+is_wanted (Int n) r = false
+is_wanted (Boolean b) r = false
+is_wanted (Str s) r = false
+is_wanted Unit' r = false
+is_wanted (Exn k) r = false
+is_wanted (ExnOf k e) r = false
+is_wanted (Tuple es) r = false
+is_wanted (Nil T) r = false
+is_wanted (Empty T) r = false
+is_wanted (Present e) r = false
+is_wanted (Cons a b) r = false
+is_wanted (Var i) r = false
+is_wanted (Own f) r = false
+is_wanted (Ref j x) r = false
+is_wanted (Lam T e) r = not r
+is_wanted (Rec T U e) r = r
+is_wanted (App f a) r = false
+is_wanted (Let T e b) r = false
+is_wanted (If c a b) r = false
+is_wanted (Seq es) r = false
+is_wanted (Match e arms) r = false
+is_wanted (Try e arms) r = false
+is_wanted (Raise T e) r = false
+is_wanted (Prim k es) r = false
+is_wanted (Marshal T m e) r = false
+is_wanted (Unmarshal T e) r = false
+is_wanted (Val T v) r = false
+is_wanted (Evaluated T v) r = false
+is_wanted (Bracket c T e) r = false
 
 abbrev pub fits_home : Home → Bool
 fits_home Main = true

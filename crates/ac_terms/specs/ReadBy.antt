@@ -4,7 +4,8 @@ use Rattle.ac_types.specs.Types.{Bytes, Typ}
 use Rattle.ac_types.specs.Sigs.{Typed_name, Sig_type, Signature, Atom, Constraint, Resolve}
 use Rattle.ac_terms.specs.Terms.{Pattern, PWild, PVar, PInt, PBool, PStr, PUnit, PTuple, PNil, PCons, PAbsent, PPresent, PExn, PExnOf, no_patterns, pattern', Expr, Int, Boolean, Str, Unit', Exn, ExnOf, Tuple, Nil, Empty, Present, Cons, Var, Own, Ref, Lam, Rec, App, Let, If, Seq, Match, Try, Raise, Prim, Marshal, Unmarshal, Val, no_exprs, expr, PValue, KInt, KBool, KStr, KUnit, KExn, KTuple, KList, KAbsent, KPresent, KFun, no_pvalues, pvalue}
 use Rattle.ac_terms.specs.Defs.{Field, Def, AModule, AnImport}
-use Rattle.ac_terms.specs.PrimitiveTypes.{has_text, primitives}
+use Rattle.ac_types.specs.Exceptions.{has_text}
+use Rattle.ac_terms.specs.PrimitiveTypes.{primitives}
 use Rattle.ac_terms.specs.Readers.{ReadsPart, give, one, then_read, two_parts_read, three, pair, times, read_list, tagged, nothing, read_byte, read_two, read_four, read_eight, read_truth, read_word, read_str, read_with_text, read_home, argument_count, many_arms, read_atom, read_constraint, read_resolve}
 
 abbrev pub a_sig_type : Bytes → Option Typ → Sig_type

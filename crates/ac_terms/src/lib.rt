@@ -4,6 +4,7 @@
 mod copy;
 mod def;
 mod env;
+mod lambda;
 pub mod laws;
 mod pat;
 mod term;

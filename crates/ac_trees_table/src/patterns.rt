@@ -1,4 +1,4 @@
-// Patterns.
+// The trees of patterns, written on the page.
 
 use crate::page::TreePage;
 use crate::types::write_type;

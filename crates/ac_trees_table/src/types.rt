@@ -1,4 +1,4 @@
-// Types.
+// The trees of types, written on the page.
 
 use crate::page::TreePage;
 use ac_syntax::{SType, STypeKind};

@@ -20,7 +20,7 @@ fn six_y(alloc: Global) -> Made<Field> {
     })
 }
 
-/// `module C : sig val y : int end = struct val y : int = 6 end`.
+// `module C : sig val y : int end = struct val y : int = 6 end`.
 fn six(alloc: Global) -> Made<Module> {
     let head = both(word(alloc, b"C"), one(alloc, Ok(Atom::MyName)));
     let inner = both(one(alloc, int_y(alloc)), one(alloc, six_y(alloc)));
@@ -45,7 +45,7 @@ fn entry(def: Def, name: Option<Name>) -> Entry {
     }
 }
 
-/// A mark and then the module, under a name.
+// A mark and then the module, under a name.
 fn sample(alloc: Global) -> Made<Env> {
     let mark = Text::from_slice(alloc, b"MK").map(|text| entry(Def::Mark(text), None));
     let module = six(alloc).map(|module| entry(Def::Module(module), Some(Name([7; 32]))));
@@ -67,7 +67,7 @@ fn copies_an_environment(rt: HostRuntime) {
     assert!(rt; copy.entry(2).is_none());
 }
 
-/// `import C : sig end version * by Here_Already`.
+// `import C : sig end version * by Here_Already`.
 fn any_c(alloc: Global) -> Made<Import> {
     both(word(alloc, b"C"), one(alloc, Ok(Resolve::HereAlready))).map(|(name, by)| Import {
         name,
@@ -119,7 +119,7 @@ fn arm() -> Arm {
     }
 }
 
-/// `fun (x : int) -> match x with _ -> x`, of the main program.
+// `fun (x : int) -> match x with _ -> x`, of the main program.
 fn arms(alloc: Global) -> Made<PVal> {
     let parts = both(Box::new(alloc, Term::Var(0)), one(alloc, Ok(arm())));
     let body = parts.map(|(of, cases)| Term::Match(of, cases));

@@ -11,7 +11,7 @@ fn own(alloc: Global, name: &[u8]) -> Made<Ty> {
     word(alloc, name).map(Ty::Mine)
 }
 
-/// `t -> int list`, with an own type `t`.
+// `t -> int list`, with an own type `t`.
 fn sample(alloc: Global) -> Made<Ty> {
     let from = boxed(alloc, own(alloc, b"t"));
     let to = boxed(alloc, boxed(alloc, Ok(Ty::Int)).map(Ty::List));
@@ -26,7 +26,7 @@ fn value(alloc: Global) -> Made<TyField> {
     both(word(alloc, b"get"), sample(alloc)).map(|(name, ty)| TyField { name, ty })
 }
 
-/// In the signature `t` is abstract, and `u` is manifest as bool.
+// In the signature `t` is abstract, and `u` is manifest as bool.
 fn sample_sig(alloc: Global) -> Made<Sig> {
     let types = two(
         alloc,

@@ -1,5 +1,5 @@
--- The exceptions by their numbers, and their names.
-use Rattle.std.specs.Prelude.{ℕ, List, [], ◌∷◌, codes, slice_index_or}
+-- The exceptions by their numbers, their names, and which have a text.
+use Rattle.std.specs.Prelude.{ℕ, Bool, ◌&&◌, ◌||◌, nat_le, List, [], ◌∷◌, codes, slice_index_or}
 
 abbrev pub failure : ℕ
 failure = 0
@@ -41,3 +41,7 @@ exception_names =
 -- empty where there is none
 abbrev pub exception_name : ℕ → List ℕ
 exception_name number = slice_index_or exception_names number []
+
+-- an exception has a text exactly for `Failure`, `Invalid_argument` and those from `Sys_error` on
+abbrev pub has_text : ℕ → Bool
+has_text k = nat_le k invalid_argument || (nat_le sys_error k && nat_le k resolve_failure)

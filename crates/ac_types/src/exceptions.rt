@@ -1,7 +1,7 @@
-//! The exceptions by their numbers, and their names.
+//! The exceptions by their numbers, their names, and which have a text.
 
 ghost use Rattle.std.specs.Prelude.{◌≡◌};
-ghost use Rattle.ac_types.specs.Exceptions.{exception_name};
+ghost use Rattle.ac_types.specs.Exceptions.{exception_name, has_text};
 
 /// `Failure`, with a text.
 pub const FAILURE: u8 = 0;
@@ -41,4 +41,11 @@ pub fn exception_name(number: u8) -> &'static [u8]
         RESOLVE_FAILURE => b"Resolve_failure",
         _ => b"",
     }
+}
+
+/// Whether the exception of that number has a text.
+pub fn has_text(number: u8) -> bool
+    ensures { result ≡ has_text number }
+{
+    number <= INVALID_ARGUMENT || (SYS_ERROR <= number && number <= RESOLVE_FAILURE)
 }

@@ -17,7 +17,7 @@ pub fn type_named<'a>(types: &'a [TyField], name: &Word) -> Option<&'a Ty>
         (map typed_of types.now) }
 {
     for x in types {
-        if x.name.text().as_slice() == name.text().as_slice() {
+        if x.name.is(name) {
             return Some(&x.ty);
         }
     }
@@ -31,7 +31,7 @@ pub fn spec_named<'a>(types: &'a [SigType], name: &Word) -> Option<&'a SigType>
         (option_copied result) ≡ type_under name.now (map sig_type_of types.now) }
 {
     for x in types {
-        if x.name.text().as_slice() == name.text().as_slice() {
+        if x.name.is(name) {
             return Some(x);
         }
     }

@@ -21,7 +21,8 @@ pub fn eq_under(target: &Sig, _import: &Sig, a: &Ty, b: &Ty) -> bool
 #[cycle(under)]
 #[tactic(auto, using(crate::proofs::SizeLaws::type_laws))]
 fn is_under(target: &Sig, a: &Ty, b: &Ty) -> bool
-    ensures { result ≡ same (typ_of a.now) (with_mine (stand_in (sig_of target.now)) (typ_of b.now)) }
+    ensures { result ≡ same (typ_of a.now) (with_mine (stand_in (sig_of target.now))
+        (typ_of b.now)) }
 {
     match b {
         Ty::Mine(word) => match spec_named(target.types.as_slice(), word) {

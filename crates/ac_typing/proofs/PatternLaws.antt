@@ -7,24 +7,18 @@ use Rattle.ac_types.specs.Types.{Typ, TStr, TExn, TTuple, TList, TOpt, same}
 use Rattle.ac_types.specs.ReadTypes.{typ_of}
 use Rattle.ac_types.specs.declared.ty.Ty.{Ty}
 use Rattle.ac_terms.specs.Terms.{Home, Pattern, PTuple, PNil, PCons, PAbsent, PPresent, PExn, PExnOf, Patterns, patterns}
-use Rattle.ac_terms.specs.Read.{pattern_of, pattern_layer}
-use Rattle.ac_terms.specs.PrimitiveTypes.{has_text, is_exception}
+use Rattle.ac_terms.specs.Read.{pattern_of}
+use Rattle.ac_types.specs.Exceptions.{has_text}
+use Rattle.ac_terms.specs.PrimitiveTypes.{is_exception}
 use Rattle.ac_terms.specs.Defs.{Environment}
-use Rattle.ac_terms.specs.declared.pat.Pat.{Pat, out-Pat, map-Pat, fold_out-Pat}
+use Rattle.ac_terms.specs.declared.pat.Pat.{Pat}
 use Rattle.ac_terms.specs.declared.pat.Pat.TheViews.{the_lemmas}
-use Rattle.ac_terms.specs.declared.pat.Pat.TheVariants as code
+use Rattle.ac_terms.proofs.PatternForms.{pattern_out, pattern_of-Tuple}
 use Rattle.ac_rules.specs.Views.{Coloured}
 use Rattle.ac_rules.specs.Typing.{variables, variables_of_all, variables_joined, tuple_parts, list_item, option_item}
 use Rattle.ac_views.specs.Sites.{typs_of}
 use Rattle.ac_typing.specs.inner.Parts.{newest_first}
-use Rattle.ac_views.proofs.PairLaws.{from_item, from_end}
-
-pub pattern_out : (p : Pat) → pattern_of p ≡ pattern_layer (map-Pat Pat Pattern pattern_of (out-Pat p))
-unfolding pattern_of
-pattern_out p = fold_out-Pat Pattern pattern_layer p
-
-pub pattern_of-Tuple : (ps : List Pat) → pattern_of (code.Tuple ps) ≡ PTuple (patterns (map pattern_of ps))
-pattern_of-Tuple ps = pattern_out (code.Tuple ps) ∙ ap (λ x. pattern_layer (map-Pat Pat Pattern pattern_of x)) (code.outs-Tuple ps)
+use Rattle.ac_views.proofs.PairLaws.{from_item}
 
 -- what is joined to variables that are there
 
@@ -115,16 +109,9 @@ module _ (E : Environment) (c : Home) where
         so ∙ ap (variables_joined (Some (newest_first before))) (next_pattern ps ts i p t h k e d)
         ∙ sym (joined_twice (Some (newest_first before)) (vars (pattern_of p) (typ_of t)) (vars_of_all (drop (i + 1) ps) (drop (i + 1) ts)))
 
-    pub pattern_none : None ≡ variables_joined (Some (newest_first before)) (vars (pattern_of p) (typ_of t)) → all ≡ None
-    pattern_none q = step ∙ ap (λ (o : Option (List Typ)). variables_joined o (vars_of_all (drop (i + 1) ps) (drop (i + 1) ts))) (sym q)
-
     pub pattern_some : (us : List Ty) → Some (newest_first us) ≡ variables_joined (Some (newest_first before)) (vars (pattern_of p) (typ_of t))
         → all ≡ variables_joined (Some (newest_first us)) (vars_of_all (drop (i + 1) ps) (drop (i + 1) ts))
     pattern_some us q = step ∙ ap (λ (o : Option (List Typ)). variables_joined o (vars_of_all (drop (i + 1) ps) (drop (i + 1) ts))) (sym q)
-
-  pub patterns_all : (ps : List Pat) (ts : List Ty) (i : ℕ) (all : Option (List Typ)) (us : List Ty) → i ≡ length ps → i ≡ length ts
-      → all ≡ variables_joined (Some (newest_first us)) (vars_of_all (drop i ps) (drop i ts)) → all ≡ Some (newest_first us)
-  patterns_all ps ts i all us e d so = so ∙ ap (variables_joined (Some (newest_first us))) (ap₂ vars_of_all (from_end ps i e) (from_end ts i d))
 
 pub ruleset form_laws = (pattern_out, the_lemmas)
 

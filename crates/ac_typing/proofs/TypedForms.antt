@@ -6,7 +6,7 @@ use Rattle.ac_types.specs.ReadTypes.{typ_of}
 use Rattle.ac_types.specs.declared.memory.Memory.{Memory}
 use Rattle.ac_types.specs.declared.ty.Ty.{Ty}
 use Rattle.ac_types.specs.declared.text.Word.{Word}
-use Rattle.ac_terms.specs.Terms.{Expr, Tuple, Nil, Empty, Present, Cons, Var, Own, Ref, Lam, Rec, App, Let, If, Seq, Match, Try, Raise, Prim, Marshal, Unmarshal, Val, exprs, arms}
+use Rattle.ac_terms.specs.Terms.{Expr, Tuple, Nil, Empty, Present, Cons, Var, Own, Ref, Lam, Rec, App, Let, If, Seq, Try, Raise, Prim, Marshal, Unmarshal, Val, exprs, arms}
 use Rattle.ac_terms.specs.Defs.{Environment}
 use Rattle.ac_terms.specs.Read.{expr_of, value_of}
 use Rattle.ac_terms.specs.declared.term.Term.{Term}
@@ -19,7 +19,7 @@ use Rattle.ac_terms.proofs.ReadLaws.{expr_out, expr_of-Tuple, expr_of-Seq, expr_
 use Rattle.ac_rules.specs.Views.{Coloured}
 use Rattle.ac_rules.specs.Typing.{Scope, type_of}
 use Rattle.ac_views.specs.Sites.{arm_of}
-use Rattle.ac_typing.proofs.TermLaws.{layer, expr_of-Match, expr_of-Try}
+use Rattle.ac_typing.proofs.TermLaws.{layer, expr_of-Try}
 use Rattle.ac_typing.proofs.FormLaws.{carry}
 
 formed : (t u : Term) (x : Term-F PVal Term Arm) → t ≡ u → out-Term u ≡ x → expr_of t ≡ layer x
@@ -65,9 +65,6 @@ pub if_form : (t a b d x y z : Term) → t ≡ term.If a b d → x ≡ a → y �
 if_form t a b d x y z e p q r =
     formed t (term.If a b d) _ e (term.outs-If a b d) ∙ ap (λ (u : Term). If (expr_of u) (expr_of b) (expr_of d)) (sym p)
     ∙ ap₂ (λ (u v : Term). If (expr_of x) (expr_of u) (expr_of v)) (sym q) (sym r)
-
-pub match_form : (t a : Term) (cs : List Arm) (x : Term) (ds : List Arm) → t ≡ term.Match a cs → x ≡ a → ds ≡ cs → expr_of t ≡ Match (expr_of x) (arms (map arm_of ds))
-match_form t a cs x ds e p q = ap expr_of e ∙ expr_of-Match a cs ∙ ap₂ (λ (u : Term) (vs : List Arm). Match (expr_of u) (arms (map arm_of vs))) (sym p) (sym q)
 
 pub try_form : (t a : Term) (cs : List Arm) (x : Term) (ds : List Arm) → t ≡ term.Try a cs → x ≡ a → ds ≡ cs → expr_of t ≡ Try (expr_of x) (arms (map arm_of ds))
 try_form t a cs x ds e p q = ap expr_of e ∙ expr_of-Try a cs ∙ ap₂ (λ (u : Term) (vs : List Arm). Try (expr_of u) (arms (map arm_of vs))) (sym p) (sym q)

@@ -80,7 +80,7 @@ pub fn go_on(before: Option<Ty>, found: Ty) -> Option<Ty>
     }
 }
 
-/// The type of the last of a sequence's parts, where those before it are unit.
+// The type of the last of a sequence's parts, where those before it are unit.
 fn last_type(types: Many<Ty>) -> Option<Ty>
     ensures { option_map typ_of result ≡ last_of (typs_of types) }
 {

@@ -36,19 +36,6 @@ pub fn present_type(alloc: Global, inner: Option<Ty>) -> Result<Option<Ty>, Memo
     Ok(kept(Ty::Opt(inner)))
 }
 
-/// The type of a list of what has this type.
-#[tactic(auto, using(ac_types::proofs::SizeLaws::type_laws))]
-pub fn list_type(alloc: Global, item: Option<Ty>) -> Result<Option<Ty>, Memory>
-    ensures { IfOk result (λ o. option_map typ_of o ≡ kept_in Coloured
-        (option_map TList (option_map typ_of item))) }
-{
-    let Some(item) = item else {
-        return Ok(None);
-    };
-    let item = Box::new(alloc, item)?;
-    Ok(kept(Ty::List(item)))
-}
-
 /// The type of a list whose first element and whose rest have these types.
 pub fn cons_type(head: Option<Ty>, tail: Option<Ty>) -> Option<Ty>
     ensures { option_map typ_of result ≡ both_same (option_map TList (option_map typ_of head))
@@ -86,7 +73,8 @@ fn is_list_of(ty: &Ty, item: &Ty) -> bool
 pub fn nil_type<'a>(alloc: Global, ty: &'a Ty, site: &'a Site<'a>) -> Result<Option<Ty>, Memory>
     requires { length site.now.env.now.entries < 2 ^ 32 }
     ensures { IfOk result (λ o. option_map typ_of o ≡ kept_in Coloured
-        (option_and_then a_list (type_seen Coloured true (entries_of site.now) (home_of site.now.home)
+        (option_and_then a_list (type_seen Coloured true (entries_of site.now)
+        (home_of site.now.home)
         (typ_of ty.now)))) }
 {
     let Some(seen) = seen_type(alloc, ty, site)? else {

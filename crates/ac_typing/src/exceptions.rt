@@ -4,20 +4,13 @@ ghost use Rattle.std.specs.Prelude.{◌≡◌, ◌&&◌, Some, None, option_map}
 ghost use Rattle.ac_types.specs.First.{given};
 ghost use Rattle.ac_types.specs.Types.{TExn, TStr};
 ghost use Rattle.ac_types.specs.ReadTypes.{typ_of};
-ghost use Rattle.ac_terms.specs.PrimitiveTypes.{has_text, is_exception};
+ghost use Rattle.ac_types.specs.Exceptions.{has_text};
+ghost use Rattle.ac_terms.specs.PrimitiveTypes.{is_exception};
 ghost use Rattle.ac_terms.specs.TermTyping.{has};
 
 use ac_types::Ty;
-use ac_types::exceptions::{INVALID_ARGUMENT, RESOLVE_FAILURE, SYS_ERROR};
+use ac_types::exceptions::{RESOLVE_FAILURE, has_text};
 use ac_views::{Base, is_base};
-
-/// Whether the exception of that number has a text.
-#[tactic(auto, using(crate::proofs::Equalities::number_tests))]
-pub fn has_text(number: u8) -> bool
-    ensures { result ≡ has_text number }
-{
-    number <= INVALID_ARGUMENT || (SYS_ERROR <= number && number <= RESOLVE_FAILURE)
-}
 
 /// Whether there is an exception of that number without a text.
 #[tactic(auto, using(crate::proofs::Equalities::number_tests))]

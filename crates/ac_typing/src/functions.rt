@@ -1,4 +1,4 @@
-// Functions.
+// The types of functions and of their applications.
 
 ghost use Rattle.std.specs.Prelude.{◌≡◌, IfOk, Some, option_map};
 ghost use Rattle.ac_types.specs.First.{given};

@@ -12,5 +12,5 @@ mod scope;
 mod typing;
 mod written;
 
-pub use exceptions::{has_text, is_bare};
+pub use exceptions::is_bare;
 pub use typing::declared_type;

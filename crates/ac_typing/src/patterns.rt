@@ -10,20 +10,21 @@ ghost use Rattle.ac_rules.specs.Typing.{variables, variables_of_all, variables_j
 ghost use Rattle.ac_views.specs.Sites.{typs_of, entries_of};
 ghost use Rattle.ac_typing.specs.inner.Parts.{newest_first};
 
-use crate::exceptions::{has_text, is_bare};
+use crate::exceptions::is_bare;
 use ac_terms::Pat;
+use ac_types::exceptions::has_text;
 use ac_types::{Many, Memory, Ty};
 use ac_views::{Base, Site, is_base, is_seen_as, list_item, option_item, tuple_parts};
 use std::alloc::Global;
 
-/// The list, where a test passes.
+// The list, where a test passes.
 fn given(passes: bool, before: Many<Ty>) -> Option<Many<Ty>>
     ensures { option_map newest_first result ≡ given passes (Some (newest_first before)) }
 {
     if passes { Some(before) } else { None }
 }
 
-/// The list with a copy of a type at its end.
+// The list with a copy of a type at its end.
 #[tactic(auto, using(crate::proofs::PatternLaws::pattern_laws))]
 fn with_copy(alloc: Global, before: Many<Ty>, ty: &Ty) -> Result<Option<Many<Ty>>, Memory>
     ensures { IfOk result (λ o. option_map newest_first o ≡ Some

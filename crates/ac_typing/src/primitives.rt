@@ -13,7 +13,7 @@ use ac_types::primitives::{
 use ac_types::{Many, Ty};
 use ac_views::{Base, is_base, tuple_parts};
 
-/// Whether the types are these, in order.
+// Whether the types are these, in order.
 fn are(args: &[Ty], bases: &[Base]) -> bool
     ensures { result ≡ same_all (typs (map base_typ bases.now)) (typs_of args.now) }
 {
@@ -28,7 +28,7 @@ fn are(args: &[Ty], bases: &[Base]) -> bool
     true
 }
 
-/// What a primitive of one argument gives.
+// What a primitive of one argument gives.
 #[tactic(auto, using(ac_types::proofs::SizeLaws::type_laws))]
 fn of_one(args: &[Ty], base: Base, to: Ty) -> Option<Ty>
     ensures { option_map typ_of result ≡ by_rules (takes_one (base_typ base) (typ_of to) ∷ [])
@@ -42,7 +42,7 @@ fn of_one(args: &[Ty], base: Base, to: Ty) -> Option<Ty>
     }
 }
 
-/// What a primitive of two arguments of one type gives.
+// What a primitive of two arguments of one type gives.
 #[tactic(auto, using(ac_types::proofs::SizeLaws::type_laws))]
 fn of_two(args: &[Ty], base: Base, to: Ty) -> Option<Ty>
     ensures { option_map typ_of result ≡ by_rules (takes_two (base_typ base) (typ_of to) ∷ [])
@@ -56,7 +56,7 @@ fn of_two(args: &[Ty], base: Base, to: Ty) -> Option<Ty>
     }
 }
 
-/// The type of an equation or a comparison.
+// The type of an equation or a comparison.
 #[tactic(auto, using(ac_types::proofs::SizeLaws::type_laws))]
 fn comparison_type(args: &[Ty]) -> Option<Ty>
     ensures { option_map typ_of result ≡ by_rules comparison (typs_of args.now) }
@@ -71,7 +71,7 @@ fn comparison_type(args: &[Ty]) -> Option<Ty>
     }
 }
 
-/// The one type that there is.
+// The one type that there is.
 fn only(args: &[Ty]) -> Option<&Ty>
     ensures { MatchOption result (length args.now ≡ 1 → ⊥) (λ t. args.now ≡ t.now ∷ []) }
 {
@@ -82,7 +82,7 @@ fn only(args: &[Ty]) -> Option<&Ty>
     }
 }
 
-/// The type of a part of a text.
+// The type of a part of a text.
 #[tactic(auto, using(ac_types::proofs::SizeLaws::type_laws))]
 fn slice_type(args: &[Ty]) -> Option<Ty>
     ensures { option_map typ_of result ≡ by_rules
@@ -100,7 +100,7 @@ fn slice_type(args: &[Ty]) -> Option<Ty>
     }
 }
 
-/// The type of the primitive of that number at such arguments.
+// The type of the primitive of that number at such arguments.
 #[tactic(auto, using(ac_types::proofs::SizeLaws::type_laws))]
 fn primitive_type(number: u8, args: &[Ty]) -> Option<Ty>
     ensures { option_map typ_of result ≡ primitive_type number (typs_of args.now) }

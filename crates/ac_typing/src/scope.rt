@@ -22,14 +22,14 @@ pub enum Variables<'a> {
     More(&'a Variables<'a>, &'a [Ty]),
 }
 
-/// Item `i` of a list.
+// Item `i` of a list.
 fn item(types: &[Ty], i: usize) -> Option<&Ty>
     ensures { option_copied result ≡ slice_get types.now i }
 {
     types.get(i)
 }
 
-/// The type of variable `i`, where there is one.
+// The type of variable `i`, where there is one.
 #[tactic(auto, using(crate::proofs::ScopeLaws::scope_laws))]
 fn find<'a>(vars: &'a Variables<'a>, i: usize) -> Option<&'a Ty>
     ensures { option_map typ_of (option_copied result) ≡ slice_get (types_in vars.now) i }

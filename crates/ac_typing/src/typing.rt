@@ -42,7 +42,7 @@ pub fn declared_type<'a>(
     typed(alloc, t, site, &vars)
 }
 
-/// The type of a term, where it has one.
+// The type of a term, where it has one.
 #[cycle(typing)]
 #[tactic(auto, using(crate::proofs::TermLaws::typing_laws))]
 fn typed<'a>(
@@ -155,7 +155,7 @@ fn typed<'a>(
     }
 }
 
-/// The type of a function.
+// The type of a function.
 #[cycle(typing)]
 fn function<'a>(
     alloc: Global,
@@ -175,7 +175,7 @@ fn function<'a>(
     function_type(alloc, from, to)
 }
 
-/// The type of a recursive function, which sees itself.
+// The type of a recursive function, which sees itself.
 #[cycle(typing)]
 fn recursive<'a>(
     alloc: Global,
@@ -212,7 +212,7 @@ fn recursive<'a>(
     Ok(end)
 }
 
-/// The types of some terms, where each has one.
+// The types of some terms, where each has one.
 #[cycle(typing)]
 fn types_of<'a>(
     alloc: Global,
@@ -234,7 +234,7 @@ fn types_of<'a>(
     Ok(Some(found))
 }
 
-/// The one type of the arms of a match on this type.
+// The one type of the arms of a match on this type.
 #[cycle(typing)]
 fn arms_type<'a>(
     alloc: Global,
@@ -262,7 +262,7 @@ fn arms_type<'a>(
     Ok(first)
 }
 
-/// The type of an arm's body, whose pattern has this type.
+// The type of an arm's body, whose pattern has this type.
 #[cycle(typing)]
 fn arm_type<'a>(
     alloc: Global,

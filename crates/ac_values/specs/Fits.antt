@@ -1,12 +1,9 @@
 -- Which values a pattern fits, and what its variables then are.
-use Rattle.std.specs.Prelude.{◌≡◌, ◌<◌, length, Bool, true, false, nat_eq, List, [], ◌∷◌, Option, Some, None, option_and_then}
-use Rattle.std.specs.List.{All}
+use Rattle.std.specs.Prelude.{Bool, true, false, nat_eq, Option, Some, None, option_and_then}
 use Rattle.ac_types.specs.Types.{same_bytes}
 use Rattle.ac_code.specs.Constants.{same_int, same_bool}
 use Rattle.ac_terms.specs.Terms.{Pattern, PWild, PVar, PInt, PBool, PStr, PUnit, PTuple, PNil, PCons, PAbsent, PPresent, PExn, PExnOf, Patterns, no_patterns, pattern'}
-use Rattle.ac_values.specs.Values.{MValue, MInt, MBool, MStr, MUnit, MExn, MExnOf, MTuple, MNil, MCons, MAbsent, MPresent, MMore, MValues, nothing, also, stands_as}
-use Rattle.ac_values.specs.declared.node.Node.{Node}
-use Rattle.ac_values.specs.declared.node.Value.{Value}
+use Rattle.ac_values.specs.Values.{MValue, MInt, MBool, MStr, MUnit, MExn, MExnOf, MTuple, MNil, MCons, MAbsent, MPresent, MMore, MValues, nothing, also}
 
 abbrev pub where_true : {A : Type 0} → Bool → Option A → Option A
 where_true true o = o
@@ -34,18 +31,3 @@ abbrev mutual
   all_bound no_patterns nothing es = Some es
   all_bound (pattern' p ps) (also m ms) es = option_and_then (all_bound ps ms) (bound p m es)
   all_bound ps ms es = None
-
--- an environment with further values, the last the newest
-abbrev pub environment_with : List Node → List Value → MValue → MValue
-environment_with ns [] es = es
-environment_with ns (v ∷ vs) es = environment_with ns vs (MMore (stands_as ns v.0) es)
-
--- what a pattern's variables come to: with further values where it fits, and nothing where it doesn't
-abbrev pub Fitted : List Node → (MValue → Option MValue) → List Value → List Value → Bool → Type 0
-Fitted ns binding old new true = All (λ v. v.0 < length ns) new × ((es : MValue) → binding (environment_with ns old es) ≡ Some (environment_with ns new es))
-Fitted ns binding old new false = (es : MValue) → binding es ≡ None
-
--- a test of a pattern without variables
-abbrev pub Tested : (MValue → Option MValue) → Bool → Type 0
-Tested binding true = (es : MValue) → binding es ≡ Some es
-Tested binding false = (es : MValue) → binding es ≡ None

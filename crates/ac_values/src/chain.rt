@@ -1,3 +1,5 @@
+// Lists that share their tails: stacks, frames and handlers.
+
 ghost use Rattle.std.specs.Prelude.{◌≡◌, ◌++◌, ◌∷◌, [], ◌<◌, length, get_or, take, slice_get, OnOk, OnErr, IfOk, MatchOption};
 ghost use Rattle.std.specs.Option.{option_copied};
 
@@ -5,7 +7,7 @@ use ac_types::Memory;
 use std::alloc::Global;
 use std::marker::Model;
 
-/// A list: its newest item and the number of the rest.
+// A list: its newest item and the number of the rest.
 #[derive(Clone, Copy)]
 struct Cell<T> {
     item: T,

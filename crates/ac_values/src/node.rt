@@ -1,3 +1,5 @@
+// Values, and the nodes in which they stand.
+
 use ac_code::CodeId;
 use ac_types::{Many, Text};
 

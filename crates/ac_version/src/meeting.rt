@@ -32,7 +32,7 @@ pub fn fit(ranges: &[Range], star: bool, atoms: &[Atom]) -> bool
     star || atoms.len() == ranges.len()
 }
 
-/// Whether an atom lies within both ends of a range; `myname` lies in none.
+// Whether an atom lies within both ends of a range; `myname` lies in none.
 fn fits(range: &Range, atom: &Atom) -> bool
     ensures { result ≡ fits (range_of range.now) (atom_of atom.now) }
 {

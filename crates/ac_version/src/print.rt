@@ -35,7 +35,7 @@ pub fn constraint_text(alloc: Global, c: &Constraint) -> Result<Text, Memory>
     }
 }
 
-/// Ranges, and a star behind them.
+// Ranges, and a star behind them.
 fn ranges_text(alloc: Global, ranges: &[Range], star: bool) -> Result<Text, Memory>
     ensures { IfOk result (λ text. text.0 ≡ tokens_joined
         (constraint_tokens (map range_of ranges.now) star)) }
@@ -63,7 +63,7 @@ fn name_text(alloc: Global, name: &Name) -> Result<Text, Memory>
     Ok(text)
 }
 
-/// A dot in front of all but the first.
+// A dot in front of all but the first.
 fn put_dot(alloc: Global, text: &mut Text, is_first: bool) -> Result<(), Memory>
     ensures { OnOk result (text.new.0 ≡ text.old.0 ++ tokens_joined (dot_before is_first [])) }
 {
@@ -73,7 +73,7 @@ fn put_dot(alloc: Global, text: &mut Text, is_first: bool) -> Result<(), Memory>
     put(alloc, text, VToken::Dot)
 }
 
-/// The tokens of a range.
+// The tokens of a range.
 fn put_range(alloc: Global, text: &mut Text, range: &Range) -> Result<(), Memory>
     ensures { OnOk result (text.new.0 ≡ text.old.0 ++ tokens_joined
         (range_tokens (range_of range.now))) }
@@ -96,7 +96,7 @@ fn put_range(alloc: Global, text: &mut Text, range: &Range) -> Result<(), Memory
     }
 }
 
-/// The token that is an atom.
+// The token that is an atom.
 fn token_of(atom: &Atom) -> VToken
     ensures { result ≡ atom_token (atom_of atom.now) }
 {
@@ -106,7 +106,7 @@ fn token_of(atom: &Atom) -> VToken
     }
 }
 
-/// The spelling of a token.
+// The spelling of a token.
 fn put(alloc: Global, text: &mut Text, token: VToken) -> Result<(), Memory>
     ensures { OnOk result (text.new.0 ≡ text.old.0 ++ token_text token) }
 {

@@ -7,7 +7,7 @@ ghost use Rattle.ac_version.specs.VersionReading.{IsSmall, AtomAt, FirstAtom, No
 use ac_types::{Atom, Constraint, Many, Memory, Range, Version};
 use std::alloc::Global;
 
-/// How many atoms a version or a constraint may have.
+// How many atoms a version or a constraint may have.
 const MOST: usize = 8;
 
 /// A token of a version or a constraint.
@@ -67,7 +67,7 @@ fn atom(token: VToken) -> Option<Atom>
     }
 }
 
-/// An atom at the front.
+// An atom at the front.
 fn next_atom(tokens: &[VToken]) -> Option<(Atom, &[VToken])>
     ensures found { MatchOption result (NoAtom tokens.now)
         (λ x. FirstAtom tokens.now (atom_of x.0) x.1.now) }
@@ -104,7 +104,7 @@ pub fn read_version(alloc: Global, tokens: &[VToken]) -> Result<Version, Version
     Ok(Version { atoms })
 }
 
-/// A number below 2^32 at the front.
+// A number below 2^32 at the front.
 fn next_number(tokens: &[VToken]) -> Option<(u32, &[VToken])>
     ensures found { MatchOption result ((n : _) (rest : _) → tokens.now ≡ VToken.Number n ∷ rest →
         IsSmall n → ⊥) (λ x. tokens.now ≡ VToken.Number x.0 ∷ x.1.now) }
@@ -121,8 +121,8 @@ fn next_number(tokens: &[VToken]) -> Option<(u32, &[VToken])>
     }
 }
 
-/// A range at the front, taken as long as it can be: a `-` behind a number takes a number that
-/// follows.
+// A range at the front, taken as long as it can be: a `-` behind a number takes a number that
+// follows.
 fn next_range(tokens: &[VToken]) -> Option<(Range, &[VToken])>
     ensures found { MatchOption result (NoRange tokens.now)
         (λ x. RangeRead tokens.now (range_of x.0) x.1.now) }
@@ -142,7 +142,7 @@ fn next_range(tokens: &[VToken]) -> Option<(Range, &[VToken])>
     }
 }
 
-/// Whether the tokens are a star and no more.
+// Whether the tokens are a star and no more.
 fn is_star(tokens: &[VToken]) -> bool
     ensures { MatchBool result (tokens.now ≡ VToken.Star ∷ []) (tokens.now ≡ VToken.Star ∷ [] → ⊥) }
 {
@@ -152,7 +152,7 @@ fn is_star(tokens: &[VToken]) -> bool
     }
 }
 
-/// Whether a star ends the constraint, where its end stands behind a range.
+// Whether a star ends the constraint, where its end stands behind a range.
 fn end(tokens: &[VToken]) -> Option<bool>
     ensures { MatchOption result ((star : _) → EndAt star tokens.now →
         ⊥) (λ star. EndAt star tokens.now) }

@@ -1,5 +1,5 @@
 -- Two lists of types, compared in order.
-use Rattle.std.proofs.Common.{ℕ, suc, ◌≡◌, ◌+◌, ◌<◌, refl, ap, ap₂, ◌∙◌, Bool, true, false, ◌&&◌, List, [], ◌∷◌, length, map, get_or, drop, drop-cons, add-one}
+use Rattle.std.proofs.Common.{ℕ, suc, ◌≡◌, ◌+◌, ◌<◌, refl, ap, ◌∙◌, Bool, true, false, ◌&&◌, List, [], ◌∷◌, length, map, get_or, drop, drop-cons, add-one}
 use Rattle.std.proofs.Math.Seq.{drop-length}
 use Rattle.ac_types.specs.Types.{Typ, typs, same, same_all}
 
@@ -14,13 +14,6 @@ module _ {A B : Type 0} (f : A → Typ) (g : B → Typ) where
   -- whether the types of two lists are the same
   abbrev pub alike : List A → List B → Bool
   alike xs ys = same_all (typs (map f xs)) (typs (map g ys))
-
-  pub alike_step : (xs : List A) (ys : List B) (i : ℕ) (x : A) (y : B) → i < length xs → i < length ys → x ≡ get_or xs i x → y ≡ get_or ys i y
-      → alike (drop i xs) (drop i ys) ≡ (same (f x) (g y) && alike (drop (i + 1) xs) (drop (i + 1) ys))
-  alike_step xs ys i x y h k e d = ap₂ alike (from_item xs i x h e) (from_item ys i y k d)
-
-  pub alike_end : (xs : List A) (ys : List B) (i : ℕ) → i ≡ length xs → i ≡ length ys → alike (drop i xs) (drop i ys) ≡ true
-  alike_end xs ys i e d = ap₂ alike (from_end xs i e) (from_end ys i d)
 
   and_false : (b c : Bool) → c ≡ false → (b && c) ≡ false
   and_false true c e = e

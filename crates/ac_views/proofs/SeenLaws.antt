@@ -1,8 +1,8 @@
 -- Types as a home sees them: what is known, compared and built part by part.
-use Rattle.std.proofs.Common.{ℕ, ◌≡◌, ◌+◌, ◌<◌, refl, sym, ap, ap₂, ◌∙◌, Bool, true, false, ◌&&◌, List, [], ◌∷◌, ◌++◌, length, map, get_or, drop, take, Option, Some, None}
+use Rattle.std.proofs.Common.{ℕ, ◌≡◌, ◌+◌, ◌<◌, refl, sym, ap, ap₂, ◌∙◌, Bool, true, false, ◌&&◌, List, [], ◌∷◌, ◌++◌, length, map, get_or, take, Option, Some, None}
 use Rattle.std.proofs.lemmas.List.{map-append, take_more}
 use Rattle.std.proofs.lemmas.List.Folds.{list_all-append}
-use Rattle.ac_types.specs.Types.{Bytes, Typ, TTuple, TList, TOpt, TFun, TAbs, Typs, typ, typs, same, same_all, agree, with_each, all_with_each, with_mine, all_with_mine, mentions, mentions_of_all}
+use Rattle.ac_types.specs.Types.{Bytes, Typ, TTuple, TList, TOpt, TFun, TAbs, Typs, typ, typs, same, same_all, agree, with_each, all_with_each, with_mine, all_with_mine, mentions}
 use Rattle.ac_types.specs.ReadTypes.{typ_of}
 use Rattle.ac_types.specs.declared.ty.Ty.{Ty}
 use Rattle.ac_types.proofs.SizeLaws.{type_laws}
@@ -11,9 +11,7 @@ use Rattle.ac_terms.specs.TermTyping.{has}
 use Rattle.ac_rules.specs.Views.{is_known, are_known}
 use Rattle.ac_rules.specs.Typing.{list_item, option_item, tuple_parts}
 use Rattle.ac_views.specs.Sites.{typs_of, ends_of}
-use Rattle.ac_views.specs.inner.Sizes.{are_known_in}
 use Rattle.ac_views.proofs.Equalities.{same_either_way}
-use Rattle.ac_views.proofs.PairLaws.{from_item, from_end}
 
 -- known names
 
@@ -26,16 +24,6 @@ and_true false = refl
 
 pub known_one : (E : Environment) (n t : Bytes) → are_known E (TAbs n t) ≡ is_known E (n, t)
 known_one E n t = and_true (is_known E (n, t))
-
-pub known_more : (E : Environment) (T : Typ) (Ts : Typs) → are_known_in E (typ T Ts) ≡ (are_known E T && are_known_in E Ts)
-known_more E T Ts = list_all-append (is_known E) (mentions T) (mentions_of_all Ts)
-
-pub known_step : (E : Environment) (ts : List Ty) (i : ℕ) (t : Ty) → i < length ts → t ≡ get_or ts i t
-    → are_known_in E (typs_of (drop i ts)) ≡ (are_known E (typ_of t) && are_known_in E (typs_of (drop (i + 1) ts)))
-known_step E ts i t h e = ap (λ xs. are_known_in E (typs_of xs)) (from_item ts i t h e) ∙ known_more E (typ_of t) (typs_of (drop (i + 1) ts))
-
-pub known_end : (E : Environment) (ts : List Ty) (i : ℕ) → i ≡ length ts → are_known_in E (typs_of (drop i ts)) ≡ true
-known_end E ts i e = ap (λ xs. are_known_in E (typs_of xs)) (from_end ts i e)
 
 pub ruleset known_laws = (type_laws, known_fun, known_one)
 

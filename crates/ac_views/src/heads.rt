@@ -26,7 +26,7 @@ pub fn head<'a>(env: &'a Env, ty: &'a Ty) -> &'a Ty
     found
 }
 
-/// What the outermost abstract type of a type stands for, where it stands for another type.
+// What the outermost abstract type of a type stands for, where it stands for another type.
 #[tactic(auto, using(ac_types::proofs::SizeLaws::type_laws))]
 fn unsealed<'a>(env: &'a Env, ty: &'a Ty) -> Option<&'a Ty>
     requires { length env.now.entries < 2 ^ 32 }

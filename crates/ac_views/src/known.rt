@@ -15,14 +15,14 @@ fn is_abstract_in(types: &[SigType], word: &Word) -> bool
     ensures { result ≡ is_abstract (type_under word.now (map sig_type_of types.now)) }
 {
     for x in types {
-        if x.name.text().as_slice() == word.text().as_slice() {
+        if x.name.is(word) {
             return x.manifest.is_none();
         }
     }
     false
 }
 
-/// Whether an entry of that name has the abstract type in its signature.
+// Whether an entry of that name has the abstract type in its signature.
 #[tactic(auto, using(ac_terms::proofs::EnvLaws::env_laws))]
 fn declares(entry: &Entry, name: &Name, word: &Word) -> bool
     ensures { result ≡ declares name.now.0 word.now (entry_of entry.now) }

@@ -18,7 +18,7 @@ use crate::types::{Base, ends, is_base, list_item, option_item, same_types, tupl
 use ac_types::{Box, Many, Memory, Ty};
 use std::alloc::Global;
 
-/// Whether a type as the site's home sees it is another.
+// Whether a type as the site's home sees it is another.
 #[cycle(compare)]
 #[tactic(auto, using(crate::proofs::SeenLaws::compare_laws))]
 fn is_viewed_as<'a>(written: &'a Ty, ty: &'a Ty, site: &'a Site<'a>) -> bool
@@ -93,7 +93,7 @@ pub fn is_seen_as<'a>(written: &'a Ty, ty: &'a Ty, site: &'a Site<'a>) -> bool
     are_known(written, site.env) && is_viewed_as(written, ty, site)
 }
 
-/// A type as the site's home sees it.
+// A type as the site's home sees it.
 #[cycle(view)]
 #[tactic(auto, using(ac_types::proofs::SizeLaws::type_laws))]
 fn written_out<'a>(alloc: Global, ty: &'a Ty, site: &'a Site<'a>) -> Result<Ty, Memory>

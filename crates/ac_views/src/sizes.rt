@@ -3,51 +3,15 @@
 ghost use Rattle.std.specs.Prelude.{◌≡◌, ◌<◌, ◌^◌, MatchOption, length};
 ghost use Rattle.ac_types.specs.Types.{is_small, parts, height, parts_of_all, height_of_all};
 ghost use Rattle.ac_types.specs.ReadTypes.{typ_of};
-ghost use Rattle.ac_types.specs.inner.Size.{all_parts, greatest_height, Exceeds, FitsSize};
+ghost use Rattle.ac_types.specs.inner.Size.{Exceeds, FitsSize};
 ghost use Rattle.ac_views.specs.inner.Sizes.{from_home, all_from_home};
 
 use crate::opened::opened;
 use crate::site::Site;
-use ac_types::Ty;
+use ac_types::{Ty, spend};
 
-/// What is left of a number of parts after those of a type, which may have a height of `depth`.
-#[cycle(spend)]
-#[tactic(auto, using(ac_types::proofs::SizeLaws::size_laws))]
-fn spend(ty: &Ty, left: u32, depth: u32) -> Option<u32>
-    ensures { MatchOption result (Exceeds left depth (parts (typ_of ty.now))
-        (height (typ_of ty.now))) (λ rest. FitsSize left depth (parts (typ_of ty.now))
-        (height (typ_of ty.now)) rest) }
-{
-    if left == 0 || depth == 0 {
-        return None;
-    }
-    let left = left - 1;
-    let depth = depth - 1;
-    match ty {
-        Ty::Tuple(parts) => spend_all(parts.as_slice(), left, depth),
-        Ty::List(item) => spend(item, left, depth),
-        Ty::Opt(item) => spend(item, left, depth),
-        Ty::Fun(from, to) => {
-            let left = spend(from, left, depth)?;
-            spend(to, left, depth)
-        }
-        _ => Some(left),
-    }
-}
-
-#[cycle(spend)]
-fn spend_all(tys: &[Ty], left: u32, depth: u32) -> Option<u32>
-    ensures { MatchOption result (Exceeds left depth (all_parts tys.now) (greatest_height tys.now))
-        (λ rest. FitsSize left depth (all_parts tys.now) (greatest_height tys.now) rest) }
-{
-    let mut left = left;
-    for ty in tys {
-        left = spend(ty, left, depth)?;
-    }
-    Some(left)
-}
-
-/// The same of a type as the site's home sees it.
+// What is left of a number of parts after those of a type as the site's home sees it, which may
+// have a height of `depth`.
 #[cycle(spend_here)]
 #[tactic(auto, using(ac_types::proofs::SizeLaws::size_laws))]
 fn spend_here<'a>(ty: &'a Ty, site: &'a Site<'a>, left: u32, depth: u32) -> Option<u32>

@@ -21,7 +21,7 @@ pub enum Base {
     Exn,
 }
 
-/// The type itself.
+// The type itself.
 #[tactic(auto, using(ac_types::proofs::SizeLaws::type_laws))]
 fn base_type(base: Base) -> Ty
     ensures { typ_of result ≡ base_typ base }

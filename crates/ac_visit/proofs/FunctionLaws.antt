@@ -1,18 +1,13 @@
 -- Functions, as they are packed.
-use Rattle.std.proofs.Common.{◌≡◌, refl, sym, ap, ap₂, ◌∙◌, subst, ℕ, suc, Bool, true, false, ◌&&◌, ◌||◌, List, [], ◌∷◌, ◌++◌, Option, Some, None, Result}
+use Rattle.std.proofs.Common.{◌≡◌, refl, sym, ap, ◌∙◌, ℕ, Bool, true, false, ◌&&◌, List, [], Option, Some, None}
 use Rattle.std.specs.Prelude.{pos}
 use Rattle.ac_types.specs.Types.{Typ, TInt}
 use Rattle.ac_terms.specs.Terms.{Home, Main, Expr, Int, App, Lam, Rec, PValue, KUnit, KFun}
 use Rattle.ac_terms.specs.Defs.{Environment}
-use Rattle.ac_terms.specs.Bounds.{is_lambda}
-use Rattle.ac_terms.specs.Parts.{term_parts}
-use Rattle.ac_terms.specs.Spelling.{two_written, home_bytes}
-use Rattle.ac_terms.specs.Heads.{Head, next_head}
-use Rattle.ac_terms.specs.Renumbered.{home_by, renumbered}
-use Rattle.ac_rules.specs.Views.{Coloured, head}
-use Rattle.ac_rules.specs.Typing.{is_function, is_function_home, type_seen}
+use Rattle.ac_terms.specs.Bounds.{is_lambda, is_wanted}
+use Rattle.ac_rules.specs.Views.{head}
+use Rattle.ac_rules.specs.Typing.{is_function, is_function_home}
 use Rattle.ac_rules.specs.Plain.{stays, may_travel, travelling}
-use Rattle.ac_heads.specs.declared.stop.Stop.{Stop}
 use Rattle.ac_canon.proofs.TermForms.{term_forms}
 use Rattle.ac_code.specs.Code.{Instr, Block, Code}
 use Rattle.ac_values.specs.Values.{MValue, MStr, value_at, node_value}
@@ -23,12 +18,7 @@ use Rattle.ac_meaning.specs.BareReduction.{BareWritten, inst}
 use Rattle.ac_meaning.specs.BarePacking.{bare_packed, bare_packed_term}
 use Rattle.ac_meaning.proofs.BareInst.{inst_none}
 use Rattle.ac_simulation.specs.Stands.{senseless, exception_with, closed, closure_of, stands}
-use Rattle.ac_walk.specs.Pieces.{entries_at, number_at, spoken_at, term_written}
-use Rattle.ac_walk.specs.Spoken.{spoken_by_home}
-use Rattle.ac_walk.specs.inner.Goes.{Visits, VisitsValue}
-use Rattle.ac_walk.specs.declared.walk.Walk.{Walk}
-use Rattle.ac_walk.proofs.WalkLaws.{wants_memory, visits_same}
-use Rattle.ac_visit.specs.Forms.{is_wanted}
+use Rattle.ac_walk.proofs.WalkLaws.{wants_memory}
 
 -- what is wanted is a lambda
 pub wanted_lambda : (e : Expr) (r : Bool) → is_wanted e r ≡ true → is_lambda e ≡ true
@@ -36,32 +26,12 @@ wanted_lambda (Lam T e) r q = refl
 wanted_lambda (Rec T U e) r q = refl
 wanted_lambda e r q = absurd cc
 
-pub either_lambda : (e : Expr) → (is_wanted e false || is_wanted e true) ≡ true → is_lambda e ≡ true
-either_lambda (Lam T e) q = refl
-either_lambda (Rec T U e) q = refl
-either_lambda e q = absurd cc
-
--- a lambda stays one with other numbers
-lambda_renumbered : (f : ℕ → ℕ) (l : Expr) → is_lambda l ≡ true → is_lambda (renumbered f l) ≡ true
-lambda_renumbered f (Lam T e) q = refl
-lambda_renumbered f (Rec T U e) q = refl
-lambda_renumbered f e q = absurd cc
-
 module _ (E : Environment) where
   travelling_by : (h : Home) (l : Expr) (T : Typ) (b : Bool) → may_travel E h l T ≡ b → travelling E h l T ≡ (elim b [ true ↦ KFun h l | false ↦ stays ])
   travelling_by h l T b e = ap (λ (x : Bool). elim x as (λ y. PValue) [ true ↦ KFun h l | false ↦ stays ]) e
 
   pub stays_behind : (h : Home) (l : Expr) (T : Typ) → may_travel E h l T ≡ false → stays ≡ travelling E h l T
   stays_behind h l T e = sym (travelling_by h l T false e)
-
-  goes_along : (h : Home) (l : Expr) (T : Typ) → may_travel E h l T ≡ true → KFun h l ≡ travelling E h l T
-  goes_along h l T e = sym (travelling_by h l T true e)
-
-  -- a lambda is packed as one
-  pub packed_lambda : (d : ℕ) (ws : BareWritten) (c : Home) (e : Expr) → is_lambda e ≡ true → is_lambda (bare_packed_term E (inst d ws (bare c e))) ≡ true
-  packed_lambda d ws c (Lam T e) q = refl
-  packed_lambda d ws c (Rec T U e) q = refl
-  packed_lambda d ws c e q = absurd cc
 
   -- what stands for nothing stays behind
   and_false : (a : Bool) → (a && false) ≡ false
@@ -116,19 +86,10 @@ module _ (E : Environment) where
   packed_function h (Rec U W e) T q = ap (λ b. travelling E h (Rec U W (bare_packed_term E b)) T) (inst_none (bare h e) 2)
   packed_function h l T q = absurd cc
 
-  pub no_function : (h : Home) (l : Expr) (T : Typ) → (is_wanted l false || is_wanted l true) ≡ false → KUnit ≡ bare_packed E (unpacked (KFun h l)) T
+  pub no_function : (h : Home) (l : Expr) (T : Typ) → is_lambda l ≡ false → KUnit ≡ bare_packed E (unpacked (KFun h l)) T
   no_function h (Lam U e) T q = absurd cc
   no_function h (Rec U W e) T q = absurd cc
   no_function h l T q = refl
-
--- a function that travels, by its home and its lambda
-pub visits_function : (r : Result Unit Stop) (d : ℕ) (h : Home) (l : Expr) (T : Typ) (old new : Walk) → is_lambda l ≡ true → may_travel (entries_at old.site) h l T ≡ true →
-    Visits r (next_head d (0x0A ∷ home_bytes (home_by (number_at old.site) h)) ∷ term_written old.site (suc d) l) (spoken_by_home h ++ spoken_at old.site (term_parts l)) old new → VisitsValue r d (travelling (entries_at old.site) h l T) old new
-visits_function r d h l T old new q m v =
-    subst (λ (x : PValue). VisitsValue r d x old new) (goes_along (entries_at old.site) h l T m)
-    (visits_same r _ _ _ _ old new
-    (ap (λ (b : Bool). record (next_head d (0x0A ∷ home_bytes (home_by (number_at old.site) h))) { travels = b } ∷ term_written old.site (suc d) l) (sym (lambda_renumbered (number_at old.site) l q)))
-    refl v)
 
 pub ruleset form_laws = (term_forms)
 
@@ -136,4 +97,4 @@ pub ruleset function_laws = (wants_memory, stays_behind)
 
 pub ruleset closure_laws = (wants_memory, wanted_lambda, no_block, no_lambda, other_lambda)
 
-pub ruleset packed_function_laws = (wants_memory, either_lambda, no_function)
+pub ruleset packed_function_laws = (wants_memory, no_function)

@@ -18,7 +18,7 @@ use Rattle.ac_rules.specs.Plain.{stays, where_there, in_front, may_travel, trave
 use Rattle.ac_code.specs.Code.{Block, Code}
 use Rattle.ac_heads.specs.declared.stop.Stop.{Stop}
 use Rattle.ac_values.specs.Values.{MValue, MInt, MBool, MStr, MUnit, MExn, MExnOf, MTuple, MNil, MCons, MAbsent, MPresent, MClosure, MEnd, MMore, values_at}
-use Rattle.ac_values.specs.ValueReaders.{cons_in, is_nil}
+use Rattle.ac_values.specs.ValueReaders.{cons_in}
 use Rattle.ac_values.specs.declared.node.Value.{Value}
 use Rattle.ac_meaning.specs.BareTerms.{BareValue, WInt, WBool, WStr, WUnit, WExn, WTuple, WNil, WCons, WAbsent, WPresent, WLam, WRec, bare, unpacked, all_unpacked, unpacked_list}
 use Rattle.ac_meaning.specs.BareReduction.{BareWritten, inst}
@@ -30,7 +30,7 @@ use Rattle.ac_walk.specs.Pieces.{entries_at, code_at, number_at, spoken_at, valu
 use Rattle.ac_walk.specs.inner.Goes.{Visits, VisitsValue}
 use Rattle.ac_walk.specs.declared.walk.Walk.{Walk}
 use Rattle.ac_walk.proofs.WalkLaws.{wants_memory, visits_same}
-use Rattle.ac_visit.specs.Forms.{items_counted, counted_none, paired}
+use Rattle.ac_visit.specs.inner.Forms.{items_counted, paired}
 
 -- how many parts a tuple is packed with
 pub paired_same : (m : ℕ) → m ≡ paired m m
@@ -48,23 +48,6 @@ paired_more zero zero h = absurd (omega arith)
 paired_more zero (suc n) h = absurd (omega arith)
 paired_more (suc m) zero h = refl
 paired_more (suc m) (suc n) h = let e : suc n + 1 ≡ suc (n + 1) = omega arith in e ∙ ap suc (paired_more m n (omega arith))
-
--- a list's count, item by item
-pub counted_further : (o p : Option ℕ) (k c : ℕ) → p ≡ option_map suc o → c ≡ k + 1 → option_map (λ n. n + k) p ≡ option_map (λ n. n + c) o
-counted_further None p k c e d = ap (option_map (λ n. n + k)) e
-counted_further (Some n) p k c e d = let q : suc n + k ≡ n + c = omega arith in ap (option_map (λ n. n + k)) e ∙ ap (λ (x : ℕ). Some x) q
-
-pub counted_start : (o : Option ℕ) → o ≡ option_map (λ n. n + 0) o
-counted_start None = refl
-counted_start (Some n) = let e : n ≡ n + 0 = omega arith in ap (λ (x : ℕ). Some x) e
-
-pub counted_nil : (m : MValue) (k : ℕ) → is_nil m ≡ true → option_map (λ n. n + k) (counted_none m) ≡ Some k
-counted_nil MNil k e = let q : 0 + k ≡ k = omega arith in ap (λ (x : ℕ). Some x) q
-counted_nil m k e = absurd cc
-
-pub uncounted : (m : MValue) (k : ℕ) → is_nil m ≡ false → option_map (λ n. n + k) (counted_none m) ≡ None
-uncounted MNil k e = absurd cc
-uncounted m k e = refl
 
 none_further : (o : Option ℕ) → option_map suc o ≡ None → o ≡ None
 none_further None e = refl

@@ -1,10 +1,9 @@
 -- The type of a function with its captured values is that of its lambda, where each variable around it is of the type of its value.
-use Rattle.std.proofs.Common.{◌≡◌, refl, sym, ap, ap₂, ◌∙◌, subst, ℕ, zero, suc, ◌+◌, ◌<◌, Bool, true, false, ◌&&◌, List, [], ◌∷◌, ◌++◌, length, length-append, append_assoc, slice_get, map, Option, Some, None, Result, Ok, Err, arith}
-use Rattle.std.specs.Prelude.{option_map, option_and_then, nat_le, IfOk}
-use Rattle.std.proofs.lemmas.Bool.Decides.{nat_tests}
+use Rattle.std.proofs.Common.{◌≡◌, refl, sym, ap, ap₂, ◌∙◌, subst, ℕ, zero, suc, ◌+◌, Bool, true, false, ◌&&◌, List, [], ◌∷◌, ◌++◌, length, length-append, append_assoc, slice_get, map, Option, Some, None, Result, Ok, Err, arith}
+use Rattle.std.specs.Prelude.{option_map, option_and_then, IfOk}
 use mathlib.Core.Bool.{true≢false}
 use Rattle.ac_types.specs.First.{given}
-use Rattle.ac_types.specs.Types.{Typ, TInt, TBool, TStr, TUnit, TExn, TTuple, TList, TOpt, TFun, TAbs, TMine, Typs, no_types, typ, agree, parts, height, is_small}
+use Rattle.ac_types.specs.Types.{Typ, TInt, TBool, TStr, TUnit, TExn, TTuple, TList, TOpt, TFun, TAbs, TMine, Typs, no_types, typ, agree}
 use Rattle.ac_types.specs.ReadTypes.{typ_of}
 use Rattle.ac_types.proofs.Same.{both_true}
 use Rattle.ac_types.specs.ReadTypes.{typ_layer}
@@ -14,12 +13,13 @@ use Rattle.ac_types.proofs.SizeLaws.{typ_out, type_laws as read_types}
 use Rattle.ac_code.specs.Code.{Code}
 use Rattle.ac_values.specs.Values.{MValue}
 use Rattle.ac_values.specs.ValueReaders.{newest_and_rest}
-use Rattle.ac_simulation.specs.Stands.{stands, variables as variables_of}
+use Rattle.ac_simulation.specs.Stands.{variables as variables_of}
 use Rattle.ac_terms.specs.Terms.{Home, Pattern, PWild, PVar, PInt, PBool, PStr, PUnit, PTuple, PNil, PCons, PAbsent, PPresent, PExn, PExnOf, Patterns, no_patterns, pattern', Expr, Int, Boolean, Str, Unit', Exn, ExnOf, Tuple, Nil, Empty, Present, Cons, Var, Own, Ref, Lam, Rec, App, Let, If, Seq, Match, Try, Raise, Prim, Marshal, Unmarshal, Val, Evaluated, Bracket, Exprs, no_exprs, expr, Arms, no_arms, arm}
 use Rattle.ac_terms.specs.Defs.{Environment}
 use Rattle.ac_terms.specs.Read.{expr_of}
 use Rattle.ac_terms.specs.declared.term.Term.{Term}
-use Rattle.ac_terms.specs.PrimitiveTypes.{has_text, primitive_type}
+use Rattle.ac_types.specs.Exceptions.{has_text}
+use Rattle.ac_terms.specs.PrimitiveTypes.{primitive_type}
 use Rattle.ac_terms.specs.TermTyping.{has, both_same, also, last_of}
 use Rattle.ac_rules.specs.Views.{Coloured, head}
 use Rattle.ac_rules.specs.Plain.{may_travel}
@@ -30,8 +30,8 @@ use Rattle.ac_meaning.specs.BareTerms.{BareValue, bare, bare_all, bare_arms}
 use Rattle.ac_meaning.specs.BareReduction.{BareWritten, from_slot, inst, inst_all, inst_arms}
 use Rattle.ac_meaning.specs.BarePacking.{bare_packed_term, bare_packed_terms, bare_packed_arms}
 use Rattle.ac_meaning.specs.Substitution.{Slot, Free, Bound, up, slot_in, slot, binders, all_binders}
-use Rattle.ac_walk.specs.inner.Slots.{IsType, AreTypes, later, newest_type}
-use Rattle.ac_walk.proofs.SlotLaws.{variables_more, variables_end}
+use Rattle.ac_walk.specs.inner.Slots.{AreTypes}
+use Rattle.ac_walk.proofs.SlotLaws.{variables_end}
 
 -- how many variables there are, where there are some
 abbrev Counts : Option (List Typ) → ℕ → Type 0
@@ -202,28 +202,8 @@ pub travels_at : {X : Type 0} (E : Environment) (h : Home) (n : ℕ) (ws : BareW
 travels_at E h n ws Vs t T (Ok b) z fits e = e ∙ travels E h ws Vs t T fits ∙ ap (λ d. may_travel E h (bare_packed_term E (inst d ws (bare h (expr_of t)))) T) (sym z)
 travels_at E h n ws Vs t T (Err x) z fits e = e
 
--- one captured value more
-pub types_more : (E : Environment) (h : Home) (K : Code) (m a b : MValue) (G : List Typ) (T : Typ) (Us : List Typ) → newest_and_rest m ≡ Some (a, b) → IsType E h (newest_type G, stands K a) T →
-    AreTypes E h (variables_of K b (later G)) Us → AreTypes E h (variables_of K m G) (T ∷ Us)
-types_more E h K m a b G T Us e t us = subst (λ (ws : BareWritten). AreTypes E h ws (T ∷ Us)) (sym (variables_more K m a b G e)) (t, us)
-
 pub types_end : (E : Environment) (h : Home) (K : Code) (m : MValue) (G : List Typ) → newest_and_rest m ≡ None → AreTypes E h (variables_of K m G) []
 types_end E h K m G e = subst (λ (ws : BareWritten). AreTypes E h ws []) (sym (variables_end K m G e)) tt
-
--- a type that a home sees
-kept_once : (o : Option Typ) → kept_in Coloured (kept_in Coloured o) ≡ kept_in Coloured o
-kept_once None = refl
-kept_once (Some T) = by (is_small T) refl
-  where
-    by : (b : Bool) → is_small T ≡ b → kept_in Coloured (given b (Some T)) ≡ given b (Some T)
-    by true e = ap (λ (x : Bool). given x (Some T)) e
-    by false e = refl
-
-pub seen_kept : (o : Option Typ) (T : Typ) → Some T ≡ kept_in Coloured o → kept_in Coloured (Some T) ≡ kept_in Coloured o
-seen_kept o T e = ap (kept_in Coloured) e ∙ kept_once o
-
-pub none_kept : (o : Option Typ) (T : Typ) → None ≡ kept_in Coloured o → is_small T ≡ false → kept_in Coloured (Some T) ≡ kept_in Coloured o
-none_kept o T e s = ap (λ (b : Bool). given b (Some T)) s ∙ e
 
 -- the reading of unit and of options
 pub typ_of-Unit : typ_of ty.Unit ≡ TUnit
@@ -231,17 +211,6 @@ typ_of-Unit = typ_out ty.Unit ∙ ap (λ x. typ_layer (map-Ty Ty Typ typ_of x)) 
 
 pub typ_of-Opt : (t : Ty) → typ_of (ty.Opt t) ≡ TOpt (typ_of t)
 typ_of-Opt t = typ_out (ty.Opt t) ∙ ap (λ x. typ_layer (map-Ty Ty Typ typ_of x)) (ty.outs-Opt t)
-
--- a high type isn't small
-and_false : (a : Bool) → (a && false) ≡ false
-and_false true = refl
-and_false false = refl
-
-not_within : (n m : ℕ) → m < n → nat_le n m ≡ false
-not_within n m h = grind (arith, nat_tests)
-
-pub high_not_small : (T : Typ) → 100 < height T → is_small T ≡ false
-high_not_small T h = ap (λ (b : Bool). nat_le (parts T) 4096 && b) (not_within (height T) 100 h) ∙ and_false (nat_le (parts T) 4096)
 
 pub ruleset travel_laws = (travels)
 

@@ -10,7 +10,7 @@ use Rattle.ac_terms.specs.Parts.{Portion, OfType, value_parts}
 use Rattle.ac_terms.specs.Spelling.{two_written, type_bytes, value_bytes}
 use Rattle.ac_terms.specs.Renumbered.{value_renumbered}
 use Rattle.ac_rules.specs.Faults.{Fault, first_fault}
-use Rattle.ac_heads.specs.Outcomes.{Outcome, On, Stopped, after, fault_in}
+use Rattle.ac_heads.specs.Outcomes.{WalkEnd, On, Stopped, after, fault_in}
 use Rattle.ac_heads.specs.declared.stop.Stop.{Stop}
 use Rattle.ac_heads.proofs.FaultLaws.{outcome, written}
 use Rattle.ac_walk.specs.Pieces.{heads_at, roots_at}
@@ -39,14 +39,14 @@ pub stops_at : (e : Stop) (p : Piece) (first old mid new : Walk) → comes [] []
     Visits (Err e) (heads_at mid.site p) (roots_at mid.site p) mid new → (f : Fault) → fault_in e ≡ Some f → (comes [] [] first).0 ≡ Stopped f
 unfolding Visits
 stops_at e p first old mid new i s n v f q =
-    ap (λ (x : Outcome × List ℕ). x.0) (sym i ∙ n ∙ ap (λ x. comes (heads_at x p) (roots_at x p) mid) (sym s)) ∙ v f q (pending (heads_at mid.site) mid.pieces.items)
+    ap (λ (x : WalkEnd × List ℕ). x.0) (sym i ∙ n ∙ ap (λ x. comes (heads_at x p) (roots_at x p) mid) (sym s)) ∙ v f q (pending (heads_at mid.site) mid.pieces.items)
 
 -- a walk that has nothing yet, and its first pieces
 begun : (u : Unit) (hs : List Head) (ns : List ℕ) (old new : Walk) → old.text.0 ≡ [] → old.roots ≡ [] → old.pieces.items ≡ [] → Visits (Ok u) hs ns old new → comes [] [] new ≡ (after [] hs, ns)
 unfolding Visits
 begun u hs ns old new t r p v =
     v.1
-    ∙ ap₂ (λ (o : Outcome) (l : List ℕ). (o, l))
+    ∙ ap₂ (λ (o : WalkEnd) (l : List ℕ). (o, l))
     (ap₂ (λ x y. after x (hs ++ pending (heads_at old.site) y)) t p ∙ ap (after []) (append-nil hs))
     (ap₂ (λ x y. x ++ (ns ++ pending (roots_at old.site) y)) r p ∙ append-nil ns)
 
@@ -70,12 +70,12 @@ both_not_begun x s p q old new e t v f z = ap (λ y. after [] (heads_at y p ++ h
 
 pub ended : (hs : List Head) (ns ms : List ℕ) (bs : Bytes) (rs : List ℕ) (new : Walk) → comes [] [] new ≡ (after [] hs, ns) → ns ≡ ms → comes [] [] new ≡ (On bs, rs) → (after [] hs ≡ On bs) × (rs ≡ ms)
 ended hs ns ms bs rs new e s r = (
-  ap (λ (x : Outcome × List ℕ). x.0) (sym e ∙ r),
-  ap (λ (x : Outcome × List ℕ). x.1) (sym r ∙ e) ∙ s,
+  ap (λ (x : WalkEnd × List ℕ). x.0) (sym e ∙ r),
+  ap (λ (x : WalkEnd × List ℕ). x.1) (sym r ∙ e) ∙ s,
 )
 
 pub stopped : (hs : List Head) (ns : List ℕ) (f : Fault) (new : Walk) → comes [] [] new ≡ (after [] hs, ns) → (comes [] [] new).0 ≡ Stopped f → after [] hs ≡ Stopped f
-stopped hs ns f new e s = ap (λ (x : Outcome × List ℕ). x.0) (sym e) ∙ s
+stopped hs ns f new e s = ap (λ (x : WalkEnd × List ℕ). x.0) (sym e) ∙ s
 
 -- a type, and then other parts
 pub type_first : (E : Environment) (T : Typ) (ps : List Portion) → spoken_by_all E (OfType T ∷ []) ++ spoken_by_all E ps ≡ spoken_by_all E (OfType T ∷ ps)

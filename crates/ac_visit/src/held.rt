@@ -14,7 +14,7 @@ ghost use Rattle.ac_views.specs.Sites.{typs_of};
 ghost use Rattle.ac_walk.specs.Pieces.{entries_at, code_at, held_at, held_parts_at, held_items_at};
 ghost use Rattle.ac_walk.specs.inner.Goes.{VisitsValue, VisitsValues};
 
-use crate::functions::{function, is_wanted};
+use crate::functions::function;
 use crate::lists::{items_in, shared};
 use ac_code::CodeId;
 use ac_heads::{Stop, deeper};
@@ -149,7 +149,8 @@ fn closure<'a>(
     requires int { typ_of walk.old.site.int.now ≡ TInt }
     ensures { VisitsValue result d
         (bare_packed (entries_at walk.old.site) (stands (code_at walk.old.site)
-        (MClosure block.0 recursive (stands_as walk.old.site.store.now env.0))) (typ_of ty.now)) walk.old walk.new }
+        (MClosure block.0 recursive (stands_as walk.old.site.store.now env.0))) (typ_of ty.now))
+        walk.old walk.new }
 {
     let site = walk.site;
     let Some(block) = site.table.block(block) else {
@@ -158,7 +159,7 @@ fn closure<'a>(
     let Some(lambda) = &block.lambda else {
         return walk.stay(d);
     };
-    if !is_wanted(lambda, recursive) {
+    if !lambda.is_wanted(recursive) {
         return walk.stay(d);
     }
     let around = Around {

@@ -2,7 +2,7 @@
 
 ghost use Rattle.std.specs.Prelude.{◌≡◌, ◌<◌, suc, option_map, MatchOption, IfOk};
 ghost use Rattle.ac_values.specs.Values.{stands_as};
-ghost use Rattle.ac_visit.specs.Forms.{items_counted, counted_none, paired};
+ghost use Rattle.ac_visit.specs.inner.Forms.{items_counted, counted_none, paired};
 
 use ac_types::Memory;
 use ac_values::read::is_nil;

@@ -11,7 +11,7 @@ ghost use Rattle.ac_views.specs.Sites.{typs_of};
 ghost use Rattle.ac_walk.specs.Pieces.{packed_at, packed_parts_at, packed_items_at};
 ghost use Rattle.ac_walk.specs.inner.Goes.{VisitsValue, VisitsValues};
 
-use crate::functions::{function, is_function};
+use crate::functions::function;
 use crate::lists::shared;
 use ac_heads::{Stop, deeper};
 use ac_terms::{Exn, Home, PVal, Term};
@@ -70,7 +70,8 @@ fn exception<'a>(walk: &mut Walk<'a>, exn: &Exn, d: u32) -> Result<(), Stop>
 fn packed_option<'a>(walk: &mut Walk<'a>, inner: &'a PVal, ty: &'a Ty, d: u32) -> Result<(), Stop>
     requires { length walk.old.site.env.now.entries < 2 ^ 32 }
     ensures { VisitsValue result d
-        (packed_at walk.old.site (KPresent (value_of inner.now)) (typ_of ty.now)) walk.old walk.new }
+        (packed_at walk.old.site (KPresent (value_of inner.now)) (typ_of ty.now)) walk.old
+        walk.new }
 {
     let site = walk.site;
     match option_item(head(site.env, ty)) {
@@ -99,7 +100,8 @@ fn packed_tuple<'a>(walk: &mut Walk<'a>, parts: &'a [PVal], ty: &'a Ty, d: u32) 
 fn packed_list<'a>(walk: &mut Walk<'a>, items: &'a [PVal], ty: &'a Ty, d: u32) -> Result<(), Stop>
     requires { length walk.old.site.env.now.entries < 2 ^ 32 }
     ensures { VisitsValue result d
-        (packed_at walk.old.site (KList (pvalues (map value_of items.now))) (typ_of ty.now)) walk.old walk.new }
+        (packed_at walk.old.site (KList (pvalues (map value_of items.now))) (typ_of ty.now))
+        walk.old walk.new }
 {
     let site = walk.site;
     let count = items.len();
@@ -125,9 +127,10 @@ fn packed_function<'a>(
     requires entries { length walk.old.site.env.now.entries < 2 ^ 32 }
     requires int { typ_of walk.old.site.int.now ≡ TInt }
     ensures { VisitsValue result d
-        (packed_at walk.old.site (KFun (home_of home) (expr_of lambda.now)) (typ_of ty.now)) walk.old walk.new }
+        (packed_at walk.old.site (KFun (home_of home) (expr_of lambda.now)) (typ_of ty.now))
+        walk.old walk.new }
 {
-    if !is_function(lambda) {
+    if !lambda.is_lambda() {
         return walk.head(d, &[0x04]);
     }
     let around = Around {
@@ -148,7 +151,8 @@ pub fn packed_parts<'a>(
     outer: u32,
 ) -> Result<(), Stop>
     ensures { VisitsValues result (suc outer)
-        (packed_parts_at walk.old.site (pvalues (map value_of parts.now)) (typs_of types.now)) walk.old walk.new }
+        (packed_parts_at walk.old.site (pvalues (map value_of parts.now)) (typs_of types.now))
+        walk.old walk.new }
 {
     let d = deeper(outer)?;
     match (parts.split_first(), types.split_first()) {
@@ -171,7 +175,8 @@ pub fn packed_items<'a>(
     outer: u32,
 ) -> Result<(), Stop>
     ensures { VisitsValues result (suc outer)
-        (packed_items_at walk.old.site (pvalues (map value_of items.now)) (typ_of ty.now)) walk.old walk.new }
+        (packed_items_at walk.old.site (pvalues (map value_of items.now)) (typ_of ty.now)) walk.old
+        walk.new }
 {
     match items.split_first() {
         None => walk.nothing(),

@@ -1,4 +1,4 @@
-// Patterns.
+// The visit of patterns.
 
 ghost use Rattle.std.specs.Prelude.{suc, map};
 ghost use Rattle.ac_terms.specs.Terms.{patterns};

@@ -1,4 +1,4 @@
-// Terms.
+// The visit of terms.
 
 ghost use Rattle.std.specs.Prelude.{◌≡◌, suc, map};
 ghost use Rattle.ac_types.specs.Types.{TInt};

@@ -1,4 +1,4 @@
-// Types.
+// The visit of types.
 
 ghost use Rattle.std.specs.Prelude.{◌≡◌, ◌++◌, ◌<◌, ◌^◌, OnOk, length};
 ghost use Rattle.ac_types.specs.Types.{mentions_of_all};

@@ -175,7 +175,8 @@ fn channel_in<'a>(text: Option<&'a str>) -> Option<Option<Channel<'a>>>
 
 // Whether both channels are one file.
 fn are_one(first: Option<Channel>, second: Option<Channel>) -> bool
-    ensures { result ≡ are_one (option_map channel_of first.entry) (option_map channel_of second.entry) }
+    ensures { result ≡ are_one (option_map channel_of first.entry)
+        (option_map channel_of second.entry) }
 {
     match (first, second) {
         (Some(Channel::File(first)), Some(Channel::File(second))) => first == second,

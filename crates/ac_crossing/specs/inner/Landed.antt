@@ -6,7 +6,7 @@ use Rattle.ac_terms.specs.Read.{value_of, packet_of}
 use Rattle.ac_terms.specs.declared.def.Packet as code_packet
 use Rattle.ac_terms.specs.declared.term.PVal.{PVal}
 use Rattle.ac_rules.specs.Faults.{Fault, NoMark, Depth, Function, Size}
-use Rattle.ac_rules.specs.Packets.{Cause, Definition, Clash, Full, Unresolved, WrongType, NoValue}
+use Rattle.ac_rules.specs.Packets.{PacketCause, Definition, Clash, Full, Unresolved, WrongType, NoValue}
 use Rattle.ac_meaning.specs.Worlds.{Exception}
 use Rattle.ac_meaning.specs.Packing.{Landing, Sinks, Lands, unmarshal_failure_exn}
 use Rattle.ac_meaning.specs.ReadExn.{exn_of}
@@ -31,7 +31,7 @@ fault_told pack_fault.Size = Some Size
 fault_told pack_fault.Memory = None
 
 -- why a packet is refused; want of memory is no reason
-abbrev pub cause_told : AdmitFault → Option Cause
+abbrev pub cause_told : AdmitFault → Option PacketCause
 cause_told (admit_fault.Definition i) = Some (Definition i)
 cause_told (admit_fault.Clash i j) = Some (Clash i j)
 cause_told (admit_fault.Full count) = Some (Full count)

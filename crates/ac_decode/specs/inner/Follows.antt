@@ -19,7 +19,7 @@ use Rattle.ac_decode.specs.declared.heads.Head.{Head}
 use Rattle.ac_decode.specs.declared.heads.Head.TheVariants as head
 use Rattle.ac_decode.specs.declared.heads.ValueHead.{ValueHead}
 use Rattle.ac_decode.specs.declared.heads.ValueHead.TheVariants as value
-use Rattle.ac_decode.specs.ExactTerms.{exact_cases}
+use Rattle.ac_decode.specs.inner.ExactTerms.{exact_cases}
 
 abbrev pub pattern_follows : ReadsPart Pattern → PatHead → ReadsPart Pattern
 pattern_follows f (pat.Leaf p) = give (pattern_of p)

@@ -1,5 +1,5 @@
 -- What is wrong with definitions, by what is known of a scope.
-use Rattle.std.specs.Prelude.{Bool, is_some, List, [], ◌∷◌, ◌++◌, map, flat_map, length, Option, Some, None, unwrap_or}
+use Rattle.std.specs.Prelude.{Bool, is_some, List, [], ◌∷◌, ◌++◌, map, flat_map, length, Option, None, unwrap_or}
 use Rattle.ac_types.specs.Types.{Bytes}
 use Rattle.ac_types.specs.Sigs.{Resolve}
 use Rattle.ac_syntax.specs.Trees.{NameAt, TypeTree, AbbrevTree, SpecTree, AbstractSpec, ManifestSpec, ValSpec, FieldTree, AbbrevField, ValField, WantsTree, WantsVersion, WantsName, DefTree, ModuleDef, ImportDef, MarkDef}

@@ -7,7 +7,6 @@ use Rattle.std.specs.BTreeMap as tree_map
 use Rattle.std.specs.BTreeSet as tree_set
 use Rattle.ac_types.specs.Types.{Bytes}
 use Rattle.ac_syntax.specs.Trees.{NameAt}
-use Rattle.ac_syntax.specs.ReadTrees.{name_of}
 use Rattle.ac_scopes.specs.Scopes.{scope_with}
 use Rattle.ac_flaws.specs.declared.named.Named.{Named}
 use Rattle.ac_flaws.specs.declared.outside.Outside.{Outside}

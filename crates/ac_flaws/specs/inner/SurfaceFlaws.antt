@@ -1,10 +1,10 @@
 -- What is wrong with a surface behind some entries, by what is known of scopes.
-use Rattle.std.specs.Prelude.{ℕ, is_some, List, [], ◌∷◌, length, Option, Some, None, option_map}
+use Rattle.std.specs.Prelude.{is_some, List, [], ◌∷◌, length, Option, Some, None, option_map}
 use Rattle.std.specs.Option.{option_map_or}
 use Rattle.ac_types.specs.First.{first_some}
 use Rattle.ac_types.specs.Types.{Bytes, Typ}
 use Rattle.ac_types.specs.Sigs.{Signature, named_type, type_under}
-use Rattle.ac_terms.specs.Defs.{Environment, Entry, Def, AModule, AnImport, AMark}
+use Rattle.ac_terms.specs.Defs.{Environment, Def, AModule, AnImport, AMark}
 use Rattle.ac_syntax.specs.Trees.{Tree, DefTree, ProgramTree}
 use Rattle.ac_scopes.specs.Repeated.{twice, mark_name}
 use Rattle.ac_scopes.specs.Counts.{over, definitions_limit}

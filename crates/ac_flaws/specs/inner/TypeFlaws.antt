@@ -1,6 +1,6 @@
 -- What is wrong with types and patterns, by what is known of a scope.
-use Rattle.std.specs.Prelude.{ℕ, Bool, true, false, is_some, Option, Some, None, unwrap_or}
-use Rattle.ac_syntax.specs.Trees.{NameAt, TypeTree, TyInt, TyBool, TyStr, TyUnit, TyExn, TyLocal, TyOf, TyTuple, TyList, TyOpt, TyFun, TypeTrees, no_type_trees, type_tree, PatTree, PatWild, PatVar, PatInt, PatBool, PatStr, PatUnit, PatTuple, PatNil, PatCons, PatAbsent, PatPresent, PatExn, PatExnOf, PatTrees, no_pat_trees, pat_tree}
+use Rattle.std.specs.Prelude.{ℕ, is_some, Option, None, unwrap_or}
+use Rattle.ac_syntax.specs.Trees.{TypeTree, TyInt, TyBool, TyStr, TyUnit, TyExn, TyLocal, TyOf, TyTuple, TyList, TyOpt, TyFun, TypeTrees, no_type_trees, type_tree, PatTree, PatWild, PatVar, PatInt, PatBool, PatStr, PatUnit, PatTuple, PatNil, PatCons, PatAbsent, PatPresent, PatExn, PatExnOf, PatTrees, no_pat_trees, pat_tree}
 use Rattle.ac_scopes.specs.Unbound.{unless, unbound_behind}
 use Rattle.ac_scopes.specs.Counts.{over, width_limit, height_limit, parts_limit, type_count, pat_count}
 use Rattle.ac_flaws.specs.declared.flaws.Flaws.{Flaws}

@@ -6,7 +6,7 @@ use Rattle.ac_types.specs.Types.{Bytes}
 use Rattle.ac_terms.specs.Terms.{Pattern, PInt}
 use Rattle.ac_terms.specs.Read.{pattern_of}
 use Rattle.ac_terms.specs.declared.pat.Pat.TheVariants as tree
-use Rattle.ac_canon.proofs.PatternForms.{pattern_of-Int}
+use Rattle.ac_terms.proofs.PatternForms.{pattern_of-Int}
 use Rattle.ac_decode.proofs.Integers.{read_fits}
 use Rattle.ac_decode.proofs.heads.pattern_int.Goals as goal
 

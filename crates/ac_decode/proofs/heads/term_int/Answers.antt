@@ -6,7 +6,7 @@ use Rattle.ac_types.specs.Types.{Bytes}
 use Rattle.ac_terms.specs.Terms.{Expr, Int}
 use Rattle.ac_terms.specs.Read.{expr_of}
 use Rattle.ac_terms.specs.declared.term.Term.TheVariants as tree
-use Rattle.ac_canon.proofs.TermForms.{expr_of-Int}
+use Rattle.ac_terms.proofs.TermForms.{expr_of-Int}
 use Rattle.ac_decode.proofs.Integers.{read_fits}
 use Rattle.ac_decode.proofs.heads.term_int.Goals as goal
 

@@ -6,7 +6,7 @@ use Rattle.ac_types.specs.Types.{Bytes}
 use Rattle.ac_terms.specs.Terms.{PValue, KInt}
 use Rattle.ac_terms.specs.Read.{value_of}
 use Rattle.ac_terms.specs.declared.term.PVal.TheVariants as tree
-use Rattle.ac_canon.proofs.ValueForms.{value_of-Int}
+use Rattle.ac_terms.proofs.ValueForms.{value_of-Int}
 use Rattle.ac_decode.proofs.Integers.{read_fits}
 use Rattle.ac_decode.proofs.heads.value_int.Goals as goal
 

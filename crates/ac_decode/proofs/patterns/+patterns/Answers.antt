@@ -3,7 +3,7 @@ use Rattle.std.proofs.lemmas.Result.{err_from_is_err_and}
 use Rattle.ac_terms.specs.Terms.{Pattern, PTuple, PCons, PPresent, PExnOf, no_patterns, pattern', patterns}
 use Rattle.ac_terms.specs.Read.{pattern_of}
 use Rattle.ac_terms.specs.declared.pat.Pat.{Pat}
-use Rattle.ac_decode.specs.ExactTerms.{exact_pattern}
+use Rattle.ac_decode.specs.inner.ExactTerms.{exact_pattern}
 use Rattle.ac_terms.specs.PacketReading.{times}
 use Rattle.ac_pieces.proofs.Loops.{with_front, starts, goes_on, ends, all_read}
 use Rattle.ac_decode.specs.inner.Follows.{pattern_follows}

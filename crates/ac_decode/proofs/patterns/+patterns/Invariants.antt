@@ -1,7 +1,7 @@
 use Rattle.std.proofs.Common.{◌≡◌, ◌-◌, ◌+◌, ◌*◌, map}
 use Rattle.ac_terms.specs.Terms.{no_patterns, pattern'}
 use Rattle.ac_terms.specs.Read.{pattern_of}
-use Rattle.ac_decode.specs.ExactTerms.{exact_pattern}
+use Rattle.ac_decode.specs.inner.ExactTerms.{exact_pattern}
 use Rattle.ac_terms.specs.PacketReading.{times}
 use Rattle.ac_pieces.proofs.Loops.{with_front}
 use Rattle.ac_decode.proofs.patterns.+patterns.Given as goal

@@ -8,7 +8,7 @@ use Rattle.ac_terms.specs.declared.term.Term.{Term}
 use Rattle.ac_terms.specs.declared.term.Arm.{Arm}
 use Rattle.ac_terms.specs.declared.term.PVal.{PVal}
 use Rattle.ac_canon.specs.inner.Arms.{arm_of}
-use Rattle.ac_decode.specs.ExactTerms.{an_arm, exact_cases, exact_pattern, exact_term, exact_value}
+use Rattle.ac_decode.specs.inner.ExactTerms.{an_arm, exact_cases, exact_pattern, exact_term, exact_value}
 use Rattle.ac_terms.specs.PacketReading.{times, pair}
 use Rattle.ac_pieces.proofs.Loops.{with_front, starts, goes_on, ends, all_read}
 use Rattle.ac_decode.specs.inner.Follows.{term_follows, value_follows, put_around, put_joint, put_row, put_cases}

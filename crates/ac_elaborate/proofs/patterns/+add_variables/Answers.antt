@@ -3,7 +3,7 @@ use Rattle.ac_syntax.specs.declared.surface.SPat.{SPat}
 use Rattle.ac_syntax.specs.Trees.{NameAt, pat_trees}
 use Rattle.ac_syntax.specs.ReadTrees.{name_of, pat_of}
 use Rattle.ac_scopes.specs.Written.{variables, variables_of_all}
-use Rattle.ac_elaborate.proofs.Lists.{lengthened, lengthened_all}
+use Rattle.ac_types.proofs.Loops.{lengthened, lengthened_all}
 use Rattle.ac_elaborate.proofs.patterns.+add_variables.Goals as goal
 
 abbrev of_all : List SPat → List NameAt

@@ -1,6 +1,6 @@
 use Rattle.std.proofs.Common.{◌≡◌, arith, length}
 use Rattle.ac_terms.specs.Read.{pattern_of}
-use Rattle.ac_elaborate.proofs.Lists.{built}
+use Rattle.ac_types.proofs.Loops.{built}
 use Rattle.ac_outer.specs.Fronts.{scope_of}
 use Rattle.ac_elaborate.proofs.Made.{pattern_made, all_patterns}
 use Rattle.ac_elaborate.proofs.patterns.+pattern.Goals as goal

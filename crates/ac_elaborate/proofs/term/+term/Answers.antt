@@ -5,13 +5,13 @@ use Rattle.std.specs.Prelude.{IfOk}
 use Rattle.ac_terms.specs.Terms.{Expr}
 use Rattle.ac_scopes.specs.Written.{term_in}
 use Rattle.ac_scopes.specs.Searches.{found}
-use Rattle.ac_elaborate.proofs.TreeLaws.{expr_of-Of}
+use Rattle.ac_syntax.proofs.TreeLaws.{expr_of-Of}
 use Rattle.ac_syntax.specs.ReadTrees.{expr_of as tree_of}
 use Rattle.ac_elaborate.specs.inner.Crowd.{crowd}
 use Rattle.ac_elaborate.proofs.Within.{found_in_arm, item_within, item_arm_within}
 use Rattle.ac_terms.specs.Read.{expr_of}
 use Rattle.ac_elaborate.specs.inner.Arms.{read_arm}
-use Rattle.ac_elaborate.proofs.Lists.{built}
+use Rattle.ac_types.proofs.Loops.{built}
 use Rattle.ac_outer.specs.Fronts.{scope_of}
 use Rattle.ac_elaborate.proofs.Made.{term_made, all_terms, arm_made, all_arms}
 use Rattle.ac_elaborate.proofs.term.+term.Goals as goal

@@ -1,6 +1,6 @@
 use Rattle.std.proofs.Common.{◌∙◌, ap, sym}
 use Rattle.ac_scopes.specs.Written.{primitive_at}
-use Rattle.ac_elaborate.proofs.TreeLaws.{expr_of-Of}
+use Rattle.ac_syntax.proofs.TreeLaws.{expr_of-Of}
 use Rattle.ac_elaborate.proofs.term.primitive_at.Goals as goal
 
 pub returns-in-Of : goal.returns-in-Of

@@ -5,7 +5,7 @@ use Rattle.std.proofs.Common.{rules, ◌∷◌, ◌∙◌, ap, sym, subst, w64, 
 use Rattle.std.proofs.lemmas.Int.{to_z-of_z}
 use Rattle.ac_syntax.specs.Signs.{Sign}
 use Rattle.ac_syntax.specs.Trees.{PatTree, Tree, ExInt, trees, arm_trees, height, highest, highest_arm}
-use Rattle.ac_syntax.specs.Expressions.{Operator, Expr, Part, Binary, After, Unary, App, Args, Atom, front, IsTree}
+use Rattle.ac_syntax.specs.Expressions.{Expr, Part, Binary, After, Unary, App, Args, Atom, front, IsTree}
 use Rattle.ac_syntax.specs.ReadSigns.{read_signs}
 use Rattle.ac_syntax.specs.ReadTrees.{pat_of, expr_of, arm_of}
 use Rattle.ac_syntax.specs.declared.surface.SExpr.{SExpr}
@@ -13,23 +13,16 @@ use Rattle.ac_syntax.specs.declared.surface.SArm.{SArm}
 use Rattle.ac_syntax.specs.declared.surface.SPat.{SPat}
 use Rattle.ac_syntax.specs.declared.sign.Symbol.TheVariants.{Close, Comma, Semicolon, In}
 use Rattle.ac_syntax.proofs.OnStop.{on_syntax_more, refused}
-use Rattle.ac_expressions.specs.ExpressionParsing.{Nothing, Before, Made}
-use Rattle.ac_expressions.specs.inner.Forms.{Same, NoTree, IsLastPart, operator_read, OperatorAt, IsLastOperand, IsArm, IsArms, IsParts, sequence_tree}
+use Rattle.ac_expressions.specs.ExpressionParsing.{Before, Made}
+use Rattle.ac_expressions.specs.inner.Forms.{Same, NoTree, IsLastPart, operator_read, IsArm, IsArms, IsParts, sequence_tree}
 use Rattle.ac_expressions.proofs.ExprLaws.{arm_of-made}
 use Rattle.ac_expressions.proofs.Readers.{word_at, second_read, then, first_none, behind, no_symbol, behind_none, before, before_none}
-use Rattle.ac_expressions.proofs.Levels.{flat_none, one_tree, same_then, same_none, args_ended, argument_none, argument_high, next_argument, applied_none, same_applied, same_operand, prefixed_none, prefixed_tree, second_none, lone_tree, minus_none, minus_tree, not_none, not_tree, app_tree, app_none, unary_tree, unary_none, joined_height, operand_none, binary_tree, after_none, after_ended, left_step, right_step, once_step, goes_on, past_operator}
+use Rattle.ac_expressions.proofs.Levels.{flat_none, same_then, same_none, args_ended, argument_none, argument_high, next_argument, applied_none, same_applied, same_operand, prefixed_none, prefixed_tree, second_none, lone_tree, minus_none, minus_tree, not_none, not_tree, app_tree, app_none, unary_tree, unary_none, joined_height, operand_none, binary_tree, after_none, after_ended, left_step, right_step, once_step, goes_on, past_operator}
 use Rattle.ac_expressions.proofs.Words.{operators_tree, operators_none, let_back, let_none, let_rec_back, let_rec_none, fun_back, fun_none, rec_back, rec_none, if_back, if_none, marshal_back, marshal_none, unmarshal_back, unmarshal_none, raise_back, raise_none}
 use Rattle.ac_expressions.proofs.Atoms.{first_arm, next_arm, highest_next_arm, item_read, next_part, highest_next, unit_tree, nil_tree, absent_tree, parens_tree, tuple_high, tuple_none, tuple_made, second_item_none, second_part_none, arms_none, next_arm_none, unended_arms, all_arms, item_none, unended_items, all_items, next_part_none, all_parts, part_none, alone_tree, sequence_high, sequence_none, sequence_made, match_none, match_tree, try_none, try_tree, nil_none, absent_none, opened_none, unclosed_none, leaf_tree, leaf_none}
+use Rattle.ac_expressions.proofs.LastOperands.{no_operand, not_last}
 use Rattle.ac_expressions.proofs.NoForms.{unbefore, arm_no_pattern, arm_no_arrow, arm_no_body, choice_no_arms, let_no_bound, let_no_body, let_rec_no_bound, let_rec_no_body, rec_no_body, fun_no_arrow, fun_no_body, if_no_so, if_no_otherwise, marshal_no_value, marshal_no_type, unmarshal_no_type, raise_no_type}
 use Rattle.ac_expressions.proofs.expressions.+expressions.Goals as goal
-
-no_operand : {level depth : ℕ} {ts : List Sign} → NoTree depth (Binary (level - 1)) ts → Nothing (IsLastOperand level depth) ts
-no_operand none' e s o = none' e s o.is
-
-not_last : {level depth : ℕ} {o : Operator} {b : Tree} {ts rest behind : List Sign} → IsTree depth (Binary (level - 1)) ts b rest → OperatorAt level o rest behind → Nothing (IsLastOperand level depth) ts
-not_last {level} {depth} {o} {behind = behind} v w e s l =
-    let d = one_tree depth (Binary (level - 1)) _ _ _ _ _ v l.is in
-    l.ends o behind (subst (λ (m : List Sign). OperatorAt level o m behind) d.1 w)
 
 pub before-returns-in_err-tree-clause-none : goal.before-returns-in_err-tree-clause-none
 before-returns-in_err-tree-clause-none t c =
@@ -84,8 +77,7 @@ arms-returns-in_err-end-clause-none t c =
     rw (p.1, p.2) (on_syntax_more _ (unended_arms _ _ _ _ c.loop-behind.invariant.read c.in_default.ensures.found) c.in_err-end.ensures.none)
 
 pub arms-returns-clause-tree : goal.arms-returns-clause-tree
-arms-returns-clause-tree t c =
-    all_arms _ _ _ _ c.loop-behind.invariant.read _ c.in_ok-end.ensures.found
+arms-returns-clause-tree t c = all_arms _ _ _ _ c.loop-behind.invariant.read _ c.in_ok-end.ensures.found
 
 pub choice-returns-in_err-of-clause-none : goal.choice-returns-in_err-of-clause-none
 choice-returns-in_err-of-clause-none t c =
@@ -98,8 +90,7 @@ choice-returns-in_err-arms-clause-none t c =
     rw (p.1, p.2) (on_syntax_more _ (choice_no_arms _ _ _ _ _ c.in_ok-of.ensures.tree c.after_bar.ensures.found) c.in_err-arms.ensures.none)
 
 pub choice-returns-clause-tree : goal.choice-returns-clause-tree
-choice-returns-clause-tree t c =
-    then _ c.in_ok-of.ensures.tree (subst (λ (l : List Sign). IsArms c.args.depth l (map arm_of c.in_ok-arms.arms) (read_signs c.in_ok-arms.rest.now)) c.after_bar.ensures.found c.in_ok-arms.ensures.tree)
+choice-returns-clause-tree t c = then _ c.in_ok-of.ensures.tree (subst (λ (l : List Sign). IsArms c.args.depth l (map arm_of c.in_ok-arms.arms) (read_signs c.in_ok-arms.rest.now)) c.after_bar.ensures.found c.in_ok-arms.ensures.tree)
 
 pub tuple-returns-in_err-second-clause-none : goal.tuple-returns-in_err-second-clause-none
 tuple-returns-in_err-second-clause-none t c =
@@ -117,8 +108,7 @@ tuple-returns-in_err-end-clause-none t c =
     rw (p.1, p.2) (on_syntax_more _ (unended_items _ _ _ _ _ c.loop-behind.invariant.read c.in_default.ensures.found) c.in_err-end.ensures.none)
 
 pub tuple-returns-clause-tree : goal.tuple-returns-clause-tree
-tuple-returns-clause-tree t c =
-    all_items _ _ _ _ _ c.loop-behind.invariant.read _ _ _ c.in_ok-end.ensures.found c.in_ok-tuple.ensures.tree
+tuple-returns-clause-tree t c = all_items _ _ _ _ _ c.loop-behind.invariant.read _ _ _ c.in_ok-end.ensures.found c.in_ok-tuple.ensures.tree
 
 pub opened-returns-in_err-behind-clause-none : goal.opened-returns-in_err-behind-clause-none
 opened-returns-in_err-behind-clause-none t c =
@@ -161,8 +151,7 @@ let_in-returns-in_err-body-clause-none t c =
     rw (p.1, p.2) (on_syntax_more _ (let_no_body _ _ _ _ c.in_ok-binder.ensures.found _ _ c.in_ok-bound.ensures.tree) c.in_err-body.ensures.none)
 
 pub let_in-returns-clause-tree : goal.let_in-returns-clause-tree
-let_in-returns-clause-tree t c =
-    record { parts = _; is = c.in_ok-let_in.ensures.tree; read = then _ c.in_ok-binder.ensures.found (then _ c.in_ok-bound.ensures.tree c.in_ok-body.ensures.tree) }
+let_in-returns-clause-tree t c = record { parts = _; is = c.in_ok-let_in.ensures.tree; read = then _ c.in_ok-binder.ensures.found (then _ c.in_ok-bound.ensures.tree c.in_ok-body.ensures.tree) }
 
 pub let_rec-returns-in_err-head-clause-none : goal.let_rec-returns-in_err-head-clause-none
 let_rec-returns-in_err-head-clause-none t c =
@@ -180,8 +169,7 @@ let_rec-returns-in_err-body-clause-none t c =
     rw (p.1, p.2) (on_syntax_more _ (let_rec_no_body _ _ _ _ c.in_ok-head.ensures.found _ _ c.in_ok-bound.ensures.tree) c.in_err-body.ensures.none)
 
 pub let_rec-returns-clause-tree : goal.let_rec-returns-clause-tree
-let_rec-returns-clause-tree t c =
-    record { parts = _; is = c.in_ok-let_rec.ensures.tree; read = then _ c.in_ok-head.ensures.found (then _ c.in_ok-bound.ensures.tree c.in_ok-body.ensures.tree) }
+let_rec-returns-clause-tree t c = record { parts = _; is = c.in_ok-let_rec.ensures.tree; read = then _ c.in_ok-head.ensures.found (then _ c.in_ok-bound.ensures.tree c.in_ok-body.ensures.tree) }
 
 pub fun-returns-in_err-binder-clause-none : goal.fun-returns-in_err-binder-clause-none
 fun-returns-in_err-binder-clause-none t c =
@@ -199,8 +187,7 @@ fun-returns-in_err-body-clause-none t c =
     rw (p.1, p.2) (on_syntax_more _ (fun_no_body _ _ _ _ c.in_ok-binder.ensures.found _ c.in_ok-later.ensures.found) c.in_err-body.ensures.none)
 
 pub fun-returns-clause-tree : goal.fun-returns-clause-tree
-fun-returns-clause-tree t c =
-    record { parts = _; is = c.in_ok-fun.ensures.tree; read = then _ c.in_ok-binder.ensures.found (behind c.in_ok-later.ensures.found c.in_ok-body.ensures.tree) }
+fun-returns-clause-tree t c = record { parts = _; is = c.in_ok-fun.ensures.tree; read = then _ c.in_ok-binder.ensures.found (behind c.in_ok-later.ensures.found c.in_ok-body.ensures.tree) }
 
 pub rec-returns-in_err-head-clause-none : goal.rec-returns-in_err-head-clause-none
 rec-returns-in_err-head-clause-none t c =
@@ -213,8 +200,7 @@ rec-returns-in_err-body-clause-none t c =
     rw (p.1, p.2) (on_syntax_more _ (rec_no_body _ _ _ _ c.in_ok-head.ensures.found) c.in_err-body.ensures.none)
 
 pub rec-returns-clause-tree : goal.rec-returns-clause-tree
-rec-returns-clause-tree t c =
-    record { parts = _; is = c.in_ok-rec.ensures.tree; read = then _ c.in_ok-head.ensures.found c.in_ok-body.ensures.tree }
+rec-returns-clause-tree t c = record { parts = _; is = c.in_ok-rec.ensures.tree; read = then _ c.in_ok-head.ensures.found c.in_ok-body.ensures.tree }
 
 pub if_else-returns-in_err-test-clause-none : goal.if_else-returns-in_err-test-clause-none
 if_else-returns-in_err-test-clause-none t c =
@@ -232,8 +218,7 @@ if_else-returns-in_err-otherwise-clause-none t c =
     rw (p.1, p.2) (on_syntax_more _ (if_no_otherwise _ _ _ _ c.in_ok-test.ensures.tree _ _ c.in_ok-so.ensures.tree) c.in_err-otherwise.ensures.none)
 
 pub if_else-returns-clause-tree : goal.if_else-returns-clause-tree
-if_else-returns-clause-tree t c =
-    record { parts = _; is = c.in_ok-if_else.ensures.tree; read = then _ c.in_ok-test.ensures.tree (then _ c.in_ok-so.ensures.tree c.in_ok-otherwise.ensures.tree) }
+if_else-returns-clause-tree t c = record { parts = _; is = c.in_ok-if_else.ensures.tree; read = then _ c.in_ok-test.ensures.tree (then _ c.in_ok-so.ensures.tree c.in_ok-otherwise.ensures.tree) }
 
 pub marshal-returns-in_err-mark-clause-none : goal.marshal-returns-in_err-mark-clause-none
 marshal-returns-in_err-mark-clause-none t c =
@@ -251,8 +236,7 @@ marshal-returns-in_err-ty-clause-none t c =
     rw (p.1, p.2) (on_syntax_more _ (marshal_no_type _ _ _ _ c.in_ok-mark.ensures.tree _ _ c.in_ok-value.ensures.tree) c.in_err-ty.ensures.none)
 
 pub marshal-returns-clause-tree : goal.marshal-returns-clause-tree
-marshal-returns-clause-tree t c =
-    record { parts = _; is = c.in_ok-marshal.ensures.tree; read = then _ c.in_ok-mark.ensures.tree (then _ c.in_ok-value.ensures.tree c.in_ok-ty.ensures.found) }
+marshal-returns-clause-tree t c = record { parts = _; is = c.in_ok-marshal.ensures.tree; read = then _ c.in_ok-mark.ensures.tree (then _ c.in_ok-value.ensures.tree c.in_ok-ty.ensures.found) }
 
 pub unmarshal-returns-in_err-text-clause-none : goal.unmarshal-returns-in_err-text-clause-none
 unmarshal-returns-in_err-text-clause-none t c =
@@ -265,8 +249,7 @@ unmarshal-returns-in_err-ty-clause-none t c =
     rw (p.1, p.2) (on_syntax_more _ (unmarshal_no_type _ _ _ _ c.in_ok-text.ensures.tree) c.in_err-ty.ensures.none)
 
 pub unmarshal-returns-clause-tree : goal.unmarshal-returns-clause-tree
-unmarshal-returns-clause-tree t c =
-    record { parts = _; is = c.in_ok-unmarshal.ensures.tree; read = then _ c.in_ok-text.ensures.tree c.in_ok-ty.ensures.found }
+unmarshal-returns-clause-tree t c = record { parts = _; is = c.in_ok-unmarshal.ensures.tree; read = then _ c.in_ok-text.ensures.tree c.in_ok-ty.ensures.found }
 
 pub raise-returns-in_err-exception-clause-none : goal.raise-returns-in_err-exception-clause-none
 raise-returns-in_err-exception-clause-none t c =
@@ -279,28 +262,22 @@ raise-returns-in_err-ty-clause-none t c =
     rw (p.1, p.2) (on_syntax_more _ (raise_no_type _ _ _ _ c.in_ok-exception.ensures.tree) c.in_err-ty.ensures.none)
 
 pub raise-returns-clause-tree : goal.raise-returns-clause-tree
-raise-returns-clause-tree t c =
-    record { parts = _; is = c.in_ok-raise.ensures.tree; read = then _ c.in_ok-exception.ensures.tree c.in_ok-ty.ensures.found }
+raise-returns-clause-tree t c = record { parts = _; is = c.in_ok-raise.ensures.tree; read = then _ c.in_ok-exception.ensures.tree c.in_ok-ty.ensures.found }
 
 pub part-returns-in_default-clause-tree : goal.part-returns-in_default-clause-tree
-part-returns-in_default-clause-tree t c =
-    IfOk-weaker c.binary.result _ _ (λ x o. operators_tree _ _ _ _ o) c.binary.ensures.tree
+part-returns-in_default-clause-tree t c = IfOk-weaker c.binary.result _ _ (λ x o. operators_tree _ _ _ _ o) c.binary.ensures.tree
 
 pub part-returns-in_default-clause-none : goal.part-returns-in_default-clause-none
-part-returns-in_default-clause-none t c =
-    IfErr-weaker c.binary.result _ _ (λ e o. on_syntax_more e (operators_none _ _ c.in_default.ensures.found) o) c.binary.ensures.none
+part-returns-in_default-clause-none t c = IfErr-weaker c.binary.result _ _ (λ e o. on_syntax_more e (operators_none _ _ c.in_default.ensures.found) o) c.binary.ensures.none
 
 pub part-returns-then-depth-eq0-clause-none : goal.part-returns-then-depth-eq0-clause-none
-part-returns-then-depth-eq0-clause-none t c =
-    refused _ _ c.refused_at.ensures (flat_none _ _ _ c.if-depth-eq0.true)
+part-returns-then-depth-eq0-clause-none t c = refused _ _ c.refused_at.ensures (flat_none _ _ _ c.if-depth-eq0.true)
 
 pub part-returns-clause-tree : goal.part-returns-clause-tree
-part-returns-clause-tree t c =
-    IfOk-weaker c.keyword_part.result _ _ (λ x o. subst (λ (l : List Sign). IsTree c.args.depth Part l (expr_of x.0.tree) (read_signs x.1.now)) (sym (word_at c.in-Some.ensures.found c.here.ensures)) o) c.keyword_part.ensures.tree
+part-returns-clause-tree t c = IfOk-weaker c.keyword_part.result _ _ (λ x o. subst (λ (l : List Sign). IsTree c.args.depth Part l (expr_of x.0.tree) (read_signs x.1.now)) (sym (word_at c.in-Some.ensures.found c.here.ensures)) o) c.keyword_part.ensures.tree
 
 pub part-returns-clause-none : goal.part-returns-clause-none
-part-returns-clause-none t c =
-    IfErr-weaker c.keyword_part.result _ _ (λ e o. on_syntax_more e (λ n. subst (λ (l : List Sign). NoTree c.args.depth Part l) (sym (word_at c.in-Some.ensures.found c.here.ensures)) n) o) c.keyword_part.ensures.none
+part-returns-clause-none t c = IfErr-weaker c.keyword_part.result _ _ (λ e o. on_syntax_more e (λ n. subst (λ (l : List Sign). NoTree c.args.depth Part l) (sym (word_at c.in-Some.ensures.found c.here.ensures)) n) o) c.keyword_part.ensures.none
 
 pub expr-returns-in_err-first-clause-none : goal.expr-returns-in_err-first-clause-none
 expr-returns-in_err-first-clause-none t c =
@@ -308,12 +285,10 @@ expr-returns-in_err-first-clause-none t c =
     rw (p.1, p.2) (on_syntax_more _ (part_none _ _) c.in_err-first.ensures.none)
 
 pub expr-returns-in_default-clause-tree : goal.expr-returns-in_default-clause-tree
-expr-returns-in_default-clause-tree t c =
-    alone_tree _ _ _ _ c.in_ok-first.ensures.tree c.in_default.ensures.found
+expr-returns-in_default-clause-tree t c = alone_tree _ _ _ _ c.in_ok-first.ensures.tree c.in_default.ensures.found
 
 pub expr-returns-then-first-depth-clause-none : goal.expr-returns-then-first-depth-clause-none
-expr-returns-then-first-depth-clause-none t c =
-    refused _ _ c.refused_at.ensures (sequence_high _ _ _ _ _ c.in_ok-first.ensures.tree c.in-Some.ensures.found (subst (λ (n : ℕ). c.args.depth ≤ n) c.in_ok-first.ensures.height c.if-first-depth.true))
+expr-returns-then-first-depth-clause-none t c = refused _ _ c.refused_at.ensures (sequence_high _ _ _ _ _ c.in_ok-first.ensures.tree c.in-Some.ensures.found (subst (λ (n : ℕ). c.args.depth ≤ n) c.in_ok-first.ensures.height c.if-first-depth.true))
 
 pub expr-returns-clause-tree : goal.expr-returns-clause-tree
 expr-returns-clause-tree t c =
@@ -323,8 +298,7 @@ expr-returns-clause-tree t c =
     (subst (λ (at : ℕ). Made (IsParts (c.args.depth - 1)) (sequence_tree at (expr_of c.in_ok-first.first.tree)) (read_signs c.in-Some.behind.now) (expr_of x.0.tree) (read_signs x.1.now)) c.here.ensures o)) c.sequence.ensures.tree
 
 pub expr-returns-clause-none : goal.expr-returns-clause-none
-expr-returns-clause-none t c =
-    IfErr-weaker c.sequence.result _ _ (λ e o. on_syntax_more e (sequence_none _ _ _ _ _ c.in_ok-first.ensures.tree c.in-Some.ensures.found) o) c.sequence.ensures.none
+expr-returns-clause-none t c = IfErr-weaker c.sequence.result _ _ (λ e o. on_syntax_more e (sequence_none _ _ _ _ _ c.in_ok-first.ensures.tree c.in-Some.ensures.found) o) c.sequence.ensures.none
 
 pub sequence-returns-in_err-second-clause-none : goal.sequence-returns-in_err-second-clause-none
 sequence-returns-in_err-second-clause-none t c =
@@ -337,20 +311,16 @@ sequence-returns-in_err-next-clause-none t c =
     rw (p.1, p.2) (on_syntax_more _ (next_part_none _ _ _ _ _ c.loop-behind.invariant.read _ c.in-Some.ensures.found) c.in_err-next.ensures.none)
 
 pub sequence-returns-clause-tree : goal.sequence-returns-clause-tree
-sequence-returns-clause-tree t c =
-    all_parts _ _ _ _ _ c.loop-behind.invariant.read _ _ c.in_default.ensures.found c.in_ok-sequence.ensures.tree
+sequence-returns-clause-tree t c = all_parts _ _ _ _ _ c.loop-behind.invariant.read _ _ c.in_default.ensures.found c.in_ok-sequence.ensures.tree
 
 pub atom-returns-then-depth-eq0-clause-none : goal.atom-returns-then-depth-eq0-clause-none
-atom-returns-then-depth-eq0-clause-none t c =
-    refused _ _ c.refused_at.ensures (flat_none _ _ _ c.if-depth-eq0.true)
+atom-returns-then-depth-eq0-clause-none t c = refused _ _ c.refused_at.ensures (flat_none _ _ _ c.if-depth-eq0.true)
 
 pub atom-returns-in-Some-clause-tree : goal.atom-returns-in-Some-clause-tree
-atom-returns-in-Some-clause-tree t c =
-    IfOk-weaker c.opened.result _ _ (λ x o. subst (λ (l : List Sign). IsTree c.args.depth Atom l (expr_of x.0.tree) (read_signs x.1.now)) (sym (word_at c.in-Some.ensures.found c.here-at.ensures)) o) c.opened.ensures.tree
+atom-returns-in-Some-clause-tree t c = IfOk-weaker c.opened.result _ _ (λ x o. subst (λ (l : List Sign). IsTree c.args.depth Atom l (expr_of x.0.tree) (read_signs x.1.now)) (sym (word_at c.in-Some.ensures.found c.here-at.ensures)) o) c.opened.ensures.tree
 
 pub atom-returns-in-Some-clause-none : goal.atom-returns-in-Some-clause-none
-atom-returns-in-Some-clause-none t c =
-    IfErr-weaker c.opened.result _ _ (λ e o. on_syntax_more e (λ n. subst (λ (l : List Sign). NoTree c.args.depth Atom l) (sym (word_at c.in-Some.ensures.found c.here-at.ensures)) n) o) c.opened.ensures.none
+atom-returns-in-Some-clause-none t c = IfErr-weaker c.opened.result _ _ (λ e o. on_syntax_more e (λ n. subst (λ (l : List Sign). NoTree c.args.depth Atom l) (sym (word_at c.in-Some.ensures.found c.here-at.ensures)) n) o) c.opened.ensures.none
 
 pub atom-returns-in_err-choice-clause-none : goal.atom-returns-in_err-choice-clause-none
 atom-returns-in_err-choice-clause-none t c =
@@ -383,12 +353,10 @@ atom-returns-clause-tree t c =
     subst (λ (e : SExpr). IsTree c.args.depth Atom (read_signs c.args.signs.now) (expr_of e) (read_signs c.in_ok-tree.rest.now)) (sym c.in_ok-tree-2.ensures) (leaf_tree _ _ _ _ pos c.in_ok-tree.ensures.found)
 
 pub atom-returns-clause-height : goal.atom-returns-clause-height
-atom-returns-clause-height t c =
-    sym (ap (λ (e : SExpr). height (expr_of e)) c.in_ok-tree-2.ensures ∙ c.in_ok-tree.ensures.found.leaf)
+atom-returns-clause-height t c = sym (ap (λ (e : SExpr). height (expr_of e)) c.in_ok-tree-2.ensures ∙ c.in_ok-tree.ensures.found.leaf)
 
 pub app-returns-then-depth-eq0-clause-none : goal.app-returns-then-depth-eq0-clause-none
-app-returns-then-depth-eq0-clause-none t c =
-    refused _ _ c.refused_at.ensures (flat_none _ _ _ c.if-depth-eq0.true)
+app-returns-then-depth-eq0-clause-none t c = refused _ _ c.refused_at.ensures (flat_none _ _ _ c.if-depth-eq0.true)
 
 pub app-returns-in_err-item-clause-none : goal.app-returns-in_err-item-clause-none
 app-returns-in_err-item-clause-none t c =
@@ -417,24 +385,19 @@ minus-returns-in_err-operand-clause-none t c =
     rw (p.1, p.2) (on_syntax_more _ (minus_none _ _ _ c.in_default.ensures.found c.requires) c.in_err-operand.ensures.none)
 
 pub minus-returns-clause-tree : goal.minus-returns-clause-tree
-minus-returns-clause-tree t c =
-    minus_tree _ _ _ c.in_default.ensures.found c.requires _ _ _ c.in_ok-operand.ensures.tree c.in_ok-operation.ensures.tree
+minus-returns-clause-tree t c = minus_tree _ _ _ c.in_default.ensures.found c.requires _ _ _ c.in_ok-operand.ensures.tree c.in_ok-operation.ensures.tree
 
 pub unary-returns-then-depth-eq0-clause-none : goal.unary-returns-then-depth-eq0-clause-none
-unary-returns-then-depth-eq0-clause-none t c =
-    refused _ _ c.refused_at.ensures (flat_none _ _ _ c.if-depth-eq0.true)
+unary-returns-then-depth-eq0-clause-none t c = refused _ _ c.refused_at.ensures (flat_none _ _ _ c.if-depth-eq0.true)
 
 pub unary-returns-in-Some-clause-tree : goal.unary-returns-in-Some-clause-tree
-unary-returns-in-Some-clause-tree t c =
-    IfOk-weaker c.minus.result _ _ (λ x o. subst (λ (l : List Sign). IsTree c.args.depth Unary l (expr_of x.0.tree) (read_signs x.1.now)) (sym (word_at c.in-Some.ensures.found c.here-at.ensures)) o) c.minus.ensures.tree
+unary-returns-in-Some-clause-tree t c = IfOk-weaker c.minus.result _ _ (λ x o. subst (λ (l : List Sign). IsTree c.args.depth Unary l (expr_of x.0.tree) (read_signs x.1.now)) (sym (word_at c.in-Some.ensures.found c.here-at.ensures)) o) c.minus.ensures.tree
 
 pub unary-returns-in-Some-clause-none : goal.unary-returns-in-Some-clause-none
-unary-returns-in-Some-clause-none t c =
-    IfErr-weaker c.minus.result _ _ (λ e o. on_syntax_more e (λ n. subst (λ (l : List Sign). NoTree c.args.depth Unary l) (sym (word_at c.in-Some.ensures.found c.here-at.ensures)) n) o) c.minus.ensures.none
+unary-returns-in-Some-clause-none t c = IfErr-weaker c.minus.result _ _ (λ e o. on_syntax_more e (λ n. subst (λ (l : List Sign). NoTree c.args.depth Unary l) (sym (word_at c.in-Some.ensures.found c.here-at.ensures)) n) o) c.minus.ensures.none
 
 pub unary-returns-then-depth-eq0-2-clause-none : goal.unary-returns-then-depth-eq0-2-clause-none
-unary-returns-then-depth-eq0-2-clause-none t c =
-    refused _ _ c.refused_at-then-depth-eq0-2.ensures (flat_none _ _ _ c.if-depth-eq0-2.true)
+unary-returns-then-depth-eq0-2-clause-none t c = refused _ _ c.refused_at-then-depth-eq0-2.ensures (flat_none _ _ _ c.if-depth-eq0-2.true)
 
 pub unary-returns-in_err-operand-clause-none : goal.unary-returns-in_err-operand-clause-none
 unary-returns-in_err-operand-clause-none t c =
@@ -447,12 +410,10 @@ unary-returns-in-Some-after-clause-tree t c =
     let pos : 0 < c.args.depth = omega (arith, c.if-depth-eq0-2.false) in not_tree _ _ _ c.in-Some-after.ensures.found pos _ _ _ _ c.here-at.ensures c.in_ok-operand.ensures.tree c.in_ok-operation.ensures.tree
 
 pub unary-returns-clause-tree : goal.unary-returns-clause-tree
-unary-returns-clause-tree t c =
-    IfOk-weaker c.app.result _ _ (λ x o. app_tree _ _ _ _ o) c.app.ensures.tree
+unary-returns-clause-tree t c = IfOk-weaker c.app.result _ _ (λ x o. app_tree _ _ _ _ o) c.app.ensures.tree
 
 pub unary-returns-clause-none : goal.unary-returns-clause-none
-unary-returns-clause-none t c =
-    IfErr-weaker c.app.result _ _ (λ e o. on_syntax_more e (app_none _ _ c.in_default.ensures.found c.in_default-after.ensures.found) o) c.app.ensures.none
+unary-returns-clause-none t c = IfErr-weaker c.app.result _ _ (λ e o. on_syntax_more e (app_none _ _ c.in_default.ensures.found c.in_default-after.ensures.found) o) c.app.ensures.none
 
 pub to_right-returns-in_default-clause-tree : goal.to_right-returns-in_default-clause-tree
 to_right-returns-in_default-clause-tree t c =
@@ -477,12 +438,10 @@ once-returns-then-first-depth-clause-none t c =
     refused _ _ c.refused_at.ensures (s.high (subst (λ (n : ℕ). c.args.depth ≤ n) c.requires.first c.if-first-depth.true))
 
 pub binary-returns-then-level-eq0-clause-tree : goal.binary-returns-then-level-eq0-clause-tree
-binary-returns-then-level-eq0-clause-tree t c =
-    IfOk-weaker c.unary.result _ _ (λ x o. unary_tree _ _ _ _ _ c.if-level-eq0.true o) c.unary.ensures.tree
+binary-returns-then-level-eq0-clause-tree t c = IfOk-weaker c.unary.result _ _ (λ x o. unary_tree _ _ _ _ _ c.if-level-eq0.true o) c.unary.ensures.tree
 
 pub binary-returns-then-level-eq0-clause-none : goal.binary-returns-then-level-eq0-clause-none
-binary-returns-then-level-eq0-clause-none t c =
-    IfErr-weaker c.unary.result _ _ (λ e o. on_syntax_more e (unary_none _ _ _ c.if-level-eq0.true) o) c.unary.ensures.none
+binary-returns-then-level-eq0-clause-none t c = IfErr-weaker c.unary.result _ _ (λ e o. on_syntax_more e (unary_none _ _ _ c.if-level-eq0.true) o) c.unary.ensures.none
 
 pub binary-returns-in_err-first-clause-none : goal.binary-returns-in_err-first-clause-none
 binary-returns-in_err-first-clause-none t c =
@@ -547,8 +506,7 @@ next_argument-returns-in_err-argument-clause-none t c =
     rw (p.1, p.2) c.in_err-argument.ensures.none
 
 pub next_argument-returns-clause-tree : goal.next_argument-returns-clause-tree
-next_argument-returns-clause-tree t c =
-    record { parts = _; is = c.in_ok-application.ensures.tree; read = c.in_ok-argument.ensures.tree }
+next_argument-returns-clause-tree t c = record { parts = _; is = c.in_ok-application.ensures.tree; read = c.in_ok-argument.ensures.tree }
 
 pub applied-returns-in_err-function-clause-none : goal.applied-returns-in_err-function-clause-none
 applied-returns-in_err-function-clause-none t c =
@@ -601,8 +559,7 @@ right_side-returns-in_err-right-clause-none t c =
     rw (p.1, p.2) c.in_err-right.ensures.none
 
 pub right_side-returns-clause-tree : goal.right_side-returns-clause-tree
-right_side-returns-clause-tree t c =
-    record { parts = _; is = c.in_ok-join.ensures.tree; read = c.in_ok-right.ensures.tree }
+right_side-returns-clause-tree t c = record { parts = _; is = c.in_ok-join.ensures.tree; read = c.in_ok-right.ensures.tree }
 
 pub to_left-returns-in_err-left-clause-none : goal.to_left-returns-in_err-left-clause-none
 to_left-returns-in_err-left-clause-none t c =
@@ -705,20 +662,16 @@ binary-returns-else-level-eq4-clause-none t c =
     (subst (λ (at : ℕ). NoTree c.args.depth (After c.args.level at (expr_of c.in_ok-first.first.tree)) (read_signs c.in_ok-first.rest.now)) c.here-at.ensures n)) o) c.to_right.ensures.none
 
 pub opened-returns-in-Some-clause-tree : goal.opened-returns-in-Some-clause-tree
-opened-returns-in-Some-clause-tree t c =
-    unit_tree _ _ _ _ _ c.requires c.in-Some.ensures.found c.in_ok-unit.ensures.tree
+opened-returns-in-Some-clause-tree t c = unit_tree _ _ _ _ _ c.requires c.in-Some.ensures.found c.in_ok-unit.ensures.tree
 
 pub opened-returns-in-Some-after-clause-tree : goal.opened-returns-in-Some-after-clause-tree
-opened-returns-in-Some-after-clause-tree t c =
-    nil_tree _ _ _ _ _ _ _ _ c.requires c.in-Some-after.ensures.found c.in_ok-behind.ensures.found c.in_ok-ty.ensures.found c.in_ok-nil.ensures.tree
+opened-returns-in-Some-after-clause-tree t c = nil_tree _ _ _ _ _ _ _ _ c.requires c.in-Some-after.ensures.found c.in_ok-behind.ensures.found c.in_ok-ty.ensures.found c.in_ok-nil.ensures.tree
 
 pub opened-returns-in-Some-after-2-clause-tree : goal.opened-returns-in-Some-after-2-clause-tree
-opened-returns-in-Some-after-2-clause-tree t c =
-    absent_tree _ _ _ _ _ _ _ c.requires c.in-Some-after-2.ensures.found c.in_ok-ty-2.ensures.found c.in_ok-absent.ensures.tree
+opened-returns-in-Some-after-2-clause-tree t c = absent_tree _ _ _ _ _ _ _ c.requires c.in-Some-after-2.ensures.found c.in_ok-ty-2.ensures.found c.in_ok-absent.ensures.tree
 
 pub opened-returns-in-Some-after-3-clause-tree : goal.opened-returns-in-Some-after-3-clause-tree
-opened-returns-in-Some-after-3-clause-tree t c =
-    parens_tree _ _ _ c.in_default.ensures.found c.in_default-after.ensures.found c.in_default-after-2.ensures.found _ _ c.in_ok-first.ensures.tree _ c.in-Some-after-3.ensures.found
+opened-returns-in-Some-after-3-clause-tree t c = parens_tree _ _ _ c.in_default.ensures.found c.in_default-after.ensures.found c.in_default-after-2.ensures.found _ _ c.in_ok-first.ensures.tree _ c.in-Some-after-3.ensures.found
 
 pub opened-returns-then-first-depth-clause-none : goal.opened-returns-then-first-depth-clause-none
 opened-returns-then-first-depth-clause-none t c =
@@ -734,68 +687,52 @@ opened-returns-clause-none t c =
     IfErr-weaker c.tuple.result _ _ (λ e o. on_syntax_more e (tuple_none _ _ _ c.in_default.ensures.found c.in_default-after.ensures.found c.in_default-after-2.ensures.found _ _ c.in_ok-first.ensures.tree _ c.in_default-after-3.ensures.found c.in_ok-behind-2.ensures.found) o) c.tuple.ensures.none
 
 pub keyword_part-returns-in-Fun-clause-tree : goal.keyword_part-returns-in-Fun-clause-tree
-keyword_part-returns-in-Fun-clause-tree t c =
-    rw c.in-Fun.is (IfOk-weaker c.fun.result _ _ (λ x o. fun_back _ _ _ _ _ c.requires o) c.fun.ensures.tree)
+keyword_part-returns-in-Fun-clause-tree t c = rw c.in-Fun.is (IfOk-weaker c.fun.result _ _ (λ x o. fun_back _ _ _ _ _ c.requires o) c.fun.ensures.tree)
 
 pub keyword_part-returns-in-Fun-clause-none : goal.keyword_part-returns-in-Fun-clause-none
-keyword_part-returns-in-Fun-clause-none t c =
-    rw c.in-Fun.is (IfErr-weaker c.fun.result _ _ (λ e o. on_syntax_more e (fun_none _ _ _) o) c.fun.ensures.none)
+keyword_part-returns-in-Fun-clause-none t c = rw c.in-Fun.is (IfErr-weaker c.fun.result _ _ (λ e o. on_syntax_more e (fun_none _ _ _) o) c.fun.ensures.none)
 
 pub keyword_part-returns-in-Rec-clause-tree : goal.keyword_part-returns-in-Rec-clause-tree
-keyword_part-returns-in-Rec-clause-tree t c =
-    rw c.in-Rec.is (IfOk-weaker c.rec.result _ _ (λ x o. rec_back _ _ _ _ _ c.requires o) c.rec.ensures.tree)
+keyword_part-returns-in-Rec-clause-tree t c = rw c.in-Rec.is (IfOk-weaker c.rec.result _ _ (λ x o. rec_back _ _ _ _ _ c.requires o) c.rec.ensures.tree)
 
 pub keyword_part-returns-in-Rec-clause-none : goal.keyword_part-returns-in-Rec-clause-none
-keyword_part-returns-in-Rec-clause-none t c =
-    rw c.in-Rec.is (IfErr-weaker c.rec.result _ _ (λ e o. on_syntax_more e (rec_none _ _ _) o) c.rec.ensures.none)
+keyword_part-returns-in-Rec-clause-none t c = rw c.in-Rec.is (IfErr-weaker c.rec.result _ _ (λ e o. on_syntax_more e (rec_none _ _ _) o) c.rec.ensures.none)
 
 pub keyword_part-returns-in-If-clause-tree : goal.keyword_part-returns-in-If-clause-tree
-keyword_part-returns-in-If-clause-tree t c =
-    rw c.in-If.is (IfOk-weaker c.if_else.result _ _ (λ x o. if_back _ _ _ _ _ c.requires o) c.if_else.ensures.tree)
+keyword_part-returns-in-If-clause-tree t c = rw c.in-If.is (IfOk-weaker c.if_else.result _ _ (λ x o. if_back _ _ _ _ _ c.requires o) c.if_else.ensures.tree)
 
 pub keyword_part-returns-in-If-clause-none : goal.keyword_part-returns-in-If-clause-none
-keyword_part-returns-in-If-clause-none t c =
-    rw c.in-If.is (IfErr-weaker c.if_else.result _ _ (λ e o. on_syntax_more e (if_none _ _ _) o) c.if_else.ensures.none)
+keyword_part-returns-in-If-clause-none t c = rw c.in-If.is (IfErr-weaker c.if_else.result _ _ (λ e o. on_syntax_more e (if_none _ _ _) o) c.if_else.ensures.none)
 
 pub keyword_part-returns-in-Marshal-clause-tree : goal.keyword_part-returns-in-Marshal-clause-tree
-keyword_part-returns-in-Marshal-clause-tree t c =
-    rw c.in-Marshal.is (IfOk-weaker c.marshal.result _ _ (λ x o. marshal_back _ _ _ _ _ c.requires o) c.marshal.ensures.tree)
+keyword_part-returns-in-Marshal-clause-tree t c = rw c.in-Marshal.is (IfOk-weaker c.marshal.result _ _ (λ x o. marshal_back _ _ _ _ _ c.requires o) c.marshal.ensures.tree)
 
 pub keyword_part-returns-in-Marshal-clause-none : goal.keyword_part-returns-in-Marshal-clause-none
-keyword_part-returns-in-Marshal-clause-none t c =
-    rw c.in-Marshal.is (IfErr-weaker c.marshal.result _ _ (λ e o. on_syntax_more e (marshal_none _ _ _) o) c.marshal.ensures.none)
+keyword_part-returns-in-Marshal-clause-none t c = rw c.in-Marshal.is (IfErr-weaker c.marshal.result _ _ (λ e o. on_syntax_more e (marshal_none _ _ _) o) c.marshal.ensures.none)
 
 pub keyword_part-returns-in-Unmarshal-clause-tree : goal.keyword_part-returns-in-Unmarshal-clause-tree
-keyword_part-returns-in-Unmarshal-clause-tree t c =
-    rw c.in-Unmarshal.is (IfOk-weaker c.unmarshal.result _ _ (λ x o. unmarshal_back _ _ _ _ _ c.requires o) c.unmarshal.ensures.tree)
+keyword_part-returns-in-Unmarshal-clause-tree t c = rw c.in-Unmarshal.is (IfOk-weaker c.unmarshal.result _ _ (λ x o. unmarshal_back _ _ _ _ _ c.requires o) c.unmarshal.ensures.tree)
 
 pub keyword_part-returns-in-Unmarshal-clause-none : goal.keyword_part-returns-in-Unmarshal-clause-none
-keyword_part-returns-in-Unmarshal-clause-none t c =
-    rw c.in-Unmarshal.is (IfErr-weaker c.unmarshal.result _ _ (λ e o. on_syntax_more e (unmarshal_none _ _ _) o) c.unmarshal.ensures.none)
+keyword_part-returns-in-Unmarshal-clause-none t c = rw c.in-Unmarshal.is (IfErr-weaker c.unmarshal.result _ _ (λ e o. on_syntax_more e (unmarshal_none _ _ _) o) c.unmarshal.ensures.none)
 
 pub keyword_part-returns-in-Raise-clause-tree : goal.keyword_part-returns-in-Raise-clause-tree
-keyword_part-returns-in-Raise-clause-tree t c =
-    rw c.in-Raise.is (IfOk-weaker c.raise.result _ _ (λ x o. raise_back _ _ _ _ _ c.requires o) c.raise.ensures.tree)
+keyword_part-returns-in-Raise-clause-tree t c = rw c.in-Raise.is (IfOk-weaker c.raise.result _ _ (λ x o. raise_back _ _ _ _ _ c.requires o) c.raise.ensures.tree)
 
 pub keyword_part-returns-in-Raise-clause-none : goal.keyword_part-returns-in-Raise-clause-none
-keyword_part-returns-in-Raise-clause-none t c =
-    rw c.in-Raise.is (IfErr-weaker c.raise.result _ _ (λ e o. on_syntax_more e (raise_none _ _ _) o) c.raise.ensures.none)
+keyword_part-returns-in-Raise-clause-none t c = rw c.in-Raise.is (IfErr-weaker c.raise.result _ _ (λ e o. on_syntax_more e (raise_none _ _ _) o) c.raise.ensures.none)
 
 pub keyword_part-returns-in-Some-clause-tree : goal.keyword_part-returns-in-Some-clause-tree
-keyword_part-returns-in-Some-clause-tree t c =
-    rw c.in-Let.is (IfOk-weaker c.let_rec.result _ _ (λ x o. let_rec_back _ _ _ _ _ _ c.requires c.in-Some.ensures.found o) c.let_rec.ensures.tree)
+keyword_part-returns-in-Some-clause-tree t c = rw c.in-Let.is (IfOk-weaker c.let_rec.result _ _ (λ x o. let_rec_back _ _ _ _ _ _ c.requires c.in-Some.ensures.found o) c.let_rec.ensures.tree)
 
 pub keyword_part-returns-in-Some-clause-none : goal.keyword_part-returns-in-Some-clause-none
-keyword_part-returns-in-Some-clause-none t c =
-    rw c.in-Let.is (IfErr-weaker c.let_rec.result _ _ (λ e o. on_syntax_more e (let_rec_none _ _ _ _ c.in-Some.ensures.found) o) c.let_rec.ensures.none)
+keyword_part-returns-in-Some-clause-none t c = rw c.in-Let.is (IfErr-weaker c.let_rec.result _ _ (λ e o. on_syntax_more e (let_rec_none _ _ _ _ c.in-Some.ensures.found) o) c.let_rec.ensures.none)
 
 pub keyword_part-returns-in-None-clause-tree : goal.keyword_part-returns-in-None-clause-tree
-keyword_part-returns-in-None-clause-tree t c =
-    rw c.in-Let.is (IfOk-weaker c.let_in.result _ _ (λ x o. let_back _ _ _ _ _ c.requires o) c.let_in.ensures.tree)
+keyword_part-returns-in-None-clause-tree t c = rw c.in-Let.is (IfOk-weaker c.let_in.result _ _ (λ x o. let_back _ _ _ _ _ c.requires o) c.let_in.ensures.tree)
 
 pub keyword_part-returns-in-None-clause-none : goal.keyword_part-returns-in-None-clause-none
-keyword_part-returns-in-None-clause-none t c =
-    rw c.in-Let.is (IfErr-weaker c.let_in.result _ _ (λ e o. on_syntax_more e (let_none _ _ _ c.in-None.ensures.found) o) c.let_in.ensures.none)
+keyword_part-returns-in-None-clause-none t c = rw c.in-Let.is (IfErr-weaker c.let_in.result _ _ (λ e o. on_syntax_more e (let_none _ _ _ c.in-None.ensures.found) o) c.let_in.ensures.none)
 
 pub compared-returns-in_err-joined-clause-none : goal.compared-returns-in_err-joined-clause-none
 compared-returns-in_err-joined-clause-none t c =
@@ -803,8 +740,7 @@ compared-returns-in_err-joined-clause-none t c =
     rw (p.1, p.2) (on_syntax_more _ no_operand c.in_err-joined.ensures.none)
 
 pub compared-returns-in-Some-clause-none : goal.compared-returns-in-Some-clause-none
-compared-returns-in-Some-clause-none t c =
-    refused _ _ c.refused_at.ensures (not_last c.in_ok-joined.ensures.tree.read c.in-Some.ensures.found)
+compared-returns-in-Some-clause-none t c = refused _ _ c.refused_at.ensures (not_last c.in_ok-joined.ensures.tree.read c.in-Some.ensures.found)
 
 pub compared-returns-in-None-clause-tree : goal.compared-returns-in-None-clause-tree
 compared-returns-in-None-clause-tree t c =

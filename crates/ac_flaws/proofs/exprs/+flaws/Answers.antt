@@ -9,7 +9,7 @@ use Rattle.ac_flaws.specs.inner.Known.{Known}
 use Rattle.ac_flaws.specs.inner.ExprFlaws.{flaws, flaws_of_all, arm_flaws, flaws_of_arms}
 use Rattle.ac_flaws.specs.inner.Reads.{known_of, names_in}
 use Rattle.ac_flaws.proofs.Leasts.{both_joined, next_part, last_part}
-use Rattle.ac_flaws.proofs.TreeLaws.{expr_of-Of}
+use Rattle.ac_syntax.proofs.TreeLaws.{expr_of-Of}
 use Rattle.ac_flaws.proofs.exprs.+flaws.Goals as goal
 
 abbrev of_all : Known → List Bytes → List SExpr → Flaws

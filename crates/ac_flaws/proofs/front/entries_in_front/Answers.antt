@@ -5,7 +5,7 @@ use Rattle.ac_terms.specs.Read.{entry_of, def_of_code}
 use Rattle.ac_flaws.specs.inner.Known.{Behind}
 use Rattle.ac_flaws.specs.inner.SurfaceFlaws.{past_entry, past_entries}
 use Rattle.ac_flaws.specs.inner.Reads.{outer_of}
-use Rattle.ac_flaws.proofs.Loops.{next_fold, last_fold}
+use Rattle.ac_types.proofs.Loops.{next_fold, last_fold}
 use Rattle.ac_flaws.proofs.Lookups.{nothing_outside}
 use Rattle.ac_flaws.proofs.front.entries_in_front.Goals as goal
 

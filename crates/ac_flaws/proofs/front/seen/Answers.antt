@@ -1,4 +1,4 @@
-use Rattle.std.proofs.Common.{◌≡◌, ◌∙◌, ap, List, map}
+use Rattle.std.proofs.Common.{◌∙◌, ap, List, map}
 use Rattle.std.specs.Prelude.{is_some, option_map}
 use Rattle.ac_types.specs.Sigs.{named_type, type_under}
 use Rattle.ac_types.specs.declared.sig.SigType as code_type

@@ -1,4 +1,4 @@
-use Rattle.std.proofs.Common.{◌≡◌, ◌∙◌, ap, sym}
+use Rattle.std.proofs.Common.{◌∙◌, ap, sym}
 use Rattle.std.specs.Prelude.{is_some}
 use Rattle.ac_flaws.specs.inner.Reads.{under}
 use Rattle.ac_flaws.proofs.Lookups.{keep_there, keep_put}

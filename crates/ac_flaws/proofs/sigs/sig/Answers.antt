@@ -1,4 +1,4 @@
-use Rattle.std.proofs.Common.{◌≡◌, ◌∙◌, ap, List, map}
+use Rattle.std.proofs.Common.{◌∙◌, ap, List, map}
 use Rattle.ac_flaws.specs.declared.named.Named.{Named}
 use Rattle.ac_flaws.specs.inner.DefFlaws.{is_listed}
 use Rattle.ac_flaws.specs.inner.Reads.{named}

@@ -1,14 +1,13 @@
-use Rattle.std.proofs.Common.{◌≡◌, ◌∙◌, ap, sym, refl, arith, length, map, List, None}
+use Rattle.std.proofs.Common.{◌≡◌, ◌∙◌, ap, sym, refl, arith, length, map, List}
 use Rattle.ac_types.specs.First.{or_else}
-use Rattle.ac_types.specs.Types.{Bytes}
 use Rattle.ac_syntax.specs.declared.surface.SSpec.{SSpec}
 use Rattle.ac_syntax.specs.ReadTrees.{spec_of}
 use Rattle.ac_scopes.specs.Standard.{beside_name}
 use Rattle.ac_flaws.specs.declared.flaws.Flaws.{Flaws}
 use Rattle.ac_flaws.specs.inner.Joined.{flaws_joined}
 use Rattle.ac_flaws.specs.inner.Known.{Known}
-use Rattle.ac_flaws.specs.inner.DefFlaws.{past_spec, spec_flaws, flaws_in, spec_size, spec_sizes}
-use Rattle.ac_flaws.specs.inner.Reads.{under, known_of, outer_of}
+use Rattle.ac_flaws.specs.inner.DefFlaws.{past_spec, spec_flaws, flaws_in, spec_sizes}
+use Rattle.ac_flaws.specs.inner.Reads.{under, known_of}
 use Rattle.ac_flaws.proofs.Leasts.{next_item, last_part}
 use Rattle.ac_flaws.proofs.Lookups.{nothing_under, next_sizes, last_sizes}
 use Rattle.ac_flaws.proofs.sigs.walk.Goals as goal

@@ -4,7 +4,7 @@ use Rattle.ac_types.specs.ReadTypes.{typ_of}
 use Rattle.ac_flaws.specs.declared.size.Size.{Size}
 use Rattle.ac_flaws.specs.inner.Known.{size_of, side_by_side}
 use Rattle.ac_flaws.specs.inner.SurfaceFlaws.{sizes_after}
-use Rattle.ac_flaws.proofs.Loops.{next_fold, last_fold}
+use Rattle.ac_types.proofs.Loops.{next_fold, last_fold}
 use Rattle.ac_flaws.proofs.size.+ty_size.Goals as goal
 
 abbrev of_all : Size → List Ty → Size

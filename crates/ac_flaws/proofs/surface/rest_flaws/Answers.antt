@@ -1,4 +1,4 @@
-use Rattle.std.proofs.Common.{◌≡◌, ◌∙◌, ap, sym, refl, arith, length, drop, map, List, [], Option}
+use Rattle.std.proofs.Common.{◌≡◌, ◌∙◌, ap, sym, refl, arith, length, map, List, Option}
 use Rattle.std.specs.Prelude.{option_map}
 use Rattle.ac_types.specs.Types.{Bytes}
 use Rattle.ac_syntax.specs.declared.surface.SDef.{SDef}
@@ -10,7 +10,7 @@ use Rattle.ac_flaws.specs.inner.Known.{Behind}
 use Rattle.ac_flaws.specs.inner.DefFlaws.{def_flaws, past_def}
 use Rattle.ac_flaws.specs.inner.SurfaceFlaws.{rest_flaws}
 use Rattle.ac_flaws.specs.inner.Reads.{outer_of}
-use Rattle.ac_flaws.proofs.Loops.{drop_end}
+use Rattle.ac_types.proofs.Loops.{drop_end}
 use Rattle.ac_flaws.proofs.Leasts.{next_item}
 use Rattle.ac_flaws.proofs.surface.rest_flaws.Goals as goal
 

@@ -1,4 +1,4 @@
-use Rattle.std.proofs.Common.{◌≡◌, ◌∙◌, ap}
+use Rattle.std.proofs.Common.{◌∙◌, ap}
 use Rattle.ac_terms.specs.Read.{environment_of}
 use Rattle.ac_syntax.specs.ReadTrees.{surface_of}
 use Rattle.ac_flaws.specs.inner.SurfaceFlaws.{first_fault}

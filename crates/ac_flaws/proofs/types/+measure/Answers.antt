@@ -6,7 +6,7 @@ use Rattle.ac_flaws.specs.declared.types.Measured.{Measured}
 use Rattle.ac_flaws.specs.inner.Known.{Known}
 use Rattle.ac_flaws.specs.inner.TypeFlaws.{measured, measured_both, measured_all}
 use Rattle.ac_flaws.specs.inner.Reads.{known_of}
-use Rattle.ac_flaws.proofs.Loops.{next_fold, last_fold}
+use Rattle.ac_types.proofs.Loops.{next_fold, last_fold}
 use Rattle.ac_flaws.proofs.types.+measure.Goals as goal
 
 abbrev of_all : Known → Measured → List SType → Measured

@@ -1,7 +1,7 @@
 use Rattle.std.proofs.Common.{◌≡◌, ◌≤◌, length}
 use Rattle.ac_terms.specs.Read.{import_of_code, environment_of}
 use Rattle.ac_rules.specs.Links.{latest, last_below}
-use Rattle.ac_link.specs.LinkFaults.{comes_from, is_candidate}
+use Rattle.ac_link.specs.inner.Candidates.{comes_from, is_candidate}
 use Rattle.ac_link.proofs.resolving.latest.Given as goal
 
 abbrev pub invariant-loop-j : goal.invariant-loop-j

@@ -1,5 +1,5 @@
 use Rattle.std.proofs.Common.{◌∙◌, ◌++◌, ap}
-use Rattle.ac_make.specs.Programs.{module_text}
+use Rattle.ac_make.specs.ProgramText.{module_text}
 use Rattle.ac_make.proofs.Steps.{Takes, module_is, one_more, two_more}
 use Rattle.ac_make.proofs.program.put_modules.Goals as goal
 use Rattle.ac_make.proofs.program.put_modules.Goals.{In_ok-put_module}

@@ -1,6 +1,6 @@
 use Rattle.std.proofs.Common.{◌≡◌, ◌++◌, ◌*◌}
 use Rattle.ac_make.specs.Draws.{state_after}
-use Rattle.ac_make.specs.Programs.{module_text, of_each}
+use Rattle.ac_make.specs.ProgramText.{module_text, of_each}
 use Rattle.ac_make.proofs.program.put_modules.Given as goal
 
 abbrev pub invariant-loop-i : goal.invariant-loop-i

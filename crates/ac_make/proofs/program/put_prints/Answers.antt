@@ -1,4 +1,4 @@
-use Rattle.ac_make.specs.Programs.{print_line}
+use Rattle.ac_make.specs.ProgramText.{print_line}
 use Rattle.ac_make.proofs.Steps.{one_more}
 use Rattle.ac_make.proofs.program.put_prints.Goals as goal
 

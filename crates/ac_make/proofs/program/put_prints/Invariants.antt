@@ -1,5 +1,5 @@
 use Rattle.std.proofs.Common.{◌≡◌, ◌++◌}
-use Rattle.ac_make.specs.Programs.{print_line, of_each}
+use Rattle.ac_make.specs.ProgramText.{print_line, of_each}
 use Rattle.ac_make.proofs.program.put_prints.Given as goal
 
 abbrev pub invariant-loop-i : goal.invariant-loop-i

@@ -2,8 +2,9 @@ use Rattle.std.proofs.Common.{◌≡◌, ◌∙◌, ap, ap₂, sym, arith, lengt
 use Rattle.ac_types.specs.Types.{TTuple, TFun, TAbs, typs, all_with_mine}
 use Rattle.ac_types.specs.ReadTypes.{typ_of}
 use Rattle.ac_types.proofs.SizeLaws.{typ_of-Tuple}
-use Rattle.ac_outer.proofs.Lists.{built}
-use Rattle.ac_outer.proofs.TypeLists.{sealed_type, all_sealed, sealed_tuple, sealed_function, typ_of-Fun}
+use Rattle.ac_types.proofs.Loops.{built}
+use Rattle.ac_types.proofs.SizeLaws.{typ_of-Fun}
+use Rattle.ac_outer.proofs.TypeLists.{sealed_type, all_sealed, sealed_tuple, sealed_function}
 use Rattle.ac_outer.proofs.sealed.+sealed.Goals as goal
 
 pub all-loop-ty-preserved : goal.all-loop-ty-preserved

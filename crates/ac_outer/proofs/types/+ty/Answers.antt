@@ -3,7 +3,7 @@ use Rattle.std.specs.Prelude.{IfOk}
 use Rattle.ac_types.specs.Types.{Typ}
 use Rattle.ac_scopes.specs.Written.{type_in}
 use Rattle.ac_types.specs.ReadTypes.{typ_of}
-use Rattle.ac_outer.proofs.Lists.{built}
+use Rattle.ac_types.proofs.Loops.{built}
 use Rattle.ac_outer.specs.Fronts.{scope_of}
 use Rattle.ac_outer.proofs.TypeLists.{type_made, all_types, written_of}
 use Rattle.ac_outer.proofs.types.+ty.Goals as goal

@@ -1,4 +1,4 @@
-use Rattle.std.proofs.Common.{◌≡◌, ◌∙◌, ◌<◌, sym, rules}
+use Rattle.std.proofs.Common.{◌∙◌, ◌<◌, sym, rules}
 use Rattle.ac_outer.specs.inner.VariableNames.{names_in}
 use Rattle.ac_outer.proofs.Scoping.{number_fits, no_number}
 use Rattle.ac_outer.proofs.variables.number_of.Goals as goal

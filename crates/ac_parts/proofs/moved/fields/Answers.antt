@@ -1,7 +1,8 @@
 use Rattle.std.proofs.Common.{◌≡◌, arith, length}
 use Rattle.ac_terms.specs.Read.{field_of}
 use Rattle.ac_parts.specs.Numbers.{number_in}
-use Rattle.ac_parts.proofs.MadeLaws.{built, field_made, all_fields}
+use Rattle.ac_types.proofs.Loops.{built}
+use Rattle.ac_parts.proofs.MadeLaws.{field_made, all_fields}
 use Rattle.ac_parts.proofs.moved.fields.Goals as goal
 
 pub loop-one-preserved : goal.loop-one-preserved

@@ -2,7 +2,8 @@ use Rattle.std.proofs.Common.{◌≡◌, arith, length}
 use Rattle.ac_terms.specs.Read.{expr_of, value_of}
 use Rattle.ac_canon.specs.inner.Arms.{arm_of}
 use Rattle.ac_parts.specs.Numbers.{number_in}
-use Rattle.ac_parts.proofs.MadeLaws.{built, term_made, all_terms, arm_made, all_arms, value_made, all_values}
+use Rattle.ac_types.proofs.Loops.{built}
+use Rattle.ac_parts.proofs.MadeLaws.{term_made, all_terms, arm_made, all_arms, value_made, all_values}
 use Rattle.ac_parts.proofs.renumber.+term.Goals as goal
 
 pub terms-loop-term-preserved : goal.terms-loop-term-preserved

@@ -6,7 +6,7 @@ use Rattle.ac_types.specs.ReadTypes.{typ_of}
 use Rattle.ac_pieces.specs.ExactTypes.{exact_type_of}
 use Rattle.ac_terms.specs.PacketReading.{times}
 use Rattle.ac_pieces.proofs.Loops.{with_front, starts, goes_on, ends, all_read, onto_types}
-use Rattle.ac_pieces.specs.Follows.{type_follows}
+use Rattle.ac_pieces.specs.inner.Follows.{type_follows}
 use Rattle.ac_pieces.proofs.Steps.{answered_by, refused_by, made, paired, refused_first, joined_read}
 use Rattle.ac_pieces.proofs.TypeCycle.{none_of_no_height, type_led, no_type_tag}
 use Rattle.ac_pieces.proofs.types.+types.Goals as goal

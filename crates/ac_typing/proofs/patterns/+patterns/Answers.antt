@@ -5,7 +5,7 @@ use Rattle.ac_types.specs.ReadTypes.{typ_of}
 use Rattle.ac_types.specs.declared.ty.Ty.TheVariants as ty
 use Rattle.ac_types.proofs.SizeLaws.{type_laws}
 use Rattle.ac_terms.specs.Terms.{Pattern, PCons, PExnOf}
-use Rattle.ac_terms.specs.PrimitiveTypes.{has_text}
+use Rattle.ac_types.specs.Exceptions.{has_text}
 use Rattle.ac_terms.specs.Read.{home_of, pattern_of}
 use Rattle.ac_rules.specs.Typing.{variables_joined}
 use Rattle.ac_views.specs.Sites.{entries_of}

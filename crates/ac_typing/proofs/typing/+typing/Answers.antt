@@ -25,7 +25,7 @@ use Rattle.ac_typing.proofs.TermLaws.{form_laws, types_collected, arms_collected
 use Rattle.ac_typing.proofs.ArmLaws.{arm_none, arm_some, arms_all}
 use Rattle.ac_typing.proofs.ScopeLaws.{types_in-One, types_in-More}
 use Rattle.ac_typing.proofs.FormLaws.{carry, function_none, function_some, recursive_none, recursive_no_result, recursive_big, recursive_some, binding_other, binding_some, body_some}
-use Rattle.ac_typing.proofs.TypedForms.{tuple_form, nil_form, empty_form, var_form, present_form, cons_form, app_form, lam_form, rec_form, let_form, if_form, seq_form, match_form, try_form, raise_form, prim_form, own_form, ref_form, marshal_form, unmarshal_form, val_form, from_ok, same_type, same_answer}
+use Rattle.ac_typing.proofs.TypedForms.{tuple_form, nil_form, empty_form, var_form, present_form, cons_form, app_form, lam_form, rec_form, let_form, if_form, seq_form, try_form, raise_form, prim_form, own_form, ref_form, marshal_form, unmarshal_form, val_form, from_ok, same_type, same_answer}
 use Rattle.ac_typing.proofs.typing.+typing.Goals as goal
 
 -- the list of terms

@@ -1,5 +1,5 @@
-use Rattle.std.proofs.Common.{◌≡◌, sym, ap, ap₂, ◌∙◌, arith, List, length, map}
-use Rattle.ac_types.specs.Types.{Typ, Typs, TTuple, TFun, TAbs, typs, with_mine}
+use Rattle.std.proofs.Common.{◌≡◌, sym, ap, ap₂, ◌∙◌, arith, length}
+use Rattle.ac_types.specs.Types.{TTuple, TFun, TAbs, typs, with_mine}
 use Rattle.ac_types.specs.ReadTypes.{typ_of}
 use Rattle.ac_types.proofs.SizeLaws.{type_laws, typ_of-Tuple}
 use Rattle.ac_types.specs.declared.ty.Ty.TheVariants as ty

@@ -1,6 +1,5 @@
-use Rattle.std.proofs.Common.{◌≡◌, sym, ap, ◌∙◌, arith, List, length, map}
-use Rattle.ac_types.specs.Types.{Typ, typs}
-use Rattle.ac_types.specs.ReadTypes.{typ_of}
+use Rattle.std.proofs.Common.{◌≡◌, sym, ap, ◌∙◌, arith, length}
+use Rattle.ac_types.specs.Types.{typs}
 use Rattle.ac_terms.specs.Read.{home_of}
 use Rattle.ac_rules.specs.Views.{opened_at_home}
 use Rattle.ac_views.specs.Sites.{entries_of}

@@ -4,9 +4,9 @@ use Rattle.std.proofs.lemmas.Option.{slice_get-map}
 use Rattle.ac_types.specs.Types.{Typ}
 use Rattle.ac_types.specs.ReadTypes.{typ_of}
 use Rattle.ac_types.specs.declared.ty.Ty.{Ty}
+use Rattle.ac_terms.specs.Bounds.{is_wanted}
 use Rattle.ac_terms.specs.Read.{home_of, expr_of}
 use Rattle.ac_rules.specs.Plain.{travelling}
-use Rattle.ac_code.specs.Code.{Block}
 use Rattle.ac_code.specs.ReadCode.{block_of}
 use Rattle.ac_values.specs.Values.{stands_as}
 use Rattle.ac_meaning.specs.BareTerms.{bare}
@@ -14,7 +14,6 @@ use Rattle.ac_meaning.specs.BareReduction.{inst}
 use Rattle.ac_meaning.specs.BarePacking.{bare_packed_term}
 use Rattle.ac_simulation.specs.Stands.{variables}
 use Rattle.ac_walk.specs.Pieces.{entries_at, code_at}
-use Rattle.ac_visit.specs.Forms.{is_wanted}
 use Rattle.ac_visit.proofs.ListLaws.{visits_value}
 use Rattle.ac_visit.proofs.FunctionLaws.{its_lambda}
 use Rattle.ac_visit.proofs.held.closure.Goals as goal

@@ -4,7 +4,7 @@ use Rattle.ac_rules.specs.Typing.{list_item}
 use Rattle.ac_rules.specs.Plain.{stays}
 use Rattle.ac_values.specs.Values.{stands_as}
 use Rattle.ac_walk.specs.Pieces.{entries_at, code_at, number_at, held_items_at}
-use Rattle.ac_visit.specs.Forms.{items_counted}
+use Rattle.ac_visit.specs.inner.Forms.{items_counted}
 use Rattle.ac_visit.proofs.ListLaws.{some_counted, held_listed, held_counted, held_unlisted, held_unended, visits_value, visits_list, visits_lost}
 use Rattle.ac_visit.proofs.held.held_list.Goals as goal
 

@@ -5,7 +5,7 @@ use Rattle.ac_rules.specs.Typing.{tuple_parts}
 use Rattle.ac_views.specs.Sites.{typs_of}
 use Rattle.ac_values.specs.Values.{values}
 use Rattle.ac_walk.specs.Pieces.{entries_at, code_at, number_at, held_parts_at}
-use Rattle.ac_visit.specs.Forms.{paired}
+use Rattle.ac_visit.specs.inner.Forms.{paired}
 use Rattle.ac_visit.proofs.ListLaws.{there_some, held_parts_counted, visits_tuple}
 use Rattle.ac_visit.proofs.held.held_tuple.Goals as goal
 

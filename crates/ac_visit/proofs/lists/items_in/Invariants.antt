@@ -1,7 +1,7 @@
 use Rattle.std.proofs.Common.{◌≡◌, ◌+◌}
 use Rattle.std.specs.Prelude.{option_map}
 use Rattle.ac_values.specs.Values.{stands_as}
-use Rattle.ac_visit.specs.Forms.{items_counted}
+use Rattle.ac_visit.specs.inner.Forms.{items_counted}
 use Rattle.ac_visit.proofs.lists.items_in.Given as goal
 
 abbrev pub invariant-loop-tail : goal.invariant-loop-tail

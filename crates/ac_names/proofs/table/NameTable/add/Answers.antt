@@ -3,7 +3,7 @@ use Rattle.std.proofs.lemmas.List.{length-map, length-append}
 use Rattle.indexmap.proofs.CallerLemmas.{insert_entry-new}
 use Rattle.ac_types.specs.Types.{Bytes, same_bytes}
 use Rattle.ac_names.specs.declared.table.AddFault.TheVariants.{Clash}
-use Rattle.ac_names.specs.Table.{Table, number_of, Adds, Clashes}
+use Rattle.ac_names.specs.Table.{KnownNames, number_of, Adds, Clashes}
 use Rattle.ac_names.proofs.TableLaws.{Found, found, number_shown, same_text, other_text, adds_known, adds_new, no_clash, no_clash_new, clash, clash_number, shown, shown_push}
 use Rattle.ac_names.proofs.table.NameTable.add.Goals as goal
 
@@ -39,8 +39,8 @@ returns-in-Ok-clause-ok c =
     let new : number_of table name ≡ None = sym (number_shown es table c.self.view_is name) ∙ sym c.in_default.ensures.index in
     let len : c.len-number.result ≡ length table = c.len-number.ensures.len ∙ sym (length-map es shown) ∙ ap length c.self.view_is in
     let entries : c.insert.new.self.entries ≡ es ++ (name, c.args.text) ∷ [] = c.in-Ok.ensures.entries ∙ insert_entry-new same_bytes c.self.inside.texts name c.args.text (sym c.in_default.ensures.value) in
-    let view : map shown c.insert.new.self.entries ≡ table ++ (name, c.args.text.0) ∷ [] = ap (map shown) entries ∙ shown_push es (name, c.args.text) ∙ ap (λ (t : Table). t ++ (name, c.args.text.0) ∷ []) c.self.view_is in
-    subst (λ (t : Table). Adds table name c.args.text.0 c.len-number.result t) (sym view)
+    let view : map shown c.insert.new.self.entries ≡ table ++ (name, c.args.text.0) ∷ [] = ap (map shown) entries ∙ shown_push es (name, c.args.text) ∙ ap (λ (t : KnownNames). t ++ (name, c.args.text.0) ∷ []) c.self.view_is in
+    subst (λ (t : KnownNames). Adds table name c.args.text.0 c.len-number.result t) (sym view)
     (subst (λ (i : ℕ). Adds table name c.args.text.0 i (table ++ (name, c.args.text.0) ∷ [])) (sym len) (adds_new table name c.args.text.0 new))
 
 pub returns-in-Ok-clause-length : goal.returns-in-Ok-clause-length

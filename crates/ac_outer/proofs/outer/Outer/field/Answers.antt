@@ -1,4 +1,4 @@
-use Rattle.std.proofs.Common.{◌≡◌, ◌∙◌, ◌<◌, sym, rules}
+use Rattle.std.proofs.Common.{◌∙◌, ◌<◌, sym, rules}
 use Rattle.ac_outer.proofs.OuterLaws.{field_fits}
 use Rattle.ac_outer.proofs.outer.Outer.field.Goals as goal
 

@@ -1,4 +1,4 @@
-use Rattle.std.proofs.Common.{◌≡◌, ◌∙◌, ap, sym, Option, Some}
+use Rattle.std.proofs.Common.{◌∙◌, ap, sym, Some}
 use Rattle.std.specs.Prelude.{option_map}
 use Rattle.ac_terms.specs.Terms.{Expr, Ref}
 use Rattle.ac_outer.proofs.OuterLaws.{expr_of-Ref}

@@ -1,6 +1,5 @@
 -- What lists, tuples and functions look like.
-use Rattle.std.specs.Prelude.{ℕ, zero, suc, not, Bool, false, Option, Some, None, option_map}
-use Rattle.ac_terms.specs.Terms.{Expr, Lam, Rec}
+use Rattle.std.specs.Prelude.{ℕ, zero, suc, Option, Some, None, option_map}
 use Rattle.ac_values.specs.Values.{MValue, MNil, MCons}
 
 -- how many items a list has, if it is one
@@ -20,9 +19,3 @@ paired zero zero = 0
 paired zero (suc n) = 1
 paired (suc m) zero = 1
 paired (suc m) (suc n) = suc (paired m n)
-
--- whether a term is a lambda, or a recursive one where that is wanted
-abbrev pub is_wanted : Expr → Bool → Bool
-is_wanted (Lam T e) r = not r
-is_wanted (Rec T U e) r = r
-is_wanted e r = false

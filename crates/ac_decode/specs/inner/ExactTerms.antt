@@ -1,10 +1,10 @@
 -- How patterns, terms and packed values are read exactly, whatever reads types.
 use Rattle.std.specs.Prelude.{ℕ, zero, suc, Bool, true, false, nat_le, List, [], ◌∷◌, Some, None}
-use Rattle.ac_types.specs.Exceptions.{resolve_failure}
 use Rattle.ac_types.specs.Limits.{longest_string}
 use Rattle.ac_types.specs.Types.{Typ}
 use Rattle.ac_terms.specs.Terms.{Pattern, PWild, PVar, PInt, PBool, PStr, PUnit, PTuple, PNil, PCons, PAbsent, PPresent, PExn, PExnOf, no_patterns, pattern', Expr, Int, Boolean, Str, Unit', Exn, ExnOf, Tuple, Nil, Empty, Present, Cons, Var, Own, Ref, Lam, Rec, App, Let, If, Seq, Match, Try, Raise, Prim, Marshal, Unmarshal, Val, no_exprs, expr, Arms, no_arms, arm, PValue, KInt, KBool, KStr, KUnit, KExn, KTuple, KList, KAbsent, KPresent, KFun, no_pvalues, pvalue, Home}
-use Rattle.ac_terms.specs.PrimitiveTypes.{has_text, primitives}
+use Rattle.ac_types.specs.Exceptions.{has_text, resolve_failure}
+use Rattle.ac_terms.specs.PrimitiveTypes.{primitives}
 use Rattle.ac_terms.specs.Bounds.{takes, is_lambda}
 use Rattle.ac_terms.specs.PacketReading.{ReadsPart, give, one, then_read, two_parts_read, three, pair, times, tagged, nothing, read_byte, read_with_text, argument_count, home_number}
 use Rattle.ac_pieces.specs.ExactReading.{passing, exact_two, exact_four, exact_eight, exact_truth, exact_lower, exact_text, exact_width, exact_long_count}

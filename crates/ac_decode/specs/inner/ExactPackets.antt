@@ -6,7 +6,7 @@ use Rattle.ac_terms.specs.Defs.{Field, Def, Packet}
 use Rattle.ac_terms.specs.PacketReading.{ReadsPart, one, then_read, pair, read_list, tagged, nothing, read_byte, a_field, a_module, an_import, a_packet}
 use Rattle.ac_pieces.specs.ExactReading.{passing, exact_two, exact_four, exact_lower, exact_upper, exact_long_count, exact_version, exact_constraint, exact_resolves}
 use Rattle.ac_pieces.specs.ExactTypes.{exact_all_typed, exact_sig}
-use Rattle.ac_decode.specs.ExactTerms.{exact_term, exact_value}
+use Rattle.ac_decode.specs.inner.ExactTerms.{exact_term, exact_value}
 
 -- what a packet begins with: `ACUP` as a number, and a version
 abbrev pub mark_of_packets : ℕ
