@@ -1,7 +1,7 @@
 -- A number and its bytes say the same, at any number of bytes.
 use Rattle.std.proofs.Common.{◌≡◌, refl, sym, ap, ◌∙◌, ℕ, zero, suc, ◌+◌, ◌*◌, ◌^◌, ◌<◌, ◌≤◌, ◌/◌, [], ◌∷◌, ◌++◌, length, take, drop, arith, inl, inr}
 use Rattle.std.specs.Prelude.{ℤ, pos, negsuc, FitsSigned}
-use Rattle.std.specs.Int.{w16, w32, w64, byte_at, from_be_bytes, cast_signed, cast_unsigned}
+use Rattle.std.specs.Int.{w64, byte_at, cast_signed, cast_unsigned}
 use Rattle.std.proofs.Math.Nat.{mod-lt, mul-le-mul_right}
 use Rattle.std.proofs.lemmas.Bool.{cases_lt}
 use Rattle.std.proofs.lemmas.Int.{to_z-of_z}
@@ -101,13 +101,3 @@ pub signed_taken_again : (z y : ℤ) (rest : Bytes) (old new : Unread) → FitsS
 signed_taken_again z y rest old new fits small put taken =
     let p = taken_again 8 (cast_unsigned w64 z) (cast_unsigned w64 y) rest old new (eight_below z fits) (eight_below y small) put taken in
     (sym (to_z-of_z w64 y small) ∙ ap (cast_signed w64) p.0 ∙ to_z-of_z w64 z fits, p.1)
-
--- what std reads of two, of four and of eight bytes is the number that they write
-pub number-two : (a b : ℕ) → from_be_bytes w16 (a ∷ b ∷ []) ≡ number (a ∷ b ∷ [])
-number-two a b = omega arith
-
-pub number-four : (a b c d : ℕ) → from_be_bytes w32 (a ∷ b ∷ c ∷ d ∷ []) ≡ number (a ∷ b ∷ c ∷ d ∷ [])
-number-four a b c d = omega arith
-
-pub number-eight : (a b c d e f g h : ℕ) → from_be_bytes w64 (a ∷ b ∷ c ∷ d ∷ e ∷ f ∷ g ∷ h ∷ []) ≡ number (a ∷ b ∷ c ∷ d ∷ e ∷ f ∷ g ∷ h ∷ [])
-number-eight a b c d e f g h = omega arith

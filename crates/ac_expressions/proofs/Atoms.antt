@@ -16,7 +16,7 @@ use Rattle.ac_syntax.proofs.UniqueTypes.{tail_eq}
 use Rattle.ac_syntax.proofs.Fronts.{begins_not, front_positive, part_stops, semicolon_goes_on}
 use Rattle.ac_syntax.proofs.UniquePatterns.{same_pattern}
 use Rattle.ac_syntax.proofs.UniqueExpressions.{unique, at_same}
-use Rattle.ac_expressions.specs.ExpressionParsing.{Nothing, Before, Behind, last, more, Made, IsAscribed}
+use Rattle.ac_expressions.specs.inner.Pieces.{Nothing, Before, Behind, last, more, Made, IsAscribed}
 use Rattle.ac_expressions.specs.inner.Forms.{NoTree, base_expr, FormLeafAt, NoFormLeaf, IsLastPart, IsParts, sequence_tree, IsItems, tuple_tree, IsArm, IsArms, IsChoice}
 use Rattle.ac_expressions.proofs.Levels.{one_tree, closed_atom}
 use Rattle.ac_expressions.proofs.Readers.{One, ManyRead, SoFar, start, next, ended, before, before_none, symbol_none, one_before, one_then, before_apart, next_read, next_none, all_read, chain_none}
@@ -561,9 +561,6 @@ unnamed_none w a ts us dot none' e s p = field_forth (λ x q r is. none' x r (ta
 
 pub upper_leaf : (w : Bytes) (a : ℕ) (ts us r : List Sign) (e : Tree) → ts ≡ Upper a w ∷ us → FormLeafAt (Upper a w ∷ us) e r → FormLeafAt ts e r
 upper_leaf w a ts us r e is at = leaf_at is refl at
-
-pub upper_none : (w : Bytes) (a : ℕ) (ts us : List Sign) → ts ≡ Upper a w ∷ us → NoFormLeaf (Upper a w ∷ us) → NoFormLeaf ts
-upper_none w a ts us is none' = subst (λ (l : List Sign). NoFormLeaf l) (sym is) none'
 
 base_at : (a : ℕ) (t : Symbol) (r : List Sign) (e : Tree) → base_expr t a ≡ Some e → FormLeafAt (Fixed a t ∷ r) e r
 base_at a True r e is = leaf_at refl (some_eq (sym is)) (record { parses = true_; leaf = refl })

@@ -3,7 +3,7 @@ use Rattle.std.proofs.Common.{◌-◌, ℕ, List, subst}
 use Rattle.ac_syntax.specs.Signs.{Sign}
 use Rattle.ac_syntax.specs.Trees.{Tree}
 use Rattle.ac_syntax.specs.Expressions.{Operator, Binary, IsTree}
-use Rattle.ac_expressions.specs.ExpressionParsing.{Nothing}
+use Rattle.ac_expressions.specs.inner.Pieces.{Nothing}
 use Rattle.ac_expressions.specs.inner.Forms.{NoTree, OperatorAt, IsLastOperand}
 use Rattle.ac_expressions.proofs.Levels.{one_tree}
 

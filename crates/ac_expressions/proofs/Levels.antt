@@ -13,7 +13,7 @@ use Rattle.ac_syntax.proofs.Fronts.{begins_not, with_string_rank, front_positive
 use Rattle.ac_syntax.proofs.UniqueExpressions.{unique, at_same}
 use Rattle.ac_expressions.specs.declared.front.Prefix.{Prefix}
 use Rattle.ac_expressions.specs.declared.front.Prefix.TheVariants as prefix
-use Rattle.ac_expressions.specs.ExpressionParsing.{LoneNumber, NoLoneNumber, IsPrefix, PrefixAt, NoPrefix}
+use Rattle.ac_expressions.specs.inner.Pieces.{LoneNumber, NoLoneNumber, IsPrefix, PrefixAt, NoPrefix}
 use Rattle.ac_expressions.specs.inner.Forms.{Same, NoTree, prefixed, OperatorAt, NoOperator}
 use Rattle.ac_expressions.proofs.Readers.{One}
 
@@ -100,9 +100,6 @@ closed_after (right is side p) = right is side p
 closed_after (once is side p) = once is side p
 
 -- the same elsewhere
-
-pub same_start : (D : ℕ) (l : Level) (ts : List Sign) → Same D l ts l ts
-same_start D l ts = record { back = λ e s o. o; forth = λ e s o. o }
 
 pub same_then : {D : ℕ} {l m n : Level} {ts us vs : List Sign} → Same D l ts m us → Same D m us n vs → Same D l ts n vs
 same_then p q = record { back = λ e s o. p.back e s (q.back e s o); forth = λ e s o. q.forth e s (p.forth e s o) }

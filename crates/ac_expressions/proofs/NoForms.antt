@@ -7,7 +7,7 @@ use Rattle.ac_syntax.specs.Expressions.{after_bar, Expr, Part, Atom, IsTree}
 use Rattle.ac_syntax.specs.PartParsing.{SymbolAt, NoSymbol}
 use Rattle.ac_syntax.specs.declared.sign.Symbol.{Symbol}
 use Rattle.ac_syntax.specs.declared.sign.Symbol.TheVariants.{Arrow, As, Colon, Else, Equals, In, Then, With}
-use Rattle.ac_expressions.specs.ExpressionParsing.{Nothing, Before, Behind, IsTypedBinder, IsArgument, IsHead, IsLastType}
+use Rattle.ac_expressions.specs.inner.Pieces.{Nothing, Before, Behind, IsTypedBinder, IsArgument, IsHead, IsLastType}
 use Rattle.ac_expressions.specs.inner.Forms.{NoTree, IsArm, IsArms, IsChoice, IsLet, IsLetRec, IsFun, IsRec, IsIf, IsMarshal, IsUnmarshal, IsRaise}
 use Rattle.ac_expressions.proofs.Readers.{first_none, later_none, no_symbol, behind_none, before, before_none, symbol_none, one_before, one_typed, one_argument, one_head}
 use Rattle.ac_expressions.proofs.Levels.{one_tree}

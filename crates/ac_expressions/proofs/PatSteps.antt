@@ -1,5 +1,5 @@
 -- The steps of the parsers of patterns, over lists of signs.
-use Rattle.std.proofs.Common.{◌≡◌, ◌<◌, ◌≤◌, ◌+◌, ◌-◌, ℕ, max, Bool, true, false, List, [], ◌∷◌, ◌++◌, Some, None, refl, sym, ◌∙◌, ap, subst, arith}
+use Rattle.std.proofs.Common.{◌≡◌, ◌<◌, ◌≤◌, ◌+◌, ◌-◌, ℕ, max, true, false, List, [], ◌∷◌, ◌++◌, Some, None, refl, sym, ◌∙◌, ap, subst, arith}
 use Rattle.std.specs.Prelude.{pos, neg_ℤ}
 use Rattle.ac_types.proofs.FirstLaws.{some_eq}
 use Rattle.ac_types.specs.Types.{Bytes}
@@ -14,7 +14,8 @@ use Rattle.ac_syntax.proofs.UniqueTypes.{tail_eq}
 use Rattle.ac_syntax.proofs.UniquePatterns.{symbol_begins_single, begins_single, single_begins, unique_pat}
 use Rattle.ac_expressions.specs.declared.front.Prefix.{Prefix}
 use Rattle.ac_expressions.specs.declared.front.Prefix.TheVariants as prefix
-use Rattle.ac_expressions.specs.ExpressionParsing.{Nothing, Before, last, more, IsTypedBinder, NumberAt, NoNumber, begins_lower, IsPrefix, PrefixAt, NoPrefix, NoPat, prefixed_pat, base_pat, PatLeafAt, NoPatLeaf, IsPats, PatTupleOf}
+use Rattle.ac_expressions.specs.inner.PatternPieces.{NoPat, prefixed_pat, base_pat, PatLeafAt, NoPatLeaf, IsPats, PatTupleOf}
+use Rattle.ac_expressions.specs.inner.Pieces.{Nothing, Before, last, more, IsTypedBinder, NumberAt, NoNumber, begins_lower, IsPrefix, PrefixAt, NoPrefix}
 use Rattle.ac_expressions.proofs.Readers.{One, ManyRead, before, before_none, symbol_none, one_before, before_apart, next_read, next_none, all_read, chain_none}
 
 -- heights
@@ -449,6 +450,3 @@ base_forth {a} is e no_open no_minus no_square (tuple q w) = no_open _ (record {
 
 pub no_base_leaf : (a : ℕ) (t : Symbol) (ts r : List Sign) → ts ≡ Fixed a t ∷ r → base_pat t a ≡ None → NoSymbol Open ts → NoSymbol Minus ts → NoSymbol OpenSquare ts → NoPatLeaf ts
 no_base_leaf a t ts r is e no_open no_minus no_square p s q = base_forth is e no_open no_minus no_square (pat_at (sym is) q)
-
-pub no_single : (ts : List Sign) → begins_single ts ≡ false → NoPatLeaf ts
-no_single ts e p r q = single_not q e

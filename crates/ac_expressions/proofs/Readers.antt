@@ -12,7 +12,7 @@ use Rattle.ac_syntax.specs.declared.sign.Symbol.TheVariants.{Open, Close, Colon,
 use Rattle.ac_syntax.specs.Expressions.{front}
 use Rattle.ac_syntax.proofs.Exceptions.{apart}
 use Rattle.ac_syntax.proofs.UniqueTypes.{tail_eq, same_type}
-use Rattle.ac_expressions.specs.ExpressionParsing.{Nothing, Then, Behind, Before, Chain, last, more, IsName, IsAscribed, IsTypedBinder, IsArgument, IsHead, IsLastType}
+use Rattle.ac_expressions.specs.inner.Pieces.{Nothing, Then, Behind, Before, Chain, last, more, IsName, IsAscribed, IsTypedBinder, IsArgument, IsHead, IsLastType}
 
 -- at most one thing of a kind begins signs
 abbrev pub One : {A : Type 0} → (List Sign → A → List Sign → Type 0) → Type 0

@@ -11,7 +11,7 @@ use Rattle.ac_syntax.specs.declared.sign.Symbol.TheVariants.{Open, Close, Colon,
 use Rattle.ac_syntax.proofs.Fronts.{begins_not, front_positive}
 use Rattle.ac_syntax.proofs.UniqueExpressions.{at_same}
 use Rattle.ac_expressions.specs.declared.keywords.Keyword.TheVariants as keyword
-use Rattle.ac_expressions.specs.ExpressionParsing.{Nothing, Before, Made, IsTypedBinder, IsArgument, IsHead}
+use Rattle.ac_expressions.specs.inner.Pieces.{Nothing, Before, Made, IsTypedBinder, IsArgument, IsHead}
 use Rattle.ac_expressions.specs.inner.Forms.{NoTree, NoKeyword, IsLet, let_tree, IsLetRec, let_rec_tree, IsFun, fun_tree, IsRec, rec_tree, IsIf, if_tree, IsMarshal, marshal_tree, IsUnmarshal, unmarshal_tree, IsRaise, raise_tree}
 use Rattle.ac_expressions.proofs.Levels.{closed_atom, closed_binary}
 

@@ -5,7 +5,7 @@ ghost use Rattle.ac_syntax.specs.ReadSigns.{read_signs};
 ghost use Rattle.ac_syntax.specs.ReadTrees.{type_of};
 ghost use Rattle.ac_syntax.specs.TypeForms.{IsType};
 ghost use Rattle.ac_syntax.specs.PartParsing.{OnSyntax};
-ghost use Rattle.ac_expressions.specs.ExpressionParsing.{Nothing, Behind, Before, IsAscribed, IsTypedBinder, IsArgument, IsHead, IsLastType, binder_of, head_of};
+ghost use Rattle.ac_expressions.specs.inner.Pieces.{Nothing, Behind, Before, IsAscribed, IsTypedBinder, IsArgument, IsHead, IsLastType, binder_of, head_of};
 
 use crate::front::{ends_part, expect, name};
 use ac_syntax::{HIGHEST_TYPE, SName, SType, Sign, Stop, Symbol, refused_at, whole_type};

@@ -4,7 +4,7 @@ ghost use Rattle.std.specs.Prelude.{◌≡◌, ◌<◌, ◌-◌, ◌^◌, ◌∷
 ghost use Rattle.ac_syntax.specs.Trees.{ExInt, ExUnit, ExNil, ExAbsent, ExApp, ExOp, ExSeq, ExTuple, ExMatch, ExTry, tree, no_trees, trees, arm_trees, height, highest, highest_arm};
 ghost use Rattle.ac_syntax.specs.Expressions.{operator_of, operator_tree};
 ghost use Rattle.ac_syntax.specs.ReadTrees.{type_of, expr_of, arm_of};
-ghost use Rattle.ac_expressions.specs.ExpressionParsing.{binder_of, head_of};
+ghost use Rattle.ac_expressions.specs.inner.Pieces.{binder_of, head_of};
 ghost use Rattle.ac_expressions.specs.inner.Forms.{measured, prefixed, operator_read, let_tree, let_rec_tree, fun_tree, rec_tree, if_tree, marshal_tree, unmarshal_tree, raise_tree};
 
 use crate::binders::{Binder, Head};

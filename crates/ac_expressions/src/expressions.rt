@@ -7,7 +7,7 @@ ghost use Rattle.ac_syntax.specs.Expressions.{Expr, Part, Binary, After, Unary, 
 ghost use Rattle.ac_syntax.specs.ReadSigns.{read_signs};
 ghost use Rattle.ac_syntax.specs.ReadTrees.{expr_of, arm_of};
 ghost use Rattle.ac_syntax.specs.PartParsing.{OnSyntax};
-ghost use Rattle.ac_expressions.specs.ExpressionParsing.{Nothing, Before, Made, NoPrefix};
+ghost use Rattle.ac_expressions.specs.inner.Pieces.{Nothing, Before, Made, NoPrefix};
 ghost use Rattle.ac_expressions.specs.inner.Forms.{keyword_symbol, NoTree, measured, operator_read, IsLastOperand, IsLet, let_tree, IsLetRec, let_rec_tree, IsFun, fun_tree, IsRec, rec_tree, IsIf, if_tree, IsMarshal, marshal_tree, IsUnmarshal, unmarshal_tree, IsRaise, raise_tree, IsParts, sequence_tree, IsItems, tuple_tree, IsArm, IsArms, IsChoice};
 
 use crate::binders::{argument, ascribed, function_head, type_behind, typed};

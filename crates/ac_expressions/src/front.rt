@@ -5,7 +5,7 @@ ghost use Rattle.ac_syntax.specs.Expressions.{begins_atom, symbol_begins_atom, f
 ghost use Rattle.ac_syntax.specs.ReadSigns.{read_signs};
 ghost use Rattle.ac_syntax.specs.ReadTrees.{name_of};
 ghost use Rattle.ac_syntax.specs.PartParsing.{OnSyntax, SymbolAt, NoSymbol};
-ghost use Rattle.ac_expressions.specs.ExpressionParsing.{Nothing, IsName, NumberAt, NoNumber, LoneNumber, NoLoneNumber, begins_lower, IsPrefix, PrefixAt, NoPrefix};
+ghost use Rattle.ac_expressions.specs.inner.Pieces.{Nothing, IsName, NumberAt, NoNumber, LoneNumber, NoLoneNumber, begins_lower, IsPrefix, PrefixAt, NoPrefix};
 
 use ac_syntax::{SName, Sign, SignKind, Stop, Symbol, after, next, next_name, refused_at};
 use ac_types::Memory;

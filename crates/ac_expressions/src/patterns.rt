@@ -8,7 +8,9 @@ ghost use Rattle.ac_syntax.specs.Patterns.{Pattern, Prefixed, Single, IsPatTree,
 ghost use Rattle.ac_syntax.specs.ReadSigns.{read_signs};
 ghost use Rattle.ac_syntax.specs.ReadTrees.{pat_of, pat_kind_of};
 ghost use Rattle.ac_syntax.specs.PartParsing.{OnSyntax, NoSymbol};
-ghost use Rattle.ac_expressions.specs.ExpressionParsing.{NoPattern, Nothing, IsTypedBinder, NoPat, prefixed_pat, base_pat, PatLeafAt, NoPatLeaf, IsPats, PatTupleOf, pat_measured, binder_of};
+ghost use Rattle.ac_expressions.specs.ExpressionParsing.{NoPattern};
+ghost use Rattle.ac_expressions.specs.inner.PatternPieces.{NoPat, prefixed_pat, base_pat, PatLeafAt, NoPatLeaf, IsPats, PatTupleOf, pat_measured};
+ghost use Rattle.ac_expressions.specs.inner.Pieces.{Nothing, IsTypedBinder, binder_of};
 
 use crate::binders::{Binder, typed};
 use crate::front::{Prefix, begins_name, constant, expect, negated, next_number, next_prefix};

@@ -3,7 +3,8 @@ use Rattle.std.proofs.Common.{◌≡◌, ◌<◌, cond, ℕ, zero, suc, List, []
 use Rattle.std.proofs.lemmas.Bool.{cond-true, cond-false, false_from_ne_true}
 use Rattle.std.proofs.lemmas.Slice.Eq.{bytes_eq-Decides}
 use Rattle.ac_outside.specs.Outside.{OthersSame}
-use Rattle.ac_outside.specs.Kept.{file_contents, StandsAt, Passed}
+use Rattle.ac_outside.specs.Kept.{file_contents}
+use Rattle.ac_outside.specs.inner.FilePlaces.{StandsAt, Passed}
 use Rattle.ac_outside.specs.declared.files.MemoryFile.{MemoryFile}
 
 pub passed_more : (files : List MemoryFile) (name : List ℕ) (i : ℕ) (d : MemoryFile) → Passed files name i → i < length files → bytes_eq (string_bytes (get_or files i d).name) name ≡ false → Passed files name (suc i)

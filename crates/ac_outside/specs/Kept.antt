@@ -1,5 +1,5 @@
 -- What sinks, sources and files in memory keep.
-use Rattle.std.specs.Prelude.{◌≡◌, ℕ, zero, suc, List, [], ◌∷◌, true, false, if◌then◌else◌, bytes_eq, string_bytes, Some, None}
+use Rattle.std.specs.Prelude.{ℕ, List, [], ◌∷◌, if◌then◌else◌, bytes_eq, string_bytes, Some, None}
 use Rattle.ac_outside.specs.Outside.{Contents}
 use Rattle.ac_outside.specs.declared.calls.Calls.{Calls}
 use Rattle.ac_outside.specs.declared.files.MemoryFile.{MemoryFile}
@@ -36,15 +36,3 @@ pub record Filed : Type 0 where
 abbrev pub file_contents : List MemoryFile → Contents
 file_contents [] name = None
 file_contents (file ∷ files) name = if bytes_eq (string_bytes file.name) name then Some file.bytes.0 else file_contents files name
-
--- the first file of that name stands there
-abbrev pub StandsAt : List MemoryFile → List ℕ → ℕ → Type 0
-StandsAt [] name i = ⊥
-StandsAt (file ∷ files) name zero = bytes_eq (string_bytes file.name) name ≡ true
-StandsAt (file ∷ files) name (suc i) = (bytes_eq (string_bytes file.name) name ≡ false) × StandsAt files name i
-
--- the files before that place have other names
-abbrev pub Passed : List MemoryFile → List ℕ → ℕ → Type 0
-Passed files name zero = Unit {0}
-Passed [] name (suc i) = ⊥
-Passed (file ∷ files) name (suc i) = (bytes_eq (string_bytes file.name) name ≡ false) × Passed files name i

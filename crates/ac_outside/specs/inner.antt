@@ -1,1 +1,3 @@
+pub mod FilePlaces
 pub mod Filling
+pub mod FrameParts

@@ -1,8 +1,9 @@
 // Files in memory.
 ghost use Rattle.std.specs.Prelude.{◌≡◌, ◌⊎◌, ◌<◌, ◌≤◌, ◌^◌, ◌↔◌, ◌++◌, [], true, None, IsTrue, MatchOption, IfSome, OnOk, OnErr, Contains, length};
 ghost use Rattle.ac_outside.specs.Calls.{unused};
-ghost use Rattle.ac_outside.specs.Kept.{file_contents, StandsAt};
+ghost use Rattle.ac_outside.specs.Kept.{file_contents};
 ghost use Rattle.ac_outside.specs.Outside.{Rose, IsWithin, OthersSame, NeverFall, ReadsFrom, IsShort, Created, Appended, or_empty, risen};
+ghost use Rattle.ac_outside.specs.inner.FilePlaces.{StandsAt};
 
 use crate::calls::Calls;
 use crate::taking::take_from;

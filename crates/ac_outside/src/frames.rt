@@ -3,7 +3,8 @@ ghost use Rattle.std.specs.Prelude.{◌≡◌, ◌≢◌, ◌<◌, ◌≤◌, �
 ghost use Rattle.std.specs.Int.{from_be_bytes, w32};
 ghost use Rattle.ac_types.specs.Types.{Bytes};
 ghost use Rattle.ac_outside.specs.Outside.{Rose};
-ghost use Rattle.ac_outside.specs.FrameReaders.{Keeps, Follows, Receives, IsFramePart, ReaderGoesOn, AnswersFrame, taken_bytes, reader, left_by};
+ghost use Rattle.ac_outside.specs.FrameReaders.{Keeps, Follows, Receives, ReaderGoesOn, AnswersFrame};
+ghost use Rattle.ac_outside.specs.inner.FrameParts.{IsFramePart, taken_bytes, reader, left_by};
 
 use crate::filling::{Fill, fill_to};
 use crate::traits::Source;
@@ -43,7 +44,8 @@ pub struct Frames {
 }
 
 impl Model for Frames {
-    ghost use Rattle.ac_outside.specs.FrameReaders.{Reader, IsFramePart, taken_bytes, reader};
+    ghost use Rattle.ac_outside.specs.FrameReaders.{Reader};
+    ghost use Rattle.ac_outside.specs.inner.FrameParts.{IsFramePart, taken_bytes, reader};
 
     ghost Value = { Reader };
 

@@ -17,11 +17,6 @@ refused_by e is r = subst (NoneRead e) (sym is) r
 pub answered_by : {X A : Type 0} (view : X → A) (r : Result X Fault) (left : Bytes) {a b : Option (A × Bytes)} → a ≡ b → ReadsAs view r b left → ReadsAs view r a left
 answered_by view r left is p = subst (λ o. ReadsAs view r o left) (sym is) p
 
-none_refused : {A : Type 0} {o : Option A} (e : Fault) → o ≡ None → NoneRead e o
-none_refused (fault.Misfit at) is = is
-none_refused fault.Short is = is
-none_refused fault.Memory is = tt
-
 -- where nothing is read, nothing is made of it
 pub refused_one : {A B : Type 0} (c : A → B) (o : Option (A × Bytes)) (e : Fault) → NoneRead e o → NoneRead e (option_map (with_made c) o)
 refused_one c o (fault.Misfit at) r = ap (option_map (with_made c)) r

@@ -16,7 +16,7 @@ use Rattle.ac_expressions.specs.declared.front.Prefix.{Prefix}
 use Rattle.ac_expressions.specs.declared.front.Prefix.TheVariants as prefix
 use Rattle.ac_expressions.specs.declared.keywords.Keyword.{Keyword}
 use Rattle.ac_expressions.specs.declared.keywords.Keyword.TheVariants as keyword
-use Rattle.ac_expressions.specs.ExpressionParsing.{Before, Behind, Chain, IsArgument, IsHead, IsLastType, IsTypedBinder, Then}
+use Rattle.ac_expressions.specs.inner.Pieces.{Before, Behind, Chain, IsArgument, IsHead, IsLastType, IsTypedBinder, Then}
 
 abbrev pub NoTree : ℕ → Level → List Sign → Type 0
 NoTree depth level ts = (e : Tree) (rest : List Sign) → IsTree depth level ts e rest → ⊥

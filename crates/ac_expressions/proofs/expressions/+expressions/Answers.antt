@@ -13,7 +13,7 @@ use Rattle.ac_syntax.specs.declared.surface.SArm.{SArm}
 use Rattle.ac_syntax.specs.declared.surface.SPat.{SPat}
 use Rattle.ac_syntax.specs.declared.sign.Symbol.TheVariants.{Close, Comma, Semicolon, In}
 use Rattle.ac_syntax.proofs.OnStop.{on_syntax_more, refused}
-use Rattle.ac_expressions.specs.ExpressionParsing.{Before, Made}
+use Rattle.ac_expressions.specs.inner.Pieces.{Before, Made}
 use Rattle.ac_expressions.specs.inner.Forms.{Same, NoTree, IsLastPart, operator_read, IsArm, IsArms, IsParts, sequence_tree}
 use Rattle.ac_expressions.proofs.ExprLaws.{arm_of-made}
 use Rattle.ac_expressions.proofs.Readers.{word_at, second_read, then, first_none, behind, no_symbol, behind_none, before, before_none}

@@ -8,7 +8,7 @@ use Rattle.ac_syntax.specs.ReadSigns.{read_signs}
 use Rattle.ac_syntax.specs.ReadTrees.{pat_of}
 use Rattle.ac_syntax.specs.declared.surface.SPat.{SPat}
 use Rattle.ac_syntax.proofs.OnStop.{on_syntax_more, refused}
-use Rattle.ac_expressions.specs.ExpressionParsing.{NoPat}
+use Rattle.ac_expressions.specs.inner.PatternPieces.{NoPat}
 use Rattle.ac_expressions.proofs.Readers.{word_at}
 use Rattle.ac_expressions.proofs.PatLaws.{pat_of-Tuple, pat_of-Unit}
 use Rattle.ac_expressions.proofs.PatSteps.{flat_pat, pat_alone, pat_none, pat_cons, cons_none, cons_high, prefixed_tree, prefixed_none, single_tree, single_none, unit_pat, var_pat, var_none, opened_none, unclosed_none, tuple_high, tuple_none, tuple_tree, parens_tree, leaf_tree, leaf_none, tuple_of, second_none, part_none, part_read, unended_none, highest_next}

@@ -4,7 +4,7 @@ use Rattle.ac_syntax.specs.Patterns.{Pattern, IsPatTree}
 use Rattle.ac_syntax.specs.ReadSigns.{read_signs}
 use Rattle.ac_syntax.specs.ReadTrees.{pat_of}
 use Rattle.ac_syntax.specs.declared.sign.Symbol.TheVariants.{Comma, Close}
-use Rattle.ac_expressions.specs.ExpressionParsing.{Before}
+use Rattle.ac_expressions.specs.inner.Pieces.{Before}
 use Rattle.ac_expressions.proofs.Readers.{ManyRead}
 use Rattle.ac_expressions.proofs.patterns.+patterns.Given as goal
 

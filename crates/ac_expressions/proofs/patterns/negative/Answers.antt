@@ -8,7 +8,7 @@ use Rattle.ac_syntax.specs.declared.sign.Symbol.TheVariants.{Minus}
 use Rattle.ac_syntax.specs.declared.surface.SPatKind.{Int}
 use Rattle.ac_syntax.specs.declared.surface.SPatKind.TheViews.{roll-SPat}
 use Rattle.ac_syntax.proofs.OnStop.{refused}
-use Rattle.ac_expressions.specs.ExpressionParsing.{PatLeafAt}
+use Rattle.ac_expressions.specs.inner.PatternPieces.{PatLeafAt}
 use Rattle.ac_expressions.proofs.PatLaws.{pat_of-Int}
 use Rattle.ac_expressions.proofs.PatSteps.{negative_leaf, negative_none}
 use Rattle.ac_expressions.proofs.patterns.negative.Goals as goal

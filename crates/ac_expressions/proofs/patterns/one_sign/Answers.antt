@@ -7,7 +7,7 @@ use Rattle.ac_syntax.specs.ReadTrees.{pat_of}
 use Rattle.ac_syntax.specs.declared.surface.SPatKind.{Int}
 use Rattle.ac_syntax.specs.declared.surface.SPatKind.TheViews.{roll-SPat}
 use Rattle.ac_syntax.proofs.OnStop.{refused}
-use Rattle.ac_expressions.specs.ExpressionParsing.{PatLeafAt}
+use Rattle.ac_expressions.specs.inner.PatternPieces.{PatLeafAt}
 use Rattle.ac_expressions.proofs.PatLaws.{pat_of-Int, pat_of-Str, pat_of-kind}
 use Rattle.ac_expressions.proofs.PatSteps.{int_leaf, str_leaf, base_leaf, no_base_leaf}
 use Rattle.ac_expressions.proofs.patterns.one_sign.Goals as goal

@@ -3,7 +3,7 @@ use Rattle.ac_syntax.specs.Trees.{PatExnOf, pat_height}
 use Rattle.ac_syntax.specs.ReadTrees.{pat_of}
 use Rattle.ac_syntax.specs.declared.surface.SPat.{SPat}
 use Rattle.ac_expressions.specs.declared.front.Prefix.{Prefix}
-use Rattle.ac_expressions.specs.ExpressionParsing.{prefixed_pat}
+use Rattle.ac_expressions.specs.inner.PatternPieces.{prefixed_pat}
 use Rattle.ac_expressions.proofs.PatLaws.{pat_of-ExnOf}
 use Rattle.ac_expressions.proofs.patterns.prefixed_by.Goals as goal
 

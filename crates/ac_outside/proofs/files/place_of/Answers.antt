@@ -1,5 +1,5 @@
 use Rattle.std.proofs.Common.{◌≡◌, ◌∙◌, ap, sym, length, subst, ℕ, bytes_eq, string_bytes, List, arith, add-one}
-use Rattle.ac_outside.specs.Kept.{Passed}
+use Rattle.ac_outside.specs.inner.FilePlaces.{Passed}
 use Rattle.ac_outside.proofs.Places.{passed_at, passed_more, passed_all}
 use Rattle.ac_outside.proofs.files.place_of.Goals as goal
 

@@ -1,4 +1,4 @@
-use Rattle.ac_outside.specs.Kept.{Passed}
+use Rattle.ac_outside.specs.inner.FilePlaces.{Passed}
 use Rattle.ac_outside.proofs.files.place_of.Given as goal
 
 abbrev pub invariant-loop-i : goal.invariant-loop-i

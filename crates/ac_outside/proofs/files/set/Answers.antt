@@ -1,5 +1,6 @@
 use Rattle.std.proofs.Common.{◌≡◌, ◌∙◌, ap, sym, subst, string_bytes, List, ℕ, Some, None}
-use Rattle.ac_outside.specs.Kept.{StandsAt, file_contents}
+use Rattle.ac_outside.specs.Kept.{file_contents}
+use Rattle.ac_outside.specs.inner.FilePlaces.{StandsAt}
 use Rattle.ac_outside.specs.Outside.{OthersSame}
 use Rattle.ac_outside.proofs.Places.{set_here, set_other, push_here, push_other}
 use Rattle.ac_outside.proofs.files.set.Goals as goal

@@ -1,0 +1,52 @@
+-- The forms of patterns, piece by piece.
+use Rattle.std.specs.Prelude.{◌≡◌, ℕ, true, false, List, Option, Some, None}
+use Rattle.ac_types.specs.Exceptions as exceptions
+use Rattle.ac_syntax.specs.Signs.{Sign}
+use Rattle.ac_syntax.specs.Trees.{PatTree, PatWild, PatBool, PatAbsent, PatExn, PatTuple, PatPresent, PatExnOf, pat_tree, pat_trees, pat_height}
+use Rattle.ac_syntax.specs.Patterns.{PatLevel, Pattern, Single, ParsesPat, IsPatTree}
+use Rattle.ac_syntax.specs.ReadTrees.{pat_of}
+use Rattle.ac_syntax.specs.declared.sign.Symbol.{Symbol}
+use Rattle.ac_syntax.specs.declared.sign.Symbol.TheVariants as symbol
+use Rattle.ac_expressions.specs.declared.front.Prefix.{Prefix}
+use Rattle.ac_expressions.specs.declared.front.Prefix.TheVariants as prefix
+use Rattle.ac_expressions.specs.declared.patterns.ParsedPat.{ParsedPat}
+use Rattle.ac_expressions.specs.inner.Pieces.{Before, Chain}
+
+abbrev pub NoPat : ℕ → PatLevel → List Sign → Type 0
+NoPat depth level ts = (p : PatTree) (rest : List Sign) → IsPatTree depth level ts p rest → ⊥
+
+abbrev pub prefixed_pat : Prefix → ℕ → PatTree → PatTree
+prefixed_pat prefix.Present at p = PatPresent at p
+prefixed_pat (prefix.Exn number) at p = PatExnOf at number p
+
+-- the pattern that a symbol is by itself
+abbrev pub base_pat : Symbol → ℕ → Option PatTree
+base_pat symbol.Wild at = Some (PatWild at)
+base_pat symbol.True at = Some (PatBool at true)
+base_pat symbol.False at = Some (PatBool at false)
+base_pat symbol.NoneWord at = Some (PatAbsent at)
+base_pat symbol.NotFound at = Some (PatExn at exceptions.not_found)
+base_pat symbol.DivisionByZero at = Some (PatExn at exceptions.division_by_zero)
+base_pat symbol.MatchFailure at = Some (PatExn at exceptions.match_failure)
+base_pat symbol.EndOfFile at = Some (PatExn at exceptions.end_of_file)
+base_pat s at = None
+
+-- the signs begin with a pattern that is a leaf
+pub record PatLeafAt (ts : List Sign) (p : PatTree) (rest : List Sign) : Type 0 where
+  pub parses : ParsesPat Single ts p rest
+  pub leaf : pat_height p ≡ 1
+
+abbrev pub NoPatLeaf : List Sign → Type 0
+NoPatLeaf ts = (p : PatTree) (rest : List Sign) → ParsesPat Single ts p rest → ⊥
+
+-- the other parts of a tuple and its parenthesis
+abbrev pub IsPats : ℕ → List Sign → List PatTree → List Sign → Type 0
+IsPats depth = Chain (Before symbol.Comma (IsPatTree depth Pattern)) (Before symbol.Close (IsPatTree depth Pattern))
+
+pub record PatTupleOf (depth at : ℕ) (first : PatTree) (ts : List Sign) (p : PatTree) (rest : List Sign) : Type 0 where
+  pub others : List PatTree
+  pub is : p ≡ PatTuple at (pat_tree first (pat_trees others))
+  pub read : IsPats depth ts others rest
+
+abbrev pub pat_measured : ParsedPat → Type 0
+pat_measured p = p.height ≡ pat_height (pat_of p.tree)
