@@ -2,6 +2,7 @@
 #![tactic(auto)]
 
 mod block;
+mod cases;
 mod instr;
 mod table;
 

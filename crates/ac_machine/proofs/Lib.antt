@@ -8,3 +8,4 @@ pub mod PatternLaws
 pub mod PrimitiveLaws
 pub mod RunLaws
 pub mod TakenLaws
+pub mod TestLaws

@@ -4,16 +4,16 @@ use Rattle.std.specs.Prelude.{option_and_then}
 use Rattle.std.specs.List.{All}
 use Rattle.std.proofs.lemmas.List.Elements.{All-append}
 use Rattle.ac_types.specs.Types.{Bytes, Typ, same_bytes}
-use Rattle.ac_code.specs.Constants.{same_int, same_bool}
-use Rattle.ac_terms.specs.Terms.{Pattern, PVar, PInt, PBool, PStr, PUnit, PTuple, PNil, PCons, PAbsent, PPresent, PExn, PExnOf, Patterns, patterns}
+use Rattle.ac_code.specs.Constants.{same_int}
+use Rattle.ac_terms.specs.Terms.{Pattern, PVar, PInt, PStr, PUnit, PTuple, PNil, PCons, PAbsent, PPresent, PExnOf, Patterns, patterns}
 use Rattle.ac_terms.specs.Read.{pattern_of, pattern_layer}
 use Rattle.ac_terms.specs.declared.pat.Pat.{Pat, out-Pat, map-Pat, fold_out-Pat}
 use Rattle.ac_terms.specs.declared.pat.Pat.TheViews.{the_lemmas}
 use Rattle.ac_terms.specs.declared.pat.Pat.TheVariants as code
 use Rattle.ac_values.specs.declared.node.Node.{Node}
 use Rattle.ac_values.specs.declared.node.Value.{Value}
-use Rattle.ac_values.specs.Values.{MValue, MInt, MBool, MStr, MExn, MExnOf, MTuple, MUnit, MNil, MAbsent, MCons, MPresent, MMore, stands_as, values_at, values}
-use Rattle.ac_values.specs.ValueReaders.{int_in, bool_in, text_in, cons_in, present_in, tuple_in, exn_with, exn_without, is_unit, is_nil, is_absent}
+use Rattle.ac_values.specs.Values.{MValue, MInt, MStr, MExnOf, MTuple, MUnit, MNil, MAbsent, MCons, MPresent, MMore, stands_as, values_at, values}
+use Rattle.ac_values.specs.ValueReaders.{int_in, text_in, cons_in, present_in, tuple_in, exn_with, is_unit, is_nil, is_absent}
 use Rattle.ac_values.specs.inner.Fitting.{environment_with, Fitted, Tested}
 use Rattle.ac_values.specs.Fits.{where_true, bound, all_bound}
 use Rattle.ac_values.proofs.ReadLaws.{all_one}
@@ -43,17 +43,9 @@ pub at_int : (n : ℤ) (m es : MValue) → bound (PInt n) m es ≡ found_then (i
 at_int n (MInt k) es = refl
 at_int n m es = refl
 
-pub at_bool : (b : Bool) (m es : MValue) → bound (PBool b) m es ≡ found_then (bool_in m) (λ c. where_true (same_bool b c) (Some es))
-at_bool b (MBool c) es = refl
-at_bool b m es = refl
-
 pub at_text : (s : Bytes) (m es : MValue) → bound (PStr s) m es ≡ found_then (text_in m) (λ t. where_true (same_bytes s t) (Some es))
 at_text s (MStr t) es = refl
 at_text s m es = refl
-
-pub at_exn : (k : ℕ) (m es : MValue) → bound (PExn k) m es ≡ found_then (exn_without m) (λ j. where_true (nat_eq k j) (Some es))
-at_exn k (MExn j) es = refl
-at_exn k m es = refl
 
 pub at_unit : (m : MValue) → Tested (bound PUnit m) (is_unit m)
 at_unit MUnit = λ es. refl
@@ -82,15 +74,6 @@ at_tuple ps m es = refl
 pub at_exn_of : (k : ℕ) (p : Pattern) (m es : MValue) → bound (PExnOf k p) m es ≡ found_then (exn_with m) (λ x. where_true (nat_eq k x.0) (bound p x.1 es))
 at_exn_of k p (MExnOf j a) es = refl
 at_exn_of k p m es = refl
-
--- a test passes where it is true
-pub tested_where : (b : Bool) → Tested (λ es. where_true b (Some es)) b
-tested_where true = λ es. refl
-tested_where false = λ es. refl
-
-pub tested_as : (f g : MValue → Option MValue) (b : Bool) → ((es : MValue) → f es ≡ g es) → Tested g b → Tested f b
-tested_as f g true e h = λ es. e es ∙ h es
-tested_as f g false e h = λ es. e es ∙ h es
 
 module _ (ns : List Node) where
   abbrev pub Values : List Value → Type 0
@@ -122,9 +105,6 @@ module _ (ns : List Node) where
   pub fitted_then : (f g : MValue → Option MValue) (us vs ws : List Value) (b : Bool) → Fitted ns f us vs true → Fitted ns g vs ws b → Fitted ns (λ es. option_and_then g (f es)) us ws b
   fitted_then f g us vs ws true h k = (k.0, λ es. ap (option_and_then g) (h.1 es) ∙ k.1 es)
   fitted_then f g us vs ws false h k = λ es. none_then g (f es) k
-
-  pub fitted_not : (f g : MValue → Option MValue) (us vs : List Value) → Fitted ns f us vs false → Fitted ns (λ es. option_and_then g (f es)) us vs false
-  fitted_not f g us vs h = λ es. ap (option_and_then g) (h es)
 
   -- the patterns from i on are still to be tried, where those before it fit
   pub record Left (ps : List Pat) (vs us ws : List Value) (i : ℕ) : Type 0 where

@@ -16,6 +16,7 @@ use ac_values::read::{
 };
 use ac_values::{Store, Value};
 
+/// Whether the value is this int.
 #[inline(always)]
 pub fn is_int(store: &Store, v: Value, n: &i64) -> bool
     ensures { Tested (bound (PInt n.now) (stands_as store.now v.0)) result }
@@ -26,6 +27,7 @@ pub fn is_int(store: &Store, v: Value, n: &i64) -> bool
     }
 }
 
+/// Whether the value is this truth value.
 #[inline(always)]
 pub fn is_bool(store: &Store, v: Value, b: bool) -> bool
     ensures { Tested (bound (PBool b) (stands_as store.now v.0)) result }

@@ -154,6 +154,7 @@ pub fn combined(
     }
 }
 
+/// What a primitive of two arguments answers of two ints.
 #[inline(always)]
 #[tactic(auto, using(crate::proofs::PrimitiveLaws::operator_laws))]
 pub fn of_ints(operator: Binary, x: i64, y: i64) -> Answer
