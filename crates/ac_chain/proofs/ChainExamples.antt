@@ -56,10 +56,10 @@ receiver : Expr
 receiver = Prim primitives.print_string (expr (Prim primitives.receive (expr Unit' no_exprs)) no_exprs)
 
 sent : Outcome Value
-sent = Returned VUnit (record (fresh [] [] true) { writes = Send (codes "A") ∷ [] })
+sent = Returned VUnit (record (fresh [] [] true) { writes = Send (codes "A") ∷ []; before_writes = done_by (fresh [] [] true) ∷ [] })
 
 shown : Outcome Value
-shown = Returned VUnit (record (fresh [] [] true) { writes = Print (codes "A") ∷ []; receives = done_by (fresh [] [] true) ∷ [] })
+shown = Returned VUnit (record (fresh [] [] true) { writes = Print (codes "A") ∷ []; before_writes = done_by (fresh [] [] true) ∷ []; receives = done_by (fresh [] [] true) ∷ [] })
 
 received : (mode : Mode) → RunInTurn mode 0 true (([], sender) ∷ ([], receiver) ∷ []) [] (sent ∷ shown ∷ [])
 unfolding sender receiver sent shown

@@ -90,7 +90,7 @@ leaves_some end.Finished told o t old new goes l h = made_all told (writes_of o)
 leaves_some (end.Uncaught x) told o t old new goes l h = made_all told (writes_of o) old new l h
 leaves_some (end.Spent n) told o t old new goes l h = made_all told (writes_of o) old new l h
 leaves_some end.ReadFault told o t old new goes l h = behind told (writes_of o) old new (at_receive told o old new goes l.0) h
-leaves_some end.WriteFault told o t old new goes l h = inside told (writes_of o) old new l.0 h
+leaves_some end.WriteFault told o t old new goes l h = inside told (writes_of o) old new l.0.stops h
 leaves_some end.Memory told o t old new goes l h = somewhere told (writes_of o) old new l.0 h
 
 module _ (mode : Mode) (N : ℕ) (told : Bool) (program : Loaded) (m : MachineSeen) (t : Session) (left : Bytes) (r : RunEnd) (old new : Bytes) (sent : Bytes)

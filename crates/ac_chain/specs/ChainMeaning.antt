@@ -55,7 +55,7 @@ AreParts N told made (o ∷ os) (part ∷ parts) = IsChainPart N told made o par
 AreParts N told made [] (part ∷ parts) = ⊥
 AreParts N told made (o ∷ os) [] = ⊥
 
--- a chain runs: all its texts load, no two entries of two programs clash, and the programs run in turn; the first has nothing to read
+-- a chain runs: all its texts load, no two entries of two programs clash, and the programs run in turn; where that is told, the first has nothing to read
 pub record Runs (mode : Mode) (texts : List Bytes) (shelf : List Shelved) (N : ℕ) (told : Bool) : Type 0 where
   pub programs : Programs
   pub load : LoadAs texts shelf programs

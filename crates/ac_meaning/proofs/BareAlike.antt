@@ -22,14 +22,14 @@ use Rattle.ac_meaning.specs.BareReduction as b
 use Rattle.ac_meaning.specs.BareReduction.{BareWritten}
 use Rattle.ac_meaning.proofs.Results.{Result, Fine, Raising, Spending, Wrongly, TooDeep, M, then', give, raise, follow, Got}
 use Rattle.ac_meaning.proofs.Eval as full
-use Rattle.ac_meaning.proofs.Eval.{crossing, across, own_by, ref_by, answering, fitted, eval, eval_all, eval_rest, eval_arms, calling, depth, packed_as, arrived_as}
+use Rattle.ac_meaning.proofs.Eval.{crossing, across, own_by, ref_by, fitted, eval, eval_all, eval_rest, eval_arms, calling, depth, packed_as, arrived_as}
 use Rattle.ac_meaning.proofs.BareEval as lean
 use Rattle.ac_meaning.specs.Typed.{as_seen, Known, Fits, AllFit, Typed, AllTyped, ArmsTyped, ValuesTyped, WrittenTyped}
 use Rattle.ac_meaning.proofs.Homes.{seen_fun}
 use Rattle.ac_meaning.proofs.Shapes.{IsOf, shape, fit_typed}
 use Rattle.ac_meaning.proofs.Arrivals.{Arrives}
 use Rattle.ac_meaning.proofs.Safe.{Ok, Of}
-use Rattle.ac_meaning.proofs.Progress.{At, Are, Good, later, term_later, terms_later, arms_later, value_later, written_later, known_later, seen_later, across_ok, callable, sound, all_sound, depth_sound}
+use Rattle.ac_meaning.proofs.Progress.{At, Good, later, term_later, terms_later, arms_later, value_later, written_later, known_later, seen_later, across_ok, callable, sound, depth_sound}
 use Rattle.ac_meaning.proofs.BareSame.{bare_env, bare-inst, Same, same_seq, same_after, lift_same, found_same, branch_same, throw_same, text_same, primitive_same, cross_same, own_value_same, ref_value_same}
 
 -- one after the other, where the value of the first is of some kind
@@ -201,9 +201,6 @@ module _ (arrives : Arrives) (mode : Mode) where
     -- what a typed term comes to has its type
     is_sound : (t : Expr) (c : Home) (G : List Typ) (T : Typ) (us : Written) (z : World) → Here z c → WrittenTyped mode z.environment us c G → Typed mode z.environment t c G T → Good arrives mode z c T (eval mode t apps c us z)
     is_sound = sound arrives mode N next go
-
-    are_sound : (ts : Exprs) (c : Home) (G : List Typ) (Ts : Typs) (us : Written) (z : World) → Here z c → WrittenTyped mode z.environment us c G → AllTyped mode z.environment ts c G Ts → Ok z.environment (Are arrives mode c Ts) (eval_all mode ts apps c us z)
-    are_sound = all_sound arrives mode N next go
 
     -- a part of type U, and then what follows its value
     and : (t : Expr) (c : Home) (G : List Typ) (U : Typ) (us : Written) (z : World) (k : Home) (f : Value → M Value) (g : BareValue → M BareValue) → Here z c → WrittenTyped mode z.environment us c G → Typed mode z.environment t c G U → Alike c (eval mode t apps c us z) (lean.eval (bare c t) bare_apps c (bare_env c us) z) →

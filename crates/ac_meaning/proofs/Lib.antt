@@ -13,6 +13,7 @@ pub mod Budgets
 pub mod InOrder
 pub mod WriteOrders
 pub mod ReceiveOrders
+pub mod BeforeWrites
 pub mod Coherences
 pub mod Homes
 pub mod Programs

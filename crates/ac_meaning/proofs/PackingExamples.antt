@@ -20,7 +20,7 @@ use Rattle.ac_rules.specs.Faults.{Fault, Depth, Function, Size, NoString, behind
 use Rattle.ac_rules.proofs.Samples.{c_t, one_entry}
 use Rattle.ac_rules.proofs.PlainExamples.{increment, b_t}
 use Rattle.ac_meaning.specs.Writes.{Print, Send}
-use Rattle.ac_meaning.specs.Worlds.{World, fresh, Made, Read, with_crossing}
+use Rattle.ac_meaning.specs.Worlds.{World, fresh, done_by, Made, Read, with_crossing}
 use Rattle.ac_meaning.specs.Acts.{Act, Turns, Raises, At, Over, Returned, iter}
 use Rattle.ac_rules.specs.Plain.{packed}
 use Rattle.ac_meaning.specs.Packing.{packing, landing, marshal_step, bare_marshal_step, unmarshal_step, marshal_failure_exn, unmarshal_failure_exn, raising}
@@ -49,15 +49,15 @@ send_five = sent_of (Marshal TInt (Str (codes "StdLib")) (number 5))
 abbrev five_world : World
 five_world = fresh (a_mark (codes "StdLib") ∷ []) [] true
 
-pub five_is_sent : iter (step Coloured 0) 4 (At send_five five_world) ≡ Over (Returned VUnit (record five_world { writes = Send five_bytes ∷ []; crossings = Made five_bytes ∷ [] }))
+pub five_is_sent : iter (step Coloured 0) 4 (At send_five five_world) ≡ Over (Returned VUnit (record five_world { writes = Send five_bytes ∷ []; crossings = Made five_bytes ∷ []; before_writes = done_by (record five_world { crossings = Made five_bytes ∷ [] }) ∷ [] }))
 unfolding packing
 five_is_sent = refl
 
-pub five_is_sent_plain : iter (step Plain 0) 4 (At send_five five_world) ≡ Over (Returned VUnit (record five_world { writes = Send five_bytes ∷ []; crossings = Made five_bytes ∷ [] }))
+pub five_is_sent_plain : iter (step Plain 0) 4 (At send_five five_world) ≡ Over (Returned VUnit (record five_world { writes = Send five_bytes ∷ []; crossings = Made five_bytes ∷ []; before_writes = done_by (record five_world { crossings = Made five_bytes ∷ [] }) ∷ [] }))
 unfolding packing
 five_is_sent_plain = refl
 
-pub five_is_sent_bare : iter (lean.step 0) 4 (At (bare Main send_five) five_world) ≡ Over (Returned WUnit (record five_world { writes = Send five_bytes ∷ []; crossings = Made five_bytes ∷ [] }))
+pub five_is_sent_bare : iter (lean.step 0) 4 (At (bare Main send_five) five_world) ≡ Over (Returned WUnit (record five_world { writes = Send five_bytes ∷ []; crossings = Made five_bytes ∷ []; before_writes = done_by (record five_world { crossings = Made five_bytes ∷ [] }) ∷ [] }))
 unfolding packing
 five_is_sent_bare = refl
 
@@ -68,11 +68,11 @@ add_received = print_int (plus (number 3) (Unmarshal TInt receive))
 abbrev in_a_frame : World
 in_a_frame = fresh [] (0 ∷ 0 ∷ 0 ∷ 0x11 ∷ five_bytes) false
 
-pub eight_is_printed : iter (step Coloured 0) 9 (At add_received in_a_frame) ≡ Over (Returned VUnit (record (fresh [] [] false) { writes = Print (codes "8") ∷ []; crossings = Read five_bytes ∷ []; receives = has_printed [] ∷ [] }))
+pub eight_is_printed : iter (step Coloured 0) 9 (At add_received in_a_frame) ≡ Over (Returned VUnit (record (fresh [] [] false) { writes = Print (codes "8") ∷ []; crossings = Read five_bytes ∷ []; before_writes = record (has_printed []) { crossings = Read five_bytes ∷ [] } ∷ []; receives = has_printed [] ∷ [] }))
 unfolding int_wrap digits is_reserved landing
 eight_is_printed = refl
 
-pub eight_is_printed_bare : iter (lean.step 0) 9 (At (bare Main add_received) in_a_frame) ≡ Over (Returned WUnit (record (fresh [] [] false) { writes = Print (codes "8") ∷ []; crossings = Read five_bytes ∷ []; receives = has_printed [] ∷ [] }))
+pub eight_is_printed_bare : iter (lean.step 0) 9 (At (bare Main add_received) in_a_frame) ≡ Over (Returned WUnit (record (fresh [] [] false) { writes = Print (codes "8") ∷ []; crossings = Read five_bytes ∷ []; before_writes = record (has_printed []) { crossings = Read five_bytes ∷ [] } ∷ []; receives = has_printed [] ∷ [] }))
 unfolding int_wrap digits is_reserved landing
 eight_is_printed_bare = refl
 

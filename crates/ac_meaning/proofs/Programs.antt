@@ -17,13 +17,18 @@ use Rattle.ac_meaning.specs.Reduction.{step}
 abbrev pub after_steps : ℕ → Mode → Expr → ℕ → State Expr Value
 after_steps k mode e N = iter (step mode N) k (At e (fresh [] [] false))
 
--- the world after these prints and so many applications
-abbrev pub printed_by : List Bytes → ℕ → World
-printed_by ss n = record { environment = []; writes = map Print ss; crossings = []; receives = []; input = []; has_channel = false; made = n }
-
 -- what a program has done that printed so
 abbrev pub has_printed : List Bytes → Trace
 has_printed ss = record { environment = []; writes = map Print ss; crossings = [] }
+
+-- what was done in front of each of these prints
+abbrev pub before_each : List Bytes → List Bytes → List Trace
+before_each done [] = []
+before_each done (s ∷ ss) = has_printed done ∷ before_each (done ++ s ∷ []) ss
+
+-- the world after these prints and so many applications
+abbrev pub printed_by : List Bytes → ℕ → World
+printed_by ss n = record { environment = []; writes = map Print ss; crossings = []; before_writes = before_each [] ss; receives = []; input = []; has_channel = false; made = n }
 
 abbrev pub number : ℕ → Expr
 number n = Int (pos n)

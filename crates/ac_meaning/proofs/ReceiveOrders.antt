@@ -6,8 +6,8 @@ use Rattle.ac_terms.specs.Defs.{Environment}
 use Rattle.ac_rules.specs.Views.{Mode}
 use Rattle.ac_meaning.specs.Writes.{Write}
 use Rattle.ac_meaning.specs.Worlds.{Crossing, Trace, World, fresh, done_by, with_receive, with_left}
-use Rattle.ac_meaning.specs.Acts.{Turns, Outcome, Returned, Raised, Spent, Stuck, State, At, writes_of, crossings_of, receives_of}
-use Rattle.ac_meaning.specs.Reduction.{Ends}
+use Rattle.ac_meaning.specs.Acts.{Turns, Outcome, Returned, Raised, Spent, Stuck, State, At, Over, Leads, writes_of, crossings_of, receives_of}
+use Rattle.ac_meaning.specs.Reduction.{step, Ends}
 use Rattle.ac_meaning.specs.Laws.{ComesToReceive}
 use Rattle.ac_meaning.proofs.Changes.{Changes, Writes, Takes, Crosses, Grown}
 use Rattle.ac_meaning.proofs.InOrder.{not_nil, items_of, IsCollected, ComesToAdd, in_order, in_front, only_these}
@@ -101,6 +101,12 @@ crossings_by (Raised x z) = refl
 crossings_by (Spent z) = refl
 crossings_by Stuck = refl
 
+-- what has crossed by some state of a run stands in front of all that crosses until its end
+pub crossed_there : (mode : Mode) (N : ℕ) (o : Outcome Value) → (o ≡ Stuck → ⊥) → (start : State Expr Value) → Leads (step mode N) start (Over o) → (t : Expr) (z : World) → Leads (step mode N) start (At t z) → (later : List Crossing) × (crossings_of o ≡ z.crossings ++ later)
+crossed_there mode N o stops start end t z passes =
+    let f = in_front crossings_in Crossed crossings_collected mode N o stops start end t z passes in
+    (f.0, crossings_by o ∙ f.1)
+
 module _ (mode : Mode) (E : Environment) (e : Expr) (input : Bytes) (sends : Bool) (N : ℕ) (o : Outcome Value) (end : Ends mode E e input sends N o) (before after : List Trace) (r : Trace) (among : receives_of o ≡ before ++ r ∷ after) where
   abbrev start : State Expr Value
   start = At e (fresh E input sends)
@@ -120,5 +126,5 @@ module _ (mode : Mode) (E : Environment) (e : Expr) (input : Bytes) (sends : Boo
   pub crossed_in_front : (later : List Crossing) × (crossings_of o ≡ r.crossings ++ later)
   crossed_in_front =
       let c = comes_there in
-      let f = in_front crossings_in Crossed crossings_collected mode N o not_stuck start end c.term c.world c.passes in
-      (f.0, crossings_by o ∙ f.1 ∙ ap (λ (t : Trace). t.crossings ++ f.0) c.has_done)
+      let f = crossed_there mode N o not_stuck start end c.term c.world c.passes in
+      (f.0, f.1 ∙ ap (λ (t : Trace). t.crossings ++ f.0) c.has_done)

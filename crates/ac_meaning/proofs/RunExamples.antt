@@ -177,7 +177,7 @@ pub nowhere_to_send : after_steps 3 Coloured (send (codes "a")) 0 ≡ Over (Rais
 nowhere_to_send = refl
 
 pub two_are_sent :
-    iter (step Coloured 0) 9 (At (then' (send (codes "a")) (send (codes "bc"))) (fresh [] [] true)) ≡ Over (Returned VUnit (record (fresh [] [] true) { writes = Send (codes "a") ∷ Send (codes "bc") ∷ [] }))
+    iter (step Coloured 0) 9 (At (then' (send (codes "a")) (send (codes "bc"))) (fresh [] [] true)) ≡ Over (Returned VUnit (record (fresh [] [] true) { writes = Send (codes "a") ∷ Send (codes "bc") ∷ []; before_writes = has_printed [] ∷ record (has_printed []) { writes = Send (codes "a") ∷ [] } ∷ [] }))
 two_are_sent = refl
 
 -- over one frame and one byte more: the frame, and then the bad frame each time

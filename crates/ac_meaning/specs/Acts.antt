@@ -97,6 +97,13 @@ crossings_of (Raised x z) = z.crossings
 crossings_of (Spent z) = z.crossings
 crossings_of Stuck = []
 
+-- what a run had done in front of each of its writes, by its end
+abbrev pub before_writes_of : {A : Type 0} → Outcome A → List Trace
+before_writes_of (Returned v z) = z.before_writes
+before_writes_of (Raised x z) = z.before_writes
+before_writes_of (Spent z) = z.before_writes
+before_writes_of Stuck = []
+
 -- what a run had done in front of each of its receives, by its end
 abbrev pub receives_of : {A : Type 0} → Outcome A → List Trace
 receives_of (Returned v z) = z.receives

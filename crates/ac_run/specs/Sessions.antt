@@ -1,11 +1,11 @@
 -- Sessions, how they end, and what they leave on console and channel.
-use Rattle.std.specs.Prelude.{◌≡◌, ◌⊎◌, ℕ, Bool, false, IsTrue, List, ◌∷◌, ◌++◌, Option}
+use Rattle.std.specs.Prelude.{◌≡◌, ◌⊎◌, ℕ, Bool, false, IsTrue, List, [], ◌∷◌, ◌++◌, drop, Option}
 use Rattle.ac_types.specs.Types.{Bytes}
 use Rattle.ac_terms.specs.Terms.{Expr, Value}
 use Rattle.ac_terms.specs.Defs.{Environment}
 use Rattle.ac_terms.specs.Read.{expr_of, environment_of}
 use Rattle.ac_outside.specs.Outside.{Extends}
-use Rattle.ac_outside.specs.Frames.{frame_of}
+use Rattle.ac_outside.specs.Frames.{Bad, frame_of, next_frame}
 use Rattle.ac_rules.specs.Views.{Mode}
 use Rattle.ac_rules.specs.declared.loaded.Loaded.{Loaded}
 use Rattle.ac_machine.specs.States.{Core, Ask, AskDone, AskRaised, AskSpent, Paused}
@@ -14,7 +14,7 @@ use Rattle.ac_machine.specs.Seen.{MachineSeen, standing}
 use Rattle.ac_meaning.specs.Writes.{Write, Print, Send, Console, Channel, written}
 use Rattle.ac_meaning.specs.Worlds.{Crossing, Trace, World}
 use Rattle.ac_meaning.specs.ReadExn.{exn_of}
-use Rattle.ac_meaning.specs.Acts.{Outcome, Returned, Raised, Spent, Stuck, writes_of, crossings_of, receives_of}
+use Rattle.ac_meaning.specs.Acts.{Outcome, Returned, Raised, Spent, Stuck, writes_of, crossings_of, before_writes_of, receives_of}
 use Rattle.ac_meaning.specs.Reduction.{Ends}
 use Rattle.ac_run.specs.Journals.{read_journal, noted, BeginsWith}
 use Rattle.ac_run.specs.declared.crossing.Crossing as code
@@ -44,6 +44,17 @@ ProgramEnds mode s input o = Ends mode (environment s) (main s) input s.sends s.
 -- a program gets this input: what its world has left to read, where that is told
 abbrev pub HasInput : Bool → Bytes → Bytes → Type 0
 HasInput told left input = IsTrue told → left ≡ input
+
+-- what the reduction has left to read, by its end
+abbrev pub left_of : {A : Type 0} → Outcome A → Bytes
+left_of (Returned v z) = z.input
+left_of (Raised x z) = z.input
+left_of (Spent z) = z.input
+left_of Stuck = []
+
+-- no frame comes from what the reduction has left: there is nothing, or bytes that are no frame, behind which this is left of them
+abbrev pub NoFrame : Bytes → Bytes → Type 0
+NoFrame input left = (input ≡ []) ⊎ ((n : ℕ) × (got : ℕ) × (next_frame input ≡ Bad n got) × (left ≡ drop got input))
 
 -- a session's journal has these crossings, if it keeps one
 abbrev pub HasNoted : Session → List Crossing → Type 0
@@ -82,6 +93,15 @@ IsEnd end.ReadFault o s = WaitsForFrame s
 IsEnd end.WriteFault o s = Unit {0}
 IsEnd end.Memory o s = Unit {0}
 
+-- behind an end without a fault a world has left of its input what the reduction has left, or no frame came any more
+abbrev pub HasLeft : {A : Type 0} → RunEnd → Outcome A → Bytes → Type 0
+HasLeft end.Finished o left = (left ≡ left_of o) ⊎ NoFrame (left_of o) left
+HasLeft (end.Uncaught e) o left = (left ≡ left_of o) ⊎ NoFrame (left_of o) left
+HasLeft (end.Spent steps) o left = (left ≡ left_of o) ⊎ NoFrame (left_of o) left
+HasLeft end.ReadFault o left = Unit {0}
+HasLeft end.WriteFault o left = Unit {0}
+HasLeft end.Memory o left = Unit {0}
+
 -- console and channel of a world
 pub record Streams : Type 0 where
   pub console : Bytes
@@ -114,6 +134,15 @@ pub record StopsBehind (told : Bool) (all : List Write) (old new : Streams) : Ty
   pub order : all ≡ before ++ after
   pub made : IsTrue told → new ≡ with_writes before old
 
+-- the run stopped in one of these writes, and one of these traces is of what had been done in front of it
+pub record StopsAtWrite (told : Bool) (all : List Write) (traces : List Trace) (old new : Streams) : Type 0 where
+  pub stops : StopsIn told all old new
+  pub earlier : List Trace
+  pub trace : Trace
+  pub later : List Trace
+  pub order : traces ≡ earlier ++ trace ∷ later
+  pub so_far : trace.writes ≡ stops.before
+
 -- the run came to one of these receives: what it had written in front of it was written, where the streams are told, and nothing else
 pub record StopsAtReceive (told : Bool) (all : List Trace) (old new : Streams) : Type 0 where
   pub before : List Trace
@@ -126,13 +155,13 @@ pub record StopsAtReceive (told : Bool) (all : List Trace) (old new : Streams) :
 abbrev pub HasNotedSome : {A : Type 0} → Session → Outcome A → Type 0
 HasNotedSome s o = BeginsWith (read_journal s.journal) (noted s.keeps (crossings_of o))
 
--- what a session leaves of what its program does: all writes; after a fault of reading those in front of one of its receives, with the crossings in front of that in its journal and the definitions there; after a fault of writing those before one write and a prefix of it; and want of memory may come anywhere
+-- what a session leaves of what its program does: all writes; after a fault of reading those in front of one of its receives; after a fault of writing those before one write and a prefix of it; after either the crossings in front of that in its journal, and the definitions there; and after want of memory, which may come anywhere, some writes, of one more a prefix, and the first of the crossings
 abbrev pub Leaves : {A : Type 0} → RunEnd → Bool → Outcome A → Session → Streams → Streams → Type 0
 Leaves end.Finished told o s old new = IsTrue told → new ≡ with_writes (writes_of o) old
 Leaves (end.Uncaught e) told o s old new = IsTrue told → new ≡ with_writes (writes_of o) old
 Leaves (end.Spent steps) told o s old new = IsTrue told → new ≡ with_writes (writes_of o) old
 Leaves end.ReadFault told o s old new = (stops : StopsAtReceive told (receives_of o) old new) × (HasNoted s stops.receive.crossings × (environment s ≡ stops.receive.environment))
-Leaves end.WriteFault told o s old new = StopsIn told (writes_of o) old new × HasNotedSome s o
+Leaves end.WriteFault told o s old new = (stops : StopsAtWrite told (writes_of o) (before_writes_of o) old new) × (HasNoted s stops.trace.crossings × (environment s ≡ stops.trace.environment))
 Leaves end.Memory told o s old new = (StopsIn told (writes_of o) old new ⊎ StopsBehind told (writes_of o) old new) × HasNotedSome s o
 
 -- with this input a session ends so, as the reduction in each mode does, and leaves what it says

@@ -38,13 +38,17 @@ impl Inbox {
     /// read.
     pub fn next<W: World>(&mut self, alloc: Global, world: &mut W) -> Incoming
         ensures heard { Comes W.Source.told self.old (W.Source.left world.old) self.new
-            (W.Source.left world.new) (Heard result self.new) }
+            (W.Source.left world.new) (Heard W.Source.told result self.new) }
         ensures quiet { IsTrue W.Source.told → (W.console world.new ≡ W.console world.old) ×
             (W.channel world.new ≡ W.channel world.old) }
         ensures cause { result ≡ Incoming.Failed →
             Rose (W.Source.read_faults world.old) (W.Source.read_faults world.new) }
         ensures later { W.Source.read_faults world.old ≤ W.Source.read_faults world.new }
         ensures later_writes { W.write_faults world.old ≤ W.write_faults world.new }
+        // Once it is closed it stays so, and nothing is read.
+        ensures closed { self.old ≡ Inbox.Closed → self.new ≡ Inbox.Closed }
+        ensures idle { self.old ≡ Inbox.Closed → world.new ≡ world.old }
+        ensures ended { self.old ≡ Inbox.Closed → result ≡ Incoming.End }
     {
         match self {
             Inbox::Open => {}

@@ -37,14 +37,14 @@ pub words_refused : (o : Handed) → Still o.output → (end : Status) → Said 
 words_refused o still end s = refused_words (still_whole o.output still) s
 
 -- want of memory while the words were read
-pub end_at_words : (request : Option Request) (o : Handed) → Still o.output → ((to : Option ChannelName) → Untouched to o) → (end : Status) → Said o.errors memory_line OUT_OF_MEMORY end → Ended request o end
-end_at_words None o still same end s = no_memory_for_words (still_whole o.output still) s
-end_at_words (Some (run prog steps from to)) o still same end s = no_memory_yet (still_whole o.output still) (same to) s
-end_at_words (Some (names prog)) o still same end s = no_memory_to_find (still_whole o.output still) s
-end_at_words (Some (code prog)) o still same end s = no_memory_to_find (still_whole o.output still) s
-end_at_words (Some (make seed modules runs)) o still same end s = no_memory_to_find (still_whole o.output still) s
-end_at_words (Some (check files list)) o still same end s = no_memory_to_find (still_whole o.output still) s
-end_at_words (Some (chain programs list steps)) o still same end s = no_memory_to_chain (still_whole o.output still) s
+pub end_at_words : (request : Option Request) (o : Handed) → Still o.output → ((to : Option ChannelName) → Untouched to o) → IsTrue o.idle → (end : Status) → Said o.errors memory_line OUT_OF_MEMORY end → Ended request o end
+end_at_words None o still same idle end s = no_memory_for_words (still_whole o.output still) s
+end_at_words (Some (run prog steps from to)) o still same idle end s = no_memory_yet (still_whole o.output still) (same to) idle s
+end_at_words (Some (names prog)) o still same idle end s = no_memory_to_find (still_whole o.output still) s
+end_at_words (Some (code prog)) o still same idle end s = no_memory_to_find (still_whole o.output still) s
+end_at_words (Some (make seed modules runs)) o still same idle end s = no_memory_to_find (still_whole o.output still) s
+end_at_words (Some (check files list)) o still same idle end s = no_memory_to_find (still_whole o.output still) s
+end_at_words (Some (chain programs list steps)) o still same idle end s = no_memory_to_chain (still_whole o.output still) s
 
 -- all that was to be written was, so some of it was and then none
 behind_all : (told : Bool) (writes : List Write) (old new : Streams) → (IsTrue told → new ≡ with_writes writes old) → StopsBehind told writes old new
@@ -58,15 +58,15 @@ module _ (prog : ProgramFiles) (steps : ℕ) (from to : Option ChannelName) (o :
   end_told r a mid g runs whole c rest is end (inr s) = no_memory_left r a mid g runs (inr (behind_all (is_told from to o) a.writes (before_run to o) (after_run to o mid) whole)) s
 
   -- want of memory before anything was written on output
-  pub end_early : Still o.output → Untouched to o → (end : Status) → Said o.errors memory_line OUT_OF_MEMORY end → RunEnded prog steps from to o end
-  end_early still same end s = no_memory_yet (still_whole o.output still) same s
+  pub end_early : Still o.output → Untouched to o → IsTrue o.idle → (end : Status) → Said o.errors memory_line OUT_OF_MEMORY end → RunEnded prog steps from to o end
+  end_early still same idle end s = no_memory_yet (still_whole o.output still) same idle s
 
   -- the texts weren't read
-  pub end_unread : Still o.output → Untouched to o → (f : TextsFault) → ((n : ℕ) → f ≡ fault.Line n → HasBadLine o.files prog.shelf n) → (f ≡ fault.Failed → ReadsFail o.files prog.file prog.shelf) → (end : Status) → SaysUnread f o.errors end → RunEnded prog steps from to o end
-  end_unread still same (fault.Line n) bad failed end (inl s) = bad_list n (bad n refl) (still_whole o.output still) same s
-  end_unread still same (fault.Line n) bad failed end (inr s) = end_early still same end s
-  end_unread still same fault.Failed bad failed end s = unread_file (failed refl) (still_whole o.output still) same s
-  end_unread still same fault.Memory bad failed end s = end_early still same end s
+  pub end_unread : Still o.output → Untouched to o → IsTrue o.idle → (f : TextsFault) → ((n : ℕ) → f ≡ fault.Line n → HasBadLine o.files prog.shelf n) → (f ≡ fault.Failed → ReadsFail o.files prog.file prog.shelf) → (end : Status) → SaysUnread f o.errors end → RunEnded prog steps from to o end
+  end_unread still same idle (fault.Line n) bad failed end (inl s) = bad_list n (bad n refl) (still_whole o.output still) same idle s
+  end_unread still same idle (fault.Line n) bad failed end (inr s) = end_early still same idle end s
+  end_unread still same idle fault.Failed bad failed end s = unread_file (failed refl) (still_whole o.output still) same idle s
+  end_unread still same idle fault.Memory bad failed end s = end_early still same idle end s
 
 -- where nothing is touched
 pub touches_none : {Files : Type 0} (reads : Bytes → Files → Files → Type 0) (none : (name : Bytes) (a : Files) → reads name a a) (request : Option Request) (a : Files) → Touches reads request a a

@@ -13,8 +13,8 @@ use Rattle.ac_words.specs.Form.{Text}
 use Rattle.ac_words.specs.Commands.{ChannelName, ProgramFiles, standard, file, are_one}
 use Rattle.ac_meaning.specs.Writes.{Write}
 use Rattle.ac_meaning.specs.Worlds.{Trace}
-use Rattle.ac_meaning.specs.Acts.{Outcome, writes_of, receives_of}
-use Rattle.ac_run.specs.Sessions.{Session, Streams, streams, with_writes, Begun, StopsIn, StopsBehind, StopsAtReceive, Leaves, RunsTo}
+use Rattle.ac_meaning.specs.Acts.{Outcome, writes_of, before_writes_of, receives_of}
+use Rattle.ac_run.specs.Sessions.{Session, Streams, streams, with_writes, Begun, StopsIn, StopsBehind, StopsAtWrite, StopsAtReceive, Leaves, RunsTo}
 use Rattle.ac_run.specs.declared.end.RunEnd.{RunEnd}
 use Rattle.ac_run.specs.declared.end.RunEnd.TheVariants as end
 use Rattle.ac_answers.specs.declared.status.Status.{Status}
@@ -113,7 +113,7 @@ still_behind told written faults (Some (file name)) e old mid is apart =
 
 -- what a run leaves, from other streams in front of it that are the same where they are told
 module _ (told : Bool) (old there new : Streams) (same : IsTrue told → old ≡ there) where
-  in_moved : (all : List Write) → StopsIn told all old new → StopsIn told all there new
+  abbrev in_moved : (all : List Write) → StopsIn told all old new → StopsIn told all there new
   in_moved all s = record {
     before = s.before;
     write = s.write;
@@ -137,6 +137,16 @@ module _ (told : Bool) (old there new : Streams) (same : IsTrue told → old ≡
   part_moved all (inl h) = inl (in_moved all h)
   part_moved all (inr h) = inr (behind_moved all h)
 
+  abbrev write_moved : (all : List Write) (traces : List Trace) → StopsAtWrite told all traces old new → StopsAtWrite told all traces there new
+  write_moved all traces s = record {
+    stops = in_moved all s.stops;
+    earlier = s.earlier;
+    trace = s.trace;
+    later = s.later;
+    order = s.order;
+    so_far = s.so_far;
+  }
+
   abbrev receive_moved : (all : List Trace) → StopsAtReceive told all old new → StopsAtReceive told all there new
   receive_moved all s = record {
     before = s.before;
@@ -151,7 +161,7 @@ module _ (told : Bool) (old there new : Streams) (same : IsTrue told → old ≡
   leaves_moved (end.Uncaught e) o s h = whole_moved (writes_of o) h
   leaves_moved (end.Spent steps) o s h = whole_moved (writes_of o) h
   leaves_moved end.ReadFault o s h = (receive_moved (receives_of o) h.0, h.1)
-  leaves_moved end.WriteFault o s h = (in_moved (writes_of o) h.0, h.1)
+  leaves_moved end.WriteFault o s h = (write_moved (writes_of o) (before_writes_of o) h.0, h.1)
   leaves_moved end.Memory o s h = (part_moved (writes_of o) h.0, h.1)
 
   pub runs_moved : (s t : Session) (input : Bytes) (r : RunEnd) → RunsTo told s t input r old new → RunsTo told s t input r there new
@@ -167,10 +177,10 @@ abbrev pub read_all : (prog : ProgramFiles) (steps : ℕ) (from to : Option Chan
 read_all prog steps from to o shelf is_shelf text is_text = record { shelf = shelf; is_shelf = is_shelf; text = text; is_text = is_text; input = input_of from o; is_input = gets_all from (is_told from to o) o }
 
 -- files that are as they were
-pub untouched_by : (told : Bool) (start now : FilesSeen) (input : Reading) (output errors : Writing) (to : Option ChannelName) → (IsTrue told → now.contents ≡ start.contents) → Untouched to (what_is_handed told start now input output errors)
-untouched_by told start now input output errors None same = tt
-untouched_by told start now input output errors (Some standard) same = tt
-untouched_by told start now input output errors (Some (file name)) same = λ t. ap (λ (k : Contents). or_empty (k name)) (same t)
+pub untouched_by : (told : Bool) (start now : FilesSeen) (input : Reading) (idle : Bool) (output errors : Writing) (to : Option ChannelName) → (IsTrue told → now.contents ≡ start.contents) → Untouched to (what_is_handed told start now input idle output errors)
+untouched_by told start now input idle output errors None same = tt
+untouched_by told start now input idle output errors (Some standard) same = tt
+untouched_by told start now input idle output errors (Some (file name)) same = λ t. ap (λ (k : Contents). or_empty (k name)) (same t)
 
 -- files in front of a run
 pub prepared : (told : Bool) (start old now : FilesSeen) (to : Option ChannelName) → Since told start old → Makes to told put.Done old now → Prepared told to start now
@@ -197,18 +207,18 @@ at_most told start old now name put.Done undone since m t = absurd (undone refl)
 at_most told start old now name put.Failed undone since m t = made_or_not start old now name (since.same t) (m t)
 at_most told start old now name put.Memory undone since m t = made_or_not start old now name (since.same t) (m t)
 
-pub made_at_most : (told : Bool) (start old now : FilesSeen) (input : Reading) (output errors : Writing) (to : Option ChannelName) (p : Put) → (p ≡ put.Done → ⊥) → Since told start old → Makes to told p old now → MadeAtMost to (what_is_handed told start now input output errors)
-made_at_most told start old now input output errors None p undone since m = tt
-made_at_most told start old now input output errors (Some standard) p undone since m = tt
-made_at_most told start old now input output errors (Some (file name)) p undone since m = at_most told start old now name p undone since m.0
+pub made_at_most : (told : Bool) (start old now : FilesSeen) (input : Reading) (idle : Bool) (output errors : Writing) (to : Option ChannelName) (p : Put) → (p ≡ put.Done → ⊥) → Since told start old → Makes to told p old now → MadeAtMost to (what_is_handed told start now input idle output errors)
+made_at_most told start old now input idle output errors None p undone since m = tt
+made_at_most told start old now input idle output errors (Some standard) p undone since m = tt
+made_at_most told start old now input idle output errors (Some (file name)) p undone since m = at_most told start old now name p undone since m.0
 
 failed≢done : put.Failed ≡ put.Done → ⊥
 failed≢done is = absurd cc
 
-pub making_failed : (told : Bool) (start old now : FilesSeen) (input : Reading) (output errors : Writing) (to : Option ChannelName) → Since told start old → Makes to told put.Failed old now → MakingFailed to (what_is_handed told start now input output errors)
-making_failed told start old now input output errors None since m = absurd (failed≢done m.0)
-making_failed told start old now input output errors (Some standard) since m = absurd (failed≢done m.0)
-making_failed told start old now input output errors (Some (file name)) since m = rose_earlier (start.write_faults name) (old.write_faults name) (now.write_faults name) (since.writes name) (m.1.1.0 refl)
+pub making_failed : (told : Bool) (start old now : FilesSeen) (input : Reading) (idle : Bool) (output errors : Writing) (to : Option ChannelName) → Since told start old → Makes to told put.Failed old now → MakingFailed to (what_is_handed told start now input idle output errors)
+making_failed told start old now input idle output errors None since m = absurd (failed≢done m.0)
+making_failed told start old now input idle output errors (Some standard) since m = absurd (failed≢done m.0)
+making_failed told start old now input idle output errors (Some (file name)) since m = rose_earlier (start.write_faults name) (old.write_faults name) (now.write_faults name) (since.writes name) (m.1.1.0 refl)
 
 -- the other files have what they had before the file of the channel was made
 pub making_keeps : (to : Option ChannelName) (told : Bool) (p : Put) (old now : FilesSeen) → Makes to told p old now → IsTrue told → (name : Text) → (to ≡ Some (file name) → ⊥) → {last : Option Bytes} → last ≡ now.contents name → last ≡ old.contents name

@@ -1,5 +1,5 @@
 -- The run of a text that is refused ends as the text means.
-use Rattle.std.proofs.Common.{◌≡◌, ℕ, List, Option, ◌⊎◌, inl, inr, refl}
+use Rattle.std.proofs.Common.{◌≡◌, ℕ, IsTrue, List, Option, ◌⊎◌, inl, inr, refl}
 use Rattle.ac_types.specs.Types.{Bytes}
 use Rattle.ac_words.specs.Commands.{ChannelName, ProgramFiles}
 use Rattle.ac_acceptance.specs.Accepting.{Shelved}
@@ -21,9 +21,9 @@ use Rattle.ac_top.specs.RunEndings.{RunEnded, is_refused}
 use Rattle.ac_top.proofs.PlaceLaws.{read_all}
 use Rattle.ac_top.proofs.EndingLaws.{Still, still_whole, end_early}
 
-module _ (prog : ProgramFiles) (steps : ℕ) (from to : Option ChannelName) (o : Handed) (shelf : List Shelved) (is_shelf : IsShelfBy o.files prog.shelf shelf) (text : Bytes) (is_text : IsTextOf (o.files prog.file) text) (still : Still o.output) (same : Untouched to o) where
+module _ (prog : ProgramFiles) (steps : ℕ) (from to : Option ChannelName) (o : Handed) (shelf : List Shelved) (is_shelf : IsShelfBy o.files prog.shelf shelf) (text : Bytes) (is_text : IsTextOf (o.files prog.file) text) (still : Still o.output) (same : Untouched to o) (idle : IsTrue o.idle) where
   -- the line of a refusal, or that of want of memory in its place
   pub end_refusal : (part : ℕ) (k : Kind) → Says k (Rejects text shelf part k) → (end : Status) → (Said o.errors (refusal_line part k) REFUSED end × (k ≡ kind.Memory → ⊥)) ⊎ Said o.errors memory_line OUT_OF_MEMORY end → RunEnded prog steps from to o end
   end_refusal part k h end (inl s) =
-      is_refused (read_all prog steps from to o shelf is_shelf text is_text) (refusal REFUSED (refusal_line part k)) (λ mode. refused part k (said k (Rejects text shelf part k) s.1 h)) refl (still_whole o.output still) same s.0
-  end_refusal part k h end (inr s) = end_early prog steps from to o still same end s
+      is_refused (read_all prog steps from to o shelf is_shelf text is_text) (refusal REFUSED (refusal_line part k)) (λ mode. refused part k (said k (Rejects text shelf part k) s.1 h)) refl (still_whole o.output still) same idle s.0
+  end_refusal part k h end (inr s) = end_early prog steps from to o still same idle end s

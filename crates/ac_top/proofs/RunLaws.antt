@@ -139,7 +139,7 @@ module _ (prog : ProgramFiles) (steps : ℕ) (from to : Option ChannelName) (o :
       }) s
 
   pub has_failed : Runs end.WriteFault → OutputFailed to o → (status : Status) → Said (behind_run to o mid) write_line WRITE_FAULT status → RunEnded prog steps from to o status
-  has_failed runs rose status s = unwritten r _ mid meaning refl rose (ended end.WriteFault runs).1.0 s
+  has_failed runs rose status s = unwritten r _ mid meaning refl rose (ended end.WriteFault runs).1.0.stops s
 
   pub has_lost : Runs end.Memory → (status : Status) → Said (behind_run to o mid) memory_line OUT_OF_MEMORY status → RunEnded prog steps from to o status
   has_lost runs status s = no_memory_left r _ mid meaning refl (ended end.Memory runs).1.0 s
@@ -151,11 +151,11 @@ module _ (prog : ProgramFiles) (steps : ℕ) (from to : Option ChannelName) (o :
   meaning_all : (a : CommandAnswer) × (GivesStatus prog steps from to o (read_all prog steps from to o shelf is_shelf text is_text) a × (a.runs ≡ true))
   meaning_all = meant_by prog steps from to o loaded (read_all prog steps from to o shelf is_shelf text is_text) accepted typed
 
-  pub unmade_in : MakingFailed to o → AllWritten o.output [] → MadeAtMost to o → (end : Status) → Said o.errors write_line WRITE_FAULT end → RunEnded prog steps from to o end
-  unmade_in rose none most end s = unmade_file (read_all prog steps from to o shelf is_shelf text is_text) meaning_all.0 meaning_all.1.0 meaning_all.1.1 rose none most s
+  pub unmade_in : MakingFailed to o → AllWritten o.output [] → MadeAtMost to o → IsTrue o.idle → (end : Status) → Said o.errors write_line WRITE_FAULT end → RunEnded prog steps from to o end
+  unmade_in rose none most idle end s = unmade_file (read_all prog steps from to o shelf is_shelf text is_text) meaning_all.0 meaning_all.1.0 meaning_all.1.1 rose none most idle s
 
-  pub lost_making : AllWritten o.output [] → MadeAtMost to o → (end : Status) → Said o.errors memory_line OUT_OF_MEMORY end → RunEnded prog steps from to o end
-  lost_making none most end s = no_memory_making (read_all prog steps from to o shelf is_shelf text is_text) meaning_all.0 meaning_all.1.0 meaning_all.1.1 none most s
+  pub lost_making : AllWritten o.output [] → MadeAtMost to o → IsTrue o.idle → (end : Status) → Said o.errors memory_line OUT_OF_MEMORY end → RunEnded prog steps from to o end
+  lost_making none most idle end s = no_memory_making (read_all prog steps from to o shelf is_shelf text is_text) meaning_all.0 meaning_all.1.0 meaning_all.1.1 none most idle s
 
 -- a session has run, from what was read and made in front of it
 pub record Setting (prog : ProgramFiles) (steps : ℕ) (from to : Option ChannelName) (o : Handed) (mid : Bytes) (s t : Session) (e : RunEnd) : Type 0 where

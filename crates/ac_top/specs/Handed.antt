@@ -7,20 +7,22 @@ use Rattle.ac_top.specs.Channels.{of_channel, of_console}
 use Rattle.ac_files.specs.Files.{FilesSeen, Reading, files_read}
 use Rattle.ac_top.specs.Streams.{Writing}
 
--- the files as they are read and as they are written, and the streams
+-- the files as they are read and as they are written, the streams, and whether input is known to be as it was
 pub record Handed : Type 0 where
   pub files : List ℕ → Reading
   pub made : List ℕ → Writing
   pub input : Reading
+  pub idle : Bool
   pub output : Writing
   pub errors : Writing
 
 -- files whose contents are told or not, before a call and after it, and the streams
-abbrev pub what_is_handed : Bool → FilesSeen → FilesSeen → Reading → Writing → Writing → Handed
-what_is_handed told old new input output errors = record {
+abbrev pub what_is_handed : Bool → FilesSeen → FilesSeen → Reading → Bool → Writing → Writing → Handed
+what_is_handed told old new input idle output errors = record {
   files = files_read told old new;
   made = λ name. record { told = told; old = or_empty (old.contents name); new = or_empty (new.contents name); before = old.write_faults name; after = new.write_faults name };
   input = input;
+  idle = idle;
   output = output;
   errors = errors;
 }

@@ -31,7 +31,7 @@ pub record StoodAtReceive (mode : Mode) (text : Bytes) (shelf : List Shelved) (s
   pub stops : StopsAtReceive told (receives_of last) old new
 
 module _ (p : ProgramFiles) (steps : ℕ) (from to : Option ChannelName) (o : Handed) where
-  -- what is read: the shelf, the text, and the input of its run
+  -- what there is to read: the shelf, the text, and the input of its run
   pub record HasRead : Type 0 where
     pub shelf : List Shelved
     pub is_shelf : IsShelfBy o.files p.shelf shelf
@@ -46,25 +46,25 @@ module _ (p : ProgramFiles) (steps : ℕ) (from to : Option ChannelName) (o : Ha
 
   -- how the run of a file ends: a row for each way, and one line on errors that goes with it
   pub data RunEnded (end : Status) : Type 0 where
-    -- the program is refused, and nothing else is written
-    is_refused : (r : HasRead) (a : CommandAnswer) → GivesStatus r a → a.runs ≡ false → AllWritten o.output [] → Untouched to o → Said o.errors a.line a.status end → RunEnded end
+    -- the program is refused, nothing else is written, and nothing is read from input
+    is_refused : (r : HasRead) (a : CommandAnswer) → GivesStatus r a → a.runs ≡ false → AllWritten o.output [] → Untouched to o → IsTrue o.idle → Said o.errors a.line a.status end → RunEnded end
     -- the program has run to its end, and all that it writes stands there
     has_run : (r : HasRead) (a : CommandAnswer) (mid : Bytes) → GivesStatus r a → a.runs ≡ true → (IsTrue (is_told from to o) → after_run to o mid ≡ with_writes a.writes (before_run to o)) → SaidIfAny (behind_run to o mid) a.line a.status end → RunEnded end
-    -- the list of the shelf has a bad line, and nothing else is written
-    bad_list : (n : ℕ) → HasBadLine o.files p.shelf n → AllWritten o.output [] → Untouched to o → Said o.errors (shelf_line n) SHELF_REFUSED end → RunEnded end
-    -- a read of the list, of a file that it names, or of the program's file failed, and nothing was written
-    unread_file : ReadsFail o.files p.file p.shelf → AllWritten o.output [] → Untouched to o → Said o.errors read_line READ_FAULT end → RunEnded end
-    -- the file of the channel could not be made, and nothing was run
-    unmade_file : (r : HasRead) (a : CommandAnswer) → GivesStatus r a → a.runs ≡ true → MakingFailed to o → AllWritten o.output [] → MadeAtMost to o → Said o.errors write_line WRITE_FAULT end → RunEnded end
+    -- the list of the shelf has a bad line, nothing else is written, and nothing is read from input
+    bad_list : (n : ℕ) → HasBadLine o.files p.shelf n → AllWritten o.output [] → Untouched to o → IsTrue o.idle → Said o.errors (shelf_line n) SHELF_REFUSED end → RunEnded end
+    -- a read of the list, of a file that it names, or of the program's file failed, and nothing was written, nor read from input
+    unread_file : ReadsFail o.files p.file p.shelf → AllWritten o.output [] → Untouched to o → IsTrue o.idle → Said o.errors read_line READ_FAULT end → RunEnded end
+    -- the file of the channel could not be made, nothing was run, and nothing was read from input
+    unmade_file : (r : HasRead) (a : CommandAnswer) → GivesStatus r a → a.runs ≡ true → MakingFailed to o → AllWritten o.output [] → MadeAtMost to o → IsTrue o.idle → Said o.errors write_line WRITE_FAULT end → RunEnded end
     -- a read of the channel failed, where the program stood at one of its receives; what was written stands in front of all that it writes
     unread_input : (r : HasRead) (a : CommandAnswer) (mid : Bytes) → GivesStatus r a → a.runs ≡ true → InputFailed from o → StopsBehind (is_told from to o) a.writes (before_run to o) (after_run to o mid)
         → ((mode : Mode) → StoodAtReceive mode r.text r.shelf steps r.input (is_some to) (is_told from to o) (before_run to o) (after_run to o mid)) → Said (behind_run to o mid) read_line READ_FAULT end → RunEnded end
     -- a write of the run failed
     unwritten : (r : HasRead) (a : CommandAnswer) (mid : Bytes) → GivesStatus r a → a.runs ≡ true → OutputFailed to o → StopsIn (is_told from to o) a.writes (before_run to o) (after_run to o mid) → Said (behind_run to o mid) write_line WRITE_FAULT end → RunEnded end
-    -- memory ran out in front of the run, with nothing written
-    no_memory_yet : AllWritten o.output [] → Untouched to o → Said o.errors memory_line OUT_OF_MEMORY end → RunEnded end
-    -- or while the file of the channel was made
-    no_memory_making : (r : HasRead) (a : CommandAnswer) → GivesStatus r a → a.runs ≡ true → AllWritten o.output [] → MadeAtMost to o → Said o.errors memory_line OUT_OF_MEMORY end → RunEnded end
+    -- memory ran out in front of the run, with nothing written, and nothing read from input
+    no_memory_yet : AllWritten o.output [] → Untouched to o → IsTrue o.idle → Said o.errors memory_line OUT_OF_MEMORY end → RunEnded end
+    -- or while the file of the channel was made, with nothing read from input
+    no_memory_making : (r : HasRead) (a : CommandAnswer) → GivesStatus r a → a.runs ≡ true → AllWritten o.output [] → MadeAtMost to o → IsTrue o.idle → Said o.errors memory_line OUT_OF_MEMORY end → RunEnded end
     -- or in the run, or behind it
     no_memory_left : (r : HasRead) (a : CommandAnswer) (mid : Bytes) → GivesStatus r a → a.runs ≡ true → StopsIn (is_told from to o) a.writes (before_run to o) (after_run to o mid) ⊎ StopsBehind (is_told from to o) a.writes (before_run to o) (after_run to o mid)
         → Said (behind_run to o mid) memory_line OUT_OF_MEMORY end → RunEnded end

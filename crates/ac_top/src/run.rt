@@ -1,5 +1,5 @@
 // The command that runs the program of a file.
-ghost use Rattle.std.specs.Prelude.{◌≡◌, ◌≤◌, List, None, false, IsTrue, length, is_some, option_map};
+ghost use Rattle.std.specs.Prelude.{◌≡◌, ◌≤◌, Bool, List, None, false, IsTrue, length, is_some, option_map};
 ghost use Rattle.ac_types.specs.Types.{Bytes};
 ghost use Rattle.ac_types.specs.ReadTypes.{typ_of};
 ghost use Rattle.ac_terms.specs.Read.{environment_of, expr_of};
@@ -38,12 +38,13 @@ pub fn run_file<F: Files, I: Source, O: Sink, E: Sink>(
 ) -> Status
     requires { are_one (option_map channel_of run.input) (option_map channel_of run.output) ≡
         false }
-    ensures ends { RunEnded (files_of run.entry.program) run.entry.steps
+    ensures ends { (idle : Bool) × (IsTrue idle → input.new ≡ input.old) ×
+        RunEnded (files_of run.entry.program) run.entry.steps
         (option_map channel_of run.entry.input)
         (option_map channel_of run.entry.output) (what_is_handed F.told
         (files_seen F.contents F.read_faults F.write_faults files.old)
         (files_seen F.contents F.read_faults F.write_faults files.new)
-        (feeding I.told I.left I.read_faults input.old input.new)
+        (feeding I.told I.left I.read_faults input.old input.new) idle
         (writing O.told O.written O.faults output.old output.new)
         (writing E.told E.written E.faults errors.old errors.new)) result }
     ensures kept { IsTrue F.told → KeptBut (option_map channel_of run.entry.output)
@@ -74,18 +75,19 @@ fn run_texts<F: Files, I: Source, O: Sink, E: Sink>(
         ≡ false }
     requires few { length texts.shelf.0 ≤ 256 }
     requires shelved { IsShelf (shelf_of texts.shelf) }
-    ensures ends { (start : FilesSeen) →
-        Since F.told start (files_seen F.contents F.read_faults F.write_faults files.old) →
+    ensures ends { (idle : Bool) × (IsTrue idle → input.new ≡ input.old) ×
+        ((start : FilesSeen) → Since F.told start
+        (files_seen F.contents F.read_faults F.write_faults files.old) →
         let o = what_is_handed F.told start (files_seen F.contents F.read_faults F.write_faults
         files.new)
-        (feeding I.told I.left I.read_faults input.old input.new)
+        (feeding I.told I.left I.read_faults input.old input.new) idle
         (writing O.told O.written O.faults output.old output.new)
         (writing E.told E.written E.faults errors.old errors.new) in
         IsShelfBy o.files (files_of run.entry.program).shelf (shelf_of texts.shelf) →
         IsTextOf (o.files (files_of run.entry.program).file) texts.program.0 →
         RunEnded (files_of run.entry.program) run.entry.steps
         (option_map channel_of run.entry.input)
-        (option_map channel_of run.entry.output) o result }
+        (option_map channel_of run.entry.output) o result) }
     ensures kept { IsTrue F.told → KeptBut (option_map channel_of run.entry.output)
         (F.contents files.old) (F.contents files.new) }
     ensures idle { NotStandard (option_map channel_of run.entry.input) → input.new ≡ input.old }
@@ -112,11 +114,12 @@ fn run_program<F: Files, I: Source, O: Sink, E: Sink>(
         ≡ false }
     requires loaded { IsLoaded (environment_of loaded.env) (expr_of loaded.main)
         (typ_of loaded.ty) }
-    ensures ends { (start : FilesSeen) →
-        Since F.told start (files_seen F.contents F.read_faults F.write_faults files.old) →
+    ensures ends { (idle : Bool) × (IsTrue idle → input.new ≡ input.old) ×
+        ((start : FilesSeen) → Since F.told start
+        (files_seen F.contents F.read_faults F.write_faults files.old) →
         let o = what_is_handed F.told start (files_seen F.contents F.read_faults F.write_faults
         files.new)
-        (feeding I.told I.left I.read_faults input.old input.new)
+        (feeding I.told I.left I.read_faults input.old input.new) idle
         (writing O.told O.written O.faults output.old output.new)
         (writing E.told E.written E.faults errors.old errors.new) in
         (shelf : List Shelved) → IsShelfBy o.files (files_of run.entry.program).shelf shelf →
@@ -124,7 +127,7 @@ fn run_program<F: Files, I: Source, O: Sink, E: Sink>(
         Loads text shelf (environment_of loaded.env) (expr_of loaded.main) (typ_of loaded.ty) →
         RunEnded (files_of run.entry.program) run.entry.steps
         (option_map channel_of run.entry.input)
-        (option_map channel_of run.entry.output) o result }
+        (option_map channel_of run.entry.output) o result) }
     ensures kept { IsTrue F.told → KeptBut (option_map channel_of run.entry.output)
         (F.contents files.old) (F.contents files.new) }
     ensures idle { NotStandard (option_map channel_of run.entry.input) → input.new ≡ input.old }
@@ -149,11 +152,12 @@ fn make_and_run<F: Files, I: Source, O: Sink, E: Sink>(
 ) -> Status
     requires apart { are_one (option_map channel_of run.input) (option_map channel_of run.output)
         ≡ false }
-    ensures ends { (start : FilesSeen) →
-        Since F.told start (files_seen F.contents F.read_faults F.write_faults files.old) →
+    ensures ends { (idle : Bool) × (IsTrue idle → input.new ≡ input.old) ×
+        ((start : FilesSeen) → Since F.told start
+        (files_seen F.contents F.read_faults F.write_faults files.old) →
         let o = what_is_handed F.told start (files_seen F.contents F.read_faults F.write_faults
         files.new)
-        (feeding I.told I.left I.read_faults input.old input.new)
+        (feeding I.told I.left I.read_faults input.old input.new) idle
         (writing O.told O.written O.faults output.old output.new)
         (writing E.told E.written E.faults errors.old errors.new) in
         (shelf : List Shelved) → IsShelfBy o.files (files_of run.entry.program).shelf shelf →
@@ -165,7 +169,7 @@ fn make_and_run<F: Files, I: Source, O: Sink, E: Sink>(
         (is_some (option_map channel_of run.entry.output)) session.old.machine →
         RunEnded (files_of run.entry.program) run.entry.steps
         (option_map channel_of run.entry.input)
-        (option_map channel_of run.entry.output) o result }
+        (option_map channel_of run.entry.output) o result) }
     ensures kept { IsTrue F.told → KeptBut (option_map channel_of run.entry.output)
         (F.contents files.old) (F.contents files.new) }
     ensures idle { NotStandard (option_map channel_of run.entry.input) → input.new ≡ input.old }
@@ -209,7 +213,7 @@ fn run_session<F: Files, I: Source, O: Sink, E: Sink>(
         (files_seen F.contents F.read_faults F.write_faults files.old) →
         let o = what_is_handed F.told start (files_seen F.contents F.read_faults F.write_faults
         files.new)
-        (feeding I.told I.left I.read_faults input.old input.new)
+        (feeding I.told I.left I.read_faults input.old input.new) false
         (writing O.told O.written O.faults output.old output.new)
         (writing E.told E.written E.faults errors.old errors.new) in
         (shelf : List Shelved) → IsShelfBy o.files (files_of run.entry.program).shelf shelf →

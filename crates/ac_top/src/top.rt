@@ -1,5 +1,5 @@
 // The top call: what the words ask for, from files and input to output.
-ghost use Rattle.std.specs.Prelude.{◌≡◌, Some, IsTrue};
+ghost use Rattle.std.specs.Prelude.{◌≡◌, Bool, Some, IsTrue};
 ghost use Rattle.ac_files.specs.Files.{files_seen};
 ghost use Rattle.ac_words.specs.Commands.{command_of, request_of};
 ghost use Rattle.ac_top.specs.Channels.{KeptBut, NotStandard};
@@ -32,11 +32,13 @@ pub fn acute<R: Threads + Sync, F: Files, I: Source, O: Sink, E: Sink, G: Gate +
     errors: &mut E,
     gate: &G,
 ) -> Status
-    // How the call ends: a row for each way.
-    ensures ends { Ended (command_of (texts words.now)) (what_is_handed F.told
+    // How the call ends: a row for each way. Those without a run ask that input is idle, which it
+    // is only where it is as it was.
+    ensures ends { (idle : Bool) × (IsTrue idle → input.new ≡ input.old) ×
+        Ended (command_of (texts words.now)) (what_is_handed F.told
         (files_seen F.contents F.read_faults F.write_faults files.old)
         (files_seen F.contents F.read_faults F.write_faults files.new)
-        (feeding I.told I.left I.read_faults input.old input.new)
+        (feeding I.told I.left I.read_faults input.old input.new) idle
         (writing O.told O.written O.faults output.old output.new)
         (writing E.told E.written E.faults errors.old errors.new)) result }
     // No file is created or changed but that of the channel to which the run sends.
@@ -69,10 +71,11 @@ fn obey<R: Threads + Sync, F: Files, I: Source, O: Sink, E: Sink, G: Gate + Sync
 ) -> Status
     requires apart { IsApart (request_of command) }
     requires short { HasFewPrograms (request_of command) }
-    ensures ends { Ended (Some (request_of command.entry)) (what_is_handed F.told
+    ensures ends { (idle : Bool) × (IsTrue idle → input.new ≡ input.old) ×
+        Ended (Some (request_of command.entry)) (what_is_handed F.told
         (files_seen F.contents F.read_faults F.write_faults files.old)
         (files_seen F.contents F.read_faults F.write_faults files.new)
-        (feeding I.told I.left I.read_faults input.old input.new)
+        (feeding I.told I.left I.read_faults input.old input.new) idle
         (writing O.told O.written O.faults output.old output.new)
         (writing E.told E.written E.faults errors.old errors.new)) result }
     ensures kept { IsTrue F.told → KeptBut (channel_written (Some (request_of command.entry)))

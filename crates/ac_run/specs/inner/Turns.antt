@@ -15,7 +15,7 @@ use Rattle.ac_meaning.specs.Writes.{Write, string_of}
 use Rattle.ac_meaning.specs.Worlds.{Exception, World, end_of_file_exn, bad_frame}
 use Rattle.ac_meaning.specs.Acts.{Outcome, Stuck, Over, Leads, writes_of}
 use Rattle.ac_simulation.specs.Running.{on, machine_step}
-use Rattle.ac_run.specs.Sessions.{Session, environment, Streams, with_writes, StopsIn, StopsBehind, IsEnd, Leaves}
+use Rattle.ac_run.specs.Sessions.{Session, environment, Streams, with_writes, StopsIn, StopsBehind, left_of, IsEnd, Leaves}
 use Rattle.ac_run.specs.Journals.{read_journal, noted}
 use Rattle.ac_run.specs.inner.Inboxes.{MayCome, IsLeft}
 use Rattle.ac_run.specs.declared.end.RunEnd.{RunEnd}
@@ -41,20 +41,20 @@ abbrev pub HasRaised : Exception → MachineSeen → MachineSeen → Type 0
 HasRaised x m n = HasGot (with_raise x.number x.text) m n
 
 -- the machine has got the frame that comes next, or the exception of why there is none
-abbrev pub HasGotFrame : Inbox → Bytes → Bytes → MachineSeen → MachineSeen → Frame → Type 0
-HasGotFrame inbox rest input m n (Whole s left) = HasGot (resumed_text s) m n × IsLeft inbox rest left
-HasGotFrame inbox rest input m n (Bad k got) = HasRaised bad_frame m n × IsLeft inbox rest input
-HasGotFrame inbox rest input m n AtEnd = HasRaised end_of_file_exn m n × IsLeft inbox rest input
+abbrev pub HasGotFrame : Bool → Inbox → Bytes → Bytes → MachineSeen → MachineSeen → Frame → Type 0
+HasGotFrame told inbox rest input m n (Whole s left) = HasGot (resumed_text s) m n × IsLeft told inbox rest left
+HasGotFrame told inbox rest input m n (Bad k got) = HasRaised bad_frame m n × IsLeft told inbox rest input
+HasGotFrame told inbox rest input m n AtEnd = HasRaised end_of_file_exn m n × IsLeft told inbox rest input
 
 -- it has got it; or a read has failed and it stands as it did, or memory ran out
-abbrev pub Received : Inbox → Bytes → Bytes → MachineSeen → MachineSeen → Option RunEnd → Type 0
-Received inbox rest input m n None = HasGotFrame inbox rest input m n (next_frame input)
-Received inbox rest input m n (Some end.Finished) = ⊥
-Received inbox rest input m n (Some (end.Uncaught e)) = ⊥
-Received inbox rest input m n (Some (end.Spent steps)) = ⊥
-Received inbox rest input m n (Some end.ReadFault) = n ≡ m
-Received inbox rest input m n (Some end.WriteFault) = ⊥
-Received inbox rest input m n (Some end.Memory) = Unit {0}
+abbrev pub Received : Bool → Inbox → Bytes → Bytes → MachineSeen → MachineSeen → Option RunEnd → Type 0
+Received told inbox rest input m n None = HasGotFrame told inbox rest input m n (next_frame input)
+Received told inbox rest input m n (Some end.Finished) = ⊥
+Received told inbox rest input m n (Some (end.Uncaught e)) = ⊥
+Received told inbox rest input m n (Some (end.Spent steps)) = ⊥
+Received told inbox rest input m n (Some end.ReadFault) = n ≡ m
+Received told inbox rest input m n (Some end.WriteFault) = ⊥
+Received told inbox rest input m n (Some end.Memory) = Unit {0}
 
 -- each of these writes has a string that a frame holds
 abbrev pub AreShort : List Write → Type 0
@@ -73,6 +73,15 @@ pub record Point : Type 0 where
 abbrev pub point : Environment → Code → MachineSeen → Inbox → Bytes → Streams → Journal → Point
 point E K m inbox left now journal = record { environment = E; code = K; machine = m; inbox = inbox; left = left; streams = now; journal = journal }
 
+-- at an end without a fault what comes next is what the reduction has left
+abbrev pub LeavesNext : Bool → Inbox → Bytes → RunEnd → Outcome (Code × MValue) → Type 0
+LeavesNext told inbox rest end.Finished o = IsLeft told inbox rest (left_of o)
+LeavesNext told inbox rest (end.Uncaught e) o = IsLeft told inbox rest (left_of o)
+LeavesNext told inbox rest (end.Spent steps) o = IsLeft told inbox rest (left_of o)
+LeavesNext told inbox rest end.ReadFault o = Unit {0}
+LeavesNext told inbox rest end.WriteFault o = Unit {0}
+LeavesNext told inbox rest end.Memory o = Unit {0}
+
 module _ (sends told : Bool) where
   -- over coherent definitions a run is on its way to this end, where it isn't stuck and all writes are short, and this is what comes; where that is told, the writes since the start were made; what crossed stands in the journal, if it is kept
   pub record OnItsWay (p : Point) (rest : Bytes) (start : Streams) (o : Outcome (Code × MValue)) : Type 0 where
@@ -85,7 +94,7 @@ module _ (sends told : Bool) where
     pub ends : Leads machine_step (on p.code state world) (Over o)
     pub not_stuck : o ≡ Stuck → ⊥
     pub short : AreShort (writes_of o)
-    pub input : IsLeft p.inbox rest world.input
+    pub input : IsLeft told p.inbox rest world.input
     pub channel : world.has_channel ≡ sends
     pub so_far : IsTrue told → p.streams ≡ with_writes world.writes start
     pub crossed : read_journal p.journal.crossings ≡ noted p.journal.keeps world.crossings
@@ -101,7 +110,7 @@ module _ (sends told : Bool) where
   -- it is on its way, or has ended
   abbrev pub Turned : ℕ → Point → Bytes → Streams → Outcome (Code × MValue) → Option RunEnd → Type 0
   Turned N p rest start o None = OnItsWay p rest start o
-  Turned N p rest start o (Some r) = EndsSo N p start r o
+  Turned N p rest start o (Some r) = EndsSo N p start r o × LeavesNext told p.inbox rest r o
 
   -- whatever comes later, something comes now with which a run that is on its way gets from the first point to the second, or ends there
   abbrev pub Goes : ℕ → Point → Point → Option RunEnd → Type 0

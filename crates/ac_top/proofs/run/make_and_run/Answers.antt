@@ -1,4 +1,5 @@
-use Rattle.std.proofs.Common.{refl, sym}
+use mathlib.Core.Bool.{true≢false}
+use Rattle.std.proofs.Common.{true, false, refl, sym}
 use Rattle.std.proofs.lemmas.List.{append-nil}
 use Rattle.ac_outside.specs.declared.traits.Put.TheVariants as put
 use Rattle.ac_top.proofs.PlaceLaws.{prepared, made_at_most, making_failed, making_keeps}
@@ -6,16 +7,28 @@ use Rattle.ac_top.proofs.RunLaws.{unmade_in, lost_making}
 use Rattle.ac_top.proofs.run.make_and_run.Goals as goal
 
 pub returns-in-Done-clause-ends : goal.returns-in-Done-clause-ends
-returns-in-Done-clause-ends g c = λ start since shelf is_shelf text is_text loaded is_loaded accepted is.
-    c.run_session.ensures.ends start (prepared _ _ _ _ _ since c.in-Done.ensures.makes) shelf is_shelf text is_text loaded is_loaded accepted is
+returns-in-Done-clause-ends g c = (
+  false,
+  (λ h. absurd (true≢false (sym h))),
+  λ start since shelf is_shelf text is_text loaded is_loaded accepted is.
+      c.run_session.ensures.ends start (prepared _ _ _ _ _ since c.in-Done.ensures.makes) shelf is_shelf text is_text loaded is_loaded accepted is,
+)
 
 pub returns-in-Failed-clause-ends : goal.returns-in-Failed-clause-ends
-returns-in-Failed-clause-ends g c = λ start since shelf is_shelf text is_text loaded is_loaded accepted is.
-    unmade_in _ _ _ _ _ shelf is_shelf text is_text loaded accepted is_loaded.program (making_failed _ _ _ _ _ _ _ _ since c.in-Failed.ensures.makes) (λ told. sym (append-nil _)) (made_at_most _ _ _ _ _ _ _ _ put.Failed (λ e. absurd cc) since c.in-Failed.ensures.makes) _ c.say.ensures.said
+returns-in-Failed-clause-ends g c = (
+  true,
+  (λ t. refl),
+  λ start since shelf is_shelf text is_text loaded is_loaded accepted is.
+      unmade_in _ _ _ _ _ shelf is_shelf text is_text loaded accepted is_loaded.program (making_failed _ _ _ _ _ _ _ _ _ since c.in-Failed.ensures.makes) (λ told. sym (append-nil _)) (made_at_most _ _ _ _ _ _ _ _ _ put.Failed (λ e. absurd cc) since c.in-Failed.ensures.makes) refl _ c.say.ensures.said,
+)
 
 pub returns-in-Memory-clause-ends : goal.returns-in-Memory-clause-ends
-returns-in-Memory-clause-ends g c = λ start since shelf is_shelf text is_text loaded is_loaded accepted is.
-    lost_making _ _ _ _ _ shelf is_shelf text is_text loaded accepted is_loaded.program (λ told. sym (append-nil _)) (made_at_most _ _ _ _ _ _ _ _ put.Memory (λ e. absurd cc) since c.in-Memory.ensures.makes) _ c.no_memory.ensures
+returns-in-Memory-clause-ends g c = (
+  true,
+  (λ t. refl),
+  λ start since shelf is_shelf text is_text loaded is_loaded accepted is.
+      lost_making _ _ _ _ _ shelf is_shelf text is_text loaded accepted is_loaded.program (λ told. sym (append-nil _)) (made_at_most _ _ _ _ _ _ _ _ _ put.Memory (λ e. absurd cc) since c.in-Memory.ensures.makes) refl _ c.no_memory.ensures,
+)
 
 pub returns-in-Done-clause-kept : goal.returns-in-Done-clause-kept
 returns-in-Done-clause-kept g c = λ told name h. making_keeps _ _ _ _ _ c.in-Done.ensures.makes told name h (c.run_session.ensures.kept told name h)

@@ -1,4 +1,4 @@
-use Rattle.std.proofs.Common.{◌≡◌, ◌∙◌, refl, ap, Bool, Option, Some, None, is_some, option_map}
+use Rattle.std.proofs.Common.{◌≡◌, ◌∙◌, refl, ap, Bool, true, Option, Some, None, is_some, option_map}
 use Rattle.ac_run.specs.Course.{begun}
 use Rattle.ac_words.specs.Commands.{channel_of}
 use Rattle.ac_top.proofs.EndingLaws.{end_early}
@@ -16,9 +16,14 @@ same_some f None = refl
 same_some f (Some x) = refl
 
 pub returns-in-Ok-clause-ends : goal.returns-in-Ok-clause-ends
-returns-in-Ok-clause-ends g c = λ start since shelf is_shelf text is_text accepted.
-    c.make_and_run.ensures.ends start since shelf is_shelf text is_text c.args.loaded c.requires.loaded accepted
-    (c.in-Ok.ensures ∙ ap (λ (b : Bool). begun c.args.loaded c.args.run.steps b c.in-Ok.session.machine) (c.is_some.ensures ∙ same_some channel_of c.args.run.output))
+returns-in-Ok-clause-ends g c =
+    let run = c.make_and_run.ensures.ends in (
+      run.0,
+      run.1,
+      λ start since shelf is_shelf text is_text accepted.
+          run.2 start since shelf is_shelf text is_text c.args.loaded c.requires.loaded accepted
+          (c.in-Ok.ensures ∙ ap (λ (b : Bool). begun c.args.loaded c.args.run.steps b c.in-Ok.session.machine) (c.is_some.ensures ∙ same_some channel_of c.args.run.output)),
+    )
 
 pub returns-in-Err-clause-ends : goal.returns-in-Err-clause-ends
-returns-in-Err-clause-ends g c = λ start since shelf is_shelf text is_text accepted. end_early _ _ _ _ _ (record { same = refl }) (untouched_by _ _ _ _ _ _ _ since.same) _ c.no_memory.ensures
+returns-in-Err-clause-ends g c = (true, (λ t. refl), λ start since shelf is_shelf text is_text accepted. end_early _ _ _ _ _ (record { same = refl }) (untouched_by _ _ _ _ _ _ _ _ since.same) refl _ c.no_memory.ensures)

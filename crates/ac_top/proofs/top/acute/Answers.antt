@@ -1,4 +1,4 @@
-use Rattle.std.proofs.Common.{sym, refl}
+use Rattle.std.proofs.Common.{true, sym, refl}
 use Rattle.ac_top.specs.Endings.{texts}
 use Rattle.ac_top.proofs.EndingLaws.{words_refused, end_at_words, touches_none}
 use Rattle.ac_top.proofs.FewFiles.{words_short}
@@ -19,7 +19,7 @@ obey-requires-clause-short g c κs within =
 pub returns-in-Ok-None-clause-ends : goal.returns-in-Ok-None-clause-ends
 returns-in-Ok-None-clause-ends g c =
     let none = rw c.in-Ok-None.field-0-is at c.in-Ok-None.ensures in
-    rw (sym none) (words_refused _ (record { same = refl }) _ c.refuse_words.ensures)
+    rw (sym none) (true, (λ t. refl), words_refused _ (record { same = refl }) _ c.refuse_words.ensures)
 
 pub returns-in-Ok-Some-clause-ends : goal.returns-in-Ok-Some-clause-ends
 returns-in-Ok-Some-clause-ends g c =
@@ -27,7 +27,7 @@ returns-in-Ok-Some-clause-ends g c =
     rw (sym some) c.obey.ensures.ends
 
 pub returns-in-Err-clause-ends : goal.returns-in-Err-clause-ends
-returns-in-Err-clause-ends g c = end_at_words _ _ (record { same = refl }) (λ to. untouched_by _ _ _ _ _ _ to (λ t. refl)) _ c.no_memory.ensures
+returns-in-Err-clause-ends g c = (true, (λ t. refl), end_at_words _ _ (record { same = refl }) (λ to. untouched_by _ _ _ _ _ _ _ to (λ t. refl)) refl _ c.no_memory.ensures)
 
 pub returns-in-Ok-None-clause-kept : goal.returns-in-Ok-None-clause-kept
 returns-in-Ok-None-clause-kept g c = λ told name h. refl

@@ -14,7 +14,7 @@ returns-in-Frame-clause-heard g c =
     let now = g.W.Source.left c.next.new.source in
     let state = subst (λ (r : Reader). Follows (got.Frame c.in-Frame.text) r c.next.new.self) c.new.ensures c.in-Frame.ensures.state in
     let bytes = λ (told : IsTrue g.W.Source.told). subst (λ (r : Reader). Receives (got.Frame c.in-Frame.text) r left c.next.new.self now) c.new.ensures (c.in-Frame.ensures.bytes told) in
-    subst (λ (b : Inbox). Comes g.W.Source.told b left b now (Heard (incoming.Frame c.in-Frame.text) b)) (sym c.in-Open.is) (hears_frame g.W.Source.told left now c.in-Frame.text state.0 bytes)
+    subst (λ (b : Inbox). Comes g.W.Source.told b left b now (Heard g.W.Source.told (incoming.Frame c.in-Frame.text) b)) (sym c.in-Open.is) (hears_frame g.W.Source.told left now c.in-Frame.text state.0 bytes)
 
 pub returns-in-Bad-clause-heard : goal.returns-in-Bad-clause-heard
 returns-in-Bad-clause-heard g c =
@@ -22,12 +22,12 @@ returns-in-Bad-clause-heard g c =
     let now = g.W.Source.left c.next.new.source in
     let state = subst (λ (r : Reader). Follows (got.Bad c.in-Bad.length c.in-Bad.got) r c.next.new.self) c.new.ensures c.in-Bad.ensures.state in
     let bytes = λ (told : IsTrue g.W.Source.told). subst (λ (r : Reader). Receives (got.Bad c.in-Bad.length c.in-Bad.got) r left c.next.new.self now) c.new.ensures (c.in-Bad.ensures.bytes told) in
-    subst (λ (b : Inbox). Comes g.W.Source.told b left Broken now (Heard incoming.Bad Broken)) (sym c.in-Open.is) (hears_bad g.W.Source.told left now c.in-Bad.length c.in-Bad.got state.0 (λ told. (bytes told).0))
+    subst (λ (b : Inbox). Comes g.W.Source.told b left Broken now (Heard g.W.Source.told incoming.Bad Broken)) (sym c.in-Open.is) (hears_bad g.W.Source.told left now c.in-Bad.length c.in-Bad.got state.0 bytes)
 
 pub returns-in-Failed-clause-heard : goal.returns-in-Failed-clause-heard
 returns-in-Failed-clause-heard g c =
-    subst (λ (b : Inbox). Comes g.W.Source.told b (g.W.Source.left c.args.world.now) b (g.W.Source.left c.next.new.source) (Heard incoming.Failed b)) (sym c.in-Open.is) (hears_nothing g.W.Source.told (g.W.Source.left c.args.world.now) (g.W.Source.left c.next.new.source) _ (λ rest input. tt))
+    subst (λ (b : Inbox). Comes g.W.Source.told b (g.W.Source.left c.args.world.now) b (g.W.Source.left c.next.new.source) (Heard g.W.Source.told incoming.Failed b)) (sym c.in-Open.is) (hears_nothing g.W.Source.told (g.W.Source.left c.args.world.now) (g.W.Source.left c.next.new.source) _ (λ rest input. tt))
 
 pub returns-clause-heard : goal.returns-clause-heard
 returns-clause-heard g c =
-    subst (λ (b : Inbox). Comes g.W.Source.told b (g.W.Source.left c.args.world.now) b (g.W.Source.left c.next.new.source) (Heard incoming.Memory b)) (sym c.in-Open.is) (hears_nothing g.W.Source.told (g.W.Source.left c.args.world.now) (g.W.Source.left c.next.new.source) _ (λ rest input. tt))
+    subst (λ (b : Inbox). Comes g.W.Source.told b (g.W.Source.left c.args.world.now) b (g.W.Source.left c.next.new.source) (Heard g.W.Source.told incoming.Memory b)) (sym c.in-Open.is) (hears_nothing g.W.Source.told (g.W.Source.left c.args.world.now) (g.W.Source.left c.next.new.source) _ (λ rest input. tt))
