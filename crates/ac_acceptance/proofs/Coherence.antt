@@ -32,7 +32,7 @@ use Rattle.ac_scopes.specs.Repeated.{repeated_in_def, twice, mark_name}
 use Rattle.ac_scopes.specs.Counts.{definitions_limit, over, large_in_def}
 use Rattle.ac_scopes.specs.Surfaces.{first_scope, last_scope, surface_main}
 use Rattle.ac_scopes.proofs.AddedEntries.{entries_in, entries_behind}
-use Rattle.ac_acceptance.specs.Causes.{linked_entry, linked_behind, first_at, unlinked, unlike, first_clash, added, loaded, main_type, cause}
+use Rattle.ac_acceptance.specs.Causes.{linked_entry, linked_behind, first_at, unlinked, without_likespec, first_clash, added, loaded, main_type, cause}
 use Rattle.ac_acceptance.specs.Accepting.{Shelved, IsShelf, GivesEntries, nothing, a_module, Accepted}
 use Rattle.ac_acceptance.specs.Ready.{IsWellLoaded}
 use Rattle.ac_acceptance.proofs.PartLaws.{Scoped, sound, scoped, one_text, fields_of_part}
@@ -111,7 +111,7 @@ module _ (E : Environment) (c : IsCoherent E) (seen : Seen) (p : ProgramTree) (a
       let s = sound sha256 E seen p accepted in
       record {
         linked = subst (λ l. first_at 0 unlinked l ≡ None) added_is s.linked;
-        like = subst (λ l. first_at 0 unlike l ≡ None) added_is s.like;
+        like = subst (λ l. first_at 0 without_likespec l ≡ None) added_is s.like;
         sound = subst (λ (l : List Entry). (i : ℕ) (x : Entry) → slice_get l i ≡ Some x → has_sound_fields (E ++ l) (length E + i) x.def ≡ true) added_is (fields_of_part sha256 E seen p accepted);
       }
 

@@ -1,16 +1,16 @@
 -- The lists of the definitions of entries are within their limits: of coherent ones, and of those that a surface adds.
-use Rattle.std.proofs.Common.{◌≡◌, ◌∙◌, refl, sym, ap, subst, ℕ, zero, suc, Bool, true, false, List, [], ◌∷◌, ◌++◌, length, Option, Some, None, option_map, slice_get}
-use Rattle.std.specs.Prelude.{◌&&◌, nat_le}
+use Rattle.std.proofs.Common.{◌≡◌, refl, sym, subst, ℕ, suc, true, List, [], ◌∷◌, ◌++◌, length, Some, None}
+use Rattle.std.specs.Prelude.{nat_le}
 use Rattle.std.specs.List.{list_all}
 use Rattle.std.proofs.lemmas.Bool.{le-leb}
 use Rattle.ac_types.proofs.Same.{both_true, and_true}
 use Rattle.ac_types.specs.Types.{Bytes}
-use Rattle.ac_types.specs.Sigs.{Signature, Atom}
+use Rattle.ac_types.specs.Sigs.{Signature}
 use Rattle.ac_terms.specs.Defs.{Environment, Entry, Def, AModule, AnImport, AMark, Seen, def_of}
 use Rattle.ac_terms.specs.Bounds.{fits_sig, fits_def}
 use Rattle.ac_terms.proofs.AllLaws.{all_append}
 use Rattle.ac_rules.specs.Coherent.{IsCoherent}
-use Rattle.ac_syntax.specs.Trees.{NameAt, SigTree, FieldTree, DefTree, ModuleDef, ImportDef, MarkDef, ProgramTree}
+use Rattle.ac_syntax.specs.Trees.{SigTree, DefTree, ModuleDef, ImportDef, MarkDef, ProgramTree}
 use Rattle.ac_scopes.specs.Scopes.{NameScope, each_in}
 use Rattle.ac_scopes.specs.Definitions.{signature_in, def_in, after_def, after_field, item_type, item_field}
 use Rattle.ac_scopes.specs.Searches.{least_in}

@@ -8,7 +8,7 @@ use Rattle.ac_types.proofs.FirstLaws.{none≢some, some_eq}
 use Rattle.ac_types.proofs.Same.{both_true, and_true}
 use Rattle.ac_types.specs.Types.{Bytes, Typ, TFun, same_bytes, mentions, is_small}
 use Rattle.ac_types.specs.Sigs.{Signature, named_type}
-use Rattle.ac_terms.specs.Terms.{Expr, Prim, Var, Own, Ref, Unit'}
+use Rattle.ac_terms.specs.Terms.{Expr, Var, Own, Ref, Unit'}
 use Rattle.ac_terms.specs.Defs.{Environment, Entry, signature, def_of, signature_at}
 use Rattle.ac_terms.specs.Parts.{Portion, OfType, OfRef, OfHome, Captured, pattern_types, all_pattern_types, term_parts, all_term_parts, arm_parts, part_mentions}
 use Rattle.ac_terms.specs.Spelling.{pattern_count, term_count, arm_count}

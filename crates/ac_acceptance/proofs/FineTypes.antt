@@ -9,7 +9,6 @@ use Rattle.ac_types.specs.Types.{Bytes, Typ, TUnit, TAbs, TMine, Typs, mentions,
 use Rattle.ac_types.specs.Sigs.{Signature, type_under}
 use Rattle.ac_terms.specs.Defs.{Environment, signature_at, name_at}
 use Rattle.ac_terms.specs.Spelling as spelling
-use Rattle.ac_terms.specs.Spelling.{pattern_count}
 use Rattle.ac_terms.specs.Bounds.{is_width, fit_types}
 use Rattle.ac_terms.proofs.AllLaws.{all_append}
 use Rattle.ac_rules.specs.Views.{is_known}
@@ -21,7 +20,7 @@ use Rattle.ac_scopes.specs.Standard.{beside_name}
 use Rattle.ac_scopes.specs.Written.{type_in, types_in}
 use Rattle.ac_scopes.specs.Unbound.{unless, unbound_behind, unbound_type, unbound_types}
 use Rattle.ac_scopes.specs.Counts as counts
-use Rattle.ac_scopes.specs.Counts.{over, width_limit, wide_type, wide_types, large_type, large_pattern, large_patterns}
+use Rattle.ac_scopes.specs.Counts.{over, width_limit, wide_type, wide_types, large_type}
 use Rattle.ac_acceptance.proofs.Distinct.{least_none}
 use Rattle.ac_acceptance.proofs.TreeBounds.{TypeHas, TypesHave}
 use Rattle.ac_acceptance.proofs.OutsideTypes.{IsFine, outside_fine}

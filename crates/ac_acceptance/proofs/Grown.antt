@@ -30,7 +30,7 @@ use Rattle.ac_scopes.specs.Repeated.{repeated_in_def}
 use Rattle.ac_scopes.specs.Counts.{large_in_def}
 use Rattle.ac_scopes.proofs.References.{def_into}
 use Rattle.ac_scopes.proofs.AddedEntries.{entries_in}
-use Rattle.ac_acceptance.specs.Causes.{Cause, linked_entry, linked_behind, first_at, unlinked, unlike}
+use Rattle.ac_acceptance.specs.Causes.{Cause, linked_entry, linked_behind, first_at, unlinked, without_likespec}
 use Rattle.ac_acceptance.proofs.PartLaws.{none_of_two, likes_sound}
 use Rattle.ac_acceptance.proofs.Standing.{IsOrdered, IsFit, coherent_behind}
 use Rattle.ac_acceptance.proofs.Behind.{is_linked}
@@ -172,12 +172,12 @@ none_captured (OfHome c ∷ ps) h = absurd (none≢some {A = ℕ} (ap (λ b. eli
 none_captured (Captured ∷ ps) h = absurd (none≢some {A = ℕ} (ap (λ b. elim b as (λ z. Option ℕ) [ true ↦ Some 0 | false ↦ None ]) h))
 
 -- an import has the likespecs that its kind wants
-likes_right : (S : NameScope) (d : DefTree) (k : ℕ) (x : Entry) → x.def ≡ def_in S d → DefHas d → unlike k x ≡ None → has_sound_likes (def_in S d) ≡ true
+likes_right : (S : NameScope) (d : DefTree) (k : ℕ) (x : Entry) → x.def ≡ def_in S d → DefHas d → without_likespec k x ≡ None → has_sound_likes (def_in S d) ≡ true
 likes_right S (ModuleDef at name σ version fields) k x is h u = refl
 likes_right S (MarkDef at text_at text) k x is h u = refl
 likes_right S (ImportDef at name σ wants like by) k x is h u = on wants like h.2 (sym (ap (by_def k) is) ∙ u) where
   by_def : ℕ → Def → Option Cause
-  by_def k d = unlike k (record x { def = d })
+  by_def k d = without_likespec k (record x { def = d })
 
   import : WantsTree → Option (List AbbrevTree) → Import
   import w l = record { name = name.word; sig = signature_in S σ; constraint = constraint_in S w; like = each_in after_abbrev abbrev_type S (unwrap_or l []); by = by }
@@ -194,7 +194,7 @@ IsSeen seen ds = (u : Bytes) → seen ≡ Shelf u → IsTrue (is_uri u) × EachH
 -- what the causes leave of the entries of some definitions, in the environment F that all of them make
 pub record Passes (seen : Seen) (F : Environment) (n k : ℕ) (xs : List Entry) : Type 0 where
   pub linked : first_at k unlinked xs ≡ None
-  pub like : first_at k unlike xs ≡ None
+  pub like : first_at k without_likespec xs ≡ None
   pub sound : (i : ℕ) (x : Entry) → slice_get xs i ≡ Some x → has_sound_fields F (n + i) x.def ≡ true
 
 -- and the searches
@@ -209,7 +209,7 @@ module _ (seen : Seen) (E : Environment) (c : IsCoherent E) (S : NameScope) (a :
   Next = linked_entry seen E (entry_in sha256 S d)
 
   fit : ((u : Bytes) → seen ≡ Shelf u → IsTrue (is_uri u) × IsAModule (def_in S d)) → unbound_in_def S d ≡ None → repeated_in_def S d ≡ None → large_in_def S d ≡ None
-      → unlinked k Next ≡ None → unlike k Next ≡ None → (F : Environment) → has_sound_fields F (length E) (def_in S d) ≡ true → IsFit E Next
+      → unlinked k Next ≡ None → without_likespec k Next ≡ None → (F : Environment) → has_sound_fields F (length E) (def_in S d) ≡ true → IsFit E Next
   fit from u r l linked like F sound =
       let distinct = def_distinct S d r in
       let fine = def_fine E c S (front_of a) d has u l distinct in
@@ -241,7 +241,7 @@ grow seen E c S a (d ∷ ds) h from clear k ordered p =
     let r = least_none (repeated_in_def S d) _ clear.distinct in
     let w = least_none (large_in_def S d) _ clear.within in
     let u = none_of_two (unlinked k x) _ p.linked in
-    let v = none_of_two (unlike k x) _ p.like in
+    let v = none_of_two (without_likespec k x) _ p.like in
     let sound : has_sound_fields F (length E) (def_in S d) ≡ true = subst (λ n. has_sound_fields F n (def_in S d) ≡ true) (omega arith) (p.sound 0 x refl) in
     let is_fit = fit seen E c S a d h.0 k (λ t is. ((from t is).0, (from t is).1.0 S)) b.0 r.0 w.0 u.0 v.0 F sound in
     let longer = coherent_behind E c x rest ordered is_fit sound in

@@ -16,7 +16,7 @@ use Rattle.ac_rules.proofs.ListLaws.{all_of_none}
 use Rattle.ac_rules.specs.Modules.{is_valuable, uncovered, like_missing, are_typed, has_sound_fields}
 use Rattle.ac_syntax.specs.Trees.{ProgramTree}
 use Rattle.ac_scopes.specs.Surfaces.{surface_fault, first_unbound, first_repeated, least_passed}
-use Rattle.ac_acceptance.specs.Causes.{Uncovered, NotValuable, LikeMissing, Clash, first_at, first_below, ill_typed, uncovering, not_valuable, unlike, unlinked, differ, clashes, clash_of, first_clash, loaded, added, main_type, cause}
+use Rattle.ac_acceptance.specs.Causes.{Uncovered, NotValuable, LikeMissing, Clash, first_at, first_below, ill_typed, uncovering, not_valuable, without_likespec, unlinked, differ, clashes, clash_of, first_clash, loaded, added, main_type, cause}
 
 -- where nothing is found, nothing was found before
 pub none_of_two : {A : Type 0} (a b : Option A) → or_else a b ≡ None → (a ≡ None) × (b ≡ None)
@@ -83,7 +83,7 @@ fields_sound F n k (AModule m) t u v =
 fields_sound F n k (AnImport i) t u v = refl
 fields_sound F n k (AMark s) t u v = refl
 
-pub likes_sound : (k : ℕ) (i : Import) → unlike k (bare_entry (AnImport i) None) ≡ None → is_exact i.constraint ≡ false → is_none (like_missing i) ≡ true
+pub likes_sound : (k : ℕ) (i : Import) → without_likespec k (bare_entry (AnImport i) None) ≡ None → is_exact i.constraint ≡ false → is_none (like_missing i) ≡ true
 likes_sound k i h version =
     ap is_none (map_none (LikeMissing k) (like_missing i) (sym (ap (λ b. given (not b) (option_map (LikeMissing k) (like_missing i))) version) ∙ h))
 
@@ -95,7 +95,7 @@ module _ (digest : Bytes → Bytes) (E : Environment) (seen : Seen) (p : Program
     pub main : is_none (main_type digest E seen p) ≡ false
     pub covered : first_at 0 uncovering (added digest E seen p) ≡ None
     pub valuable : first_at 0 not_valuable (added digest E seen p) ≡ None
-    pub like : first_at 0 unlike (added digest E seen p) ≡ None
+    pub like : first_at 0 without_likespec (added digest E seen p) ≡ None
     pub linked : first_at 0 unlinked (added digest E seen p) ≡ None
     pub apart : first_clash (loaded digest E seen p) ≡ None
 

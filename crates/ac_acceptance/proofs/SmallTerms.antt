@@ -11,7 +11,7 @@ use Rattle.ac_terms.specs.Defs.{Environment, signature_at}
 use Rattle.ac_terms.specs.TermTyping.{has}
 use Rattle.ac_terms.proofs.AllLaws.{all_append}
 use Rattle.ac_types.specs.Sigs.{Signature, named_type}
-use Rattle.ac_terms.specs.Terms.{Expr, expr, no_exprs, Boolean, Var, Own, Ref, Unit', Prim, Rec}
+use Rattle.ac_terms.specs.Terms.{Expr, expr, no_exprs, Boolean, Var, Own, Ref, Unit', Rec}
 use Rattle.ac_terms.specs.Parts.{Portion, OfType, OfRef, OfHome, Captured, pattern_types, all_pattern_types, term_parts, all_term_parts, arm_parts}
 use Rattle.ac_terms.specs.Bounds.{has_small_types}
 use Rattle.ac_rules.specs.Views.{Coloured, view, opened_at_home, are_known}

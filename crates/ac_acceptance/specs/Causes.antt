@@ -61,8 +61,8 @@ abbrev pub not_valuable : ℕ → Entry → Option Cause
 not_valuable k e = elim e.def [ AModule m ↦ option_map (NotValuable k) (first_failing (λ (f : Field). is_valuable f.term) m.fields) | AnImport i ↦ None | AMark t ↦ None ]
 
 -- with an abstract type without a likespec, by version
-abbrev pub unlike : ℕ → Entry → Option Cause
-unlike k e = elim e.def [ AModule m ↦ None | AnImport i ↦ given (not (is_exact i.constraint)) (option_map (LikeMissing k) (like_missing i)) | AMark t ↦ None ]
+abbrev pub without_likespec : ℕ → Entry → Option Cause
+without_likespec k e = elim e.def [ AModule m ↦ None | AnImport i ↦ given (not (is_exact i.constraint)) (option_map (LikeMissing k) (like_missing i)) | AMark t ↦ None ]
 
 -- with an import that has no link
 abbrev pub unlinked : ℕ → Entry → Option Cause
@@ -102,7 +102,7 @@ module _ (digest : Bytes → Bytes) (E : Environment) (seen : Seen) (p : Program
       given (is_none main_type) (Some (IllTyped (length added))) ∷
       first_at 0 uncovering added ∷
       first_at 0 not_valuable added ∷
-      first_at 0 unlike added ∷
+      first_at 0 without_likespec added ∷
       first_at 0 unlinked added ∷
       first_clash loaded ∷ []
 

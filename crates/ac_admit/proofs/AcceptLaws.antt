@@ -25,8 +25,8 @@ use Rattle.ac_rules.specs.Widened.{Widens, IsKept}
 use Rattle.ac_rules.proofs.Arrival.{HasArrived, arrival}
 use Rattle.ac_rules.proofs.RoundTrip.{arrived_packable}
 use Rattle.ac_rules.proofs.RebindingOwn.{rebinding_own}
-use Rattle.ac_parts.specs.Numbers.{number_in}
-use Rattle.ac_placing.specs.Placed.{number_of}
+use Rattle.ac_parts.specs.Numbers.{number_for}
+use Rattle.ac_placing.specs.Placed.{place_number}
 use Rattle.ac_admit.specs.inner.Judging.{front_cause}
 use Rattle.ac_admit.specs.inner.Spoken.{is_spoken}
 use Rattle.ac_admit.proofs.CauseLaws.{held, not_held, no_cause}
@@ -36,7 +36,7 @@ module _ (old : Env) (P : Packet) (T : Typ) (ns : List ℕ) (more : List code_en
   abbrev E : Environment
   E = environment_of old
 
-  module _ (placed : E ++ map entry_of more ≡ (places sha256 E P.defs).0) (numbers : ns ≡ map number_of (places sha256 E P.defs).1) (moved : value_of v ≡ value_renumbered (number_in ns) P.value) where
+  module _ (placed : E ++ map entry_of more ≡ (places sha256 E P.defs).0) (numbers : ns ≡ map place_number (places sha256 E P.defs).1) (moved : value_of v ≡ value_renumbered (number_for ns) P.value) where
     -- the entries of the code are those of the places, and so is the value
     all_there : map entry_of (old.entries ++ more) ≡ (places sha256 E P.defs).0
     all_there = map-append entry_of old.entries more ∙ placed

@@ -16,8 +16,8 @@ use Rattle.ac_terms.proofs.EnvLaws.{position-map}
 use Rattle.ac_rules.specs.Links.{linked, InPacket, is_exact}
 use Rattle.ac_rules.specs.Packets.{Place, Placed, alone_after, alone, is_resolved, is_unresolved, placed_number, place, place_all, places, place_exact, place_ranges, put, found_or_put, placed_there, find_def, value_there}
 use Rattle.ac_rules.proofs.ListLaws.{length_more}
-use Rattle.ac_parts.specs.Numbers.{number_in}
-use Rattle.ac_placing.specs.Placed.{number_of}
+use Rattle.ac_parts.specs.Numbers.{number_for}
+use Rattle.ac_placing.specs.Placed.{place_number}
 
 -- the definitions by themselves are the definitions
 defs_after : (E : Environment) (ds : List Def) → map (λ (e : Entry). e.def) (alone_after sha256 E ds) ≡ map (λ (e : Entry). e.def) E ++ ds
@@ -107,11 +107,11 @@ module _ (E : Environment) where
   few_come ds = all_few (E, []) ds
 
 -- the numbers stand for the places
-same_number : (ps : List Place) (k : ℕ) → number_in (map number_of ps) k ≡ placed_number ps k
+same_number : (ps : List Place) (k : ℕ) → number_for (map place_number ps) k ≡ placed_number ps k
 same_number [] k = refl
 same_number (q ∷ ps) zero = refl
 same_number (q ∷ ps) (suc k) = same_number ps k
 
-pub value_moved : (E : Environment) (p : Packet) (ns : List ℕ) (v : PValue) → ns ≡ map number_of (places sha256 E p.defs).1 → v ≡ value_renumbered (number_in ns) p.value → v ≡ value_there sha256 E p
+pub value_moved : (E : Environment) (p : Packet) (ns : List ℕ) (v : PValue) → ns ≡ map place_number (places sha256 E p.defs).1 → v ≡ value_renumbered (number_for ns) p.value → v ≡ value_there sha256 E p
 value_moved E p ns v n h =
-    h ∙ ap (λ (xs : List ℕ). value_renumbered (number_in xs) p.value) n ∙ ap (λ (f : ℕ → ℕ). value_renumbered f p.value) (fun_ext (same_number (places sha256 E p.defs).1))
+    h ∙ ap (λ (xs : List ℕ). value_renumbered (number_for xs) p.value) n ∙ ap (λ (f : ℕ → ℕ). value_renumbered f p.value) (fun_ext (same_number (places sha256 E p.defs).1))

@@ -13,7 +13,7 @@ ghost use Rattle.ac_rules.specs.Links.{has_arrived};
 ghost use Rattle.ac_rules.specs.Packets.{places, cause, Accepts};
 ghost use Rattle.ac_rules.specs.RoundTrip.{IsPackable};
 ghost use Rattle.ac_rules.specs.Widened.{Widens, IsKept};
-ghost use Rattle.ac_placing.specs.Placed.{number_of};
+ghost use Rattle.ac_placing.specs.Placed.{place_number};
 ghost use Rattle.ac_admit.specs.Refusing.{IsFor};
 
 use crate::commit::commit;
@@ -40,7 +40,7 @@ fn take_in(alloc: Global, env: &mut Env, p: &Packet, expected: &Ty) -> Result<Ad
     requires packet { IsTrue (fits_packet (packet_of p.now)) }
     ensures accepted { IfOk result (λ a. Accepts (environment_of env.old) (packet_of p.now)
         (typ_of expected.now) (environment_of env.new) (value_of a.value)) }
-    ensures entries { IfOk result (λ a. a.entries ≡ map number_of (places sha256
+    ensures entries { IfOk result (λ a. a.entries ≡ map place_number (places sha256
         (environment_of env.old) (packet_of p.now).defs).1) }
     ensures refused { IfErr result (λ f. IsFor f (cause sha256 (environment_of env.old)
         (packet_of p.now) (typ_of expected.now))) }
@@ -69,7 +69,7 @@ pub fn admit(
     requires packet { IsTrue (fits_packet (packet_of p.now)) }
     ensures accepted { IfOk result (λ a. Accepts (environment_of env.old) (packet_of p.now)
         (typ_of expected.now) (environment_of env.new) (value_of a.value)) }
-    ensures entries { IfOk result (λ a. a.entries ≡ map number_of (places sha256
+    ensures entries { IfOk result (λ a. a.entries ≡ map place_number (places sha256
         (environment_of env.old) (packet_of p.now).defs).1) }
     ensures refused { IfErr result (λ f. IsFor f (cause sha256 (environment_of env.old)
         (packet_of p.now) (typ_of expected.now))) }

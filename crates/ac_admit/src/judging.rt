@@ -14,7 +14,7 @@ ghost use Rattle.ac_rules.specs.Coherent.{IsCoherent};
 ghost use Rattle.ac_rules.specs.Modules.{is_well_formed};
 ghost use Rattle.ac_rules.specs.Packets.{PacketCause, alone, cause, first_clash, places};
 ghost use Rattle.ac_clashes.specs.inner.Known.{all_known};
-ghost use Rattle.ac_placing.specs.Placed.{state_of, number_of};
+ghost use Rattle.ac_placing.specs.Placed.{state_of, place_number};
 ghost use Rattle.ac_admit.specs.Refusing.{IsFor};
 ghost use Rattle.ac_admit.specs.inner.Judging.{front_cause, Judges};
 ghost use Rattle.ac_admit.specs.inner.Spoken.{defs_of, is_spoken};
@@ -100,7 +100,7 @@ fn placing(alloc: Global, env: &Env, p: &Packet, own: &Env) -> Result<Placing, A
     ensures judged { Judges result (front_cause (environment_of env.now) (packet_of p.now).defs) }
     ensures placed { IfOk result (λ q. state_of (environment_of env.now) q ≡ places sha256
         (environment_of env.now) (packet_of p.now).defs) }
-    ensures numbers { IfOk result (λ q. q.numbers ≡ map number_of (places sha256
+    ensures numbers { IfOk result (λ q. q.numbers ≡ map place_number (places sha256
         (environment_of env.now) (packet_of p.now).defs).1) }
 {
     formed(alloc, own)?;
@@ -122,7 +122,7 @@ pub fn judged(alloc: Global, env: &Env, p: &Packet, expected: &Ty) -> Result<Pla
     ensures spoken { OnOk result (is_spoken (packet_of p.now) ≡ true) }
     ensures placed { IfOk result (λ q. state_of (environment_of env.now) q ≡ places sha256
         (environment_of env.now) (packet_of p.now).defs) }
-    ensures numbers { IfOk result (λ q. q.numbers ≡ map number_of (places sha256
+    ensures numbers { IfOk result (λ q. q.numbers ≡ map place_number (places sha256
         (environment_of env.now) (packet_of p.now).defs).1) }
     ensures refused { IfErr result (λ f. IsFor f (cause sha256 (environment_of env.now)
         (packet_of p.now) (typ_of expected.now))) }

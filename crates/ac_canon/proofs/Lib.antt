@@ -2,6 +2,5 @@ pub mod EntryForms
 pub mod Joins
 pub mod Lists
 pub mod PatternForms
-pub mod TermForms
 pub mod TypeForms
 pub mod ValueForms

@@ -1,2 +1,1 @@
 pub mod Canon
-pub mod inner

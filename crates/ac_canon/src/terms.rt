@@ -3,11 +3,10 @@
 ghost use Rattle.std.specs.Prelude.{◌≡◌, ◌++◌, ◌∷◌, map, length, OnOk, IfOk};
 ghost use Rattle.ac_types.specs.ReadTypes.{typ_of};
 ghost use Rattle.ac_terms.specs.Terms.{exprs, arms, pvalues};
-ghost use Rattle.ac_terms.specs.Read.{environment_of, bytes_of, expr_of, value_of};
+ghost use Rattle.ac_terms.specs.Read.{environment_of, bytes_of, expr_of, arm_of, value_of};
 ghost use Rattle.ac_terms.specs.Spelling.{one_written, two_written, four_written, word, term_bytes};
 ghost use Rattle.ac_terms.specs.SpelledBy.{pattern_bytes, term_bytes as term_by, all_term_bytes, arm_bytes, value_bytes, all_value_bytes};
 ghost use Rattle.ac_canon.specs.Canon.{kept};
-ghost use Rattle.ac_canon.specs.inner.Arms.{arm_of};
 
 use crate::counts::{
     put_bool, put_byte, put_count_u8, put_count_u16, put_count_u32, put_int, put_number,

@@ -1,5 +1,5 @@
 -- Numbers under names.
-use Rattle.std.proofs.Common.{◌≡◌, ℕ, Bor, Option, Some}
+use Rattle.std.proofs.Common.{◌≡◌, ℕ, Bor, Some}
 use Rattle.std.specs.Ordering.{nat_cmp}
 use Rattle.std.specs.Cmp.Lexicographic.{slice_cmp}
 use Rattle.std.specs.BTreeMap as tree_map

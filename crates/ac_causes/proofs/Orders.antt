@@ -1,10 +1,10 @@
 -- The causes of a part, one behind another.
-use Rattle.std.proofs.Common.{◌≡◌, ◌∙◌, refl, sym, ap, subst, ℕ, List, drop, Option, None}
+use Rattle.std.proofs.Common.{◌≡◌, ◌∙◌, sym, ap, subst, ℕ, drop, Option, None}
 use Rattle.ac_types.specs.First.{or_else, first_some}
 use Rattle.ac_terms.specs.Terms.{Expr}
 use Rattle.ac_terms.specs.Defs.{Environment}
-use Rattle.ac_acceptance.specs.Causes.{Cause, IllTyped, first_at, uncovering, not_valuable, unlike, unlinked, first_clash}
-use Rattle.ac_causes.specs.Entries.{causes_behind, Tells}
+use Rattle.ac_acceptance.specs.Causes.{Cause, IllTyped, first_at, uncovering, not_valuable, without_likespec, unlinked, first_clash}
+use Rattle.ac_causes.specs.PartCauses.{causes_behind, Tells}
 use Rattle.ac_causes.specs.declared.fault.PartFault.{PartFault}
 use Rattle.ac_causes.specs.declared.fault.PartFault.TheVariants as fault
 
@@ -33,7 +33,7 @@ module _ (E : Environment) (n : ℕ) where
   values = first_at 0 not_valuable (drop n E)
 
   abbrev likes : Option Cause
-  likes = first_at 0 unlike (drop n E)
+  likes = first_at 0 without_likespec (drop n E)
 
   abbrev links : Option Cause
   links = first_at 0 unlinked (drop n E)

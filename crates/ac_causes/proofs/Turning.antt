@@ -1,5 +1,5 @@
 -- Entries that are taken off at the end, and put back linked.
-use Rattle.std.proofs.Common.{◌≡◌, ◌∙◌, ◌≤◌, ◌<◌, ◌+◌, refl, sym, ap, subst, suc, true, List, [], ◌∷◌, ◌++◌, length, map, arith, append_assoc, length-append}
+use Rattle.std.proofs.Common.{◌≡◌, ◌∙◌, ◌+◌, refl, sym, ap, true, List, [], ◌∷◌, ◌++◌, length, map, arith, append_assoc, length-append}
 use Rattle.std.specs.List.{list_all}
 use Rattle.std.proofs.lemmas.List.{map-append}
 use Rattle.ac_types.proofs.Same.{both_true}

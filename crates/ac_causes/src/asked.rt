@@ -4,9 +4,9 @@ ghost use Rattle.std.specs.Prelude.{◌≡◌, ◌<◌, ◌≤◌, ◌^◌, IsTr
 ghost use Rattle.std.specs.List.{list_all};
 ghost use Rattle.ac_types.specs.First.{first_failing};
 ghost use Rattle.ac_terms.specs.Read.{environment_of, entry_of, field_of};
-ghost use Rattle.ac_acceptance.specs.Causes.{first_at, uncovering, not_valuable, unlike, unlinked};
+ghost use Rattle.ac_acceptance.specs.Causes.{first_at, uncovering, not_valuable, without_likespec, unlinked};
 ghost use Rattle.ac_acceptance.specs.Counted.{has_counted};
-ghost use Rattle.ac_causes.specs.Entries.{Finds};
+ghost use Rattle.ac_causes.specs.PartCauses.{Finds};
 ghost use Rattle.ac_causes.specs.inner.Asked.{asked, has_value};
 
 use crate::fault::PartFault;
@@ -110,7 +110,7 @@ fn has_value(field: &Field) -> bool
 
 fn unlike(def: u32, entry: &Entry) -> Option<PartFault>
     requires { IsTrue (has_counted (entry_of entry.now)) }
-    ensures { Finds result (unlike def (entry_of entry.now)) }
+    ensures { Finds result (without_likespec def (entry_of entry.now)) }
 {
     match &entry.def {
         Def::Module(_) => None,

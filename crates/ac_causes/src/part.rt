@@ -6,7 +6,7 @@ ghost use Rattle.ac_types.specs.First.{first_some};
 ghost use Rattle.ac_types.specs.ReadTypes.{typ_of};
 ghost use Rattle.ac_terms.specs.Read.{environment_of, expr_of};
 ghost use Rattle.ac_acceptance.specs.Counted.{has_counted};
-ghost use Rattle.ac_causes.specs.Entries.{term_type, causes_behind, part_cause, Tells};
+ghost use Rattle.ac_causes.specs.PartCauses.{term_type, causes_behind, part_cause, Tells};
 
 use crate::asked::{Question, asked_behind};
 use crate::clashes::first_clash;

@@ -7,7 +7,7 @@ ghost use Rattle.ac_rules.specs.Modules.{is_typed, are_typed};
 ghost use Rattle.ac_check.specs.Checking.{Answers};
 ghost use Rattle.ac_acceptance.specs.Causes.{IllTyped, first_at, ill_typed};
 ghost use Rattle.ac_acceptance.specs.Counted.{has_counted, is_counted};
-ghost use Rattle.ac_causes.specs.Entries.{term_type};
+ghost use Rattle.ac_causes.specs.PartCauses.{term_type};
 ghost use Rattle.ac_causes.specs.inner.Asked.{is_typed_def};
 
 use ac_check::{CheckFault, type_of};

@@ -18,7 +18,7 @@ use Rattle.ac_colours.specs.Births.{IsAmong}
 use Rattle.ac_colours.specs.Chains.{Programs, HaveOneText}
 use Rattle.ac_chain.specs.declared.chained.ChainFault.{ChainFault}
 use Rattle.ac_chain.specs.declared.chained.ChainFault.TheVariants.{Clash}
-use Rattle.ac_chain.specs.Clashes.{is_clash, clash_in, clash_behind, first_clash}
+use Rattle.ac_chain.specs.Clashes.{is_clash, clash_in, clash_behind, first_program_clash}
 
 -- entries of one name have one text
 pub record OneText (E F : Environment) : Type 0 where
@@ -125,11 +125,11 @@ HaveOwnText (p ∷ ps) = OneText p.0 p.0 × HaveOwnText ps
 abbrev from_first : ℕ → Environment × Expr → Programs → Option ChainFault
 from_first a p ps = first_below (length p.0) (λ i. clash_behind a p.0 i (suc a) ps)
 
-first_none : (a : ℕ) (p : Environment × Expr) (ps : Programs) → first_clash a (p ∷ ps) ≡ None → (i : ℕ) → i < length p.0 → clash_behind a p.0 i (suc a) ps ≡ None
-first_none a p ps h = below_none (length p.0) (λ i. clash_behind a p.0 i (suc a) ps) (neither (from_first a p ps) (first_clash (suc a) ps) h).0
+first_none : (a : ℕ) (p : Environment × Expr) (ps : Programs) → first_program_clash a (p ∷ ps) ≡ None → (i : ℕ) → i < length p.0 → clash_behind a p.0 i (suc a) ps ≡ None
+first_none a p ps h = below_none (length p.0) (λ i. clash_behind a p.0 i (suc a) ps) (neither (from_first a p ps) (first_program_clash (suc a) ps) h).0
 
 -- where there is no clash, all programs together have
-any_two : (a : ℕ) (ps : Programs) → first_clash a ps ≡ None → HaveOwnText ps → (p q : Environment × Expr) (fp bp fq bq : Programs) → ps ≡ fp ++ p ∷ bp → ps ≡ fq ++ q ∷ bq → OneText p.0 q.0
+any_two : (a : ℕ) (ps : Programs) → first_program_clash a ps ≡ None → HaveOwnText ps → (p q : Environment × Expr) (fp bp fq bq : Programs) → ps ≡ fp ++ p ∷ bp → ps ≡ fq ++ q ∷ bq → OneText p.0 q.0
 any_two a [] h own p q [] bp fq bq e g = absurd (cc)
 any_two a [] h own p q (x ∷ fp) bp fq bq e g = absurd (cc)
 any_two a (x ∷ ps) h own p q [] bp [] bq e g =
@@ -145,15 +145,15 @@ any_two a (x ∷ ps) h own p q (y ∷ fp) bp [] bq e g =
     let rest : ps ≡ fp ++ p ∷ bp = cc in
     turned q.0 p.0 (subst (λ (z : Environment × Expr). OneText z.0 p.0) one (one_behind a x.0 (suc a) ps (first_none a x ps h) fp bp p rest))
 any_two a (x ∷ ps) h own p q (y ∷ fp) bp (z ∷ fq) bq e g =
-    any_two (suc a) ps (neither (from_first a x ps) (first_clash (suc a) ps) h).1 own.1 p q fp bp fq bq (cc) (cc)
+    any_two (suc a) ps (neither (from_first a x ps) (first_program_clash (suc a) ps) h).1 own.1 p q fp bp fq bq (cc) (cc)
 
-pub one_text : (a : ℕ) (ps : Programs) → first_clash a ps ≡ None → HaveOwnText ps → HaveOneText ps
+pub one_text : (a : ℕ) (ps : Programs) → first_program_clash a ps ≡ None → HaveOwnText ps → HaveOneText ps
 one_text a ps h own p q w v i j n s t = (any_two a ps h own p q w.0 w.1 v.0 v.1 w.2 v.2).same i j n s t
 
 -- and the other way
-pub no_first : (a : ℕ) (ps : Programs) → HaveOneText ps → first_clash a ps ≡ None
+pub no_first : (a : ℕ) (ps : Programs) → HaveOneText ps → first_program_clash a ps ≡ None
 no_first a [] h = refl
 no_first a (p ∷ ps) h =
-    ap (λ o. or_else o (first_clash (suc a) ps))
+    ap (λ o. or_else o (first_program_clash (suc a) ps))
     (below_all (length p.0) (λ i. clash_behind a p.0 i (suc a) ps) (λ i lt. none_behind a p.0 i (suc a) ps (λ q w. record { same = h p q ([], ps, refl) (p ∷ w.0, w.1, ap (λ x. p ∷ x) w.2) })))
     ∙ no_first (suc a) ps (λ x y w v. h x y (p ∷ w.0, w.1, ap (λ l. p ∷ l) w.2) (p ∷ v.0, v.1, ap (λ l. p ∷ l) v.2))

@@ -15,7 +15,7 @@ use Rattle.ac_colours.specs.Chains.{Programs}
 use Rattle.ac_run.specs.declared.end.RunEnd.TheVariants as end
 use Rattle.ac_chain.specs.declared.chained.ChainFault.TheVariants.{Clash}
 use Rattle.ac_chain.specs.Natives.{natives}
-use Rattle.ac_chain.specs.Clashes.{first_clash}
+use Rattle.ac_chain.specs.Clashes.{first_program_clash}
 use Rattle.ac_chain.specs.ChainMeaning.{RunInTurn, console_of}
 use Rattle.ac_chain.specs.StringLines.{end_line, native_line}
 
@@ -39,12 +39,12 @@ with_entries : List Environment → Programs
 with_entries [] = []
 with_entries (E ∷ Es) = (E, Unit') ∷ with_entries Es
 
-apart : first_clash 0 (with_entries ((a_mark ∷ module_kept (codes "A") (codes "n") ∷ []) ∷ (module_kept (codes "A") (codes "n") ∷ []) ∷ (module_kept (codes "B") (codes "k") ∷ module_kept (codes "B") (codes "n") ∷ []) ∷ [])) ≡ Some (Clash 0 1 2 1)
+apart : first_program_clash 0 (with_entries ((a_mark ∷ module_kept (codes "A") (codes "n") ∷ []) ∷ (module_kept (codes "A") (codes "n") ∷ []) ∷ (module_kept (codes "B") (codes "k") ∷ module_kept (codes "B") (codes "n") ∷ []) ∷ [])) ≡ Some (Clash 0 1 2 1)
 unfolding module_kept with_entries a_mark
 apart = refl
 
 -- equal texts of one name, and other names, are no clash
-no_clash : first_clash 0 (with_entries ((module_kept (codes "A") (codes "n") ∷ []) ∷ (module_kept (codes "B") (codes "k") ∷ module_kept (codes "A") (codes "n") ∷ []) ∷ [])) ≡ None
+no_clash : first_program_clash 0 (with_entries ((module_kept (codes "A") (codes "n") ∷ []) ∷ (module_kept (codes "B") (codes "k") ∷ module_kept (codes "A") (codes "n") ∷ []) ∷ [])) ≡ None
 unfolding module_kept with_entries
 no_clash = refl
 

@@ -14,7 +14,7 @@ use Rattle.ac_chain.specs.declared.chained.Chained.{Chained}
 use Rattle.ac_chain.specs.declared.chained.ChainPart.{ChainPart}
 use Rattle.ac_chain.specs.declared.chained.ChainFault.{ChainFault}
 use Rattle.ac_chain.specs.declared.chained.ChainFault.TheVariants as fault
-use Rattle.ac_chain.specs.Clashes.{clash_in, clash_behind, first_clash}
+use Rattle.ac_chain.specs.Clashes.{clash_in, clash_behind, first_program_clash}
 use Rattle.ac_chain.specs.ChainTexts.{programs_of, LoadAs}
 use Rattle.ac_chain.specs.Endings.{Printed, HasRun, HasBegun, IsChainFault}
 use Rattle.ac_chain.specs.inner.Running.{IsRunFault, AllRun, AllStopped}
@@ -44,24 +44,24 @@ of_below : (n : ℕ) (f : ℕ → Option ChainFault) → ((i : ℕ) → AreClash
 of_below zero f h = tt
 of_below (suc n) f h = either (first_below n f) (f n) (of_below n f h) (h n)
 
-of_all : (a : ℕ) (ps : Programs) → AreClash (first_clash a ps)
+of_all : (a : ℕ) (ps : Programs) → AreClash (first_program_clash a ps)
 of_all a [] = tt
 of_all a (p ∷ ps) =
-    either (first_below (length p.0) (λ i. clash_behind a p.0 i (suc a) ps)) (first_clash (suc a) ps) (of_below (length p.0) (λ i. clash_behind a p.0 i (suc a) ps) (λ i. of_behind a p.0 i (suc a) ps)) (of_all (suc a) ps)
+    either (first_below (length p.0) (λ i. clash_behind a p.0 i (suc a) ps)) (first_program_clash (suc a) ps) (of_below (length p.0) (λ i. clash_behind a p.0 i (suc a) ps) (λ i. of_behind a p.0 i (suc a) ps)) (of_all (suc a) ps)
 
 module _ (texts : List Bytes) (shelf : List Shelved) (N : ℕ) (c : Printed) where
   module _ (ls : List Loaded) (load : LoadAs texts shelf (programs_of ls)) where
     -- two entries clash
-    clash_fault_of : (f : ChainFault) → IsClash f → first_clash 0 (programs_of ls) ≡ Some f → IsChainFault texts shelf N c f
+    clash_fault_of : (f : ChainFault) → IsClash f → first_program_clash 0 (programs_of ls) ≡ Some f → IsChainFault texts shelf N c f
     clash_fault_of (fault.Refused program refusal) is h = absurd is
     clash_fault_of (fault.Clash a i b j) is h = record { programs = programs_of ls; load = load; is_first = h }
     clash_fault_of fault.WriteFault is h = absurd is
     clash_fault_of fault.Memory is h = absurd is
 
-    pub clash_fault : (f : ChainFault) → Some f ≡ first_clash 0 (programs_of ls) → IsChainFault texts shelf N c f
+    pub clash_fault : (f : ChainFault) → Some f ≡ first_program_clash 0 (programs_of ls) → IsChainFault texts shelf N c f
     clash_fault f h = clash_fault_of f (subst AreClash (sym h) (of_all 0 (programs_of ls))) (sym h)
 
-    module _ (apart : None ≡ first_clash 0 (programs_of ls)) where
+    module _ (apart : None ≡ first_program_clash 0 (programs_of ls)) where
       pub has_run : (mode : Mode) (parts : List ChainPart) → AllRun mode N c.told (programs_of ls) parts c.old c.new → HasRun texts shelf N c mode parts
       has_run mode parts r = record {
         runs = record { programs = programs_of ls; load = load; apart = sym apart; ends = r.ends; run = r.run };

@@ -16,14 +16,14 @@ use Rattle.ac_clashes.proofs.KnownLaws.{position_more}
 use Rattle.ac_names.specs.Table.{KnownNames, number_of, Adds}
 use Rattle.ac_colours.specs.Chains.{Programs, HaveOneText}
 use Rattle.ac_chain.specs.ChainTexts.{programs_of}
-use Rattle.ac_chain.specs.inner.Known.{Keeps, KeepsAll, Grows}
+use Rattle.ac_chain.specs.inner.Known.{Keeps, KeepsEntries, NamesGrow}
 
 -- one name more
 abbrev test : Bytes → Bytes × Bytes → Bool
 test name p = same_bytes name p.0
 
 added : (old new : KnownNames) (name text : Bytes) (number : ℕ) → (o : Option ℕ) → number_of old name ≡ o → MatchOption o ((number ≡ length old) × (new ≡ old ++ (name, text) ∷ [])) (λ known. (number ≡ known) × (slice_get old known ≡ Some (name, text)) × (new ≡ old))
-    → Keeps new name text × Grows old new
+    → Keeps new name text × NamesGrow old new
 added old new name text number (Some k) at a = (
   record { number = k; place = ap (λ (t : KnownNames). number_of t name) a.2 ∙ at; entry = ap (λ (t : KnownNames). slice_get t k) a.2 ∙ a.1 },
   λ n s h. record { number = h.number; place = ap (λ (t : KnownNames). number_of t n) a.2 ∙ h.place; entry = ap (λ (t : KnownNames). slice_get t h.number) a.2 ∙ h.entry },
@@ -41,7 +41,7 @@ added old new name text number None at a = (
   },
 )
 
-pub adds : (old new : KnownNames) (name text : Bytes) (number : ℕ) → Adds old name text number new → Keeps new name text × Grows old new
+pub adds : (old new : KnownNames) (name text : Bytes) (number : ℕ) → Adds old name text number new → Keeps new name text × NamesGrow old new
 adds old new name text number a = added old new name text number (number_of old name) refl a
 
 -- one text for a name
@@ -51,7 +51,7 @@ one_text table name s t h k =
     ap (λ (p : Bytes × Bytes). p.1) (some_eq (sym h.entry ∙ ap (slice_get table) at ∙ k.entry))
 
 -- program by program
-pub all_kept : (ps : List Loaded) (table : KnownNames) → ((i : ℕ) (d : Loaded) → i < length ps → KeepsAll (environment_of (get_or ps i d).env) table) → HaveOneText (programs_of ps)
+pub all_kept : (ps : List Loaded) (table : KnownNames) → ((i : ℕ) (d : Loaded) → i < length ps → KeepsEntries (environment_of (get_or ps i d).env) table) → HaveOneText (programs_of ps)
 all_kept ps table kept p q a b i j n s t hp hq gp gq =
     let l = at ps p a.0 a.1 a.2 in
     let r = at ps q b.0 b.1 b.2 in
@@ -65,4 +65,4 @@ all_kept ps table kept p q a b i j n s t hp hq gp gq =
     at (l ∷ ls) p (x ∷ front) back e = let r = at ls p front back (cc) in (suc r.0, r.1, (let lt = r.2 in omega (arith, lt)), r.3)
 
     kept_at : (p : Environment × Expr) → ((k : ℕ) × (d : Loaded) × (k < length ps) × (p ≡ (environment_of (get_or ps k d).env, expr_of (get_or ps k d).main))) → (i : ℕ) (n s : Bytes) → name_at p.0 i ≡ Some n → text_of_entry p.0 i ≡ Some s → Keeps table n s
-    kept_at p l = subst (λ (E : Environment). KeepsAll E table) (sym (ap (λ (x : Environment × Expr). x.0) l.3)) (kept l.0 l.1 l.2)
+    kept_at p l = subst (λ (E : Environment). KeepsEntries E table) (sym (ap (λ (x : Environment × Expr). x.0) l.3)) (kept l.0 l.1 l.2)

@@ -16,7 +16,7 @@ use Rattle.ac_run.specs.declared.crossing.Crossing as code
 use Rattle.ac_run.specs.declared.crossing.Crossing.TheVariants as there
 use Rattle.ac_chain.specs.Natives.{is_made, natives, made_by}
 use Rattle.ac_run.specs.Journals.{crossing_of}
-use Rattle.ac_chain.specs.inner.Made.{has, Has}
+use Rattle.ac_chain.specs.inner.Made.{has_string, Has}
 
 -- a key of the set
 abbrev Key : Type 0
@@ -83,10 +83,10 @@ next_made journal left rest text flags new old set earlier next so same more = r
 }
 
 pub next_read : (journal left rest : List code.Crossing) (text : Text) (flags new : List Bool) (b : Bool) (old set : BTreeSet Key) (earlier : List Bytes) → left ≡ there.Read text ∷ rest → SoFar journal left flags old earlier
-    → new ≡ flags ++ b ∷ [] → b ≡ has old text.0 → set ≡ old → SoFar journal rest new set earlier
+    → new ≡ flags ++ b ∷ [] → b ≡ has_string old text.0 → set ≡ old → SoFar journal rest new set earlier
 next_read journal left rest text flags new b old set earlier next so more is same = record {
   now = so.now;
-  has = λ s. ap (λ x. has x s) same ∙ so.has s;
+  has = λ s. ap (λ x. has_string x s) same ∙ so.has s;
   native =
       so.native ∙ ap (λ l. flags ++ natives so.now (map crossing_of l)) next
       ∙ ap (λ (x : Bool). flags ++ (x ∷ natives so.now (map crossing_of rest))) (sym (is ∙ so.has text.0))

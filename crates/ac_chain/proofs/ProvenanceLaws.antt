@@ -13,7 +13,7 @@ use Rattle.ac_meaning.specs.Writes.{Channel, written}
 use Rattle.ac_meaning.specs.Acts.{Outcome, writes_of, crossings_of}
 use Rattle.ac_acceptance.specs.Accepting.{Shelved}
 use Rattle.ac_colours.specs.Births.{Event, events, crossed, crossings_in}
-use Rattle.ac_colours.specs.Chains.{Programs, AreLoadable, SeparateRun, begun, HappensIn, EndAs, journals_of, AreRunsOf, IsChain, joined, AreReadNatively}
+use Rattle.ac_colours.specs.Chains.{Programs, AreLoadable, SeparateRun, first_state, HappensIn, EndAs, journals_of, AreRunsOf, IsChain, joined, AreReadNatively}
 use Rattle.ac_colours.proofs.Chains.{made_before_of}
 use Rattle.ac_colours.proofs.Crossed.{crossed_both, program_tells}
 use Rattle.ac_colours.proofs.Journals.{native}
@@ -21,7 +21,7 @@ use Rattle.ac_chain.specs.declared.chained.Chained.{Chained}
 use Rattle.ac_chain.specs.declared.chained.ChainPart.{ChainPart}
 use Rattle.ac_chain.specs.declared.chained.ChainFault.{ChainFault}
 use Rattle.ac_chain.specs.Natives.{made_by}
-use Rattle.ac_chain.specs.Clashes.{first_clash}
+use Rattle.ac_chain.specs.Clashes.{first_program_clash}
 use Rattle.ac_chain.specs.ChainTexts.{programs_of, LoadAs}
 use Rattle.ac_chain.specs.ChainMeaning.{RunInTurn, AreParts}
 use Rattle.ac_chain.specs.Endings.{AreAllNative, HasProvenance}
@@ -56,7 +56,7 @@ as_runs N told (p ∷ ps) left (o ∷ os) l r =
     let x = r.0 in
     let k : ℕ = x.ends.0 in
     let it : SeparateRun = record { program = p; steps = N; input = x.input; sends = true } in
-    let mine : List Event = events N k (begun it) in
+    let mine : List Event = events N k (first_state it) in
     let rest = as_runs N told ps (written Channel (writes_of o)) os l.3 r.1 in
     record {
       runs = it ∷ rest.runs;
@@ -77,7 +77,7 @@ read_natively N told made earlier (o ∷ os) (part ∷ parts) r all h = (
   read_natively N told (made_by made (crossings_of o)) (earlier ++ crossings_of o) os parts r.1 all.1 (made_later made earlier (crossings_of o) h),
 )
 
-pub provenance : (texts : List Bytes) (shelf : List Shelved) (N : ℕ) (told : Bool) (ls : List Loaded) (parts : List ChainPart) (old new : Bytes) → LoadAs texts shelf (programs_of ls) → AreLoaded ls → first_clash 0 (programs_of ls) ≡ None
+pub provenance : (texts : List Bytes) (shelf : List Shelved) (N : ℕ) (told : Bool) (ls : List Loaded) (parts : List ChainPart) (old new : Bytes) → LoadAs texts shelf (programs_of ls) → AreLoaded ls → first_program_clash 0 (programs_of ls) ≡ None
     → AllRun Coloured N told (programs_of ls) parts old new → AreAllNative parts → (ps : Programs) → LoadAs texts shelf ps → HasProvenance N told ps parts
 provenance texts shelf N told ls parts old new load loaded apart run all_native ps load' =
     let l = loadable ls loaded in
@@ -98,7 +98,7 @@ provenance texts shelf N told ls parts old new load loaded apart run all_native 
     nothing : (s : Bytes) → false ≡ true → ⊥
     nothing s h = true≢false (sym h)
 
-pub all_provenance : (texts : List Bytes) (shelf : List Shelved) (N : ℕ) (told : Bool) (ls : List Loaded) (old new : Bytes) → LoadAs texts shelf (programs_of ls) → AreLoaded ls → first_clash 0 (programs_of ls) ≡ None → (r : Result Chained ChainFault)
+pub all_provenance : (texts : List Bytes) (shelf : List Shelved) (N : ℕ) (told : Bool) (ls : List Loaded) (old new : Bytes) → LoadAs texts shelf (programs_of ls) → AreLoaded ls → first_program_clash 0 (programs_of ls) ≡ None → (r : Result Chained ChainFault)
     → IfOk r (λ x. (mode : Mode) → AllRun mode N told (programs_of ls) x.parts old new) → IfOk r (λ x. AreAllNative x.parts → (ps : Programs) → LoadAs texts shelf ps → HasProvenance N told ps x.parts)
 all_provenance texts shelf N told ls old new load loaded apart (Ok x) h = λ native ps load'. provenance texts shelf N told ls x.parts old new load loaded apart (h Coloured) native ps load'
 all_provenance texts shelf N told ls old new load loaded apart (Err f) h = tt

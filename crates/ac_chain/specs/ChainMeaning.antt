@@ -15,7 +15,7 @@ use Rattle.ac_run.specs.declared.end.RunEnd.TheVariants as end
 use Rattle.ac_colours.specs.Chains.{Programs}
 use Rattle.ac_chain.specs.declared.chained.ChainPart.{ChainPart}
 use Rattle.ac_chain.specs.Natives.{natives, made_by}
-use Rattle.ac_chain.specs.Clashes.{first_clash}
+use Rattle.ac_chain.specs.Clashes.{first_program_clash}
 use Rattle.ac_chain.specs.ChainTexts.{LoadAs}
 
 -- a program that may make N applications ends so, where it has this left to read; where that isn't told, it reads something
@@ -59,6 +59,6 @@ AreParts N told made (o ∷ os) [] = ⊥
 pub record Runs (mode : Mode) (texts : List Bytes) (shelf : List Shelved) (N : ℕ) (told : Bool) : Type 0 where
   pub programs : Programs
   pub load : LoadAs texts shelf programs
-  pub apart : first_clash 0 programs ≡ None
+  pub apart : first_program_clash 0 programs ≡ None
   pub ends : List (Outcome Value)
   pub run : RunInTurn mode N told programs [] ends

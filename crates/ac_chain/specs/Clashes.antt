@@ -23,6 +23,6 @@ clash_behind a E i b [] = None
 clash_behind a E i b (q ∷ qs) = or_else (option_map (Clash a i b) (clash_in E i q.0)) (clash_behind a E i (suc b) qs)
 
 -- the first clash of two programs, which are counted from a on: in the order of the first program, its entry, the second program and its entry
-abbrev pub first_clash : ℕ → Programs → Option ChainFault
-first_clash a [] = None
-first_clash a (p ∷ ps) = or_else (first_below (length p.0) (λ i. clash_behind a p.0 i (suc a) ps)) (first_clash (suc a) ps)
+abbrev pub first_program_clash : ℕ → Programs → Option ChainFault
+first_program_clash a [] = None
+first_program_clash a (p ∷ ps) = or_else (first_below (length p.0) (λ i. clash_behind a p.0 i (suc a) ps)) (first_program_clash (suc a) ps)

@@ -12,7 +12,7 @@ use Rattle.ac_colours.specs.Chains.{Programs, SeparateRun, HappensIn, EndAs, Are
 use Rattle.ac_chain.specs.declared.chained.ChainPart.{ChainPart}
 use Rattle.ac_chain.specs.declared.chained.ChainFault.{ChainFault}
 use Rattle.ac_chain.specs.declared.chained.ChainFault.TheVariants as fault
-use Rattle.ac_chain.specs.Clashes.{first_clash}
+use Rattle.ac_chain.specs.Clashes.{first_program_clash}
 use Rattle.ac_chain.specs.ChainTexts.{LoadAs, RejectsFirst}
 use Rattle.ac_chain.specs.ChainMeaning.{Runs, AreParts, console_of}
 
@@ -40,7 +40,7 @@ module _ (texts : List Bytes) (shelf : List Shelved) (N : ℕ) (c : Printed) whe
   pub record ClashesFirst (clash : ChainFault) : Type 0 where
     pub programs : Programs
     pub load : LoadAs texts shelf programs
-    pub is_first : first_clash 0 programs ≡ Some clash
+    pub is_first : first_program_clash 0 programs ≡ Some clash
 
   -- the cause of a fault, and what it leaves. Want of memory may come in front of the runs too, and then nothing is printed
   abbrev pub IsChainFault : ChainFault → Type 0

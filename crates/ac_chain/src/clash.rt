@@ -4,7 +4,7 @@ ghost use Rattle.std.specs.Prelude.{◌≡◌, ◌<◌, ◌≤◌, ◌+◌, ◌^
 ghost use Rattle.ac_terms.specs.Read.{environment_of};
 ghost use Rattle.ac_terms.specs.Names.{text_of_entry};
 ghost use Rattle.ac_acceptance.specs.Causes.{differ, first_below};
-ghost use Rattle.ac_chain.specs.Clashes.{is_clash, clash_in, clash_behind, first_clash};
+ghost use Rattle.ac_chain.specs.Clashes.{is_clash, clash_in, clash_behind, first_program_clash};
 ghost use Rattle.ac_chain.specs.ChainTexts.{programs_of};
 ghost use Rattle.ac_chain.specs.inner.Running.{AreFew};
 
@@ -21,7 +21,7 @@ use std::alloc::Global;
 pub fn first_clash(alloc: Global, programs: &[Loaded]) -> Result<Option<ChainFault>, Memory>
     requires many { length programs.now < 2 ^ 32 }
     requires few { AreFew programs.now }
-    ensures { IfOk result (λ o. o ≡ first_clash 0 (programs_of programs.now)) }
+    ensures { IfOk result (λ o. o ≡ first_program_clash 0 (programs_of programs.now)) }
 {
     if have_one_text(alloc, programs)? {
         return Ok(None);

@@ -1,11 +1,14 @@
 // Whether the definitions of one name have one text.
 
-ghost use Rattle.std.specs.Prelude.{◌≡◌, ◌<◌, ◌≤◌, ◌^◌, true, length, option_map, IfOk};
+ghost use Rattle.std.specs.Prelude.{◌≡◌, ◌<◌, ◌≤◌, ◌^◌, true, length, is_some, option_map, IfOk};
 ghost use Rattle.std.specs.Option.{option_copied};
+ghost use Rattle.ac_types.specs.First.{given};
+ghost use Rattle.ac_terms.specs.Defs.{name_at};
+ghost use Rattle.ac_terms.specs.Names.{text_of_entry};
 ghost use Rattle.ac_terms.specs.Read.{environment_of, name_of_code};
 ghost use Rattle.ac_colours.specs.Chains.{HaveOneText};
 ghost use Rattle.ac_chain.specs.ChainTexts.{programs_of};
-ghost use Rattle.ac_chain.specs.inner.Known.{told_name, Keeps, KeepsEntry, KeepsAll, Grows};
+ghost use Rattle.ac_chain.specs.inner.Known.{Keeps, KeepsEntry, KeepsEntries, NamesGrow};
 ghost use Rattle.ac_chain.specs.inner.Running.{AreFew};
 
 use ac_canon::{def_text, has_text};
@@ -29,7 +32,7 @@ impl Known {
     // there is no room.
     fn add(&mut self, name: Name, text: Text) -> Result<bool, Memory>
         ensures keeps { IfOk result (λ same. same ≡ true → Keeps self.new.table name.0 text.0) }
-        ensures grows { Grows self.old.table self.new.table }
+        ensures grows { NamesGrow self.old.table self.new.table }
     {
         if self.most >= u32::MAX - 1 {
             return Err(Memory);
@@ -65,8 +68,8 @@ pub fn have_one_text(alloc: Global, programs: &[Loaded]) -> Result<bool, Memory>
 fn add_entries(alloc: Global, known: &mut Known, env: &Env) -> Result<bool, Memory>
     requires { length env.now.entries < 2 ^ 32 }
     ensures keeps { IfOk result (λ one. one ≡ true →
-        KeepsAll (environment_of env.now) known.new.table) }
-    ensures grows { Grows known.old.table known.new.table }
+        KeepsEntries (environment_of env.now) known.new.table) }
+    ensures grows { NamesGrow known.old.table known.new.table }
 {
     for i in 0..env.entries.len() as u32 {
         if !add_entry(alloc, known, env, i)? {
@@ -80,7 +83,7 @@ fn add_entries(alloc: Global, known: &mut Known, env: &Env) -> Result<bool, Memo
 fn add_entry(alloc: Global, known: &mut Known, env: &Env, i: u32) -> Result<bool, Memory>
     ensures keeps { IfOk result (λ one. one ≡ true →
         KeepsEntry (environment_of env.now) i known.new.table) }
-    ensures grows { Grows known.old.table known.new.table }
+    ensures grows { NamesGrow known.old.table known.new.table }
 {
     match told_name(env, i) {
         None => Ok(true),
@@ -92,7 +95,8 @@ fn add_entry(alloc: Global, known: &mut Known, env: &Env, i: u32) -> Result<bool
 #[tactic(auto, using(ac_terms::proofs::EnvLaws::env_laws))]
 pub fn told_name(env: &Env, i: u32) -> Option<&Name>
     ensures { option_map name_of_code (option_copied result) ≡
-        told_name (environment_of env.now) i }
+        given (is_some (text_of_entry (environment_of env.now) i))
+        (name_at (environment_of env.now) i) }
 {
     if !has_text(env, i) {
         return None;

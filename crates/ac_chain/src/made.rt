@@ -2,7 +2,7 @@
 
 ghost use Rattle.std.specs.Prelude.{◌≡◌, ◌∷◌, List, OnOk, IfOk};
 ghost use Rattle.ac_types.specs.Types.{Bytes};
-ghost use Rattle.ac_chain.specs.inner.Made.{has, Has, NativeBy, MadeBy};
+ghost use Rattle.ac_chain.specs.inner.Made.{has_string, Has, NativeBy, MadeBy};
 
 use ac_run::Crossing;
 use ac_types::{Many, Memory, Text};
@@ -39,7 +39,7 @@ fn note(alloc: Global, made: &mut Made, text: &Text) -> Result<(), Memory>
 
 // Whether a string was made.
 fn is_made(made: &Made, text: &Text) -> bool
-    ensures { result ≡ has made.now text.now.0 }
+    ensures { result ≡ has_string made.now text.now.0 }
 {
     made.contains(text.as_slice())
 }

@@ -21,7 +21,7 @@ use Rattle.ac_answers.specs.Answers.{ShownAnswer, answer_of, printing, telling}
 use Rattle.ac_chained.specs.Chaining.{refused_program, clashing, program_line, clash_line, lines_behind}
 use Rattle.ac_chained.specs.declared.chaining.Halt.{Halt}
 use Rattle.ac_chained.specs.declared.chaining.Halt.TheVariants as halt
-use Rattle.ac_chained.specs.inner.Given.{GivesRest, GivesPart, GivesChain, AnswersFault, Tells}
+use Rattle.ac_chained.specs.inner.Given.{GivesRest, GivesPart, GivesChain, AnswersFault, TellsLine}
 use Rattle.ac_chained.proofs.ModesAlike.{chains_in_each}
 use Rattle.ac_chained.proofs.PartLines.{lines_are}
 
@@ -108,7 +108,7 @@ module _ (texts : List Bytes) (shelf : List Shelved) (N : ℕ) (c : Printed) whe
   answered is few fault.Memory (Err halt.Memory) (inr b) same h = inr (has_begun is few b)
 
 -- a line that is told answers a fault, or there was no memory for it
-pub told : (f : ChainFault) (status : Status) (bytes : Bytes) → ((a : Answer) → answer_of a ≡ telling status bytes → AnswersFault f (Ok a)) → AnswersFault f (Err halt.Memory) → (line : Result Text Memory) (r : Result Answer Halt) → IfOk line (λ l. l.0 ≡ bytes) → Tells status line r → AnswersFault f r
+pub told : (f : ChainFault) (status : Status) (bytes : Bytes) → ((a : Answer) → answer_of a ≡ telling status bytes → AnswersFault f (Ok a)) → AnswersFault f (Err halt.Memory) → (line : Result Text Memory) (r : Result Answer Halt) → IfOk line (λ l. l.0 ≡ bytes) → TellsLine status line r → AnswersFault f r
 told f status bytes answers lost (Ok l) (Ok a) is h = answers a (h ∙ ap (telling status) is)
 told f status bytes answers lost (Ok l) (Err x) is h = absurd h
 told f status bytes answers lost (Err m) r is h = subst (AnswersFault f) (sym h) lost

@@ -9,7 +9,7 @@ use Rattle.ac_load.specs.declared.kind.Kind.{Kind}
 use Rattle.ac_colours.specs.Chains.{Programs}
 use Rattle.ac_chain.specs.declared.chained.ChainFault.TheVariants.{Clash}
 use Rattle.ac_chain.specs.ChainTexts.{LoadAs, RejectsFirst}
-use Rattle.ac_chain.specs.Clashes.{first_clash}
+use Rattle.ac_chain.specs.Clashes.{first_program_clash}
 use Rattle.ac_chain.specs.Natives.{natives, made_by}
 use Rattle.ac_chain.specs.ChainMeaning.{Runs, console_of}
 use Rattle.ac_chain.specs.StringLines.{native_line}
@@ -22,12 +22,12 @@ abbrev pub program_line : ℕ → ℕ → Kind → Bytes
 program_line program part kind = codes "acute: refused: program " ++ (decimal (suc program) ++ (codes ": " ++ reason part kind))
 
 -- an entry of a program: programs are counted from 1, and entries from 0
-abbrev pub entry_of : ℕ → ℕ → Bytes
-entry_of program entry = codes "program " ++ (decimal (suc program) ++ (codes " entry " ++ decimal entry))
+abbrev pub entry_numbered : ℕ → ℕ → Bytes
+entry_numbered program entry = codes "program " ++ (decimal (suc program) ++ (codes " entry " ++ decimal entry))
 
 -- two entries of two programs that have one name and two texts
 abbrev pub clash_line : ℕ → ℕ → ℕ → ℕ → Bytes
-clash_line a i b j = codes "acute: clash: " ++ (entry_of a i ++ (codes ", " ++ (entry_of b j ++ 10 ∷ [])))
+clash_line a i b j = codes "acute: clash: " ++ (entry_numbered a i ++ (codes ", " ++ (entry_numbered b j ++ 10 ∷ [])))
 
 -- the status in a program's line
 abbrev pub run_status : {A : Type 0} → Outcome A → ℕ
@@ -49,7 +49,7 @@ lines_behind k made (o ∷ os) = end_lines k made o ++ lines_behind (k + 1) (mad
 pub record ClashAt (texts : List Bytes) (shelf : List Shelved) (a i b j : ℕ) : Type 0 where
   pub programs : Programs
   pub load : LoadAs texts shelf programs
-  pub is_first : first_clash 0 programs ≡ Some (Clash a i b j)
+  pub is_first : first_program_clash 0 programs ≡ Some (Clash a i b j)
 
 -- no run is stuck
 abbrev pub IsNotStuck : {A : Type 0} → Outcome A → Type 0

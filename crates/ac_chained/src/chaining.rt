@@ -5,7 +5,7 @@ ghost use Rattle.ac_load.specs.Loading.{shelf_of};
 ghost use Rattle.ac_chain.specs.ChainTexts.{texts_of};
 ghost use Rattle.ac_chain.specs.StringLines.{chain_lines};
 ghost use Rattle.ac_chain.specs.inner.Running.{printed};
-ghost use Rattle.ac_chained.specs.inner.Given.{AnswersFault, GivesChain, Tells};
+ghost use Rattle.ac_chained.specs.inner.Given.{AnswersFault, GivesChain, TellsLine};
 
 use crate::line::{clash_line, program_line};
 use ac_answers::{Answer, Status};
@@ -88,7 +88,7 @@ fn answer_fault(alloc: Global, fault: ChainFault) -> Result<Answer, Halt>
 
 // The answer that has a line alone.
 fn tell(alloc: Global, status: Status, line: Result<Text, Memory>) -> Result<Answer, Halt>
-    ensures { Tells status line result }
+    ensures { TellsLine status line result }
 {
     match line {
         Ok(line) => Ok(Answer::telling(alloc, status, line)),

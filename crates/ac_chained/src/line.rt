@@ -1,6 +1,6 @@
 // The lines on errors of a chain that isn't run.
 ghost use Rattle.std.specs.Prelude.{◌≡◌, ◌++◌, IfOk, OnOk};
-ghost use Rattle.ac_chained.specs.Chaining.{clash_line, entry_of, program_line};
+ghost use Rattle.ac_chained.specs.Chaining.{clash_line, entry_numbered, program_line};
 
 use ac_answers::put_reason;
 use ac_literals::put_number;
@@ -36,7 +36,7 @@ pub fn clash_line(alloc: Global, first: (u32, u32), second: (u32, u32)) -> Resul
 
 // Adds which entry of which program it is.
 fn put_entry(alloc: Global, line: &mut Text, program: u32, entry: u32) -> Result<(), Memory>
-    ensures { OnOk result (line.new.0 ≡ line.old.0 ++ entry_of program entry) }
+    ensures { OnOk result (line.new.0 ≡ line.old.0 ++ entry_numbered program entry) }
 {
     line.extend(b"program ")?;
     put_number(alloc, line, u64::from(program) + 1)?;

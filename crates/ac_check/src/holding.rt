@@ -3,10 +3,10 @@
 ghost use Rattle.std.specs.Prelude.{◌≡◌, ◌<◌, ◌^◌, IfOk, false, length, map};
 ghost use Rattle.ac_types.specs.ReadTypes.{typ_of};
 ghost use Rattle.ac_terms.specs.Terms.{exprs, arms, pvalues};
-ghost use Rattle.ac_terms.specs.Read.{environment_of, expr_of, value_of};
+ghost use Rattle.ac_terms.specs.Read.{environment_of, expr_of, arm_of, value_of};
 ghost use Rattle.ac_rules.specs.Views.{Coloured};
 ghost use Rattle.ac_rules.specs.Typing.{holds, all_hold, each_holds};
-ghost use Rattle.ac_views.specs.Sites.{arm_of, typs_of};
+ghost use Rattle.ac_views.specs.Sites.{typs_of};
 ghost use Rattle.ac_check.specs.inner.Captured.{captured_hold, all_captured_hold, arms_captured_hold};
 
 use crate::functions::{is_exception, may_travel};

@@ -13,7 +13,7 @@ use Rattle.ac_terms.specs.Terms.{Home, Main, In}
 use Rattle.ac_terms.specs.Defs.{Environment, Entry, find_name}
 use Rattle.ac_terms.specs.Parts.{Portion, OfType, OfRef, OfHome, Captured, part_homes, part_refs, part_mentions, def_parts}
 use Rattle.ac_rules.specs.Needed.{packet_form, spoken_of, uses, needed_below, needed_by}
-use Rattle.ac_closure.specs.inner.Chosen.{with_entry, with_entries, with_found, with_home, with_mentions, with_part, with_parts}
+use Rattle.ac_closure.specs.inner.Chosen.{with_one_entry, with_entries, with_found, with_home, with_mentions, with_part, with_parts}
 use Rattle.ac_closure.specs.inner.Pass.{with_form, chosen_below}
 
 -- a set keeps its length
@@ -27,7 +27,7 @@ length_home set (In k) = length-set set k true
 
 pub length_entries : (set : List Bool) (js : List ℕ) → length (with_entries set js) ≡ length set
 length_entries set [] = refl
-length_entries set (j ∷ js) = length_entries (with_entry set j) js ∙ length-set set j true
+length_entries set (j ∷ js) = length_entries (with_one_entry set j) js ∙ length-set set j true
 
 -- where a name is looked up by `find`
 module _ (find : Bytes → Option ℕ) where
@@ -83,13 +83,13 @@ module _ (k : ℕ) where
   abbrev among : List ℕ → Bool
   among js = list_any (nat_eq k) js
 
-  at_entry : (set : List Bool) (j : ℕ) → k < length set → at (with_entry set j) ≡ (at set || nat_eq k j)
+  at_entry : (set : List Bool) (j : ℕ) → k < length set → at (with_one_entry set j) ≡ (at set || nat_eq k j)
   at_entry set j lt = by (nat_eq k j) refl
     where
-      by : (b : Bool) → nat_eq k j ≡ b → at (with_entry set j) ≡ (at set || nat_eq k j)
+      by : (b : Bool) → nat_eq k j ≡ b → at (with_one_entry set j) ≡ (at set || nat_eq k j)
       by true e =
           let same : k ≡ j = eq_true k j e in
-          ap (λ i. get_or (with_entry set j) i false) same ∙ get_or-set_same set j true false (subst (λ i. i < length set) same lt) ∙ all_more (at set) ∙ ap (λ b. at set || b) (sym e)
+          ap (λ i. get_or (with_one_entry set j) i false) same ∙ get_or-set_same set j true false (subst (λ i. i < length set) same lt) ∙ all_more (at set) ∙ ap (λ b. at set || b) (sym e)
       by false e =
           let apart : k ≢ j = λ p. true≢false (sym (eq_self j) ∙ ap (λ i. nat_eq i j) (sym p) ∙ e) in
           get_or-set_other set j k true false apart ∙ none_more (at set) ∙ ap (λ b. at set || b) (sym e)
@@ -97,7 +97,7 @@ module _ (k : ℕ) where
   pub at_entries : (set : List Bool) (js : List ℕ) → k < length set → at (with_entries set js) ≡ (at set || among js)
   at_entries set [] lt = none_more (at set)
   at_entries set (j ∷ js) lt =
-      at_entries (with_entry set j) js (subst (λ n. k < n) (sym (length-set set j true)) lt) ∙ ap (λ b. b || among js) (at_entry set j lt) ∙ or_assoc (at set) (nat_eq k j) (among js)
+      at_entries (with_one_entry set j) js (subst (λ n. k < n) (sym (length-set set j true)) lt) ∙ ap (λ b. b || among js) (at_entry set j lt) ∙ or_assoc (at set) (nat_eq k j) (among js)
 
   module _ (find : Bytes → Option ℕ) where
     abbrev found : List (Bytes × Bytes) → List ℕ

@@ -1,32 +1,15 @@
 -- The reading of each form that holds a list, and how a set grows by what is joined.
-use Rattle.std.proofs.Common.{◌≡◌, ◌∙◌, ap, ap₂, refl, ℕ, Bool, List, [], ◌∷◌, ◌++◌, map, Option}
+use Rattle.std.proofs.Common.{◌≡◌, refl, ℕ, Bool, List, [], ◌∷◌, ◌++◌, map, Option}
 use Rattle.std.proofs.lemmas.Grind.{common_steps}
 use Rattle.ac_types.specs.Types.{Bytes, Typ}
 use Rattle.ac_types.proofs.SizeLaws.{type_laws as read_types}
 use Rattle.ac_terms.specs.declared.pat.Pat.TheViews as pat_views
-use Rattle.ac_terms.specs.declared.term.Term.{Term}
-use Rattle.ac_terms.specs.declared.term.Term.TheVariants as term
-use Rattle.ac_terms.specs.declared.term.Arm.{Arm}
-use Rattle.ac_terms.specs.Terms.{Match, Try, arms}
 use Rattle.ac_terms.specs.Parts.{Portion, OfType}
-use Rattle.ac_terms.specs.Read.{expr_of}
-use Rattle.ac_terms.proofs.ReadLaws.{read_arm, term_laws as read_terms}
+use Rattle.ac_terms.proofs.ReadLaws.{term_laws as read_terms}
 use Rattle.ac_terms.proofs.PatternForms.{pattern_out, pattern_of-Tuple}
-use Rattle.ac_terms.proofs.TermForms.{one_arm, match_read, try_read}
+use Rattle.ac_terms.proofs.TermForms.{expr_of-Match, expr_of-Try}
 use Rattle.ac_terms.proofs.ValueForms.{value_out, value_of-Tuple, value_of-List}
-use Rattle.ac_closure.specs.inner.Arms.{arm_of}
 use Rattle.ac_closure.specs.inner.Chosen.{with_found, with_mentions, with_type, with_types, with_part, with_parts}
-
--- arms
-arms_read : (cs : List Arm) → map read_arm cs ≡ map arm_of cs
-arms_read [] = refl
-arms_read (a ∷ cs) = ap₂ (λ x xs. x ∷ xs) (one_arm a) (arms_read cs)
-
-pub expr_of-Match : (e : Term) (cs : List Arm) → expr_of (term.Match e cs) ≡ Match (expr_of e) (arms (map arm_of cs))
-expr_of-Match e cs = match_read e cs ∙ ap (λ xs. Match (expr_of e) (arms xs)) (arms_read cs)
-
-pub expr_of-Try : (e : Term) (cs : List Arm) → expr_of (term.Try e cs) ≡ Try (expr_of e) (arms (map arm_of cs))
-expr_of-Try e cs = try_read e cs ∙ ap (λ xs. Try (expr_of e) (arms xs)) (arms_read cs)
 
 -- a set grows by what is joined as by each in turn
 pub with_mentions-append : (find : Bytes → Option ℕ) (set : List Bool) (xs ys : List (Bytes × Bytes)) → with_mentions find set (xs ++ ys) ≡ with_mentions find (with_mentions find set xs) ys

@@ -1,4 +1,3 @@
-pub mod Arms
 pub mod Chosen
 pub mod Forms
 pub mod Names

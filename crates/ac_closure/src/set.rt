@@ -2,13 +2,13 @@
 
 ghost use Rattle.std.specs.Prelude.{◌≡◌};
 ghost use Rattle.ac_terms.specs.Read.{home_of};
-ghost use Rattle.ac_closure.specs.inner.Chosen.{with_entry, with_entries, with_found, with_home};
+ghost use Rattle.ac_closure.specs.inner.Chosen.{with_one_entry, with_entries, with_found, with_home};
 
 use ac_terms::Home;
 
 /// Adds an entry, where it is there.
 pub fn add_entry(set: &mut [bool], j: u32)
-    ensures { set.new ≡ with_entry set.old j }
+    ensures { set.new ≡ with_one_entry set.old j }
 {
     let j = j as usize;
     if j < set.len() {

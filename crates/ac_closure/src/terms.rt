@@ -3,8 +3,7 @@
 ghost use Rattle.std.specs.Prelude.{◌≡◌, map};
 ghost use Rattle.ac_terms.specs.Terms.{exprs, arms, pvalues};
 ghost use Rattle.ac_terms.specs.Parts.{term_parts, all_term_parts, arm_parts, value_parts, all_value_parts};
-ghost use Rattle.ac_terms.specs.Read.{expr_of, value_of};
-ghost use Rattle.ac_closure.specs.inner.Arms.{arm_of};
+ghost use Rattle.ac_terms.specs.Read.{expr_of, arm_of, value_of};
 ghost use Rattle.ac_closure.specs.inner.Chosen.{with_parts};
 ghost use Rattle.ac_closure.specs.inner.Names.{entry_named};
 

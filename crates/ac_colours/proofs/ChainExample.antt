@@ -14,7 +14,7 @@ use Rattle.ac_meaning.specs.Reduction.{step}
 use Rattle.ac_meaning.specs.Worlds.{Crossing, Made, Read, fresh}
 use Rattle.ac_meaning.specs.Writes.{Channel, written}
 use Rattle.ac_colours.specs.Births.{Event, Born, Gave, Took, seal, events, crossed, crossings_in}
-use Rattle.ac_colours.specs.Chains.{SeparateRun, begun, EndAs, journals_of, joined}
+use Rattle.ac_colours.specs.Chains.{SeparateRun, first_state, EndAs, journals_of, joined}
 use Rattle.ac_colours.specs.Veils.{DifferInside}
 use Rattle.ac_colours.proofs.SentExample.{long_name, cut, seals_of}
 
@@ -85,7 +85,7 @@ end_of (Over o) = o
 end_of (At e z) = Stuck
 
 abbrev ends : List (Outcome Value)
-ends = map (λ (r : SeparateRun). end_of (iter (step Coloured r.steps) 30 (begun r))) apart
+ends = map (λ (r : SeparateRun). end_of (iter (step Coloured r.steps) 30 (first_state r))) apart
 
 they_end : EndAs apart ends
 unfolding int_wrap packing landing words.is_reserved

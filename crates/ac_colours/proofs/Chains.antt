@@ -17,7 +17,7 @@ use Rattle.ac_meaning.specs.Writes.{Channel, written}
 use Rattle.ac_meaning.proofs.Homes.{lower}
 use Rattle.ac_meaning.proofs.MarshalledRead.{starts_bounded}
 use Rattle.ac_colours.specs.Births.{Seal, seal, Event, Born, Gave, Took, sealing, giving, taken, taking, happening, happening_in, events, IsAmong}
-use Rattle.ac_colours.specs.Chains.{Programs, SeparateRun, begun, programs_run, HappensIn, AreRunsOf, IsChain, AreNative, HasBirth, HaveBirths, AreLoadable, HaveOneText}
+use Rattle.ac_colours.specs.Chains.{Programs, SeparateRun, first_state, programs_run, HappensIn, AreRunsOf, IsChain, AreNative, HasBirth, HaveBirths, AreLoadable, HaveOneText}
 use Rattle.ac_colours.proofs.Collected.{among_cases}
 use Rattle.ac_colours.proofs.Conserved.{source_sealed}
 use Rattle.ac_colours.proofs.OneText.{Texts, AreOne, Keeps}
@@ -172,9 +172,9 @@ over_runs : (S : Texts) → AreOne S → (runs : List SeparateRun) (all before :
 over_runs S one [] all before l k g c n = subst (BirthsFrom before) (sym c) (none_from before)
 over_runs S one (x ∷ runs) all before l k g c n =
     let E : Environment = x.program.0 in
-    let mine : List Event = events x.steps c.0 (begun x) in
+    let mine : List Event = events x.steps c.0 (first_state x) in
     let n' : NativeFrom before (mine ++ c.2) = subst (NativeFrom before) c.4 n in
-    let r = run S one (lower E Coloured l.0) x.steps c.0 (begun x) before (starts S before E x.program.1 l.0 l.1 l.2 k.0 x.input x.sends) g (native_first before mine c.2 n') in
+    let r = run S one (lower E Coloured l.0) x.steps c.0 (first_state x) before (starts S before E x.program.1 l.0 l.1 l.2 k.0 x.input x.sends) g (native_first before mine c.2 n') in
     subst (BirthsFrom before) (sym c.4) (births_joined before mine c.2 r.0 (over_runs S one runs c.2 (before ++ mine) l.3 k.1 r.1 c.5 (native_then before mine c.2 n')))
 
 module _ (parts : Programs) where

@@ -7,7 +7,7 @@ use Rattle.ac_meaning.specs.Worlds.{Crossing, Made, Read, fresh}
 use Rattle.ac_meaning.specs.Acts.{Outcome, At, writes_of, crossings_of}
 use Rattle.ac_meaning.specs.Writes.{Channel, written}
 use Rattle.ac_colours.specs.Births.{Event, Born, Gave, Took, events, crossed, crossings_in, IsAmong}
-use Rattle.ac_colours.specs.Chains.{Programs, SeparateRun, begun, programs_run, HappensIn, EndAs, journals_of, AreRunsOf, IsChain, IsJournalled, joined, AreReadNatively, AreNative, HaveBirths, AreLoadable, HaveOneText}
+use Rattle.ac_colours.specs.Chains.{Programs, SeparateRun, first_state, programs_run, HappensIn, EndAs, journals_of, AreRunsOf, IsChain, IsJournalled, joined, AreReadNatively, AreNative, HaveBirths, AreLoadable, HaveOneText}
 use Rattle.ac_colours.proofs.Chains.{split_at, made_before, made_before_in_chain}
 use Rattle.ac_colours.proofs.Crossed.{crossed_both, program_tells}
 use Rattle.ac_colours.proofs.Origins.{not_among}
@@ -16,7 +16,7 @@ use Rattle.ac_colours.proofs.Origins.{not_among}
 pub runs_tell : (runs : List SeparateRun) (ends : List (Outcome Value)) → AreLoadable (programs_run runs) → EndAs runs ends → (all : List Event) × HappensIn runs all × (crossed all ≡ joined (journals_of ends))
 runs_tell [] ends l e = ([], refl, sym (ap (λ os. joined (journals_of os)) e))
 runs_tell (r ∷ runs) ends l e =
-    let mine = events r.steps e.2.0 (begun r) in
+    let mine = events r.steps e.2.0 (first_state r) in
     let rest = runs_tell runs e.1 l.3 e.4 in
     let here = sym (program_tells r.program.0 r.program.1 l.0 l.1 r.input r.sends r.steps e.2.0) ∙ ap crossings_in e.2.1 in
     (mine ++ rest.0, (e.2.0, e.0, rest.0, e.2.1, refl, rest.1), crossed_both mine rest.0 ∙ ap₂ (λ a b. a ++ b) here rest.2 ∙ sym (ap (λ os. joined (journals_of os)) e.3))

@@ -35,8 +35,8 @@ pub record SeparateRun : Type 0 where
   pub input : Bytes
   pub sends : Bool
 
-abbrev pub begun : SeparateRun → State Expr Value
-begun r = At r.program.1 (fresh r.program.0 r.input r.sends)
+abbrev pub first_state : SeparateRun → State Expr Value
+first_state r = At r.program.1 (fresh r.program.0 r.input r.sends)
 
 -- what they run
 abbrev pub programs_run : List SeparateRun → Programs
@@ -46,7 +46,7 @@ programs_run runs = map (λ (r : SeparateRun). r.program) runs
 abbrev pub HappensIn : List SeparateRun → List Event → Type 0
 HappensIn [] all = all ≡ []
 HappensIn (r ∷ runs) all =
-    (k : ℕ) × (o : Outcome Value) × (later : List Event) × (iter (step Coloured r.steps) k (begun r) ≡ Over o) × (all ≡ events r.steps k (begun r) ++ later) × HappensIn runs later
+    (k : ℕ) × (o : Outcome Value) × (later : List Event) × (iter (step Coloured r.steps) k (first_state r) ≡ Over o) × (all ≡ events r.steps k (first_state r) ++ later) × HappensIn runs later
 
 -- how they end, in order
 abbrev pub EndAs : List SeparateRun → List (Outcome Value) → Type 0

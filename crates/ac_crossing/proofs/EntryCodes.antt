@@ -1,5 +1,5 @@
 -- How many entries there may be.
-use Rattle.std.proofs.Common.{◌≡◌, ◌<◌, ◌≤◌, ◌^◌, length, ◌+◌, arith, ap, ◌∙◌, length-append}
+use Rattle.std.proofs.Common.{◌<◌, ◌≤◌, ◌^◌, length, arith, ap, ◌∙◌, length-append}
 use Rattle.ac_terms.specs.Read.{environment_of}
 use Rattle.ac_terms.specs.declared.env.Env.{Env}
 use Rattle.ac_rules.specs.Coherent.{IsCoherent}

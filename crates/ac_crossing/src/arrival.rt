@@ -6,7 +6,7 @@ ghost use Rattle.ac_types.specs.ReadTypes.{typ_of};
 ghost use Rattle.ac_terms.specs.Bounds.{fits_packet};
 ghost use Rattle.ac_terms.specs.PacketReading as reading;
 ghost use Rattle.ac_terms.specs.Read.{environment_of, value_of, packet_of};
-ghost use Rattle.ac_code.specs.ReadCode.{code_of};
+ghost use Rattle.ac_code.specs.ReadCode.{table_code};
 ghost use Rattle.ac_generate.specs.Generated.{entries_generated, value_generated, value_number};
 ghost use Rattle.ac_rules.specs.Coherent.{IsCoherent};
 ghost use Rattle.ac_rules.specs.Packets.{cause};
@@ -36,8 +36,8 @@ pub fn unmarshal(
 ) -> Result<CodeId, CrossFault>
     requires { IsCoherent (environment_of env.old) }
     ensures { Enters (landing (environment_of env.old) (typ_of ty.now) text.now.0)
-        (environment_of env.old) (code_of table.old) (environment_of env.new) (code_of table.new)
-        result }
+        (environment_of env.old) (table_code table.old) (environment_of env.new)
+        (table_code table.new) result }
 {
     let first = env.entries.len();
     let value = land(alloc, env, text, ty)?;
@@ -92,12 +92,12 @@ fn generate_arrived(
 ) -> Result<CodeId, Memory>
     requires few { length env.now.entries < 2 ^ 32 }
     requires within { first ≤ length env.now.entries }
-    ensures code { OnOk result (code_of table.new ≡ value_generated (value_of value.now)
+    ensures code { OnOk result (table_code table.new ≡ value_generated (value_of value.now)
         (entries_generated (environment_of env.now) first (drop first (environment_of env.now))
-        (code_of table.old))) }
+        (table_code table.old))) }
     ensures block { IfOk result (λ id. id.0 ≡ value_number (value_of value.now)
         (entries_generated (environment_of env.now) first (drop first (environment_of env.now))
-        (code_of table.old))) }
+        (table_code table.old))) }
 {
     generate_entries(alloc, env, first, table)?;
     generate_value(alloc, env, value, table)

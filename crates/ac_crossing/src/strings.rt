@@ -2,7 +2,7 @@
 
 ghost use Rattle.ac_types.specs.ReadTypes.{typ_of};
 ghost use Rattle.ac_terms.specs.Read.{environment_of};
-ghost use Rattle.ac_code.specs.ReadCode.{code_of};
+ghost use Rattle.ac_code.specs.ReadCode.{table_code};
 ghost use Rattle.ac_values.specs.Values.{stands_as};
 ghost use Rattle.ac_rules.specs.Coherent.{IsCoherent};
 ghost use Rattle.ac_rules.specs.Faults.{marshalled};
@@ -34,7 +34,8 @@ pub fn marshal(
     requires { IsCoherent (environment_of env.now) }
     ensures { Departs (answer (marshalled (environment_of env.now) mark.now.0 (typ_of ty.now)
         (bare_packed (environment_of env.now)
-        (stands (code_of table.now) (stands_as store.now value.now.0)) (typ_of ty.now)))) result }
+        (stands (table_code table.now) (stands_as store.now value.now.0)) (typ_of ty.now))))
+        result }
 {
     match pack(alloc, env, table, store, mark, value, ty) {
         Ok(text) => Ok(text),

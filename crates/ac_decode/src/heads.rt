@@ -235,7 +235,7 @@ fn pattern_exn(cursor: &mut Cursor<'_>) -> Result<PatHead, Fault>
 }
 
 /// The head of a term behind its tag, which stands at that place.
-#[tactic(auto, using(ac_canon::proofs::TermForms::term_forms))]
+#[tactic(auto, using(ac_terms::proofs::TermForms::term_forms))]
 pub fn term_head<T: Types>(
     alloc: Global,
     cursor: &mut Cursor<'_>,
@@ -289,7 +289,7 @@ pub fn term_head<T: Types>(
 }
 
 // That of an exception.
-#[tactic(auto, using(ac_canon::proofs::TermForms::term_forms))]
+#[tactic(auto, using(ac_terms::proofs::TermForms::term_forms))]
 fn term_exn(cursor: &mut Cursor<'_>) -> Result<Head, Fault>
     ensures { (p : ReadsPart Pattern) (f : ReadsPart Expr) (g : ReadsPart PValue) →
         ReadsOn (λ h. term_follows p f g h cursor.new.left) result
@@ -304,7 +304,7 @@ fn term_exn(cursor: &mut Cursor<'_>) -> Result<Head, Fault>
 }
 
 // That of a value of a signature.
-#[tactic(auto, using(ac_canon::proofs::TermForms::term_forms))]
+#[tactic(auto, using(ac_terms::proofs::TermForms::term_forms))]
 fn field_of(alloc: Global, cursor: &mut Cursor<'_>) -> Result<Head, Fault>
     ensures { (p : ReadsPart Pattern) (f : ReadsPart Expr) (g : ReadsPart PValue) →
         ReadsOn (λ h. term_follows p f g h cursor.new.left) result

@@ -3,9 +3,8 @@
 ghost use Rattle.std.specs.Prelude.{◌≡◌, List, map};
 ghost use Rattle.ac_types.specs.ReadTypes.{typ_of};
 ghost use Rattle.ac_terms.specs.Terms.{Pattern, Expr, Arms, patterns, PTuple, PCons, PPresent, PExnOf, exprs, arms, If, Val, pvalues, KTuple, KList, KPresent, KFun};
-ghost use Rattle.ac_terms.specs.Read.{pattern_of, expr_of, value_of, home_of};
+ghost use Rattle.ac_terms.specs.Read.{pattern_of, expr_of, arm_of, value_of, home_of};
 ghost use Rattle.ac_pieces.specs.Readers.{MadeOfRead};
-ghost use Rattle.ac_canon.specs.inner.Arms.{arm_of};
 ghost use Rattle.ac_decode.specs.inner.Follows.{put_around, put_joint, put_row, put_cases};
 
 use crate::heads::{Around, Cases, Joint, Row};

@@ -2,10 +2,9 @@
 
 ghost use Rattle.std.specs.Prelude.{Bool, true, List, map, option_and_then, slice_get};
 ghost use Rattle.ac_terms.specs.Terms.{Expr, no_exprs, expr, exprs, no_arms, arms, no_pvalues, pvalue, pvalues};
-ghost use Rattle.ac_terms.specs.Read.{expr_of, value_of};
+ghost use Rattle.ac_terms.specs.Read.{expr_of, arm_of, value_of};
 ghost use Rattle.ac_terms.specs.Bounds.{is_lambda};
 ghost use Rattle.ac_terms.specs.PacketReading.{ReadsPart, pair, times};
-ghost use Rattle.ac_canon.specs.inner.Arms.{arm_of};
 ghost use Rattle.ac_pieces.specs.ExactReading.{passing};
 ghost use Rattle.ac_pieces.specs.Readers.{ReadsAs};
 ghost use Rattle.ac_decode.specs.inner.ExactTerms.{an_arm, exact_cases, exact_pattern, exact_term_table, exact_term, exact_value};

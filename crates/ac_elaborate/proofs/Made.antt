@@ -4,15 +4,14 @@ use Rattle.ac_syntax.specs.declared.surface.SPat.{SPat}
 use Rattle.ac_syntax.specs.declared.surface.SExpr.{SExpr}
 use Rattle.ac_syntax.specs.declared.surface.SArm.{SArm}
 use Rattle.ac_syntax.specs.Trees.{pat_trees, trees, arm_trees}
-use Rattle.ac_syntax.specs.ReadTrees.{pat_of, expr_of as tree_of, arm_of}
+use Rattle.ac_syntax.specs.ReadTrees.{pat_of, tree_of, arm_tree_of}
 use Rattle.ac_terms.specs.Terms.{Pattern, patterns, pattern', Expr, exprs, expr, arms, arm}
-use Rattle.ac_terms.specs.Read.{pattern_of, expr_of}
+use Rattle.ac_terms.specs.Read.{pattern_of, expr_of, arm_of}
 use Rattle.ac_terms.specs.declared.term.Term.{Term}
 use Rattle.ac_terms.specs.declared.term.Arm.{Arm}
 use Rattle.ac_terms.specs.declared.pat.Pat.{Pat}
 use Rattle.ac_scopes.specs.Scopes.{NameScope}
 use Rattle.ac_scopes.specs.Written.{pattern_in, patterns_in, in_arm, term_in, terms_in, arms_in}
-use Rattle.ac_elaborate.specs.inner.Arms.{read_arm}
 use Rattle.ac_types.proofs.Loops.{built_all}
 
 abbrev pub pattern_made : NameScope → SPat → Pattern
@@ -36,11 +35,11 @@ pub all_terms : (S : NameScope) (made : List Term) (i : ℕ) (es : List SExpr) �
 all_terms S made i es e so = ap exprs (built_all expr_of (term_made S) made i es e so) ∙ terms_made S es
 
 abbrev pub arm_made : NameScope → SArm → Pattern × Expr
-arm_made S a = (pattern_in S (arm_of a).0, term_in (in_arm (arm_of a).0 S) (arm_of a).1)
+arm_made S a = (pattern_in S (arm_tree_of a).0, term_in (in_arm (arm_tree_of a).0 S) (arm_tree_of a).1)
 
-arms_made : (S : NameScope) (cases : List SArm) → arms (map (arm_made S) cases) ≡ arms_in S (arm_trees (map arm_of cases))
+arms_made : (S : NameScope) (cases : List SArm) → arms (map (arm_made S) cases) ≡ arms_in S (arm_trees (map arm_tree_of cases))
 arms_made S [] = refl
 arms_made S (a ∷ cases) = ap (arm (arm_made S a).0 (arm_made S a).1) (arms_made S cases)
 
-pub all_arms : (S : NameScope) (made : List Arm) (i : ℕ) (cases : List SArm) → i ≡ length cases → map read_arm made ≡ map (arm_made S) (take i cases) → arms (map read_arm made) ≡ arms_in S (arm_trees (map arm_of cases))
-all_arms S made i cases e so = ap arms (built_all read_arm (arm_made S) made i cases e so) ∙ arms_made S cases
+pub all_arms : (S : NameScope) (made : List Arm) (i : ℕ) (cases : List SArm) → i ≡ length cases → map arm_of made ≡ map (arm_made S) (take i cases) → arms (map arm_of made) ≡ arms_in S (arm_trees (map arm_tree_of cases))
+all_arms S made i cases e so = ap arms (built_all arm_of (arm_made S) made i cases e so) ∙ arms_made S cases

@@ -1,4 +1,3 @@
-pub mod Arms
 pub mod Bounds
 pub mod Crowd
 pub mod Joining

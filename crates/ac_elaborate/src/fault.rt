@@ -5,8 +5,8 @@ ghost use Rattle.sha2.specs.Sha256.{sha256};
 ghost use Rattle.ac_terms.specs.Defs.{Environment};
 ghost use Rattle.ac_syntax.specs.Trees.{ProgramTree};
 ghost use Rattle.ac_scopes.specs.Surfaces.{surface_fault};
-ghost use Rattle.ac_flaws.specs.Answers.{fault_of};
-ghost use Rattle.ac_elaborate.specs.Answers.{RefusesScopes};
+ghost use Rattle.ac_flaws.specs.Answers.{surface_fault_of};
+ghost use Rattle.ac_elaborate.specs.ScopeFaults.{RefusesScopes};
 
 use ac_flaws::FirstFault;
 use ac_types::Memory;
@@ -36,8 +36,8 @@ impl From<Memory> for ScopeFault {
 
 /// A fault that was found, as a refusal.
 pub fn refusal(found: FirstFault) -> ScopeFault
-    ensures { (E : Environment) (p : ProgramTree) → surface_fault sha256 E p ≡ Some (fault_of found)
-        → RefusesScopes E p result }
+    ensures { (E : Environment) (p : ProgramTree) → surface_fault sha256 E p
+        ≡ Some (surface_fault_of found) → RefusesScopes E p result }
 {
     match found {
         FirstFault::Unbound { at } => ScopeFault::Unbound { at },

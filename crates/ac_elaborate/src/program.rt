@@ -6,7 +6,7 @@ ghost use Rattle.std.specs.List.{list_all};
 ghost use Rattle.sha2.specs.Sha256.{sha256};
 ghost use Rattle.ac_terms.specs.Terms.{Unit'};
 ghost use Rattle.ac_terms.specs.Read.{environment_of, expr_of};
-ghost use Rattle.ac_syntax.specs.ReadTrees.{expr_of as tree_of, def_tree_of, surface_of};
+ghost use Rattle.ac_syntax.specs.ReadTrees.{tree_of, def_tree_of, surface_of};
 ghost use Rattle.ac_scopes.specs.Scopes.{after_all};
 ghost use Rattle.ac_scopes.specs.Written.{term_in};
 ghost use Rattle.ac_scopes.specs.Definitions.{after_def};

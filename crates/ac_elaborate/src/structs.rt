@@ -4,7 +4,7 @@ ghost use Rattle.std.specs.Prelude.{◌≡◌, ◌∷◌, ◌++◌, ◌<◌, ◌
 ghost use Rattle.ac_types.specs.ReadTypes.{typed_of};
 ghost use Rattle.ac_terms.specs.Read.{expr_of, field_of};
 ghost use Rattle.ac_syntax.specs.Trees.{ValField};
-ghost use Rattle.ac_syntax.specs.ReadTrees.{name_of, type_of, expr_of as tree_of, abbrev_of, field_tree_of};
+ghost use Rattle.ac_syntax.specs.ReadTrees.{name_of, type_of, tree_of, abbrev_of, field_tree_of};
 ghost use Rattle.ac_scopes.specs.Scopes.{with_field, each_in};
 ghost use Rattle.ac_scopes.specs.Written.{term_in};
 ghost use Rattle.ac_scopes.specs.Definitions.{after_abbrev, after_field, abbrev_type, item_type, item_field};

@@ -2,9 +2,9 @@
 
 ghost use Rattle.std.specs.Prelude.{◌≡◌, ◌∷◌, [], map, None, option_map, IfOk};
 ghost use Rattle.ac_terms.specs.Terms.{exprs, arms};
-ghost use Rattle.ac_terms.specs.Read.{expr_of};
+ghost use Rattle.ac_terms.specs.Read.{expr_of, arm_of};
 ghost use Rattle.ac_syntax.specs.Trees.{trees, arm_trees};
-ghost use Rattle.ac_syntax.specs.ReadTrees.{expr_of as tree_of, arm_of, type_of, name_of};
+ghost use Rattle.ac_syntax.specs.ReadTrees.{tree_of, arm_tree_of, type_of, name_of};
 ghost use Rattle.ac_scopes.specs.Scopes.{with_variables};
 ghost use Rattle.ac_scopes.specs.Written.{pattern_in, in_function, in_arm, primitive_at, term_in, terms_in, arms_in};
 ghost use Rattle.ac_scopes.specs.Searches.{found, found_in_all, found_in_arms};
@@ -12,7 +12,6 @@ ghost use Rattle.ac_outer.specs.Primitives.{read_primitive};
 ghost use Rattle.ac_outer.specs.Fronts.{scope_of};
 ghost use Rattle.ac_elaborate.specs.inner.Crowd.{crowd};
 ghost use Rattle.ac_elaborate.specs.inner.Joining.{RecOf, AppliedOf, OrOf};
-ghost use Rattle.ac_elaborate.specs.inner.Arms.{read_arm};
 
 use crate::patterns::{pattern, variables};
 use ac_outer::{Primitive, Scope, fun_ty, named, ty};
@@ -263,10 +262,10 @@ fn all<'a>(alloc: Global, parts: &'a [SExpr], scope: &'a Scope<'a>) -> Result<Ma
 
 #[cycle(term)]
 fn arms<'a>(alloc: Global, cases: &'a [SArm], scope: &'a Scope<'a>) -> Result<Many<Arm>, Memory>
-    requires { found_in_arms crowd (scope_of scope.now) (arm_trees (map arm_of cases.now)) ≡
+    requires { found_in_arms crowd (scope_of scope.now) (arm_trees (map arm_tree_of cases.now)) ≡
         None }
-    ensures { IfOk result (λ found. arms (map read_arm found) ≡ arms_in (scope_of scope.now)
-        (arm_trees (map arm_of cases.now))) }
+    ensures { IfOk result (λ found. arms (map arm_of found) ≡ arms_in (scope_of scope.now)
+        (arm_trees (map arm_tree_of cases.now))) }
 {
     let mut found = Many::new(alloc);
     for case in cases {
@@ -280,11 +279,11 @@ fn arms<'a>(alloc: Global, cases: &'a [SArm], scope: &'a Scope<'a>) -> Result<Ma
 #[cycle(term)]
 #[tactic(auto, using(ac_syntax::proofs::ReadLaws::expr_laws))]
 fn arm<'a>(alloc: Global, case: &'a SArm, scope: &'a Scope<'a>) -> Result<Arm, Memory>
-    requires { found crowd (in_arm (arm_of case.now).0 (scope_of scope.now))
-        (arm_of case.now).1 ≡ None }
-    ensures { IfOk result (λ a. read_arm a ≡ (
-      pattern_in (scope_of scope.now) (arm_of case.now).0,
-      term_in (in_arm (arm_of case.now).0 (scope_of scope.now)) (arm_of case.now).1,
+    requires { found crowd (in_arm (arm_tree_of case.now).0 (scope_of scope.now))
+        (arm_tree_of case.now).1 ≡ None }
+    ensures { IfOk result (λ a. arm_of a ≡ (
+      pattern_in (scope_of scope.now) (arm_tree_of case.now).0,
+      term_in (in_arm (arm_tree_of case.now).0 (scope_of scope.now)) (arm_tree_of case.now).1,
     )) }
 {
     let names = variables(alloc, &case.pat)?;

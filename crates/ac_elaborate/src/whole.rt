@@ -7,7 +7,7 @@ ghost use Rattle.ac_terms.specs.Read.{environment_of, expr_of};
 ghost use Rattle.ac_syntax.specs.ReadTrees.{surface_of};
 ghost use Rattle.ac_scopes.specs.Surfaces.{Elaborates, surface_fault};
 ghost use Rattle.ac_outer.specs.Entries.{keeps_name};
-ghost use Rattle.ac_elaborate.specs.Answers.{RefusesScopes};
+ghost use Rattle.ac_elaborate.specs.ScopeFaults.{RefusesScopes};
 
 use crate::fault::{ScopeFault, refusal};
 use crate::program::{RawProgram, build};

@@ -9,30 +9,30 @@ use Rattle.ac_syntax.specs.declared.surface.SExprKind.TheFolds.{fold-roll-SExpr,
 use Rattle.ac_syntax.specs.declared.surface.SExprKind.TheViews.{roll-SExpr, roll-SArm}
 use Rattle.ac_syntax.specs.declared.surface.SExprKind.TheVariants as variants
 use Rattle.ac_syntax.specs.Trees.{PatTree, Tree, ExInt, ExStr, ExVar, ExOf, ExExnOf}
-use Rattle.ac_syntax.specs.ReadTrees.{FunTree, name_of, pat_of, expr_of, expr_kind_of, arm_of, fun_of, expr_kind_layer, expr_tree_layer, arm_tree_layer, fun_layer}
+use Rattle.ac_syntax.specs.ReadTrees.{FunTree, name_of, pat_of, tree_of, expr_kind_of, arm_tree_of, fun_of, expr_kind_layer, expr_tree_layer, arm_tree_layer, fun_layer}
 use Rattle.ac_syntax.proofs.ReadLaws.{expr_kind_out, kind_at}
 
 -- an expression that the code makes
-pub expr_of-kind : (at : ℕ) (k : SExprKind) → expr_of (roll-SExpr (record { at = at; kind = k })) ≡ expr_kind_of k at
-unfolding expr_of expr_kind_of arm_of fun_of
-expr_of-kind at k = fold-roll-SExpr (ℕ → Tree) (PatTree × Tree) Tree FunTree expr_kind_layer arm_tree_layer expr_tree_layer fun_layer (record { at = at; kind = k })
+pub tree_of-kind : (at : ℕ) (k : SExprKind) → tree_of (roll-SExpr (record { at = at; kind = k })) ≡ expr_kind_of k at
+unfolding tree_of expr_kind_of arm_tree_of fun_of
+tree_of-kind at k = fold-roll-SExpr (ℕ → Tree) (PatTree × Tree) Tree FunTree expr_kind_layer arm_tree_layer expr_tree_layer fun_layer (record { at = at; kind = k })
 
-pub expr_of-Int : (at : ℕ) (n : ℤ) → expr_of (roll-SExpr (record { at = at; kind = Int n })) ≡ ExInt at n
-expr_of-Int at n = expr_of-kind at (Int n) ∙ ap (λ f. f at) (expr_kind_out (Int n)) ∙ ap (kind_at at) (variants.outs-Int n)
+pub tree_of-Int : (at : ℕ) (n : ℤ) → tree_of (roll-SExpr (record { at = at; kind = Int n })) ≡ ExInt at n
+tree_of-Int at n = tree_of-kind at (Int n) ∙ ap (λ f. f at) (expr_kind_out (Int n)) ∙ ap (kind_at at) (variants.outs-Int n)
 
-pub expr_of-Str : (at : ℕ) (text : Text) → expr_of (roll-SExpr (record { at = at; kind = Str text })) ≡ ExStr at text.0
-expr_of-Str at text = expr_of-kind at (Str text) ∙ ap (λ f. f at) (expr_kind_out (Str text)) ∙ ap (kind_at at) (variants.outs-Str text)
+pub tree_of-Str : (at : ℕ) (text : Text) → tree_of (roll-SExpr (record { at = at; kind = Str text })) ≡ ExStr at text.0
+tree_of-Str at text = tree_of-kind at (Str text) ∙ ap (λ f. f at) (expr_kind_out (Str text)) ∙ ap (kind_at at) (variants.outs-Str text)
 
-pub expr_of-Var : (at : ℕ) (w : List ℕ) → expr_of (roll-SExpr (record { at = at; kind = Var w })) ≡ ExVar at w
-expr_of-Var at w = expr_of-kind at (Var w) ∙ ap (λ f. f at) (expr_kind_out (Var w)) ∙ ap (kind_at at) (variants.outs-Var w)
+pub tree_of-Var : (at : ℕ) (w : List ℕ) → tree_of (roll-SExpr (record { at = at; kind = Var w })) ≡ ExVar at w
+tree_of-Var at w = tree_of-kind at (Var w) ∙ ap (λ f. f at) (expr_kind_out (Var w)) ∙ ap (kind_at at) (variants.outs-Var w)
 
-pub expr_of-Of : (at : ℕ) (m x : SName) → expr_of (roll-SExpr (record { at = at; kind = Of m x })) ≡ ExOf at (name_of m) (name_of x)
-expr_of-Of at m x = expr_of-kind at (Of m x) ∙ ap (λ f. f at) (expr_kind_out (Of m x)) ∙ ap (kind_at at) (variants.outs-Of m x)
+pub tree_of-Of : (at : ℕ) (m x : SName) → tree_of (roll-SExpr (record { at = at; kind = Of m x })) ≡ ExOf at (name_of m) (name_of x)
+tree_of-Of at m x = tree_of-kind at (Of m x) ∙ ap (λ f. f at) (expr_kind_out (Of m x)) ∙ ap (kind_at at) (variants.outs-Of m x)
 
 -- an arm that the code makes
-pub arm_of-made : (p : SPat) (e : SExpr) → arm_of (roll-SArm (record { pat = p; body = e })) ≡ (pat_of p, expr_of e)
-unfolding expr_of expr_kind_of arm_of fun_of
-arm_of-made p e = fold-roll-SArm (ℕ → Tree) (PatTree × Tree) Tree FunTree expr_kind_layer arm_tree_layer expr_tree_layer fun_layer (record { pat = p; body = e })
+pub arm_tree_of-made : (p : SPat) (e : SExpr) → arm_tree_of (roll-SArm (record { pat = p; body = e })) ≡ (pat_of p, tree_of e)
+unfolding tree_of expr_kind_of arm_tree_of fun_of
+arm_tree_of-made p e = fold-roll-SArm (ℕ → Tree) (PatTree × Tree) Tree FunTree expr_kind_layer arm_tree_layer expr_tree_layer fun_layer (record { pat = p; body = e })
 
-pub expr_of-ExnOf : (at n : ℕ) (e : SExpr) → expr_of (roll-SExpr (record { at = at; kind = Exn n (Some e) })) ≡ ExExnOf at n (expr_of e)
-expr_of-ExnOf at n e = expr_of-kind at (Exn n (Some e)) ∙ ap (λ f. f at) (expr_kind_out (Exn n (Some e))) ∙ ap (kind_at at) (variants.outs-Exn n (Some e))
+pub tree_of-ExnOf : (at n : ℕ) (e : SExpr) → tree_of (roll-SExpr (record { at = at; kind = Exn n (Some e) })) ≡ ExExnOf at n (tree_of e)
+tree_of-ExnOf at n e = tree_of-kind at (Exn n (Some e)) ∙ ap (λ f. f at) (expr_kind_out (Exn n (Some e))) ∙ ap (kind_at at) (variants.outs-Exn n (Some e))

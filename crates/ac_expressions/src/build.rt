@@ -3,7 +3,7 @@
 ghost use Rattle.std.specs.Prelude.{◌≡◌, ◌<◌, ◌-◌, ◌^◌, ◌∷◌, [], max, length, map, IfOk, MatchOption, option_map};
 ghost use Rattle.ac_syntax.specs.Trees.{ExInt, ExUnit, ExNil, ExAbsent, ExApp, ExOp, ExSeq, ExTuple, ExMatch, ExTry, tree, no_trees, trees, arm_trees, height, highest, highest_arm};
 ghost use Rattle.ac_syntax.specs.Expressions.{operator_of, operator_tree};
-ghost use Rattle.ac_syntax.specs.ReadTrees.{type_of, expr_of, arm_of};
+ghost use Rattle.ac_syntax.specs.ReadTrees.{type_of, tree_of, arm_tree_of};
 ghost use Rattle.ac_expressions.specs.inner.Pieces.{binder_of, head_of};
 ghost use Rattle.ac_expressions.specs.inner.Forms.{measured, prefixed, operator_read, let_tree, let_rec_tree, fun_tree, rec_tree, if_tree, marshal_tree, unmarshal_tree, raise_tree};
 
@@ -70,8 +70,8 @@ pub fn join(
     requires low { max left.height right.height < 2 ^ 32 - 1 }
     requires left { measured left }
     requires right { measured right }
-    ensures tree { IfOk result (λ x. expr_of x.tree ≡ operator_tree at (operator_read operator)
-        (expr_of left.tree) (expr_of right.tree)) }
+    ensures tree { IfOk result (λ x. tree_of x.tree ≡ operator_tree at (operator_read operator)
+        (tree_of left.tree) (tree_of right.tree)) }
     ensures height { IfOk result (λ x. measured x) }
 {
     let height = left.height.max(right.height) + 1;
@@ -119,8 +119,8 @@ pub fn application(
     requires low { max function.height argument.height < 2 ^ 32 - 1 }
     requires function { measured function }
     requires argument { measured argument }
-    ensures tree { IfOk result (λ x. expr_of x.tree ≡ ExApp at (expr_of function.tree)
-        (expr_of argument.tree)) }
+    ensures tree { IfOk result (λ x. tree_of x.tree ≡ ExApp at (tree_of function.tree)
+        (tree_of argument.tree)) }
     ensures height { IfOk result (λ x. measured x) }
 {
     let height = function.height.max(argument.height) + 1;
@@ -136,7 +136,7 @@ pub fn application(
 pub fn prefixed_by(alloc: Global, at: u32, prefix: Prefix, item: Parsed) -> Result<Parsed, Memory>
     requires low { item.height < 2 ^ 32 - 1 }
     requires item { measured item }
-    ensures tree { IfOk result (λ x. expr_of x.tree ≡ prefixed prefix at (expr_of item.tree)) }
+    ensures tree { IfOk result (λ x. tree_of x.tree ≡ prefixed prefix at (tree_of item.tree)) }
     ensures height { IfOk result (λ x. measured x) }
 {
     let height = item.height + 1;
@@ -167,8 +167,8 @@ pub fn let_in(
     requires low { max bound.height body.height < 2 ^ 32 - 1 }
     requires bound { measured bound }
     requires body { measured body }
-    ensures tree { IfOk result (λ x. expr_of x.tree ≡ let_tree at
-        (binder_of binder, (expr_of bound.tree, expr_of body.tree))) }
+    ensures tree { IfOk result (λ x. tree_of x.tree ≡ let_tree at
+        (binder_of binder, (tree_of bound.tree, tree_of body.tree))) }
     ensures height { IfOk result (λ x. measured x) }
 {
     let height = bound.height.max(body.height) + 1;
@@ -192,8 +192,8 @@ pub fn let_rec(
     requires low { max bound.height body.height < 2 ^ 32 - 1 }
     requires bound { measured bound }
     requires body { measured body }
-    ensures tree { IfOk result (λ x. expr_of x.tree ≡ let_rec_tree at
-        (head_of head, (expr_of bound.tree, expr_of body.tree))) }
+    ensures tree { IfOk result (λ x. tree_of x.tree ≡ let_rec_tree at
+        (head_of head, (tree_of bound.tree, tree_of body.tree))) }
     ensures height { IfOk result (λ x. measured x) }
 {
     let height = bound.height.max(body.height) + 1;
@@ -218,8 +218,8 @@ pub fn let_rec(
 pub fn fun(alloc: Global, at: u32, binder: Binder, body: Parsed) -> Result<Parsed, Memory>
     requires low { body.height < 2 ^ 32 - 1 }
     requires body { measured body }
-    ensures tree { IfOk result (λ x. expr_of x.tree ≡ fun_tree at
-        (binder_of binder, expr_of body.tree)) }
+    ensures tree { IfOk result (λ x. tree_of x.tree ≡ fun_tree at
+        (binder_of binder, tree_of body.tree)) }
     ensures height { IfOk result (λ x. measured x) }
 {
     let height = body.height + 1;
@@ -235,8 +235,8 @@ pub fn fun(alloc: Global, at: u32, binder: Binder, body: Parsed) -> Result<Parse
 pub fn rec(alloc: Global, at: u32, head: Head, body: Parsed) -> Result<Parsed, Memory>
     requires low { body.height < 2 ^ 32 - 1 }
     requires body { measured body }
-    ensures tree { IfOk result (λ x. expr_of x.tree ≡ rec_tree at
-        (head_of head, expr_of body.tree)) }
+    ensures tree { IfOk result (λ x. tree_of x.tree ≡ rec_tree at
+        (head_of head, tree_of body.tree)) }
     ensures height { IfOk result (λ x. measured x) }
 {
     let height = body.height + 1;
@@ -268,8 +268,8 @@ pub fn if_else(
     requires test { measured test }
     requires so { measured so }
     requires otherwise { measured otherwise }
-    ensures tree { IfOk result (λ x. expr_of x.tree ≡ if_tree at
-        (expr_of test.tree, (expr_of so.tree, expr_of otherwise.tree))) }
+    ensures tree { IfOk result (λ x. tree_of x.tree ≡ if_tree at
+        (tree_of test.tree, (tree_of so.tree, tree_of otherwise.tree))) }
     ensures height { IfOk result (λ x. measured x) }
 {
     let height = test.height.max(so.height.max(otherwise.height)) + 1;
@@ -293,8 +293,8 @@ pub fn marshal(
     requires low { max mark.height value.height < 2 ^ 32 - 1 }
     requires mark { measured mark }
     requires value { measured value }
-    ensures tree { IfOk result (λ x. expr_of x.tree ≡ marshal_tree at
-        (expr_of mark.tree, (expr_of value.tree, type_of ty))) }
+    ensures tree { IfOk result (λ x. tree_of x.tree ≡ marshal_tree at
+        (tree_of mark.tree, (tree_of value.tree, type_of ty))) }
     ensures height { IfOk result (λ x. measured x) }
 {
     let height = mark.height.max(value.height) + 1;
@@ -310,8 +310,8 @@ pub fn marshal(
 pub fn unmarshal(alloc: Global, at: u32, text: Parsed, ty: SType) -> Result<Parsed, Memory>
     requires low { text.height < 2 ^ 32 - 1 }
     requires text { measured text }
-    ensures tree { IfOk result (λ x. expr_of x.tree ≡ unmarshal_tree at
-        (expr_of text.tree, type_of ty)) }
+    ensures tree { IfOk result (λ x. tree_of x.tree ≡ unmarshal_tree at
+        (tree_of text.tree, type_of ty)) }
     ensures height { IfOk result (λ x. measured x) }
 {
     let height = text.height + 1;
@@ -326,8 +326,8 @@ pub fn unmarshal(alloc: Global, at: u32, text: Parsed, ty: SType) -> Result<Pars
 pub fn raise(alloc: Global, at: u32, exception: Parsed, ty: SType) -> Result<Parsed, Memory>
     requires low { exception.height < 2 ^ 32 - 1 }
     requires exception { measured exception }
-    ensures tree { IfOk result (λ x. expr_of x.tree ≡ raise_tree at
-        (expr_of exception.tree, type_of ty)) }
+    ensures tree { IfOk result (λ x. tree_of x.tree ≡ raise_tree at
+        (tree_of exception.tree, type_of ty)) }
     ensures height { IfOk result (λ x. measured x) }
 {
     let height = exception.height + 1;
@@ -342,8 +342,8 @@ pub fn raise(alloc: Global, at: u32, exception: Parsed, ty: SType) -> Result<Par
 pub fn operation(alloc: Global, at: u32, number: u8, operand: Parsed) -> Result<Parsed, Memory>
     requires low { operand.height < 2 ^ 32 - 1 }
     requires operand { measured operand }
-    ensures tree { IfOk result (λ x. expr_of x.tree ≡ ExOp at number
-        (tree (expr_of operand.tree) no_trees)) }
+    ensures tree { IfOk result (λ x. tree_of x.tree ≡ ExOp at number
+        (tree (tree_of operand.tree) no_trees)) }
     ensures height { IfOk result (λ x. measured x) }
 {
     let height = operand.height + 1;
@@ -368,8 +368,8 @@ pub fn two(alloc: Global, first: Parsed, second: Parsed) -> Result<Many<SExpr>, 
 #[tactic(auto, using(ac_syntax::proofs::ReadLaws::expr_laws))]
 pub fn sequence(alloc: Global, at: u32, parts: Many<SExpr>, most: u32) -> Result<Parsed, Memory>
     requires low { most < 2 ^ 32 - 1 }
-    requires highest { most ≡ highest (trees (map expr_of parts)) }
-    ensures tree { IfOk result (λ x. expr_of x.tree ≡ ExSeq at (trees (map expr_of parts))) }
+    requires highest { most ≡ highest (trees (map tree_of parts)) }
+    ensures tree { IfOk result (λ x. tree_of x.tree ≡ ExSeq at (trees (map tree_of parts))) }
     ensures height { IfOk result (λ x. measured x) }
 {
     let kind = SExprKind::Seq(parts);
@@ -382,8 +382,8 @@ pub fn sequence(alloc: Global, at: u32, parts: Many<SExpr>, most: u32) -> Result
 #[tactic(auto, using(ac_syntax::proofs::ReadLaws::expr_laws))]
 pub fn tuple(alloc: Global, at: u32, parts: Many<SExpr>, most: u32) -> Result<Parsed, Memory>
     requires low { most < 2 ^ 32 - 1 }
-    requires highest { most ≡ highest (trees (map expr_of parts)) }
-    ensures tree { IfOk result (λ x. expr_of x.tree ≡ ExTuple at (trees (map expr_of parts))) }
+    requires highest { most ≡ highest (trees (map tree_of parts)) }
+    ensures tree { IfOk result (λ x. tree_of x.tree ≡ ExTuple at (trees (map tree_of parts))) }
     ensures height { IfOk result (λ x. measured x) }
 {
     let kind = SExprKind::Tuple(parts);
@@ -397,9 +397,9 @@ pub fn tuple(alloc: Global, at: u32, parts: Many<SExpr>, most: u32) -> Result<Pa
 pub fn match_with(alloc: Global, at: u32, choice: Choice) -> Result<Parsed, Memory>
     requires low { max choice.of.height choice.height < 2 ^ 32 - 1 }
     requires of_tree { measured choice.of }
-    requires arms { choice.height ≡ highest_arm (arm_trees (map arm_of choice.arms)) }
-    ensures tree { IfOk result (λ x. expr_of x.tree ≡ ExMatch at (expr_of choice.of.tree)
-        (arm_trees (map arm_of choice.arms))) }
+    requires arms { choice.height ≡ highest_arm (arm_trees (map arm_tree_of choice.arms)) }
+    ensures tree { IfOk result (λ x. tree_of x.tree ≡ ExMatch at (tree_of choice.of.tree)
+        (arm_trees (map arm_tree_of choice.arms))) }
     ensures height { IfOk result (λ x. measured x) }
 {
     let height = choice.of.height.max(choice.height) + 1;
@@ -414,9 +414,9 @@ pub fn match_with(alloc: Global, at: u32, choice: Choice) -> Result<Parsed, Memo
 pub fn try_with(alloc: Global, at: u32, choice: Choice) -> Result<Parsed, Memory>
     requires low { max choice.of.height choice.height < 2 ^ 32 - 1 }
     requires of_tree { measured choice.of }
-    requires arms { choice.height ≡ highest_arm (arm_trees (map arm_of choice.arms)) }
-    ensures tree { IfOk result (λ x. expr_of x.tree ≡ ExTry at (expr_of choice.of.tree)
-        (arm_trees (map arm_of choice.arms))) }
+    requires arms { choice.height ≡ highest_arm (arm_trees (map arm_tree_of choice.arms)) }
+    ensures tree { IfOk result (λ x. tree_of x.tree ≡ ExTry at (tree_of choice.of.tree)
+        (arm_trees (map arm_tree_of choice.arms))) }
     ensures height { IfOk result (λ x. measured x) }
 {
     let height = choice.of.height.max(choice.height) + 1;
@@ -429,7 +429,7 @@ pub fn try_with(alloc: Global, at: u32, choice: Choice) -> Result<Parsed, Memory
 /// A constant.
 #[tactic(auto, using(ac_syntax::proofs::ReadLaws::expr_laws))]
 pub fn number(alloc: Global, at: u32, n: i64) -> Result<Parsed, Memory>
-    ensures tree { IfOk result (λ x. expr_of x.tree ≡ ExInt at n) }
+    ensures tree { IfOk result (λ x. tree_of x.tree ≡ ExInt at n) }
     ensures height { IfOk result (λ x. measured x) }
 {
     let kind = SExprKind::Int(n);
@@ -440,7 +440,7 @@ pub fn number(alloc: Global, at: u32, n: i64) -> Result<Parsed, Memory>
 /// The empty tuple.
 #[tactic(auto, using(ac_syntax::proofs::ReadLaws::expr_laws))]
 pub fn unit(alloc: Global, at: u32) -> Result<Parsed, Memory>
-    ensures tree { IfOk result (λ x. expr_of x.tree ≡ ExUnit at) }
+    ensures tree { IfOk result (λ x. tree_of x.tree ≡ ExUnit at) }
     ensures height { IfOk result (λ x. measured x) }
 {
     let kind = SExprKind::Unit;
@@ -451,7 +451,7 @@ pub fn unit(alloc: Global, at: u32) -> Result<Parsed, Memory>
 /// The empty list of a type.
 #[tactic(auto, using(ac_syntax::proofs::ReadLaws::expr_laws))]
 pub fn nil(alloc: Global, at: u32, ty: SType) -> Result<Parsed, Memory>
-    ensures tree { IfOk result (λ x. expr_of x.tree ≡ ExNil at (type_of ty)) }
+    ensures tree { IfOk result (λ x. tree_of x.tree ≡ ExNil at (type_of ty)) }
     ensures height { IfOk result (λ x. measured x) }
 {
     let kind = SExprKind::Nil(ty);
@@ -462,7 +462,7 @@ pub fn nil(alloc: Global, at: u32, ty: SType) -> Result<Parsed, Memory>
 /// `None` of a type.
 #[tactic(auto, using(ac_syntax::proofs::ReadLaws::expr_laws))]
 pub fn absent(alloc: Global, at: u32, ty: SType) -> Result<Parsed, Memory>
-    ensures tree { IfOk result (λ x. expr_of x.tree ≡ ExAbsent at (type_of ty)) }
+    ensures tree { IfOk result (λ x. tree_of x.tree ≡ ExAbsent at (type_of ty)) }
     ensures height { IfOk result (λ x. measured x) }
 {
     let kind = SExprKind::Absent(ty);

@@ -5,7 +5,7 @@ ghost use Rattle.ac_syntax.specs.Signs.{Fixed};
 ghost use Rattle.ac_syntax.specs.Trees.{ExApp, arm_trees, height, highest_arm};
 ghost use Rattle.ac_syntax.specs.Expressions.{Expr, Part, Binary, After, Unary, App, Atom, front, ToLeft, ToRight, Once, operator_tree, side_of, IsTree};
 ghost use Rattle.ac_syntax.specs.ReadSigns.{read_signs};
-ghost use Rattle.ac_syntax.specs.ReadTrees.{expr_of, arm_of};
+ghost use Rattle.ac_syntax.specs.ReadTrees.{tree_of, arm_tree_of};
 ghost use Rattle.ac_syntax.specs.PartParsing.{OnSyntax};
 ghost use Rattle.ac_expressions.specs.inner.Pieces.{Nothing, Before, Made, NoPrefix};
 ghost use Rattle.ac_expressions.specs.inner.Forms.{keyword_symbol, NoTree, measured, operator_read, IsLastOperand, IsLet, let_tree, IsLetRec, let_rec_tree, IsFun, fun_tree, IsRec, rec_tree, IsIf, if_tree, IsMarshal, marshal_tree, IsUnmarshal, unmarshal_tree, IsRaise, raise_tree, IsParts, sequence_tree, IsItems, tuple_tree, IsArm, IsArms, IsChoice};
@@ -29,7 +29,7 @@ fn before<'s, 't>(
     signs: &'s [Sign<'t>],
 ) -> Result<(Parsed, &'s [Sign<'t>]), Stop>
     ensures tree { IfOk result (λ x. Before symbol (IsTree depth Expr) (read_signs signs.now)
-        (expr_of x.0.tree) (read_signs x.1.now)) }
+        (tree_of x.0.tree) (read_signs x.1.now)) }
     ensures height { IfOk result (λ x. measured x.0) }
     ensures low { IfOk result (λ x. x.0.height ≤ depth) }
     ensures shorter { IfOk result (λ x. length x.1.now < length signs.now) }
@@ -48,9 +48,9 @@ fn arm<'s, 't>(
     depth: u32,
     signs: &'s [Sign<'t>],
 ) -> Result<((SArm, u32), &'s [Sign<'t>]), Stop>
-    ensures tree { IfOk result (λ x. IsArm depth (read_signs signs.now) (arm_of x.0.0)
+    ensures tree { IfOk result (λ x. IsArm depth (read_signs signs.now) (arm_tree_of x.0.0)
         (read_signs x.1.now)) }
-    ensures height { IfOk result (λ x. x.0.1 ≡ height (arm_of x.0.0).1) }
+    ensures height { IfOk result (λ x. x.0.1 ≡ height (arm_tree_of x.0.0).1) }
     ensures shorter { IfOk result (λ x. length x.1.now < length signs.now) }
     ensures none { IfErr result (λ e. OnSyntax e (Nothing (IsArm depth) (read_signs signs.now))) }
 {
@@ -70,9 +70,9 @@ fn arms<'s, 't>(
     depth: u32,
     signs: &'s [Sign<'t>],
 ) -> Result<((Many<SArm>, u32), &'s [Sign<'t>]), Stop>
-    ensures tree { IfOk result (λ x. IsArms depth (read_signs signs.now) (map arm_of x.0.0)
+    ensures tree { IfOk result (λ x. IsArms depth (read_signs signs.now) (map arm_tree_of x.0.0)
         (read_signs x.1.now)) }
-    ensures height { IfOk result (λ x. x.0.1 ≡ highest_arm (arm_trees (map arm_of x.0.0))) }
+    ensures height { IfOk result (λ x. x.0.1 ≡ highest_arm (arm_trees (map arm_tree_of x.0.0))) }
     ensures low { IfOk result (λ x. x.0.1 ≤ depth) }
     ensures shorter { IfOk result (λ x. length x.1.now < length signs.now) }
     ensures none { IfErr result (λ e. OnSyntax e (Nothing (IsArms depth) (read_signs signs.now))) }
@@ -98,9 +98,9 @@ fn choice<'s, 't>(
     signs: &'s [Sign<'t>],
 ) -> Result<(Choice, &'s [Sign<'t>]), Stop>
     ensures tree { IfOk result (λ x. IsChoice depth (read_signs signs.now)
-        (expr_of x.0.of.tree, map arm_of x.0.arms) (read_signs x.1.now)) }
+        (tree_of x.0.of.tree, map arm_tree_of x.0.arms) (read_signs x.1.now)) }
     ensures of_height { IfOk result (λ x. measured x.0.of) }
-    ensures height { IfOk result (λ x. x.0.height ≡ highest_arm (arm_trees (map arm_of x.0.arms))) }
+    ensures height { IfOk result (λ x. x.0.height ≡ highest_arm (arm_trees (map arm_tree_of x.0.arms))) }
     ensures low { IfOk result (λ x. x.0.height ≤ depth) }
     ensures shorter { IfOk result (λ x. length x.1.now < length signs.now) }
     ensures none { IfErr result (λ e. OnSyntax e
@@ -123,8 +123,8 @@ fn tuple<'s, 't>(
     requires low { first.height < 2 ^ 32 - 1 }
     requires small { depth < 2 ^ 32 - 1 }
     requires first { measured first }
-    ensures tree { IfOk result (λ x. Made (IsItems depth) (tuple_tree at (expr_of first.tree))
-        (read_signs signs.now) (expr_of x.0.tree) (read_signs x.1.now)) }
+    ensures tree { IfOk result (λ x. Made (IsItems depth) (tuple_tree at (tree_of first.tree))
+        (read_signs signs.now) (tree_of x.0.tree) (read_signs x.1.now)) }
     ensures height { IfOk result (λ x. measured x.0) }
     ensures shorter { IfOk result (λ x. length x.1.now < length signs.now) }
     ensures none { IfErr result (λ e. OnSyntax e (Nothing (IsItems depth) (read_signs signs.now))) }
@@ -152,7 +152,7 @@ fn opened<'s, 't>(
 ) -> Result<(Parsed, &'s [Sign<'t>]), Stop>
     requires { 0 < depth }
     ensures tree { IfOk result (λ x. IsTree depth Atom (Fixed at Symbol.Open ∷ read_signs signs.now)
-        (expr_of x.0.tree) (read_signs x.1.now)) }
+        (tree_of x.0.tree) (read_signs x.1.now)) }
     ensures height { IfOk result (λ x. measured x.0) }
     ensures shorter { IfOk result (λ x. length x.1.now < length signs.now) }
     ensures none { IfErr result (λ e. OnSyntax e
@@ -188,7 +188,7 @@ fn atom<'s, 't>(
     depth: u32,
     signs: &'s [Sign<'t>],
 ) -> Result<(Parsed, &'s [Sign<'t>]), Stop>
-    ensures tree { IfOk result (λ x. IsTree depth Atom (read_signs signs.now) (expr_of x.0.tree)
+    ensures tree { IfOk result (λ x. IsTree depth Atom (read_signs signs.now) (tree_of x.0.tree)
         (read_signs x.1.now)) }
     ensures height { IfOk result (λ x. measured x.0) }
     ensures shorter { IfOk result (λ x. length x.1.now < length signs.now) }
@@ -221,7 +221,7 @@ fn app<'s, 't>(
     depth: u32,
     signs: &'s [Sign<'t>],
 ) -> Result<(Parsed, &'s [Sign<'t>]), Stop>
-    ensures tree { IfOk result (λ x. IsTree depth App (read_signs signs.now) (expr_of x.0.tree)
+    ensures tree { IfOk result (λ x. IsTree depth App (read_signs signs.now) (tree_of x.0.tree)
         (read_signs x.1.now)) }
     ensures height { IfOk result (λ x. measured x.0) }
     ensures shorter { IfOk result (λ x. length x.1.now < length signs.now) }
@@ -248,7 +248,7 @@ fn applied<'s, 't>(
     signs: &'s [Sign<'t>],
 ) -> Result<(Parsed, &'s [Sign<'t>]), Stop>
     requires { NoPrefix (read_signs signs.now) }
-    ensures tree { IfOk result (λ x. IsTree depth App (read_signs signs.now) (expr_of x.0.tree)
+    ensures tree { IfOk result (λ x. IsTree depth App (read_signs signs.now) (tree_of x.0.tree)
         (read_signs x.1.now)) }
     ensures height { IfOk result (λ x. measured x.0) }
     ensures shorter { IfOk result (λ x. length x.1.now < length signs.now) }
@@ -279,8 +279,8 @@ fn next_argument<'s, 't>(
     requires low { function.height < 2 ^ 32 - 1 }
     requires small { depth < 2 ^ 32 - 1 }
     requires function { measured function }
-    ensures tree { IfOk result (λ x. Made (IsTree depth Atom) (ExApp at (expr_of function.tree))
-        (read_signs signs.now) (expr_of x.0.tree) (read_signs x.1.now)) }
+    ensures tree { IfOk result (λ x. Made (IsTree depth Atom) (ExApp at (tree_of function.tree))
+        (read_signs signs.now) (tree_of x.0.tree) (read_signs x.1.now)) }
     ensures height { IfOk result (λ x. measured x.0) }
     ensures shorter { IfOk result (λ x. length x.1.now < length signs.now) }
     ensures none { IfErr result (λ e. OnSyntax e (NoTree depth Atom (read_signs signs.now))) }
@@ -299,7 +299,7 @@ fn minus<'s, 't>(
 ) -> Result<(Parsed, &'s [Sign<'t>]), Stop>
     requires { 0 < depth }
     ensures tree { IfOk result (λ x. IsTree depth Unary
-        (Fixed at Symbol.Minus ∷ read_signs signs.now) (expr_of x.0.tree) (read_signs x.1.now)) }
+        (Fixed at Symbol.Minus ∷ read_signs signs.now) (tree_of x.0.tree) (read_signs x.1.now)) }
     ensures height { IfOk result (λ x. measured x.0) }
     ensures shorter { IfOk result (λ x. length x.1.now < length signs.now) }
     ensures none { IfErr result (λ e. OnSyntax e
@@ -319,7 +319,7 @@ fn unary<'s, 't>(
     depth: u32,
     signs: &'s [Sign<'t>],
 ) -> Result<(Parsed, &'s [Sign<'t>]), Stop>
-    ensures tree { IfOk result (λ x. IsTree depth Unary (read_signs signs.now) (expr_of x.0.tree)
+    ensures tree { IfOk result (λ x. IsTree depth Unary (read_signs signs.now) (tree_of x.0.tree)
         (read_signs x.1.now)) }
     ensures height { IfOk result (λ x. measured x.0) }
     ensures shorter { IfOk result (λ x. length x.1.now < length signs.now) }
@@ -358,8 +358,8 @@ fn right_side<'s, 't>(
     requires small { depth < 2 ^ 32 - 1 }
     requires left { measured left }
     ensures tree { IfOk result (λ x. Made (IsTree depth (Binary level))
-        (operator_tree at (operator_read operator) (expr_of left.tree)) (read_signs signs.now)
-        (expr_of x.0.tree) (read_signs x.1.now)) }
+        (operator_tree at (operator_read operator) (tree_of left.tree)) (read_signs signs.now)
+        (tree_of x.0.tree) (read_signs x.1.now)) }
     ensures height { IfOk result (λ x. measured x.0) }
     ensures shorter { IfOk result (λ x. length x.1.now < length signs.now) }
     ensures none { IfErr result (λ e. OnSyntax e
@@ -380,7 +380,7 @@ fn to_left<'s, 't>(
     requires level { (0 < level) × (level ≤ 6) }
     requires side { side_of level ≡ ToLeft }
     ensures tree { IfOk result (λ x. IsTree depth (Binary level) (read_signs signs.now)
-        (expr_of x.0.tree) (read_signs x.1.now)) }
+        (tree_of x.0.tree) (read_signs x.1.now)) }
     ensures height { IfOk result (λ x. measured x.0) }
     ensures shorter { IfOk result (λ x. length x.1.now < length signs.now) }
     ensures none { IfErr result (λ e. OnSyntax e
@@ -414,12 +414,12 @@ fn to_right<'s, 't>(
     requires low { first.height ≤ depth }
     requires first { measured first }
     requires stops { level < front (read_signs signs.now) }
-    ensures tree { IfOk result (λ x. IsTree depth (After level at (expr_of first.tree))
-        (read_signs signs.now) (expr_of x.0.tree) (read_signs x.1.now)) }
+    ensures tree { IfOk result (λ x. IsTree depth (After level at (tree_of first.tree))
+        (read_signs signs.now) (tree_of x.0.tree) (read_signs x.1.now)) }
     ensures height { IfOk result (λ x. measured x.0) }
     ensures within { IfOk result (λ x. length x.1.now ≤ length signs.now) }
     ensures none { IfErr result (λ e. OnSyntax e
-        (NoTree depth (After level at (expr_of first.tree)) (read_signs signs.now))) }
+        (NoTree depth (After level at (tree_of first.tree)) (read_signs signs.now))) }
 {
     let Some((operator, behind)) = operator(level, signs) else {
         return Ok((first, signs));
@@ -446,8 +446,8 @@ fn compared<'s, 't>(
     requires small { depth < 2 ^ 32 - 1 }
     requires left { measured left }
     ensures tree { IfOk result (λ x. Made (IsLastOperand level depth)
-        (operator_tree at (operator_read operator) (expr_of left.tree)) (read_signs signs.now)
-        (expr_of x.0.tree) (read_signs x.1.now)) }
+        (operator_tree at (operator_read operator) (tree_of left.tree)) (read_signs signs.now)
+        (tree_of x.0.tree) (read_signs x.1.now)) }
     ensures height { IfOk result (λ x. measured x.0) }
     ensures shorter { IfOk result (λ x. length x.1.now < length signs.now) }
     ensures none { IfErr result (λ e. OnSyntax e
@@ -475,12 +475,12 @@ fn once<'s, 't>(
     requires low { first.height ≤ depth }
     requires first { measured first }
     requires stops { level < front (read_signs signs.now) }
-    ensures tree { IfOk result (λ x. IsTree depth (After level at (expr_of first.tree))
-        (read_signs signs.now) (expr_of x.0.tree) (read_signs x.1.now)) }
+    ensures tree { IfOk result (λ x. IsTree depth (After level at (tree_of first.tree))
+        (read_signs signs.now) (tree_of x.0.tree) (read_signs x.1.now)) }
     ensures height { IfOk result (λ x. measured x.0) }
     ensures within { IfOk result (λ x. length x.1.now ≤ length signs.now) }
     ensures none { IfErr result (λ e. OnSyntax e
-        (NoTree depth (After level at (expr_of first.tree)) (read_signs signs.now))) }
+        (NoTree depth (After level at (tree_of first.tree)) (read_signs signs.now))) }
 {
     let Some((operator, behind)) = operator(level, signs) else {
         return Ok((first, signs));
@@ -501,7 +501,7 @@ fn binary<'s, 't>(
 ) -> Result<(Parsed, &'s [Sign<'t>]), Stop>
     requires { level ≤ 6 }
     ensures tree { IfOk result (λ x. IsTree depth (Binary level) (read_signs signs.now)
-        (expr_of x.0.tree) (read_signs x.1.now)) }
+        (tree_of x.0.tree) (read_signs x.1.now)) }
     ensures height { IfOk result (λ x. measured x.0) }
     ensures shorter { IfOk result (λ x. length x.1.now < length signs.now) }
     ensures none { IfErr result (λ e. OnSyntax e
@@ -532,7 +532,7 @@ fn let_in<'s, 't>(
 ) -> Result<(Parsed, &'s [Sign<'t>]), Stop>
     requires { depth < 2 ^ 32 - 1 }
     ensures tree { IfOk result (λ x. Made (IsLet depth) (let_tree at) (read_signs signs.now)
-        (expr_of x.0.tree) (read_signs x.1.now)) }
+        (tree_of x.0.tree) (read_signs x.1.now)) }
     ensures height { IfOk result (λ x. measured x.0) }
     ensures shorter { IfOk result (λ x. length x.1.now < length signs.now) }
     ensures none { IfErr result (λ e. OnSyntax e (Nothing (IsLet depth) (read_signs signs.now))) }
@@ -553,7 +553,7 @@ fn let_rec<'s, 't>(
 ) -> Result<(Parsed, &'s [Sign<'t>]), Stop>
     requires { depth < 2 ^ 32 - 1 }
     ensures tree { IfOk result (λ x. Made (IsLetRec depth) (let_rec_tree at) (read_signs signs.now)
-        (expr_of x.0.tree) (read_signs x.1.now)) }
+        (tree_of x.0.tree) (read_signs x.1.now)) }
     ensures height { IfOk result (λ x. measured x.0) }
     ensures shorter { IfOk result (λ x. length x.1.now < length signs.now) }
     ensures none { IfErr result (λ e. OnSyntax e
@@ -575,7 +575,7 @@ fn fun<'s, 't>(
 ) -> Result<(Parsed, &'s [Sign<'t>]), Stop>
     requires { depth < 2 ^ 32 - 1 }
     ensures tree { IfOk result (λ x. Made (IsFun depth) (fun_tree at) (read_signs signs.now)
-        (expr_of x.0.tree) (read_signs x.1.now)) }
+        (tree_of x.0.tree) (read_signs x.1.now)) }
     ensures height { IfOk result (λ x. measured x.0) }
     ensures shorter { IfOk result (λ x. length x.1.now < length signs.now) }
     ensures none { IfErr result (λ e. OnSyntax e (Nothing (IsFun depth) (read_signs signs.now))) }
@@ -596,7 +596,7 @@ fn rec<'s, 't>(
 ) -> Result<(Parsed, &'s [Sign<'t>]), Stop>
     requires { depth < 2 ^ 32 - 1 }
     ensures tree { IfOk result (λ x. Made (IsRec depth) (rec_tree at) (read_signs signs.now)
-        (expr_of x.0.tree) (read_signs x.1.now)) }
+        (tree_of x.0.tree) (read_signs x.1.now)) }
     ensures height { IfOk result (λ x. measured x.0) }
     ensures shorter { IfOk result (λ x. length x.1.now < length signs.now) }
     ensures none { IfErr result (λ e. OnSyntax e (Nothing (IsRec depth) (read_signs signs.now))) }
@@ -616,7 +616,7 @@ fn if_else<'s, 't>(
 ) -> Result<(Parsed, &'s [Sign<'t>]), Stop>
     requires { depth < 2 ^ 32 - 1 }
     ensures tree { IfOk result (λ x. Made (IsIf depth) (if_tree at) (read_signs signs.now)
-        (expr_of x.0.tree) (read_signs x.1.now)) }
+        (tree_of x.0.tree) (read_signs x.1.now)) }
     ensures height { IfOk result (λ x. measured x.0) }
     ensures shorter { IfOk result (λ x. length x.1.now < length signs.now) }
     ensures none { IfErr result (λ e. OnSyntax e (Nothing (IsIf depth) (read_signs signs.now))) }
@@ -637,7 +637,7 @@ fn marshal<'s, 't>(
 ) -> Result<(Parsed, &'s [Sign<'t>]), Stop>
     requires { depth < 2 ^ 32 - 1 }
     ensures tree { IfOk result (λ x. Made (IsMarshal depth) (marshal_tree at) (read_signs signs.now)
-        (expr_of x.0.tree) (read_signs x.1.now)) }
+        (tree_of x.0.tree) (read_signs x.1.now)) }
     ensures height { IfOk result (λ x. measured x.0) }
     ensures shorter { IfOk result (λ x. length x.1.now < length signs.now) }
     ensures none { IfErr result (λ e. OnSyntax e
@@ -659,7 +659,7 @@ fn unmarshal<'s, 't>(
 ) -> Result<(Parsed, &'s [Sign<'t>]), Stop>
     requires { depth < 2 ^ 32 - 1 }
     ensures tree { IfOk result (λ x. Made (IsUnmarshal depth) (unmarshal_tree at)
-        (read_signs signs.now) (expr_of x.0.tree) (read_signs x.1.now)) }
+        (read_signs signs.now) (tree_of x.0.tree) (read_signs x.1.now)) }
     ensures height { IfOk result (λ x. measured x.0) }
     ensures shorter { IfOk result (λ x. length x.1.now < length signs.now) }
     ensures none { IfErr result (λ e. OnSyntax e
@@ -680,7 +680,7 @@ fn raise<'s, 't>(
 ) -> Result<(Parsed, &'s [Sign<'t>]), Stop>
     requires { depth < 2 ^ 32 - 1 }
     ensures tree { IfOk result (λ x. Made (IsRaise depth) (raise_tree at) (read_signs signs.now)
-        (expr_of x.0.tree) (read_signs x.1.now)) }
+        (tree_of x.0.tree) (read_signs x.1.now)) }
     ensures height { IfOk result (λ x. measured x.0) }
     ensures shorter { IfOk result (λ x. length x.1.now < length signs.now) }
     ensures none { IfErr result (λ e. OnSyntax e (Nothing (IsRaise depth) (read_signs signs.now))) }
@@ -701,7 +701,7 @@ fn keyword_part<'s, 't>(
 ) -> Result<(Parsed, &'s [Sign<'t>]), Stop>
     requires { 0 < depth }
     ensures tree { IfOk result (λ x. IsTree depth Part
-        (Fixed at (keyword_symbol keyword) ∷ read_signs signs.now) (expr_of x.0.tree)
+        (Fixed at (keyword_symbol keyword) ∷ read_signs signs.now) (tree_of x.0.tree)
         (read_signs x.1.now)) }
     ensures height { IfOk result (λ x. measured x.0) }
     ensures shorter { IfOk result (λ x. length x.1.now < length signs.now) }
@@ -730,7 +730,7 @@ fn part<'s, 't>(
     depth: u32,
     signs: &'s [Sign<'t>],
 ) -> Result<(Parsed, &'s [Sign<'t>]), Stop>
-    ensures tree { IfOk result (λ x. IsTree depth Part (read_signs signs.now) (expr_of x.0.tree)
+    ensures tree { IfOk result (λ x. IsTree depth Part (read_signs signs.now) (tree_of x.0.tree)
         (read_signs x.1.now)) }
     ensures height { IfOk result (λ x. measured x.0) }
     ensures shorter { IfOk result (λ x. length x.1.now < length signs.now) }
@@ -757,8 +757,8 @@ fn sequence<'s, 't>(
     requires low { first.height < 2 ^ 32 - 1 }
     requires small { depth < 2 ^ 32 - 1 }
     requires first { measured first }
-    ensures tree { IfOk result (λ x. Made (IsParts depth) (sequence_tree at (expr_of first.tree))
-        (read_signs signs.now) (expr_of x.0.tree) (read_signs x.1.now)) }
+    ensures tree { IfOk result (λ x. Made (IsParts depth) (sequence_tree at (tree_of first.tree))
+        (read_signs signs.now) (tree_of x.0.tree) (read_signs x.1.now)) }
     ensures height { IfOk result (λ x. measured x.0) }
     ensures shorter { IfOk result (λ x. length x.1.now < length signs.now) }
     ensures none { IfErr result (λ e. OnSyntax e (Nothing (IsParts depth) (read_signs signs.now))) }
@@ -782,7 +782,7 @@ pub fn expr<'s, 't>(
     depth: u32,
     signs: &'s [Sign<'t>],
 ) -> Result<(Parsed, &'s [Sign<'t>]), Stop>
-    ensures tree { IfOk result (λ x. IsTree depth Expr (read_signs signs.now) (expr_of x.0.tree)
+    ensures tree { IfOk result (λ x. IsTree depth Expr (read_signs signs.now) (tree_of x.0.tree)
         (read_signs x.1.now)) }
     ensures height { IfOk result (λ x. measured x.0) }
     ensures shorter { IfOk result (λ x. length x.1.now < length signs.now) }

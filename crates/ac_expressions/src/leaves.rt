@@ -3,7 +3,7 @@
 ghost use Rattle.std.specs.Prelude.{◌≡◌, ◌<◌, ℕ, ◌∷◌, length, IfOk, IfErr, MatchOption, Some, None};
 ghost use Rattle.ac_syntax.specs.Signs.{Upper};
 ghost use Rattle.ac_syntax.specs.ReadSigns.{read_signs};
-ghost use Rattle.ac_syntax.specs.ReadTrees.{expr_of, expr_kind_of};
+ghost use Rattle.ac_syntax.specs.ReadTrees.{tree_of, expr_kind_of};
 ghost use Rattle.ac_syntax.specs.PartParsing.{OnSyntax, NoSymbol};
 ghost use Rattle.ac_expressions.specs.inner.Forms.{base_expr, FormLeafAt, NoFormLeaf};
 
@@ -37,7 +37,7 @@ fn field<'s, 't>(
     signs: &'s [Sign<'t>],
 ) -> Result<(SExpr, &'s [Sign<'t>]), Stop>
     ensures found { IfOk result (λ x. FormLeafAt (Upper at word.now ∷ read_signs signs.now)
-        (expr_of x.0) (read_signs x.1.now)) }
+        (tree_of x.0) (read_signs x.1.now)) }
     ensures shorter { IfOk result (λ x. length x.1.now < length signs.now) }
     ensures none { IfErr result (λ e. OnSyntax e
         (NoFormLeaf (Upper at word.now ∷ read_signs signs.now))) }
@@ -51,7 +51,7 @@ fn field<'s, 't>(
 
 /// An atom that is a leaf and begins with no `(`, `match` or `try`.
 pub fn leaf<'s, 't>(alloc: Global, signs: &'s [Sign<'t>]) -> Result<(SExpr, &'s [Sign<'t>]), Stop>
-    ensures found { IfOk result (λ x. FormLeafAt (read_signs signs.now) (expr_of x.0)
+    ensures found { IfOk result (λ x. FormLeafAt (read_signs signs.now) (tree_of x.0)
         (read_signs x.1.now)) }
     ensures shorter { IfOk result (λ x. length x.1.now < length signs.now) }
     ensures none { IfErr result (λ e. OnSyntax e (NoSymbol Symbol.Open (read_signs signs.now) →

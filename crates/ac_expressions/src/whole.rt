@@ -3,7 +3,7 @@
 ghost use Rattle.std.specs.Prelude.{◌<◌, length, IfOk, IfErr};
 ghost use Rattle.ac_syntax.specs.Expressions.{IsExpr};
 ghost use Rattle.ac_syntax.specs.ReadSigns.{read_signs};
-ghost use Rattle.ac_syntax.specs.ReadTrees.{expr_of};
+ghost use Rattle.ac_syntax.specs.ReadTrees.{tree_of};
 ghost use Rattle.ac_syntax.specs.PartParsing.{OnSyntax};
 ghost use Rattle.ac_expressions.specs.ExpressionParsing.{NoExpr};
 
@@ -21,7 +21,7 @@ pub fn expression<'s, 't>(
     alloc: Global,
     signs: &'s [Sign<'t>],
 ) -> Result<(SExpr, &'s [Sign<'t>]), Stop>
-    ensures tree { IfOk result (λ x. IsExpr (read_signs signs.now) (expr_of x.0)
+    ensures tree { IfOk result (λ x. IsExpr (read_signs signs.now) (tree_of x.0)
         (read_signs x.1.now)) }
     ensures shorter { IfOk result (λ x. length x.1.now < length signs.now) }
     ensures none { IfErr result (λ e. OnSyntax e (NoExpr (read_signs signs.now))) }

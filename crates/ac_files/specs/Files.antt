@@ -11,7 +11,7 @@ pub record FilesSeen : Type 0 where
 abbrev pub files_seen : {Files : Type 0} → (Files → Contents) → (Files → List ℕ → ℕ) → (Files → List ℕ → ℕ) → Files → FilesSeen
 files_seen contents reads writes files = record { contents = contents files; read_faults = reads files; write_faults = writes files }
 
--- a file, or a stream that is read: what it has before the call, where that is told, and its count of failed reads before and after the call
+-- a file that is read: what it has before the call, where that is told, and its count of failed reads before and after the call
 pub record Reading : Type 0 where
   pub told : Bool
   pub bytes : Option (List ℕ)

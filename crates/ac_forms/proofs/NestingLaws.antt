@@ -5,7 +5,7 @@ use Rattle.std.proofs.lemmas.Bool.Decides.{nat_tests}
 use Rattle.ac_terms.specs.Terms.{Pattern, PWild, Expr, Int, PValue, KInt}
 use Rattle.ac_terms.specs.Nesting.{pattern_nesting, nesting, value_nesting}
 use Rattle.ac_terms.proofs.PatternForms.{pattern_forms}
-use Rattle.ac_canon.proofs.TermForms.{term_forms}
+use Rattle.ac_terms.proofs.TermForms.{term_forms}
 use Rattle.ac_terms.proofs.ValueForms.{value_forms}
 
 -- one level down

@@ -1,6 +1,6 @@
 -- The places of entries among chosen ones.
-use Rattle.std.proofs.Common.{◌≡◌, refl, sym, ap, ◌∙◌, subst, ℕ, suc, ◌+◌, ◌<◌, ◌≤◌, Bool, true, false, arith, List, [], ◌∷◌, ◌++◌, length, take, drop, get_or, Option, Some, None, get_or-set_same, get_or-set_other}
-use Rattle.std.specs.Prelude.{◌≢◌, nat_eq, nat_lt, option_map, position, replicate, slice_get, slice_set, unwrap_or}
+use Rattle.std.proofs.Common.{◌≡◌, refl, sym, ap, ◌∙◌, ℕ, suc, ◌+◌, ◌<◌, ◌≤◌, Bool, true, false, arith, List, [], ◌∷◌, ◌++◌, length, take, drop, get_or, Option, Some, None, get_or-set_same, get_or-set_other}
+use Rattle.std.specs.Prelude.{◌≢◌, nat_eq, nat_lt, option_map, position, replicate, slice_set, unwrap_or}
 use Rattle.std.proofs.Math.ListN.{length-set}
 use Rattle.std.proofs.Math.Path.{fun_ext}
 use Rattle.std.proofs.Math.Seq.{take-length}
@@ -11,7 +11,7 @@ use mathlib.Core.Bool.{true≢false}
 use Rattle.ac_terms.proofs.TestLaws.{eq_true, eq_self}
 use Rattle.ac_rules.specs.Needed.{place_in}
 use Rattle.ac_rules.proofs.EarlierLaws.{position-first, position-later}
-use Rattle.ac_parts.specs.Numbers.{number_in}
+use Rattle.ac_parts.specs.Numbers.{number_for}
 use Rattle.ac_forms.specs.Forms.{AllBelow}
 use Rattle.ac_forms.specs.inner.Passing.{numbered}
 
@@ -74,15 +74,15 @@ at_place n i k (x ∷ ks) h = by (at_place n (suc i) k ks h.1) (nat_eq k x) refl
         get_or-set_other (numbered (zeros n) (suc i) ks) x k i 0 apart ∙ rest ∙ later i (position (nat_eq k) ks) ∙ sym (ap (placed i) (position-later (nat_eq k) x ks e))
 
 -- what was put over zeros are the places
-pub places_are : (n : ℕ) (ks : List ℕ) → AllBelow n ks → number_in (numbered (zeros n) 0 ks) ≡ place_in ks
+pub places_are : (n : ℕ) (ks : List ℕ) → AllBelow n ks → number_for (numbered (zeros n) 0 ks) ≡ place_in ks
 places_are n ks h = fun_ext (λ k. unwrap_or-slice_get (numbered (zeros n) 0 ks) k 0 ∙ at_place n 0 k ks h ∙ from_none (position (nat_eq k) ks))
 
 -- the same of a list that was written through a slice of it
-pub places_back : (n len : ℕ) (items new ks : List ℕ) → len ≡ n → items ≡ zeros n → new ≡ numbered items 0 ks → AllBelow n ks → number_in (take len (new ++ drop (length new) items)) ≡ place_in ks
+pub places_back : (n len : ℕ) (items new ks : List ℕ) → len ≡ n → items ≡ zeros n → new ≡ numbered items 0 ks → AllBelow n ks → number_for (take len (new ++ drop (length new) items)) ≡ place_in ks
 places_back n len items new ks l blanks made below =
     let as_long : length new ≡ length items = ap length made ∙ length_numbered items 0 ks in
     let longs : length items ≡ n = ap length blanks ∙ length-replicate {A = ℕ} n 0 in
     let within : len ≤ length new = omega (arith, l, as_long, longs) in
     let all : len ≡ length new = omega (arith, l, as_long, longs) in
     let same : take len (new ++ drop (length new) items) ≡ new = rw take-append-le (ap (λ m. take m new) all ∙ take-length new) in
-    ap number_in (same ∙ made ∙ ap (λ ns. numbered ns 0 ks) blanks) ∙ places_are n ks below
+    ap number_for (same ∙ made ∙ ap (λ ns. numbered ns 0 ks) blanks) ∙ places_are n ks below

@@ -6,7 +6,7 @@ ghost use Rattle.ac_types.specs.Limits.{longest_packet};
 ghost use Rattle.ac_terms.specs.Bounds.{nests_little};
 ghost use Rattle.ac_terms.specs.Read.{environment_of};
 ghost use Rattle.ac_terms.specs.Spelling.{two_written, def_bytes};
-ghost use Rattle.ac_parts.specs.Numbers.{number_in};
+ghost use Rattle.ac_parts.specs.Numbers.{number_for};
 ghost use Rattle.ac_forms.specs.Forms.{AllBelow, form_at, forms, front_bytes, IsLong};
 ghost use Rattle.ac_forms.specs.inner.Passing.{nests_at};
 
@@ -63,7 +63,7 @@ pub fn front(
     numbers: &[u16],
 ) -> Result<Text, Stop>
     requires { AllBelow (length env.now.entries) chosen.now }
-    ensures { let bytes = front_bytes (forms (environment_of env.now) mark (number_in numbers.now)
+    ensures { let bytes = front_bytes (forms (environment_of env.now) mark (number_for numbers.now)
         chosen.now) in MatchResult result (λ text. text.0 ≡ bytes) (λ e. IsLong e bytes) }
 {
     let numbers = wide(alloc, numbers)?;
@@ -91,7 +91,7 @@ fn with_forms(
     numbers: &[u32],
 ) -> Result<Text, Stop>
     ensures { let bytes = text.0 ++ flat_map def_bytes (forms (environment_of env.now) mark
-        (number_in numbers.now) chosen.now) in
+        (number_for numbers.now) chosen.now) in
         MatchResult result (λ all. all.0 ≡ bytes) (λ e. IsLong e bytes) }
 {
     for k in chosen {
@@ -105,7 +105,7 @@ fn with_forms(
 #[tactic(auto, using(ac_canon::proofs::EntryForms::entry_forms))]
 fn bytes_at(alloc: Global, env: &Env, mark: usize, k: u32, numbers: &[u32]) -> Result<Text, Memory>
     ensures { IfOk result (λ text. text.0 ≡ flat_map def_bytes
-        (form_at (environment_of env.now) mark (number_in numbers.now) k)) }
+        (form_at (environment_of env.now) mark (number_for numbers.now) k)) }
 {
     match env.entry(k) {
         None => Ok(Text::new(alloc)),

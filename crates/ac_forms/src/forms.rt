@@ -11,7 +11,7 @@ ghost use Rattle.ac_terms.specs.Read.{entry_of, field_of, seen_of, module_of_cod
 ghost use Rattle.ac_terms.specs.Renumbered.{def_renumbered};
 ghost use Rattle.ac_terms.specs.Spelling.{def_bytes};
 ghost use Rattle.ac_rules.specs.Needed.{cut, form_of, uri_atoms};
-ghost use Rattle.ac_parts.specs.Numbers.{number_in};
+ghost use Rattle.ac_parts.specs.Numbers.{number_for};
 
 use crate::nesting::term_nests;
 use ac_bytes::Out;
@@ -62,7 +62,7 @@ pub fn form_bytes(
     numbers: &[u32],
 ) -> Result<Text, Memory>
     ensures { let e = entry_of entry.now in IfOk result (λ text. text.0 ≡
-        def_bytes (def_renumbered (number_in numbers.now) (form_of e.def e.name e.seen before))) }
+        def_bytes (def_renumbered (number_for numbers.now) (form_of e.def e.name e.seen before))) }
 {
     let mut out = Out::new(alloc);
     put_form(alloc, &mut out, entry, before, numbers)?;
@@ -79,7 +79,7 @@ fn put_form(
     numbers: &[u32],
 ) -> Result<(), Memory>
     ensures { let e = entry_of entry.now in OnOk result (out.new ≡ out.old ++
-        def_bytes (def_renumbered (number_in numbers.now) (form_of e.def e.name e.seen before))) }
+        def_bytes (def_renumbered (number_for numbers.now) (form_of e.def e.name e.seen before))) }
 {
     match &entry.def {
         Def::Module(m) => match &entry.name {
@@ -101,7 +101,7 @@ fn put_form(
 #[tactic(auto, using(ac_canon::proofs::Lists::lists))]
 fn put_whole(alloc: Global, out: &mut Out, m: &Module, numbers: &[u32]) -> Result<(), Memory>
     ensures { OnOk result (out.new ≡ out.old ++
-        def_bytes (def_renumbered (number_in numbers.now) (AModule (module_of_code m.now)))) }
+        def_bytes (def_renumbered (number_for numbers.now) (AModule (module_of_code m.now)))) }
 {
     let moved = module_renumbered(alloc, m, numbers)?;
     put_module(out, &ByNumber, &moved)

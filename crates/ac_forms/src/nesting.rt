@@ -3,8 +3,7 @@
 ghost use Rattle.std.specs.Prelude.{◌≡◌, ◌&&◌, nat_le, map};
 ghost use Rattle.ac_terms.specs.Terms.{patterns, exprs, arms, pvalues};
 ghost use Rattle.ac_terms.specs.Nesting.{pattern_nesting, pattern_depth, nesting, depth, arm_depth, value_nesting, value_depth};
-ghost use Rattle.ac_terms.specs.Read.{pattern_of, expr_of, value_of};
-ghost use Rattle.ac_canon.specs.inner.Arms.{arm_of};
+ghost use Rattle.ac_terms.specs.Read.{pattern_of, expr_of, arm_of, value_of};
 
 use ac_terms::{Arm, PVal, Pat, Term};
 

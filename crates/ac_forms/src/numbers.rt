@@ -2,7 +2,7 @@
 
 ghost use Rattle.std.specs.Prelude.{◌≡◌, ◌≤◌, IfOk, length, slice_set};
 ghost use Rattle.ac_rules.specs.Needed.{place_in};
-ghost use Rattle.ac_parts.specs.Numbers.{number_in};
+ghost use Rattle.ac_parts.specs.Numbers.{number_for};
 ghost use Rattle.ac_forms.specs.Forms.{AllBelow};
 ghost use Rattle.ac_forms.specs.inner.Passing.{numbered};
 
@@ -13,7 +13,7 @@ use std::alloc::Global;
 pub fn places(alloc: Global, entries: usize, chosen: &[u32]) -> Result<Vec<u16>, Memory>
     requires few { length chosen.now ≤ 65536 }
     requires below { AllBelow entries chosen.now }
-    ensures { IfOk result (λ ns. number_in ns.items ≡ place_in chosen.now) }
+    ensures { IfOk result (λ ns. number_for ns.items ≡ place_in chosen.now) }
 {
     let mut numbers = vec![in alloc; 0; entries]?;
     put_places(&mut numbers, chosen);

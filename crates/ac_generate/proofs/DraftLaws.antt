@@ -8,7 +8,7 @@ use Rattle.ac_code.specs.Code as instr
 use Rattle.ac_code.specs.Code.{Instr, Block}
 use Rattle.ac_generate.specs.Sizes.{lambdas, value_lambdas, push_text, size}
 use Rattle.ac_generate.specs.Generate.{code, all_code, rest_code, value_code, all_value_code, blocks, all_blocks, value_blocks, all_value_blocks, lambda_block}
-use Rattle.ac_generate.specs.inner.Drafts.{Draft, address, count, put, put_all, begun, ended, wrote, wrote_all, wrote_seq, wrote_rest, wrote_value, wrote_values}
+use Rattle.ac_generate.specs.inner.Drafts.{Draft, address, count, put, put_all, block_begun, block_ended, wrote, wrote_all, wrote_seq, wrote_rest, wrote_value, wrote_values}
 use Rattle.ac_generate.proofs.SizeLaws.{code_size, block_count, value_block_count}
 
 -- with more instructions and blocks
@@ -163,20 +163,20 @@ wrote_Let c G T e b d =
 -- the block of a lambda with that body, and then the instruction of its number
 lambda_written : (c h : Home) (G H : List Typ) (l e : Expr) (make : ℕ → Instr) (d : Draft) →
     more (make (count d + lambdas e) ∷ []) (blocks h H e (count d) ++ lambda_block h l G (code e 0 (count d)) ∷ []) d
-    ≡ put (make (count (wrote h H e (begun d)))) (ended h l G d.instrs (wrote h H e (begun d)))
-unfolding wrote begun ended put
+    ≡ put (make (count (wrote h H e (block_begun d)))) (block_ended h l G d.instrs (wrote h H e (block_begun d)))
+unfolding wrote block_begun block_ended put
 lambda_written c h G H l e make d =
     let bs = blocks h H e (count d) in
     let same : count d + lambdas e ≡ d.first + length (d.blocks ++ bs) = omega (arith, length-append d.blocks bs, block_count h H e (count d)) in
     ap₂ (λ (k : ℕ) (y : List Block). record { first = d.first; instrs = d.instrs ++ make k ∷ []; blocks = y }) same (sym (append_assoc d.blocks bs (lambda_block h l G (code e 0 (count d)) ∷ [])))
 
 pub wrote_Lam : (c : Home) (G : List Typ) (T : Typ) (e : Expr) (d : Draft) →
-    wrote c G (Lam T e) d ≡ put (instr.Closure (count (wrote c (T ∷ G) e (begun d)))) (ended c (Lam T e) G d.instrs (wrote c (T ∷ G) e (begun d)))
+    wrote c G (Lam T e) d ≡ put (instr.Closure (count (wrote c (T ∷ G) e (block_begun d)))) (block_ended c (Lam T e) G d.instrs (wrote c (T ∷ G) e (block_begun d)))
 unfolding wrote
 wrote_Lam c G T e d = lambda_written c c G (T ∷ G) (Lam T e) e instr.Closure d
 
 pub wrote_Rec : (c : Home) (G : List Typ) (T U : Typ) (e : Expr) (d : Draft) →
-    wrote c G (Rec T U e) d ≡ put (instr.RecClosure (count (wrote c (T ∷ TFun T U ∷ G) e (begun d)))) (ended c (Rec T U e) G d.instrs (wrote c (T ∷ TFun T U ∷ G) e (begun d)))
+    wrote c G (Rec T U e) d ≡ put (instr.RecClosure (count (wrote c (T ∷ TFun T U ∷ G) e (block_begun d)))) (block_ended c (Rec T U e) G d.instrs (wrote c (T ∷ TFun T U ∷ G) e (block_begun d)))
 unfolding wrote
 wrote_Rec c G T U e d = lambda_written c c G (T ∷ TFun T U ∷ G) (Rec T U e) e instr.RecClosure d
 
@@ -263,12 +263,12 @@ wrote_KList vs d =
     sym (ap (put_all conses) (put_more instr.PushNil made _ d) ∙ put_all_more conses _ _ d ∙ more_same d _ _ _ _ (append_assoc made (instr.PushNil ∷ []) conses) refl)
 
 pub wrote_KLam : (h : Home) (T : Typ) (e : Expr) (d : Draft) →
-    wrote_value (KFun h (Lam T e)) d ≡ put (instr.Constant (count (wrote h (T ∷ []) e (begun d)))) (ended h (Lam T e) [] d.instrs (wrote h (T ∷ []) e (begun d)))
+    wrote_value (KFun h (Lam T e)) d ≡ put (instr.Constant (count (wrote h (T ∷ []) e (block_begun d)))) (block_ended h (Lam T e) [] d.instrs (wrote h (T ∷ []) e (block_begun d)))
 unfolding wrote_value
 wrote_KLam h T e d = lambda_written h h [] (T ∷ []) (Lam T e) e instr.Constant d
 
 pub wrote_KRec : (h : Home) (T U : Typ) (e : Expr) (d : Draft) →
-    wrote_value (KFun h (Rec T U e)) d ≡ put (instr.RecConstant (count (wrote h (T ∷ TFun T U ∷ []) e (begun d)))) (ended h (Rec T U e) [] d.instrs (wrote h (T ∷ TFun T U ∷ []) e (begun d)))
+    wrote_value (KFun h (Rec T U e)) d ≡ put (instr.RecConstant (count (wrote h (T ∷ TFun T U ∷ []) e (block_begun d)))) (block_ended h (Rec T U e) [] d.instrs (wrote h (T ∷ TFun T U ∷ []) e (block_begun d)))
 unfolding wrote_value
 wrote_KRec h T U e d = lambda_written h h [] (T ∷ TFun T U ∷ []) (Rec T U e) e instr.RecConstant d
 

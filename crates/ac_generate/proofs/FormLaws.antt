@@ -1,5 +1,5 @@
 -- The reading of the forms of terms that have arms, and of scopes.
-use Rattle.std.proofs.Common.{◌≡◌, ◌∙◌, ap, refl, sym, Bor, List, [], ◌∷◌, ◌++◌, map, reverse}
+use Rattle.std.proofs.Common.{◌≡◌, ◌∙◌, ap, sym, Bor, List, [], ◌∷◌, ◌++◌, map, reverse}
 use Rattle.ac_types.specs.Types.{Typ}
 use Rattle.ac_types.specs.ReadTypes.{typ_of}
 use Rattle.ac_types.specs.declared.ty.Ty.{Ty}
@@ -7,26 +7,12 @@ use Rattle.ac_terms.specs.declared.term.Term.{Term}
 use Rattle.ac_terms.specs.declared.term.Term.TheVariants as term
 use Rattle.ac_terms.specs.declared.term.Arm.{Arm}
 use Rattle.ac_terms.specs.Terms.{Lam, Rec, If, Match, Try, arms}
-use Rattle.ac_terms.specs.Read.{pattern_of, expr_of}
-use Rattle.ac_terms.proofs.ReadLaws.{read_arm}
-use Rattle.ac_terms.proofs.TermForms.{one_arm, match_read, try_read, armless_forms, expr_of-Lam, expr_of-Rec, expr_of-If}
-use Rattle.ac_generate.specs.inner.Arms.{arm_of}
+use Rattle.ac_terms.specs.Read.{expr_of, arm_of}
+use Rattle.ac_terms.proofs.TermForms.{expr_of-Lam, expr_of-Rec, expr_of-If, expr_of-Match, expr_of-Try}
 use Rattle.ac_generate.specs.inner.CodeScopes.{types_of, types_step}
 use Rattle.ac_generate.specs.declared.scope.Scope.{Scope, out-Scope, map-Scope, fold_out-Scope}
 use Rattle.ac_generate.specs.declared.scope.Scope.TheOpen.{Scope-F}
 use Rattle.ac_generate.specs.declared.scope.Scope.TheVariants as scope
-
-pub same_arms : (xs : List Arm) → map read_arm xs ≡ map arm_of xs
-unfolding read_arm arm_of
-same_arms xs = refl
-
-pub expr_of-Match : (e : Term) (cases : List Arm) → expr_of (term.Match e cases) ≡ Match (expr_of e) (arms (map arm_of cases))
-expr_of-Match e cases = match_read e cases ∙ ap (λ xs. Match (expr_of e) (arms xs)) (same_arms cases)
-
-pub expr_of-Try : (e : Term) (cases : List Arm) → expr_of (term.Try e cases) ≡ Try (expr_of e) (arms (map arm_of cases))
-expr_of-Try e cases = try_read e cases ∙ ap (λ xs. Try (expr_of e) (arms xs)) (same_arms cases)
-
-pub ruleset term_forms = (armless_forms, expr_of-Match, expr_of-Try)
 
 abbrev scope_layer : Scope-F Scope → List Typ
 scope_layer x = types_step (map-Scope Scope (List Typ) types_of x)
@@ -45,10 +31,6 @@ pub types_of-Variables : (outer : Bor Scope) (ts : Bor (List Ty)) → types_of (
 types_of-Variables outer ts = scope_out (scope.Variables outer ts) ∙ ap scope_layer (scope.outs-Variables outer ts)
 
 pub ruleset scope_forms = (types_of-Empty, types_of-Variable, types_of-Variables)
-
-pub arm_fields : (a : Arm) → arm_of a ≡ (pattern_of a.pat, expr_of a.body)
-unfolding read_arm arm_of
-arm_fields a = one_arm a
 
 -- the forms, where their parts are known by equations
 pub lam_is : (e : Term) (t : Ty) (b b' : Term) → e ≡ term.Lam t b → b' ≡ b → expr_of e ≡ Lam (typ_of t) (expr_of b')

@@ -19,17 +19,17 @@ use Rattle.ac_code.specs.declared.block.Block as code_block
 use Rattle.ac_code.specs.declared.instr.CodeId.{CodeId}
 use Rattle.ac_code.specs.Code.{Instr, Block, Code}
 use Rattle.ac_code.specs.Table.{Table, appended, first_blocks, placed, with_fields}
-use Rattle.ac_code.specs.ReadCode.{instr_of, block_of, code_of, block_id}
+use Rattle.ac_code.specs.ReadCode.{instr_of, block_of, table_code, block_id}
 use Rattle.ac_generate.specs.inner.Drafts.{Draft, draft_of, wrote, wrote_value}
 use Rattle.ac_generate.specs.Generate.{code, blocks, value_code, value_blocks}
 use Rattle.ac_generate.specs.Generated.{own_block, ending, with_blocks, generated, block_number, value_number, fields_generated, field_numbers, entry_generated, KeepsBlocks}
 use Rattle.ac_generate.proofs.SizeLaws.{block_count, value_block_count}
 
 -- some blocks, and one more
-stored : (t0 t1 : Table) (bs all : List code_block.Block) (b : code_block.Block) → all ≡ bs ++ b ∷ [] → t1 ≡ appended all t0 → code_of t1 ≡ with_blocks (map block_of bs ++ block_of b ∷ []) (code_of t0)
+stored : (t0 t1 : Table) (bs all : List code_block.Block) (b : code_block.Block) → all ≡ bs ++ b ∷ [] → t1 ≡ appended all t0 → table_code t1 ≡ with_blocks (map block_of bs ++ block_of b ∷ []) (table_code t0)
 stored t0 t1 bs all b ha h =
-    ap code_of h
-    ∙ ap (λ (x : List code_block.Block). code_of (appended x t0)) ha
+    ap table_code h
+    ∙ ap (λ (x : List code_block.Block). table_code (appended x t0)) ha
     ∙ ap (λ (x : List Block). record { blocks = x; fields = map (map block_id) t0.fields }) (
     map-append block_of t0.blocks (bs ++ b ∷ []) ∙ ap (λ (x : List Block). map block_of t0.blocks ++ x) (map-append block_of bs (b ∷ []))
     )
@@ -61,10 +61,10 @@ abbrev pub fresh : ℕ → Draft
 fresh n = record { first = n; instrs = []; blocks = [] }
 
 pub whole_stored : (t0 t1 : Table) (bs all : List code_block.Block) (h : code_home.Home) (types : List Ty) (is xs : List code_instr.Instr) (last : code_instr.Instr) → all ≡ bs ++ record { home = h; lambda = None; context = types; instrs = is } ∷ [] →
-    types ≡ [] → is ≡ xs ++ last ∷ [] → t1 ≡ appended all t0 → code_of t1 ≡ with_blocks (map block_of bs ++ own_block (home_of h) (map instr_of xs ++ instr_of last ∷ []) ∷ []) (code_of t0)
+    types ≡ [] → is ≡ xs ++ last ∷ [] → t1 ≡ appended all t0 → table_code t1 ≡ with_blocks (map block_of bs ++ own_block (home_of h) (map instr_of xs ++ instr_of last ∷ []) ∷ []) (table_code t0)
 whole_stored t0 t1 bs all h types is xs last ha ht hi h1 =
     stored t0 t1 bs all (record { home = h; lambda = None; context = types; instrs = is }) ha h1
-    ∙ ap₂ (λ (ts : List Typ) (l : List Instr). with_blocks (map block_of bs ++ record { home = home_of h; lambda = None; context = ts; instrs = l } ∷ []) (code_of t0)) (ap (map typ_of) ht) (ap (map instr_of) hi ∙ map-append instr_of xs (last ∷ []))
+    ∙ ap₂ (λ (ts : List Typ) (l : List Instr). with_blocks (map block_of bs ++ record { home = home_of h; lambda = None; context = ts; instrs = l } ∷ []) (table_code t0)) (ap (map typ_of) ht) (ap (map instr_of) hi ∙ map-append instr_of xs (last ∷ []))
 
 pub if_ok : {A E : Type 0} {P Q : A → Type 0} (r : Result A E) → ((a : A) → P a → Q a) → IfOk r P → IfOk r Q
 if_ok (Ok a) f h = f a h
@@ -135,8 +135,8 @@ placed_map zero ids (x ∷ fs) = refl
 placed_map (suc i) ids [] = ap (λ (l : List (List ℕ)). [] ∷ l) (placed_map i ids [])
 placed_map (suc i) ids (x ∷ fs) = ap (λ (l : List (List ℕ)). map block_id x ∷ l) (placed_map i ids fs)
 
-pub fields_kept : (i : ℕ) (ids : List CodeId) (t0 t1 t2 : Table) (K : Code) (numbers : List ℕ) → code_of t1 ≡ K → t1.fields ≡ t0.fields → map block_id ids ≡ numbers → t2 ≡ with_fields i ids t1 →
-    code_of t2 ≡ record { blocks = K.blocks; fields = placed i numbers (map (map block_id) t0.fields) }
+pub fields_kept : (i : ℕ) (ids : List CodeId) (t0 t1 t2 : Table) (K : Code) (numbers : List ℕ) → table_code t1 ≡ K → t1.fields ≡ t0.fields → map block_id ids ≡ numbers → t2 ≡ with_fields i ids t1 →
+    table_code t2 ≡ record { blocks = K.blocks; fields = placed i numbers (map (map block_id) t0.fields) }
 fields_kept i ids t0 t1 t2 K numbers hK hf hi h =
-    ap code_of h ∙ ap₂ (λ (x : List Block) (y : List (List ℕ)). record { blocks = x; fields = y }) (ap (λ (X : Code). X.blocks) hK)
+    ap table_code h ∙ ap₂ (λ (x : List Block) (y : List (List ℕ)). record { blocks = x; fields = y }) (ap (λ (X : Code). X.blocks) hK)
     (placed_map i ids t1.fields ∙ ap₂ (λ (x : List ℕ) (y : List (List CodeId)). placed i x (map (map block_id) y)) hi hf)

@@ -21,7 +21,8 @@ use Rattle.ac_generate.specs.inner.Drafts.{Draft, wrote_value}
 use Rattle.ac_types.proofs.SizeLaws.{typ_of-Fun}
 use Rattle.ac_terms.proofs.TermForms.{expr_of-Lam, expr_of-Rec}
 use Rattle.ac_terms.proofs.ValueForms.{value_forms}
-use Rattle.ac_generate.proofs.FormLaws.{term_forms, scope_forms}
+use Rattle.ac_terms.proofs.TermForms.{term_forms}
+use Rattle.ac_generate.proofs.FormLaws.{scope_forms}
 use Rattle.ac_generate.proofs.DraftLaws as draft
 use Rattle.ac_generate.proofs.JumpLaws.{wrote_no_arms, wrote_more_arms, arm_address, after_arm}
 

@@ -6,7 +6,7 @@ use Rattle.ac_terms.specs.Parts.{pattern_types}
 use Rattle.ac_code.specs.Code as instr
 use Rattle.ac_code.specs.Code.{Instr}
 use Rattle.ac_generate.specs.Sizes.{bound, unbind}
-use Rattle.ac_generate.specs.inner.Drafts.{Draft, address, count, put, put_all, set_at, jumps_at, begun, ended, wrote, wrote_arm, wrote_arms, arm_end, ends, wrote_value}
+use Rattle.ac_generate.specs.inner.Drafts.{Draft, address, count, put, put_all, set_at, jumps_at, block_begun, block_ended, wrote, wrote_arm, wrote_arms, arm_end, ends, wrote_value}
 use Rattle.ac_generate.proofs.DraftLaws.{wrote_Rec, wrote_KLam, wrote_KRec}
 use Rattle.ac_generate.proofs.JumpLaws.{open_jump, wrote_If, wrote_Match, wrote_Try, wrote_one_arm, arm_address}
 
@@ -16,24 +16,24 @@ on_ok (Err e) f h = tt
 
 -- a block begins, its body is written, it ends, and its number is put
 module _ (h : Home) (H : List Typ) (e : Expr) (d b w x new : Draft) (before : List Instr) (k : ℕ) (make : ℕ → Instr) where
-  framed : (G : List Typ) (l : Expr) (H' G' : List Typ) (l' : Expr) → H' ≡ H → G' ≡ G → l' ≡ l → before ≡ d.instrs → b ≡ begun d → w ≡ wrote h H' e b → k ≡ count w → x ≡ ended h l' G' before w → new ≡ put (make k) x →
-      new ≡ put (make (count (wrote h H e (begun d)))) (ended h l G d.instrs (wrote h H e (begun d)))
+  framed : (G : List Typ) (l : Expr) (H' G' : List Typ) (l' : Expr) → H' ≡ H → G' ≡ G → l' ≡ l → before ≡ d.instrs → b ≡ block_begun d → w ≡ wrote h H' e b → k ≡ count w → x ≡ block_ended h l' G' before w → new ≡ put (make k) x →
+      new ≡ put (make (count (wrote h H e (block_begun d)))) (block_ended h l G d.instrs (wrote h H e (block_begun d)))
   framed G l H' G' l' eH eG el eb hb hw hk hx hn =
-      let wd : w ≡ wrote h H e (begun d) = hw ∙ ap₂ (λ (K : List Typ) (y : Draft). wrote h K e y) eH hb in
+      let wd : w ≡ wrote h H e (block_begun d) = hw ∙ ap₂ (λ (K : List Typ) (y : Draft). wrote h K e y) eH hb in
       hn ∙ ap₂ (λ (n : ℕ) (y : Draft). put (make n) y) (hk ∙ ap count wd)
-      (hx ∙ ap₂ (λ (m : Expr) (K : List Typ). ended h m K before w) el eG ∙ ap₂ (λ (bi : List Instr) (y : Draft). ended h l G bi y) eb wd)
+      (hx ∙ ap₂ (λ (m : Expr) (K : List Typ). block_ended h m K before w) el eG ∙ ap₂ (λ (bi : List Instr) (y : Draft). block_ended h l G bi y) eb wd)
 
-pub rec_written : (c : Home) (G : List Typ) (T U : Typ) (e t : Expr) (H' : List Typ) (d b w x new : Draft) (before : List Instr) (k : ℕ) → t ≡ Rec T U e → H' ≡ T ∷ TFun T U ∷ G → before ≡ d.instrs → b ≡ begun d → w ≡ wrote c H' e b → k ≡ count w → x ≡ ended c t G before w → new ≡ put (instr.RecClosure k) x → new ≡ wrote c G t d
+pub rec_written : (c : Home) (G : List Typ) (T U : Typ) (e t : Expr) (H' : List Typ) (d b w x new : Draft) (before : List Instr) (k : ℕ) → t ≡ Rec T U e → H' ≡ T ∷ TFun T U ∷ G → before ≡ d.instrs → b ≡ block_begun d → w ≡ wrote c H' e b → k ≡ count w → x ≡ block_ended c t G before w → new ≡ put (instr.RecClosure k) x → new ≡ wrote c G t d
 rec_written c G T U e t H' d b w x new before k is eH eb hb hw hk hx hn =
     framed c (T ∷ TFun T U ∷ G) e d b w x new before k instr.RecClosure G (Rec T U e) H' G t eH refl is eb hb hw hk hx hn
     ∙ sym (wrote_Rec c G T U e d) ∙ ap (λ (l : Expr). wrote c G l d) (sym is)
 
-pub packed_lam_written : (h : Home) (T : Typ) (e t : Expr) (H' G' : List Typ) (d b w x new : Draft) (before : List Instr) (k : ℕ) → t ≡ Lam T e → H' ≡ T ∷ [] → G' ≡ [] → before ≡ d.instrs → b ≡ begun d → w ≡ wrote h H' e b → k ≡ count w → x ≡ ended h t G' before w → new ≡ put (instr.Constant k) x → new ≡ wrote_value (KFun h t) d
+pub packed_lam_written : (h : Home) (T : Typ) (e t : Expr) (H' G' : List Typ) (d b w x new : Draft) (before : List Instr) (k : ℕ) → t ≡ Lam T e → H' ≡ T ∷ [] → G' ≡ [] → before ≡ d.instrs → b ≡ block_begun d → w ≡ wrote h H' e b → k ≡ count w → x ≡ block_ended h t G' before w → new ≡ put (instr.Constant k) x → new ≡ wrote_value (KFun h t) d
 packed_lam_written h T e t H' G' d b w x new before k is eH eG eb hb hw hk hx hn =
     framed h (T ∷ []) e d b w x new before k instr.Constant [] (Lam T e) H' G' t eH eG is eb hb hw hk hx hn
     ∙ sym (wrote_KLam h T e d) ∙ ap (λ (l : Expr). wrote_value (KFun h l) d) (sym is)
 
-pub packed_rec_written : (h : Home) (T U : Typ) (e t : Expr) (H' G' : List Typ) (d b w x new : Draft) (before : List Instr) (k : ℕ) → t ≡ Rec T U e → H' ≡ T ∷ TFun T U ∷ [] → G' ≡ [] → before ≡ d.instrs → b ≡ begun d → w ≡ wrote h H' e b → k ≡ count w → x ≡ ended h t G' before w → new ≡ put (instr.RecConstant k) x → new ≡ wrote_value (KFun h t) d
+pub packed_rec_written : (h : Home) (T U : Typ) (e t : Expr) (H' G' : List Typ) (d b w x new : Draft) (before : List Instr) (k : ℕ) → t ≡ Rec T U e → H' ≡ T ∷ TFun T U ∷ [] → G' ≡ [] → before ≡ d.instrs → b ≡ block_begun d → w ≡ wrote h H' e b → k ≡ count w → x ≡ block_ended h t G' before w → new ≡ put (instr.RecConstant k) x → new ≡ wrote_value (KFun h t) d
 packed_rec_written h T U e t H' G' d b w x new before k is eH eG eb hb hw hk hx hn =
     framed h (T ∷ TFun T U ∷ []) e d b w x new before k instr.RecConstant [] (Rec T U e) H' G' t eH eG is eb hb hw hk hx hn
     ∙ sym (wrote_KRec h T U e d) ∙ ap (λ (l : Expr). wrote_value (KFun h l) d) (sym is)

@@ -2,7 +2,7 @@
 
 ghost use Rattle.std.specs.Prelude.{◌≡◌, ◌<◌, ◌≤◌, ◌^◌, OnOk, length, drop};
 ghost use Rattle.ac_terms.specs.Read.{environment_of};
-ghost use Rattle.ac_code.specs.ReadCode.{code_of};
+ghost use Rattle.ac_code.specs.ReadCode.{table_code};
 ghost use Rattle.ac_generate.specs.Generated.{entries_generated};
 
 use crate::generating::generate_entry;
@@ -21,8 +21,8 @@ pub fn generate_entries(
 ) -> Result<(), Memory>
     requires few { length env.now.entries < 2 ^ 32 }
     requires within { first ≤ length env.now.entries }
-    ensures { OnOk result (code_of table.new ≡ entries_generated (environment_of env.now) first
-        (drop first (environment_of env.now)) (code_of table.old)) }
+    ensures { OnOk result (table_code table.new ≡ entries_generated (environment_of env.now) first
+        (drop first (environment_of env.now)) (table_code table.old)) }
 {
     for i in first..env.entries.len() {
         generate_entry(alloc, env, i as u32, table)?;

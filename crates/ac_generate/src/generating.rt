@@ -2,7 +2,7 @@
 
 ghost use Rattle.std.specs.Prelude.{◌≡◌, ◌+◌, ◌++◌, ◌∷◌, [], length, map, OnOk, OnErr, IfOk};
 ghost use Rattle.ac_terms.specs.Read.{home_of, expr_of, value_of, environment_of, field_of};
-ghost use Rattle.ac_code.specs.ReadCode.{instr_of, code_of, block_id};
+ghost use Rattle.ac_code.specs.ReadCode.{instr_of, table_code, block_id};
 ghost use Rattle.ac_generate.specs.inner.Drafts.{draft_of};
 ghost use Rattle.ac_generate.specs.Generated.{own_block, ending, with_blocks, generated, block_number, value_generated, value_number, fields_generated, field_numbers, entry_generated, KeepsBlocks};
 
@@ -23,10 +23,10 @@ pub fn generate(
     term: &Term,
     table: &mut CodeTable,
 ) -> Result<CodeId, Memory>
-    ensures ok { OnOk result (code_of table.new ≡ generated (home_of home) (expr_of term.now)
-        (code_of table.old)) }
+    ensures ok { OnOk result (table_code table.new ≡ generated (home_of home) (expr_of term.now)
+        (table_code table.old)) }
     ensures number { IfOk result (λ id. id.0 ≡ block_number (expr_of term.now)
-        (code_of table.old)) }
+        (table_code table.old)) }
     ensures blocks { KeepsBlocks table.new table.old }
     ensures fields { table.new.fields ≡ table.old.fields }
     ensures err { OnErr result (table.new ≡ table.old) }
@@ -45,10 +45,10 @@ pub fn generate_value(
     value: &PVal,
     table: &mut CodeTable,
 ) -> Result<CodeId, Memory>
-    ensures ok { OnOk result (code_of table.new ≡ value_generated (value_of value.now)
-        (code_of table.old)) }
+    ensures ok { OnOk result (table_code table.new ≡ value_generated (value_of value.now)
+        (table_code table.old)) }
     ensures number { IfOk result (λ id. id.0 ≡ value_number (value_of value.now)
-        (code_of table.old)) }
+        (table_code table.old)) }
     ensures blocks { KeepsBlocks table.new table.old }
     ensures fields { table.new.fields ≡ table.old.fields }
     ensures err { OnErr result (table.new ≡ table.old) }
@@ -61,8 +61,8 @@ pub fn generate_value(
 /// Adds the code of the fields of entry `i` to the table, in order, and keeps their numbers. Only
 /// a module has fields. Blocks that were there stay, and an `Err` leaves the table as it was.
 pub fn generate_entry(alloc: Global, env: &Env, i: u32, table: &mut CodeTable) -> Result<(), Memory>
-    ensures ok { OnOk result (code_of table.new ≡ entry_generated (environment_of env.now) i
-        (code_of table.old)) }
+    ensures ok { OnOk result (table_code table.new ≡ entry_generated (environment_of env.now) i
+        (table_code table.old)) }
     ensures blocks { KeepsBlocks table.new table.old }
     ensures err { OnErr result (table.new ≡ table.old) }
 {
@@ -79,8 +79,8 @@ pub fn generate_entry(alloc: Global, env: &Env, i: u32, table: &mut CodeTable) -
 // Adds the code of the fields of entry `i`, and keeps their numbers. An `Err` may leave more
 // blocks.
 fn add_entry(alloc: Global, env: &Env, i: u32, table: &mut CodeTable) -> Result<(), Memory>
-    ensures ok { OnOk result (code_of table.new ≡ entry_generated (environment_of env.now) i
-        (code_of table.old)) }
+    ensures ok { OnOk result (table_code table.new ≡ entry_generated (environment_of env.now) i
+        (table_code table.old)) }
     ensures blocks { KeepsBlocks table.new table.old }
     ensures err { OnErr result (table.new.fields ≡ table.old.fields) }
 {
@@ -106,10 +106,10 @@ fn fields(
     fields: &[Field],
     table: &mut CodeTable,
 ) -> Result<Many<CodeId>, Memory>
-    ensures ok { OnOk result (code_of table.new ≡ fields_generated (home_of home)
-        (map field_of fields.now) (code_of table.old)) }
+    ensures ok { OnOk result (table_code table.new ≡ fields_generated (home_of home)
+        (map field_of fields.now) (table_code table.old)) }
     ensures numbers { IfOk result (λ ids. map block_id ids ≡ field_numbers (home_of home)
-        (map field_of fields.now) (code_of table.old)) }
+        (map field_of fields.now) (table_code table.old)) }
     ensures blocks { KeepsBlocks table.new table.old }
     ensures fields { table.new.fields ≡ table.old.fields }
 {
@@ -135,9 +135,9 @@ impl Writer {
     // Ends the block that is being written, and adds all blocks to a table. Gives the number of the
     // last. An `Err` leaves the table as it was.
     fn store(self, home: Home, last: Instr, table: &mut CodeTable) -> Result<CodeId, Memory>
-        ensures ok { OnOk result (code_of table.new ≡ with_blocks
+        ensures ok { OnOk result (table_code table.new ≡ with_blocks
             ((draft_of self).blocks ++ own_block (home_of home)
-            ((draft_of self).instrs ++ instr_of last ∷ []) ∷ []) (code_of table.old)) }
+            ((draft_of self).instrs ++ instr_of last ∷ []) ∷ []) (table_code table.old)) }
         ensures number { IfOk result (λ id. id.0 ≡ length table.old.blocks + length
             (draft_of self).blocks) }
         ensures blocks { KeepsBlocks table.new table.old }

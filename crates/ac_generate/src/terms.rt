@@ -4,10 +4,9 @@ ghost use Rattle.std.specs.Prelude.{◌≡◌, ◌∷◌, map, OnOk, IfOk};
 ghost use Rattle.ac_types.specs.Types.{TFun};
 ghost use Rattle.ac_types.specs.ReadTypes.{typ_of};
 ghost use Rattle.ac_terms.specs.Terms.{exprs, arms, pvalues, KFun};
-ghost use Rattle.ac_terms.specs.Read.{home_of, expr_of, value_of};
-ghost use Rattle.ac_generate.specs.inner.Arms.{arm_of};
+ghost use Rattle.ac_terms.specs.Read.{home_of, expr_of, arm_of, value_of};
 ghost use Rattle.ac_generate.specs.inner.CodeScopes.{types_of};
-ghost use Rattle.ac_generate.specs.inner.Drafts.{draft_of, address, count, begun, ended, wrote, wrote_all, wrote_seq, wrote_arm, wrote_arms, arm_end, ends, wrote_value, wrote_values};
+ghost use Rattle.ac_generate.specs.inner.Drafts.{draft_of, address, count, block_begun, block_ended, wrote, wrote_all, wrote_seq, wrote_arm, wrote_arms, arm_end, ends, wrote_value, wrote_values};
 
 use crate::scope::{Scope, function_type, variables};
 use crate::writer::Writer;
@@ -141,11 +140,11 @@ impl Writer {
     ) -> Result<CodeId, Memory>
         ensures number { IfOk result (λ id. id.0 ≡ count
             (wrote (home_of home) (types_of inner.now) (expr_of body.now)
-            (begun (draft_of self.old)))) }
-        ensures ok { OnOk result (draft_of self.new ≡ ended (home_of home) (expr_of lambda.now)
-            (types_of outer.now) (draft_of self.old).instrs
+            (block_begun (draft_of self.old)))) }
+        ensures ok { OnOk result (draft_of self.new ≡ block_ended (home_of home)
+            (expr_of lambda.now) (types_of outer.now) (draft_of self.old).instrs
             (wrote (home_of home) (types_of inner.now) (expr_of body.now)
-            (begun (draft_of self.old)))) }
+            (block_begun (draft_of self.old)))) }
     {
         let before = self.begin();
         self.term(home, inner, body)?;
@@ -166,11 +165,13 @@ impl Writer {
     ) -> Result<CodeId, Memory>
         ensures number { IfOk result (λ id. id.0 ≡ count
             (wrote (home_of home) (typ_of from.now ∷ TFun (typ_of from.now)
-            (typ_of to.now) ∷ types_of scope.now) (expr_of body.now) (begun (draft_of self.old)))) }
-        ensures ok { OnOk result (draft_of self.new ≡ ended (home_of home) (expr_of lambda.now)
-            (types_of scope.now) (draft_of self.old).instrs
+            (typ_of to.now) ∷ types_of scope.now) (expr_of body.now)
+            (block_begun (draft_of self.old)))) }
+        ensures ok { OnOk result (draft_of self.new ≡ block_ended (home_of home)
+            (expr_of lambda.now) (types_of scope.now) (draft_of self.old).instrs
             (wrote (home_of home) (typ_of from.now ∷ TFun (typ_of from.now)
-            (typ_of to.now) ∷ types_of scope.now) (expr_of body.now) (begun (draft_of self.old)))) }
+            (typ_of to.now) ∷ types_of scope.now) (expr_of body.now)
+            (block_begun (draft_of self.old)))) }
     {
         let function = function_type(self.alloc, from, to)?;
         let outer = Scope::Variable(&*scope, &function);

@@ -9,7 +9,7 @@ ghost use Rattle.ac_code.specs.ReadCode.{instr_of, block_of};
 ghost use Rattle.ac_generate.specs.Sizes.{unbind};
 ghost use Rattle.ac_generate.specs.Generate.{lambda_block};
 ghost use Rattle.ac_generate.specs.inner.CodeScopes.{types_of};
-ghost use Rattle.ac_generate.specs.inner.Drafts.{draft_of, address, count, put, put_all, set_at, jumps_at, begun, ended, wrote_value};
+ghost use Rattle.ac_generate.specs.inner.Drafts.{draft_of, address, count, put, put_all, set_at, jumps_at, block_begun, block_ended, wrote_value};
 
 use crate::scope::{Scope, context};
 use ac_code::{Block, CodeId, Instr};
@@ -175,16 +175,16 @@ impl Writer {
     }
 
     /// Begins another block, and gives the instructions of the one before.
-    #[tactic(auto, unfolding(crate::specs::inner::Drafts::draft_of, crate::specs::inner::Drafts::begun))]
+    #[tactic(auto, unfolding(crate::specs::inner::Drafts::draft_of, crate::specs::inner::Drafts::block_begun))]
     pub fn begin(&mut self) -> Vec<Instr>
         ensures before { map instr_of result.items ≡ (draft_of self.old).instrs }
-        ensures after { draft_of self.new ≡ begun (draft_of self.old) }
+        ensures after { draft_of self.new ≡ block_begun (draft_of self.old) }
     {
         mem::replace(&mut self.instrs, Vec::new(self.alloc))
     }
 
     /// Ends the block of a lambda, goes on with the one before, and gives the number of the block.
-    #[tactic(auto, using(crate::proofs::WriterLaws::writer_laws), unfolding(crate::specs::inner::Drafts::draft_of, crate::specs::inner::Drafts::ended))]
+    #[tactic(auto, using(crate::proofs::WriterLaws::writer_laws), unfolding(crate::specs::inner::Drafts::draft_of, crate::specs::inner::Drafts::block_ended))]
     pub fn end(
         &mut self,
         before: Vec<Instr>,
@@ -193,8 +193,8 @@ impl Writer {
         lambda: &Term,
     ) -> Result<CodeId, Memory>
         ensures number { IfOk result (λ id. id.0 ≡ count (draft_of self.old)) }
-        ensures ok { OnOk result (draft_of self.new ≡ ended (home_of home) (expr_of lambda.now)
-            (types_of scope.now) (map instr_of before.items) (draft_of self.old)) }
+        ensures ok { OnOk result (draft_of self.new ≡ block_ended (home_of home)
+            (expr_of lambda.now) (types_of scope.now) (map instr_of before.items) (draft_of self.old)) }
     {
         let number = self.number()?;
         let written = mem::replace(&mut self.instrs, before);

@@ -11,22 +11,22 @@ use Rattle.ac_terms.specs.Heads.{Head, before, pattern_heads, term_heads, all_te
 use Rattle.ac_terms.specs.Renumbered.{renumbered, all_renumbered, arms_renumbered, value_renumbered, values_renumbered}
 use Rattle.ac_terms.proofs.HeadLaws.{spelling, packed_spelled}
 use Rattle.ac_rules.specs.Faults.{Fault, part_fault, first_fault}
-use Rattle.ac_heads.specs.Outcomes.{WalkEnd, On, Stopped, unless, after}
+use Rattle.ac_heads.specs.Outcomes.{WalkEnd, On, Stopped, unless_fault, walk_end}
 
 -- the first fault, or these bytes
 abbrev pub outcome : Option Fault → Bytes → WalkEnd
 outcome None bs = On bs
 outcome (Some f) bs = Stopped f
 
-pub after_faults : (bs : Bytes) (hs : List Head) → after bs hs ≡ outcome (first_fault 500 longest_packet (length bs) hs) (bs ++ spelling hs)
-unfolding after
+pub after_faults : (bs : Bytes) (hs : List Head) → walk_end bs hs ≡ outcome (first_fault 500 longest_packet (length bs) hs) (bs ++ spelling hs)
+unfolding walk_end
 after_faults bs [] = ap On (sym (append-nil bs))
 after_faults bs (h ∷ hs) =
     by (part_fault 500 longest_packet (length bs + length h.bytes) h)
     (after_faults (bs ++ h.bytes) hs ∙ ap₂ (λ n xs. outcome (first_fault 500 longest_packet n hs) xs) (length-append bs h.bytes) (append_assoc bs h.bytes (spelling hs)))
   where
-    by : (o : Option Fault) → after (bs ++ h.bytes) hs ≡ outcome (first_fault 500 longest_packet (length bs + length h.bytes) hs) (bs ++ spelling (h ∷ hs)) →
-        unless o (after (bs ++ h.bytes) hs) ≡ outcome (or_else o (first_fault 500 longest_packet (length bs + length h.bytes) hs)) (bs ++ spelling (h ∷ hs))
+    by : (o : Option Fault) → walk_end (bs ++ h.bytes) hs ≡ outcome (first_fault 500 longest_packet (length bs + length h.bytes) hs) (bs ++ spelling (h ∷ hs)) →
+        unless_fault o (walk_end (bs ++ h.bytes) hs) ≡ outcome (or_else o (first_fault 500 longest_packet (length bs + length h.bytes) hs)) (bs ++ spelling (h ∷ hs))
     by None rest = rest
     by (Some f) rest = refl
 
@@ -143,7 +143,7 @@ module _ (f : ℕ → ℕ) where
   same_faults T v = alike_faults 0 (packed_heads T (value_renumbered f v)) (packed_heads T v) (refl, refl, refl, value_alike 1 v)
 
   -- what is written of a type and a value with their numbers: the first fault of the two, or their bytes
-  pub written : (T : Typ) (v : PValue) → after [] (packed_heads T (value_renumbered f v)) ≡ outcome (first_fault 500 longest_packet 0 (packed_heads T v)) (type_bytes T ++ value_bytes two_written (value_renumbered f v))
+  pub written : (T : Typ) (v : PValue) → walk_end [] (packed_heads T (value_renumbered f v)) ≡ outcome (first_fault 500 longest_packet 0 (packed_heads T v)) (type_bytes T ++ value_bytes two_written (value_renumbered f v))
   written T v =
       after_faults [] (packed_heads T (value_renumbered f v))
       ∙ ap₂ outcome (same_faults T v) (packed_spelled T (value_renumbered f v))

@@ -13,14 +13,14 @@ pub data WalkEnd : Type 0 where
   Stopped : Fault → WalkEnd
 
 -- the outcome, unless there is a fault already
-abbrev pub unless : Option Fault → WalkEnd → WalkEnd
-unless None o = o
-unless (Some f) o = Stopped f
+abbrev pub unless_fault : Option Fault → WalkEnd → WalkEnd
+unless_fault None o = o
+unless_fault (Some f) o = Stopped f
 
 -- these bytes with those of some parts behind them, up to the first part that fails
-unfoldable pub after : Bytes → List Head → WalkEnd
-after bs [] = On bs
-after bs (h ∷ hs) = unless (part_fault 500 longest_packet (length bs + length h.bytes) h) (after (bs ++ h.bytes) hs)
+unfoldable pub walk_end : Bytes → List Head → WalkEnd
+walk_end bs [] = On bs
+walk_end bs (h ∷ hs) = unless_fault (part_fault 500 longest_packet (length bs + length h.bytes) h) (walk_end (bs ++ h.bytes) hs)
 
 -- the fault at which a walk stops; want of memory is none
 abbrev pub fault_in : Stop → Option Fault
@@ -31,8 +31,8 @@ fault_in stop.Memory = None
 
 -- where a walk stops at a fault, it stops there whatever comes behind these heads
 abbrev pub StopsWalk : Stop → Bytes → List Head → Type 0
-StopsWalk e bs hs = (f : Fault) → fault_in e ≡ Some f → (ks : List Head) → after bs (hs ++ ks) ≡ Stopped f
+StopsWalk e bs hs = (f : Fault) → fault_in e ≡ Some f → (ks : List Head) → walk_end bs (hs ++ ks) ≡ Stopped f
 
 -- the head is written, or the walk stops in it
 abbrev pub Puts : Result Unit Stop → Head → Bytes → Bytes → Type 0
-Puts r h old new = MatchResult r (λ _. (hs : List Head) → after new hs ≡ after old (h ∷ hs)) (λ e. StopsWalk e old (h ∷ []))
+Puts r h old new = MatchResult r (λ _. (hs : List Head) → walk_end new hs ≡ walk_end old (h ∷ hs)) (λ e. StopsWalk e old (h ∷ []))

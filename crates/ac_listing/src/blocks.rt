@@ -2,7 +2,7 @@
 
 ghost use Rattle.std.specs.Prelude.{◌≡◌, ◌++◌, ⊤, map, IfOk, OnOk, MatchOption};
 ghost use Rattle.ac_terms.specs.Read.{home_of};
-ghost use Rattle.ac_code.specs.ReadCode.{instr_of, block_of, code_of};
+ghost use Rattle.ac_code.specs.ReadCode.{instr_of, block_of, table_code};
 ghost use Rattle.ac_listing.specs.Listing.{instr_line, instr_lines, home_shown, block_lines, listing_of};
 
 use crate::instructions::{put_instr, put_numbered};
@@ -14,7 +14,7 @@ use std::alloc::Global;
 /// The listing of all blocks of a table: for each its number and home, and then a line for each
 /// instruction.
 pub fn listing(alloc: Global, table: &CodeTable) -> Result<Text, Memory>
-    ensures { IfOk result (λ text. text.0 ≡ listing_of (code_of table.now)) }
+    ensures { IfOk result (λ text. text.0 ≡ listing_of (table_code table.now)) }
 {
     let mut text = Text::new(alloc);
     for number in 0..table.len() {

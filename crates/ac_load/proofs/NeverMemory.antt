@@ -12,7 +12,7 @@ use Rattle.ac_syntax.specs.Trees.{ProgramTree}
 use Rattle.ac_syntax.specs.declared.fault.ParseFault.{ParseFault}
 use Rattle.ac_parser.specs.Texts.{too_long, lexical, too_deep, Refused, unread, syntax}
 use Rattle.ac_scopes.specs.Surfaces.{SurfaceFault, surface_fault, Unbound, Repeated, TooMany}
-use Rattle.ac_acceptance.specs.Causes.{Cause, BadScopes, IllTyped, Uncovered, NotValuable, LikeMissing, Unresolved, Clash, first_at, first_below, ill_typed, uncovering, not_valuable, unlike, unlinked, clashes, clash_of, first_clash, added, loaded, main_type, cause}
+use Rattle.ac_acceptance.specs.Causes.{Cause, BadScopes, IllTyped, Uncovered, NotValuable, LikeMissing, Unresolved, Clash, first_at, first_below, ill_typed, uncovering, not_valuable, without_likespec, unlinked, clashes, clash_of, first_clash, added, loaded, main_type, cause}
 use Rattle.ac_acceptance.specs.Accepting.{Shelved, IsRefused, no_tree, with_tree, Refuses, of_shelf, of_program}
 use Rattle.ac_load.specs.Kinds.{parse_kind, kind_of, of_cause}
 use Rattle.ac_load.specs.Loading.{Rejects}
@@ -92,7 +92,7 @@ cause_told E seen p =
     (either_told (given (is_none (main_type sha256 E seen p)) (Some (IllTyped (length xs)))) _ (given_told (is_none (main_type sha256 E seen p)) (Some (IllTyped (length xs))) refl)
     (either_told (first_at 0 uncovering xs) _ (at_told uncovering (λ k e. uncovering_told k e.def) 0 xs)
     (either_told (first_at 0 not_valuable xs) _ (at_told not_valuable (λ k e. valuable_told k e.def) 0 xs)
-    (either_told (first_at 0 unlike xs) _ (at_told unlike (λ k e. unlike_told k e.def) 0 xs)
+    (either_told (first_at 0 without_likespec xs) _ (at_told without_likespec (λ k e. unlike_told k e.def) 0 xs)
     (either_told (first_at 0 unlinked xs) _ (at_told unlinked (λ k e. unlinked_told k e.link e.def) 0 xs)
     (either_told (first_clash F) None (clash_told F) refl)))))))
 

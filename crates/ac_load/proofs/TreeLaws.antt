@@ -10,17 +10,17 @@ use Rattle.ac_types.specs.Types.{Typ}
 use Rattle.ac_terms.specs.Terms.{Expr}
 use Rattle.ac_terms.specs.Defs.{Environment, Entry, Seen}
 use Rattle.ac_syntax.specs.Trees.{ProgramTree}
-use Rattle.ac_scopes.specs.Surfaces.{SurfaceFault, Elaborates, first_scope, surface_entries, surface_main, surface_fault}
+use Rattle.ac_scopes.specs.Surfaces.{SurfaceFault, Elaborates, first_scope, surface_fault}
 use Rattle.ac_scopes.specs.Surfaces as surface
 use Rattle.ac_scopes.proofs.AddedEntries.{entries_in, entries_behind}
-use Rattle.ac_elaborate.specs.Answers.{RefusesScopes}
+use Rattle.ac_elaborate.specs.ScopeFaults.{RefusesScopes}
 use Rattle.ac_elaborate.specs.declared.fault.ScopeFault.{ScopeFault}
 use Rattle.ac_elaborate.specs.declared.fault.ScopeFault.TheVariants as scope
-use Rattle.ac_acceptance.specs.Causes.{Cause, BadScopes, IllTyped, linked_entry, linked_behind, first_at, ill_typed, uncovering, not_valuable, unlike, unlinked, first_clash, added, loaded, main_type, cause}
+use Rattle.ac_acceptance.specs.Causes.{Cause, BadScopes, IllTyped, linked_entry, linked_behind, first_at, ill_typed, uncovering, not_valuable, without_likespec, unlinked, first_clash, added, loaded, main_type, cause}
 use Rattle.ac_acceptance.specs.Counted.{has_counted}
 use Rattle.ac_acceptance.proofs.Counted.{surface_counted, linked_counted}
 use Rattle.ac_terms.proofs.AllLaws.{all_append, all_left, all_right}
-use Rattle.ac_causes.specs.Entries.{term_type, part_cause, Tells}
+use Rattle.ac_causes.specs.PartCauses.{term_type, part_cause, Tells}
 use Rattle.ac_causes.specs.declared.fault.PartFault.{PartFault}
 use Rattle.ac_causes.specs.declared.fault.PartFault.TheVariants as part
 use Rattle.ac_load.specs.Kinds.{of_cause, fault_kind, part_kind, Says}
@@ -55,7 +55,7 @@ module _ (E : Environment) (seen : Seen) (p : ProgramTree) where
       given (is_none (main_type sha256 E seen p)) (Some (IllTyped (length xs))) ∷
       first_at 0 uncovering xs ∷
       first_at 0 not_valuable xs ∷
-      first_at 0 unlike xs ∷
+      first_at 0 without_likespec xs ∷
       first_at 0 unlinked xs ∷
       first_clash (loaded sha256 E seen p) ∷ [])
 

@@ -6,7 +6,7 @@ ghost use Rattle.ac_types.specs.ReadTypes.{typ_of};
 ghost use Rattle.ac_terms.specs.Read.{environment_of, seen_of, expr_of};
 ghost use Rattle.ac_outer.specs.Entries.{keeps_name};
 ghost use Rattle.ac_acceptance.specs.Counted.{has_counted};
-ghost use Rattle.ac_causes.specs.Entries.{term_type, part_cause, Tells};
+ghost use Rattle.ac_causes.specs.PartCauses.{term_type, part_cause, Tells};
 ghost use Rattle.ac_syntax.specs.ReadTrees.{surface_of};
 ghost use Rattle.ac_load.specs.Kinds.{Says};
 ghost use Rattle.ac_load.specs.inner.Parts.{linked_part, IsTaken, IsTreeRefused};

@@ -5,7 +5,7 @@ ghost use Rattle.std.specs.Prelude.{◌≡◌, ◌<◌, length, option_map, IfOk
 ghost use Rattle.ac_types.specs.Types.{same_bytes};
 ghost use Rattle.ac_terms.specs.Read.{environment_of, home_of, def_of_code, entry_of};
 ghost use Rattle.ac_code.specs.Code.{module_fields};
-ghost use Rattle.ac_code.specs.ReadCode.{code_of, block_id};
+ghost use Rattle.ac_code.specs.ReadCode.{table_code, block_id};
 ghost use Rattle.ac_values.specs.Values.{stands_as};
 ghost use Rattle.ac_machine.specs.States.{keeping};
 ghost use Rattle.ac_machine.specs.Fields.{block_of_own, ref_block};
@@ -85,7 +85,8 @@ fn keep_at(kept: &mut Vec<Option<Value>>, index: usize, v: Value) -> Result<(), 
 
 /// The block of a field of a home.
 pub fn own_block(table: &CodeTable, home: Home, field: u16) -> Option<CodeId>
-    ensures { option_map block_id result ≡ block_of_own (code_of table.now) (home_of home) field }
+    ensures { option_map block_id result ≡ block_of_own (table_code table.now) (home_of home)
+        field }
 {
     match home {
         Home::Main => None,
@@ -95,8 +96,8 @@ pub fn own_block(table: &CodeTable, home: Home, field: u16) -> Option<CodeId>
 
 /// The block of the field x of an entry, or of what that is linked to.
 pub fn ref_block(env: &Env, table: &CodeTable, j: u32, x: &Word) -> Option<CodeId>
-    ensures { option_map block_id result ≡ ref_block (environment_of env.now) (code_of table.now) j
-        x.now }
+    ensures { option_map block_id result ≡ ref_block (environment_of env.now) (table_code table.now)
+        j x.now }
 {
     let module = module_behind(env.entry(j)?, j)?;
     let field = field_number(env.entry(module)?, x)?;

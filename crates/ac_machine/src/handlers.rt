@@ -5,7 +5,7 @@ ghost use Rattle.std.specs.Option.{option_copied};
 ghost use Rattle.ac_terms.specs.Read.{bytes_of};
 ghost use Rattle.ac_values.specs.Values.{stands_as};
 ghost use Rattle.ac_machine.specs.States.{Run};
-ghost use Rattle.ac_machine.specs.Machine.{tries, ends_try, raises, raising, exn_value, exn_in};
+ghost use Rattle.ac_machine.specs.Machine.{tries, ends_try, raises, exn_raised, exn_value, exn_in};
 ghost use Rattle.ac_machine.specs.Held.{core, Sound, AreHandlers};
 ghost use Rattle.ac_machine.specs.inner.Steps.{Does, Grown, handling};
 
@@ -75,7 +75,7 @@ impl Engine {
     pub fn raise_exn(&mut self, exn: Exn) -> Result<Step, Memory>
         requires sound { Sound self.old }
         ensures { IfOk result (λ s. Does self.new s
-            (raising exn.number (option_map bytes_of exn.text) (core self.old)
+            (exn_raised exn.number (option_map bytes_of exn.text) (core self.old)
             (core self.old).handlers)) }
     {
         match self.handlers.top(self.at.handlers) {

@@ -2,7 +2,7 @@
 
 ghost use Rattle.std.specs.Prelude.{◌≡◌, false, true, option_map, ◌<◌, length, IfOk, OnOk, OnErr, MatchOption, List};
 ghost use Rattle.ac_terms.specs.Read.{environment_of, bytes_of};
-ghost use Rattle.ac_code.specs.ReadCode.{code_of};
+ghost use Rattle.ac_code.specs.ReadCode.{table_code};
 ghost use Rattle.ac_values.specs.declared.node.Node.{Node};
 ghost use Rattle.ac_values.specs.Below.{Below};
 ghost use Rattle.ac_values.specs.Values.{values, node_value};
@@ -73,10 +73,11 @@ impl Machine {
 
     /// Runs to the next pause. A machine that has stopped answers as it did.
     pub fn go(&mut self, env: &Env, table: &CodeTable) -> Pause
-        requires { self.old.lost ≡ false → Pauses (environment_of env.now) (code_of table.now)
+        requires { self.old.lost ≡ false → Pauses (environment_of env.now) (table_code table.now)
             (standing self.old) }
         ensures went { self.old.lost ≡ false →
-            Went (environment_of env.now) (code_of table.now) (standing self.old) self.new result }
+            Went (environment_of env.now) (table_code table.now) (standing self.old) self.new
+            result }
         ensures lost { self.old.lost ≡ true → (result ≡ answers.Memory) × (self.new.lost ≡ true) }
     {
         if self.lost {
@@ -194,9 +195,9 @@ fn advance(
     table: &CodeTable,
 ) -> Result<(Pause, Stand), Memory>
     requires sound { Sound engine.old }
-    requires pauses { Pauses (environment_of env.now) (code_of table.now)
+    requires pauses { Pauses (environment_of env.now) (table_code table.now)
         (stands_at stand.now (core engine.old)) }
-    ensures { IfOk result (λ q. Advanced (environment_of env.now) (code_of table.now)
+    ensures { IfOk result (λ q. Advanced (environment_of env.now) (table_code table.now)
         (stands_at stand.now (core engine.old)) engine.new q.0 q.1) }
 {
     match stand {

@@ -4,7 +4,7 @@ ghost use Rattle.std.specs.Prelude.{IfOk};
 ghost use Rattle.ac_code.specs.Constants.{meaning, One, Two};
 ghost use Rattle.ac_machine.specs.States.{state_given};
 ghost use Rattle.ac_machine.specs.Machine.{performs, answers};
-ghost use Rattle.ac_machine.specs.inner.Meant.{answer_of, of_binary, of_unary};
+ghost use Rattle.ac_machine.specs.inner.Meant.{answer_meant, of_binary, of_unary};
 ghost use Rattle.ac_machine.specs.Held.{core, Sound};
 ghost use Rattle.ac_machine.specs.inner.Steps.{Does};
 
@@ -73,7 +73,8 @@ impl Engine {
     // Goes on with the answer of a primitive.
     fn answer(&mut self, answer: Answer) -> Result<Step, Memory>
         requires sound { Sound self.old }
-        ensures { IfOk result (λ s. Does self.new s (answers (answer_of answer) (core self.old))) }
+        ensures { IfOk result (λ s. Does self.new s (answers (answer_meant answer)
+            (core self.old))) }
     {
         match answer {
             Answer::Int(n) => self.push_int(n),

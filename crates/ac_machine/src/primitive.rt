@@ -5,7 +5,7 @@ ghost use Rattle.std.specs.Fmt.{signed_decimal};
 ghost use Rattle.ac_code.specs.Constants.{CInt, CBool, CStr, CUnit, CPart, comes_before, meaning, concatenated, quotient, remainder, bytes_between, raise_invalid_argument};
 ghost use Rattle.ac_values.specs.Values.{stands_as, values, values_at};
 ghost use Rattle.ac_machine.specs.Machine.{const_in, part_in};
-ghost use Rattle.ac_machine.specs.inner.Meant.{constant_meant, answer_of, of_binary, of_unary, meant};
+ghost use Rattle.ac_machine.specs.inner.Meant.{constant_meant, answer_meant, of_binary, of_unary, meant};
 
 use ac_types::limits::LONGEST_STRING;
 use ac_types::primitives::{
@@ -143,7 +143,7 @@ pub fn combined(
     first: &Constant<'_>,
     second: &Constant<'_>,
 ) -> Result<Answer, Memory>
-    ensures { IfOk result (λ a. answer_of a ≡ of_binary operator (constant_meant first.now)
+    ensures { IfOk result (λ a. answer_meant a ≡ of_binary operator (constant_meant first.now)
         (constant_meant second.now)) }
 {
     match (*first, *second) {
@@ -158,7 +158,7 @@ pub fn combined(
 #[inline(always)]
 #[tactic(auto, using(crate::proofs::PrimitiveLaws::operator_laws))]
 pub fn of_ints(operator: Binary, x: i64, y: i64) -> Answer
-    ensures { answer_of result ≡ of_binary operator (CInt x) (CInt y) }
+    ensures { answer_meant result ≡ of_binary operator (CInt x) (CInt y) }
 {
     match operator {
         Binary::Add => Answer::Int(x.wrapping_add(y)),
@@ -174,7 +174,7 @@ pub fn of_ints(operator: Binary, x: i64, y: i64) -> Answer
 
 #[inline(always)]
 fn quotient(x: i64, y: i64) -> Answer
-    ensures { answer_of result ≡ quotient (CInt x) (CInt y) }
+    ensures { answer_meant result ≡ quotient (CInt x) (CInt y) }
 {
     if y == 0 {
         return Answer::ByZero;
@@ -187,7 +187,7 @@ fn quotient(x: i64, y: i64) -> Answer
 
 #[inline(always)]
 fn remainder(x: i64, y: i64) -> Answer
-    ensures { answer_of result ≡ remainder (CInt x) (CInt y) }
+    ensures { answer_meant result ≡ remainder (CInt x) (CInt y) }
 {
     if y == 0 {
         return Answer::ByZero;
@@ -197,7 +197,7 @@ fn remainder(x: i64, y: i64) -> Answer
 
 #[tactic(auto, using(crate::proofs::PrimitiveLaws::operator_laws))]
 fn of_bools(operator: Binary, x: bool, y: bool) -> Answer
-    ensures { answer_of result ≡ of_binary operator (CBool x) (CBool y) }
+    ensures { answer_meant result ≡ of_binary operator (CBool x) (CBool y) }
 {
     match operator {
         Binary::Equal => Answer::Bool(x == y),
@@ -208,7 +208,7 @@ fn of_bools(operator: Binary, x: bool, y: bool) -> Answer
 
 #[tactic(auto, using(crate::proofs::PrimitiveLaws::operator_laws))]
 fn of_texts(alloc: Global, operator: Binary, x: &Text, y: &Text) -> Result<Answer, Memory>
-    ensures { IfOk result (λ a. answer_of a ≡ of_binary operator (CStr x.now.0) (CStr y.now.0)) }
+    ensures { IfOk result (λ a. answer_meant a ≡ of_binary operator (CStr x.now.0) (CStr y.now.0)) }
 {
     match operator {
         Binary::Equal => Ok(Answer::Bool(x.as_slice() == y.as_slice())),
@@ -226,7 +226,7 @@ fn comes_before(first: &[u8], second: &[u8]) -> bool
 }
 
 fn joined(alloc: Global, x: &[u8], y: &[u8]) -> Result<Answer, Memory>
-    ensures { IfOk result (λ a. answer_of a ≡ concatenated (CStr x.now) (CStr y.now)) }
+    ensures { IfOk result (λ a. answer_meant a ≡ concatenated (CStr x.now) (CStr y.now)) }
 {
     if y.len() > LONGEST_STRING || x.len() > LONGEST_STRING - y.len() {
         return invalid(alloc, b"string");
@@ -237,14 +237,14 @@ fn joined(alloc: Global, x: &[u8], y: &[u8]) -> Result<Answer, Memory>
 }
 
 fn invalid(alloc: Global, why: &[u8]) -> Result<Answer, Memory>
-    ensures { IfOk result (λ a. answer_of a ≡ raise_invalid_argument why.now) }
+    ensures { IfOk result (λ a. answer_meant a ≡ raise_invalid_argument why.now) }
 {
     Ok(Answer::Invalid(Text::from_slice(alloc, why)?))
 }
 
 /// What a primitive of one argument answers.
 pub fn turned(alloc: Global, unary: Unary, constant: &Constant<'_>) -> Result<Answer, Memory>
-    ensures { IfOk result (λ a. answer_of a ≡ of_unary unary (constant_meant constant.now)) }
+    ensures { IfOk result (λ a. answer_meant a ≡ of_unary unary (constant_meant constant.now)) }
 {
     match *constant {
         Constant::Int(n) => of_int(alloc, unary, n),
@@ -257,7 +257,7 @@ pub fn turned(alloc: Global, unary: Unary, constant: &Constant<'_>) -> Result<An
 
 #[tactic(auto, using(crate::proofs::PrimitiveLaws::operator_laws))]
 fn of_int(alloc: Global, unary: Unary, n: i64) -> Result<Answer, Memory>
-    ensures { IfOk result (λ a. answer_of a ≡ of_unary unary (CInt n)) }
+    ensures { IfOk result (λ a. answer_meant a ≡ of_unary unary (CInt n)) }
 {
     match unary {
         Unary::Neg => Ok(Answer::Int(n.wrapping_neg())),
@@ -268,7 +268,7 @@ fn of_int(alloc: Global, unary: Unary, n: i64) -> Result<Answer, Memory>
 }
 
 fn of_bool(unary: Unary, b: bool) -> Answer
-    ensures { answer_of result ≡ of_unary unary (CBool b) }
+    ensures { answer_meant result ≡ of_unary unary (CBool b) }
 {
     match unary {
         Unary::Not => Answer::Bool(!b),
@@ -277,7 +277,7 @@ fn of_bool(unary: Unary, b: bool) -> Answer
 }
 
 fn of_text(alloc: Global, unary: Unary, text: &Text) -> Result<Answer, Memory>
-    ensures { IfOk result (λ a. answer_of a ≡ of_unary unary (CStr text.now.0)) }
+    ensures { IfOk result (λ a. answer_meant a ≡ of_unary unary (CStr text.now.0)) }
 {
     match unary {
         Unary::PrintString => Ok(Answer::Print(text.copy(alloc)?)),
@@ -288,7 +288,7 @@ fn of_text(alloc: Global, unary: Unary, text: &Text) -> Result<Answer, Memory>
 }
 
 fn of_unit(unary: Unary) -> Answer
-    ensures { answer_of result ≡ of_unary unary CUnit }
+    ensures { answer_meant result ≡ of_unary unary CUnit }
 {
     match unary {
         Unary::Receive => Answer::Receive,
@@ -303,7 +303,7 @@ fn of_part(
     start: i64,
     count: i64,
 ) -> Result<Answer, Memory>
-    ensures { IfOk result (λ a. answer_of a ≡ of_unary unary (CPart text.now start count)) }
+    ensures { IfOk result (λ a. answer_meant a ≡ of_unary unary (CPart text.now start count)) }
 {
     match unary {
         Unary::SubString => part(alloc, text, start, count),
@@ -313,7 +313,7 @@ fn of_part(
 
 // So many bytes of a string from a start on.
 fn part(alloc: Global, text: &[u8], start: i64, count: i64) -> Result<Answer, Memory>
-    ensures { IfOk result (λ a. answer_of a ≡ bytes_between text.now start count) }
+    ensures { IfOk result (λ a. answer_meant a ≡ bytes_between text.now start count) }
 {
     if start < 0 || count < 0 {
         return invalid(alloc, b"sub");

@@ -4,7 +4,7 @@
 ghost use Rattle.std.specs.Prelude.{◌≡◌, ◌∷◌, [], true, Some, option_map, MatchBool, MatchOption, OnOk, IfOk};
 ghost use Rattle.ac_types.specs.Exceptions.{failure};
 ghost use Rattle.ac_terms.specs.Read.{environment_of, bytes_of};
-ghost use Rattle.ac_code.specs.ReadCode.{code_of};
+ghost use Rattle.ac_code.specs.ReadCode.{table_code};
 ghost use Rattle.ac_machine.specs.States.{Ask, Core, Run, Paused};
 ghost use Rattle.ac_machine.specs.Resumes.{Wait, At, Waits, paused_at, takes_unit, takes_text, takes_block, takes_raise};
 ghost use Rattle.ac_machine.specs.Held.{core, Sound};
@@ -39,7 +39,7 @@ fn ahead(engine: &mut Engine, env: &Env, table: &CodeTable) -> Result<(), Memory
     requires { Sound engine.old }
     ensures sound { OnOk result (Sound engine.new) }
     ensures pauses { OnOk result ((a : Ask) ×
-        Reaches (environment_of env.now) (code_of table.now) (At (Run (core engine.old)))
+        Reaches (environment_of env.now) (table_code table.now) (At (Run (core engine.old)))
         (Paused a (core engine.new))) }
 {
     for _ in 0..1000 {

@@ -4,7 +4,7 @@ use Rattle.std.specs.Int.{int_wrap}
 use Rattle.std.specs.Prelude.{ℕ, pos, true, false, [], ◌∷◌, Some, None, codes}
 use Rattle.ac_types.specs.Exceptions as exceptions
 use Rattle.ac_types.specs.Types.{Typ, TInt, TBool, TStr, TUnit, TExn, TTuple, TList, TOpt, TFun, typs}
-use Rattle.ac_terms.specs.Terms.{Main, In, PExn, Expr, Boolean, Str, Unit', Exn, ExnOf, Tuple, Nil, Empty, Present, Cons, Var, Own, Ref, Lam, App, Try, Raise, Prim, Evaluated, Bracket, exprs, arms, Value, VInt, VBool, VStr, VUnit, VExn, VTuple, VNil, VCons, VAbsent, VPresent, VLam, VProxy, VSeal, no_values, value}
+use Rattle.ac_terms.specs.Terms.{Main, In, PExn, Expr, Boolean, Str, Unit', Exn, ExnOf, Tuple, Nil, Empty, Present, Cons, Var, Own, Ref, Lam, App, Try, Raise, Evaluated, Bracket, exprs, arms, Value, VInt, VBool, VStr, VUnit, VExn, VTuple, VNil, VCons, VAbsent, VPresent, VLam, VProxy, VSeal, no_values, value}
 use Rattle.ac_rules.specs.Views.{Plain, Coloured}
 use Rattle.ac_rules.proofs.Samples.{c_name, t, c_t, one_entry, made}
 use Rattle.ac_meaning.specs.Worlds.{fresh}

@@ -5,7 +5,7 @@ use Rattle.std.specs.Prelude.{pos, [], ◌∷◌, ◌++◌, Some, None, codes}
 use Rattle.ac_types.specs.Exceptions as exceptions
 use Rattle.ac_types.specs.Types.{TInt, TFun}
 use Rattle.ac_types.specs.Sigs.{Number, Exact}
-use Rattle.ac_terms.specs.Terms.{Main, In, PVar, PExn, PInt, Expr, Exn, Var, Own, Ref, Lam, App, Let, Match, Try, Raise, Prim, Evaluated, Bracket, arms, VInt, VLam, VProxy, VSeal}
+use Rattle.ac_terms.specs.Terms.{Main, In, PVar, PExn, PInt, Expr, Exn, Var, Own, Ref, Lam, App, Let, Match, Try, Raise, Evaluated, Bracket, arms, VInt, VLam, VProxy, VSeal}
 use Rattle.ac_terms.specs.Defs.{Environment, Module, AModule, AnImport, Own'}
 use Rattle.ac_rules.specs.Views.{Plain, Coloured}
 use Rattle.ac_rules.proofs.Samples.{c_name, t, c_t, one_entry, wanted}

@@ -4,7 +4,7 @@ use Rattle.std.specs.Prelude.{ℤ, pos, ◌+◌, nat_le, int_div, int_rem, take,
 use Rattle.std.specs.Int.{int_wrap, w64}
 use Rattle.ac_types.proofs.FirstLaws.{none≢some, some_eq}
 use Rattle.ac_types.specs.Types.{Bytes, Typ, TInt, TBool, TStr, TUnit, TExn, TTuple, Typs, no_types, typ, same_all}
-use Rattle.ac_terms.specs.Terms.{Home, Prim, Value, VInt, VBool, VStr, VUnit, VTuple, Values, no_values, value}
+use Rattle.ac_terms.specs.Terms.{Home, Value, VInt, VBool, VStr, VUnit, VTuple, Values, no_values, value}
 use Rattle.ac_terms.specs.Defs.{Environment}
 use Rattle.ac_terms.specs.PrimitiveTypes.{Rule, arithmetic, comparison, by_rules, primitives, primitive_type}
 use Rattle.ac_types.specs.Limits.{longest_string}

@@ -6,7 +6,7 @@ use mathlib.Core.Bool.{true≢false}
 use Rattle.ac_types.proofs.Same.{and_true, bytes_refl}
 use Rattle.ac_types.proofs.FirstLaws.{none≢some, some_eq}
 use Rattle.ac_types.specs.Types.{Bytes, Typ, TInt, TBool, TStr, TUnit, TExn, TTuple, TList, TOpt, TFun, TAbs, TMine, Typs, no_types, typ, mentions, mentions_of_all, same_bytes}
-use Rattle.ac_terms.specs.Terms.{Home, Main, In, Expr, Int, Boolean, Str, Unit', Exn, ExnOf, Tuple, Nil, Empty, Present, Cons, Own, Ref, Lam, Rec, Prim, Exprs, no_exprs, expr, Value, VInt, VBool, VStr, VUnit, VExn, VTuple, VNil, VCons, VAbsent, VPresent, VProxy, VSeal, Values}
+use Rattle.ac_terms.specs.Terms.{Home, Main, In, Expr, Int, Boolean, Str, Unit', Exn, ExnOf, Tuple, Nil, Empty, Present, Cons, Own, Ref, Lam, Rec, Exprs, no_exprs, expr, Value, VInt, VBool, VStr, VUnit, VExn, VTuple, VNil, VCons, VAbsent, VPresent, VProxy, VSeal, Values}
 use Rattle.ac_types.specs.Sigs.{Signature, named_type}
 use Rattle.ac_terms.specs.Defs.{Environment, Field, Module, module_of, signature, def_of, module_at, signature_at}
 use Rattle.ac_rules.specs.Views.{Mode, Coloured, opens, view, representation, is_known, are_known}

@@ -19,7 +19,7 @@ use Rattle.ac_terms.proofs.EnvLaws.{entry_get}
 use Rattle.ac_scopes.specs.Standard.{beside_name, is_standard}
 use Rattle.ac_scopes.specs.Scopes.{NameScope, dotted_type, type_outside, value_outside, own_number}
 use Rattle.ac_outer.specs.inner.Shown.{entry_type, entry_value}
-use Rattle.ac_outer.specs.Fronts.{read_type}
+use Rattle.ac_outer.specs.Fronts.{read_named_type}
 use Rattle.ac_outer.specs.inner.Places.{word_of}
 use Rattle.ac_outer.proofs.Scoping.{own-within}
 
@@ -27,7 +27,7 @@ beside_step : (b : Bool) (t : Ty) (o : Option Typ) (p : Option Ty) → o ≡ opt
 beside_step true t o p e = refl
 beside_step false t o p e = e
 
-pub beside_read : (x : Bytes) (L : List (Bytes × Ty)) → beside_name x (map read_type L) ≡ option_map typ_of (beside_name x L)
+pub beside_read : (x : Bytes) (L : List (Bytes × Ty)) → beside_name x (map read_named_type L) ≡ option_map typ_of (beside_name x L)
 beside_read x [] = refl
 beside_read x (e ∷ L) = beside_step (same_bytes e.0 x) e.1 _ _ (beside_read x L)
 

@@ -15,21 +15,21 @@ use Rattle.std.specs.Str.{bytes_eq}
 use Rattle.ac_types.specs.Types.{Bytes, same_bytes}
 use Rattle.ac_scopes.specs.Standard.{beside_name}
 use Rattle.ac_scopes.specs.Scopes.{own_number}
-use Rattle.ac_outer.specs.inner.Places.{word_of, place_in, Places, newest}
+use Rattle.ac_outer.specs.inner.Places.{word_of, place_of_name, Places, backwards}
 use Rattle.ac_outer.proofs.Scoping.{own-within}
 
 -- lists from the last to the first
-pub newest-push : {A : Type 0} (xs : List A) (x : A) → newest (xs ++ x ∷ []) ≡ x ∷ newest xs
-newest-push [] x = refl
-newest-push (y ∷ xs) x = ap (λ l. l ++ y ∷ []) (newest-push xs x)
+pub backwards-push : {A : Type 0} (xs : List A) (x : A) → backwards (xs ++ x ∷ []) ≡ x ∷ backwards xs
+backwards-push [] x = refl
+backwards-push (y ∷ xs) x = ap (λ l. l ++ y ∷ []) (backwards-push xs x)
 
-newest-newest : {A : Type 0} (xs : List A) → newest (newest xs) ≡ xs
-newest-newest [] = refl
-newest-newest (x ∷ xs) = newest-push (newest xs) x ∙ ap (λ l. x ∷ l) (newest-newest xs)
+backwards-backwards : {A : Type 0} (xs : List A) → backwards (backwards xs) ≡ xs
+backwards-backwards [] = refl
+backwards-backwards (x ∷ xs) = backwards-push (backwards xs) x ∙ ap (λ l. x ∷ l) (backwards-backwards xs)
 
-pub length-newest : {A : Type 0} (xs : List A) → length (newest xs) ≡ length xs
-length-newest [] = refl
-length-newest (x ∷ xs) = length_push (newest xs) x ∙ let e = length-newest xs in omega arith
+pub length-backwards : {A : Type 0} (xs : List A) → length (backwards xs) ≡ length xs
+length-backwards [] = refl
+length-backwards (x ∷ xs) = length_push (backwards xs) x ∙ let e = length-backwards xs in omega arith
 
 slice_get_end : {A : Type 0} (xs : List A) (x : A) → slice_get (xs ++ x ∷ []) (length xs) ≡ Some x
 slice_get_end [] x = refl
@@ -50,22 +50,22 @@ found_at true o v xs y n e is within = sym (ap (option_map (λ p. p.1)) (ap (sli
 found_at false None v xs y n e is within = is
 found_at false (Some k) v xs y n e is within = is ∙ ap (option_map (λ p. p.1)) (sym (slice_get_front xs (y ∷ []) k (within k refl)))
 
-words-length : {A : Type 0} (L : List (Bytes × A)) → length (map word_of L) ≡ length (newest L)
-words-length L = length-map L word_of ∙ sym (length-newest L)
+words-length : {A : Type 0} (L : List (Bytes × A)) → length (map word_of L) ≡ length (backwards L)
+words-length L = length-map L word_of ∙ sym (length-backwards L)
 
-beside_at : {A : Type 0} (x : Bytes) (L : List (Bytes × A)) → beside_name x L ≡ meaning_at (newest L) (own_number x (map word_of L))
+beside_at : {A : Type 0} (x : Bytes) (L : List (Bytes × A)) → beside_name x L ≡ meaning_at (backwards L) (own_number x (map word_of L))
 beside_at x [] = refl
 beside_at x (y ∷ L) =
-    found_at (same_bytes y.0 x) (own_number x (map word_of L)) (beside_name x L) (newest L) y (length (map word_of L)) (words-length L) (beside_at x L)
+    found_at (same_bytes y.0 x) (own_number x (map word_of L)) (beside_name x L) (backwards L) y (length (map word_of L)) (words-length L) (beside_at x L)
     (λ k h. let w = own-within x (map word_of L) k h in let e = words-length L in omega arith)
 
-meaning_of : {A : Type 0} (x : Bytes) (xs : List (Bytes × A)) → beside_name x (newest xs) ≡ meaning_at xs (own_number x (map word_of (newest xs)))
-meaning_of x xs = beside_at x (newest xs) ∙ ap (λ l. meaning_at l (own_number x (map word_of (newest xs)))) (newest-newest xs)
+meaning_of : {A : Type 0} (x : Bytes) (xs : List (Bytes × A)) → beside_name x (backwards xs) ≡ meaning_at xs (own_number x (map word_of (backwards xs)))
+meaning_of x xs = beside_at x (backwards xs) ∙ ap (λ l. meaning_at l (own_number x (map word_of (backwards xs)))) (backwards-backwards xs)
 
 pub none_beside : {A : Type 0} (x : Bytes) (L : List (Bytes × A)) → own_number x (map word_of L) ≡ None → beside_name x L ≡ None
-none_beside x L h = beside_at x L ∙ ap (meaning_at (newest L)) h
+none_beside x L h = beside_at x L ∙ ap (meaning_at (backwards L)) h
 
-pub found_meaning : {A : Type 0} (xs L : List (Bytes × A)) (x : Bytes) (i : ℕ) (o : Option (Bytes × A)) → newest xs ≡ L → own_number x (map word_of L) ≡ Some i → o ≡ slice_get xs i → beside_name x L ≡ option_map (λ e. e.1) o
+pub found_meaning : {A : Type 0} (xs L : List (Bytes × A)) (x : Bytes) (i : ℕ) (o : Option (Bytes × A)) → backwards xs ≡ L → own_number x (map word_of L) ≡ Some i → o ≡ slice_get xs i → beside_name x L ≡ option_map (λ e. e.1) o
 found_meaning xs L x i o v h e =
     ap (beside_name x) (sym v) ∙ meaning_of x xs ∙ ap (meaning_at xs) (ap (λ l. own_number x (map word_of l)) v ∙ h) ∙ ap (option_map (λ p. p.1)) (sym e)
 
@@ -87,9 +87,9 @@ by_bytes f g bs w here other cs =
 abbrev keys_cmp : {Z : Type 0} → Vec ℕ Z → Vec ℕ Z → Ordering
 keys_cmp x y = slice_cmp nat_cmp x.items y.items
 
-place_put : {Z : Type 0} (bs : Bytes) (m n : BTreeMap (Vec ℕ Z) ℕ) (w : Option ℕ) → UpdatesBy keys_cmp (λ k. slice_cmp nat_cmp bs k.items) m n w → (cs : Bytes) → place_in n cs ≡ cond (bytes_eq bs cs) w (place_in m cs)
+place_put : {Z : Type 0} (bs : Bytes) (m n : BTreeMap (Vec ℕ Z) ℕ) (w : Option ℕ) → UpdatesBy keys_cmp (λ k. slice_cmp nat_cmp bs k.items) m n w → (cs : Bytes) → place_of_name n cs ≡ cond (bytes_eq bs cs) w (place_of_name m cs)
 place_put bs m n w h =
-    by_bytes (place_in m) (place_in n) bs w h.1 (λ cs e. other_entries _ _ _ _ h.3 _ (λ x y. (eq_by_cmp_equiv nat_list_cmp_total).congr cs x.items y.items) (λ k. apart_in_order bs cs k.items e))
+    by_bytes (place_of_name m) (place_of_name n) bs w h.1 (λ cs e. other_entries _ _ _ _ h.3 _ (λ x y. (eq_by_cmp_equiv nat_list_cmp_total).congr cs x.items y.items) (λ k. apart_in_order bs cs k.items e))
 
 put_is : (b : Bool) (n : ℕ) (o : Option ℕ) → cond b (Some n) o ≡ elim b [ true ↦ Some n | false ↦ o ]
 put_is true n o = refl
@@ -97,11 +97,11 @@ put_is false n o = refl
 
 -- the map behind one more name
 pub more_places : {Z A : Type 0} (m n : BTreeMap (Vec ℕ Z) ℕ) (key : Vec ℕ Z) (items new : List (Bytes × A)) (word : Bytes) (means : A) (place : ℕ)
-    → Places m (newest items) → key.items ≡ word → place ≡ length items → new ≡ items ++ (word, means) ∷ [] → UpdatesBy keys_cmp (keys_cmp key) m n (Some place) → Places n (newest new)
+    → Places m (backwards items) → key.items ≡ word → place ≡ length items → new ≡ items ++ (word, means) ∷ [] → UpdatesBy keys_cmp (keys_cmp key) m n (Some place) → Places n (backwards new)
 more_places m n key items new word means place was k p is u name =
     place_put key.items m n (Some place) u name
-    ∙ ap (λ w. cond (same_bytes w name) (Some place) (place_in m name)) k
-    ∙ put_is (same_bytes word name) place (place_in m name)
+    ∙ ap (λ w. cond (same_bytes w name) (Some place) (place_of_name m name)) k
+    ∙ put_is (same_bytes word name) place (place_of_name m name)
     ∙ ap (λ o. elim (same_bytes word name) [ true ↦ Some place | false ↦ o ]) (was name)
-    ∙ ap (λ i. elim (same_bytes word name) [ true ↦ Some i | false ↦ own_number name (map word_of (newest items)) ]) (p ∙ sym (length-map (newest items) word_of ∙ length-newest items))
-    ∙ sym (ap (λ l. own_number name (map word_of l)) (ap newest is ∙ newest-push items (word, means)))
+    ∙ ap (λ i. elim (same_bytes word name) [ true ↦ Some i | false ↦ own_number name (map word_of (backwards items)) ]) (p ∙ sym (length-map (backwards items) word_of ∙ length-backwards items))
+    ∙ sym (ap (λ l. own_number name (map word_of l)) (ap backwards is ∙ backwards-push items (word, means)))

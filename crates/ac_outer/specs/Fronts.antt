@@ -15,14 +15,14 @@ unfoldable pub front_of : Front → NameScope
 front_of f = record (scope_behind (environment_of f.env)) { externals = f.externals }
 
 -- a type with its name, read
-abbrev pub read_type : Bytes × Ty → Bytes × Typ
-read_type e = (e.0, typ_of e.1)
+abbrev pub read_named_type : Bytes × Ty → Bytes × Typ
+read_named_type e = (e.0, typ_of e.1)
 
 unfoldable pub outer_of : Outer → NameScope
 outer_of o = record {
   entries = environment_of o.env.now;
   externals = o.externals.now;
-  types = map read_type o.types;
+  types = map read_named_type o.types;
   fields = map word_of o.fields;
   variables = [];
 }

@@ -2,20 +2,20 @@
 use Rattle.std.specs.Prelude.{List, [], ◌∷◌}
 use Rattle.ac_types.specs.Primitives as primitives
 use Rattle.ac_types.specs.Types.{Bytes, TInt, TStr, TUnit, TTuple, typs}
-use Rattle.ac_scopes.specs.Standard.{NamedPrimitive, taking, io, str_primitives}
+use Rattle.ac_scopes.specs.Standard.{NamedPrimitive, primitive_on, io, str_primitives}
 use Rattle.ac_outer.specs.declared.primitive.Primitive.{Primitive}
 use Rattle.ac_outer.specs.declared.primitive.Primitive.TheVariants.{PrintInt, PrintString, Send, Receive, Length, Sub, OfInt}
 use Rattle.ac_outer.specs.declared.primitive.Standard.{Standard}
 use Rattle.ac_outer.specs.declared.primitive.Standard.TheVariants.{Io, Str}
 
 abbrev pub read_primitive : Primitive → NamedPrimitive
-read_primitive PrintInt = taking primitives.print_int TInt
-read_primitive PrintString = taking primitives.print_string TStr
-read_primitive Send = taking primitives.send TStr
-read_primitive Receive = taking primitives.receive TUnit
-read_primitive Length = taking primitives.length TStr
-read_primitive Sub = taking primitives.sub_string (TTuple (typs (TStr ∷ TInt ∷ TInt ∷ [])))
-read_primitive OfInt = taking primitives.of_int TInt
+read_primitive PrintInt = primitive_on primitives.print_int TInt
+read_primitive PrintString = primitive_on primitives.print_string TStr
+read_primitive Send = primitive_on primitives.send TStr
+read_primitive Receive = primitive_on primitives.receive TUnit
+read_primitive Length = primitive_on primitives.length TStr
+read_primitive Sub = primitive_on primitives.sub_string (TTuple (typs (TStr ∷ TInt ∷ TInt ∷ [])))
+read_primitive OfInt = primitive_on primitives.of_int TInt
 
 -- the table of a standard module
 abbrev pub table_of : Standard → List (Bytes × NamedPrimitive)

@@ -21,13 +21,13 @@ pub struct Latest<T> {
 impl<T> Model for Latest<T> {
     ghost use Rattle.std.specs.Prelude.{List};
     ghost use Rattle.ac_types.specs.Types.{Bytes};
-    ghost use Rattle.ac_outer.specs.inner.Places.{Places, newest};
+    ghost use Rattle.ac_outer.specs.inner.Places.{Places, backwards};
 
     ghost Value = { List (Bytes × T) };
 
-    ghost view = { λ l. newest l.items };
+    ghost view = { λ l. backwards l.items };
 
-    ghost invariant = { λ l. Places l.places (newest l.items) };
+    ghost invariant = { λ l. Places l.places (backwards l.items) };
 }
 
 impl<T> Latest<T> {

@@ -20,14 +20,14 @@ use Rattle.ac_rules.specs.Needed.{mark_at, place_in, packet_of_entries, needed_b
 use Rattle.ac_rules.specs.Faults.{Depth, Function, Size, Marshalled, NoString, AString, first_fault, whole_fault, whole}
 use Rattle.ac_types.proofs.FirstLaws.{some_eq}
 use Rattle.ac_rules.proofs.PacketFits.{few_needed}
-use Rattle.ac_parts.specs.Numbers.{number_in}
+use Rattle.ac_parts.specs.Numbers.{number_for}
 use Rattle.ac_walk.specs.Spoken.{spoken_by_all}
 use Rattle.ac_heads.specs.declared.stop.Stop.{Stop}
 use Rattle.ac_heads.specs.declared.stop.Stop.TheVariants as stop
 use Rattle.ac_forms.specs.Forms.{AllBelow, forms, front_bytes, IsLong}
 use Rattle.ac_pack.specs.Packs.{Packed}
 use Rattle.ac_pack.specs.declared.packing.PackFault.{PackFault}
-use Rattle.ac_pack.specs.inner.Faults.{of_stop}
+use Rattle.ac_pack.specs.inner.PackFaults.{of_stop}
 use Rattle.ac_pack.specs.inner.Needs.{AreChosen}
 use Rattle.ac_pack.proofs.RootLaws.{needed_alike, needed_inside}
 
@@ -64,27 +64,27 @@ module _ (p : Packet) where
       by stop.Size g = too_long h (g Size refl).1
       by stop.Memory g = tt
 
-module _ (E : Environment) (mark : ℕ) (is : List ℕ) (T : Typ) (v : PValue) (ns : List ℕ) (placed : number_in ns ≡ place_in is) where
+module _ (E : Environment) (mark : ℕ) (is : List ℕ) (T : Typ) (v : PValue) (ns : List ℕ) (placed : number_for ns ≡ place_in is) where
   abbrev packet : Packet
   packet = packet_of_entries E mark is T v
 
-  pub front_is : front_bytes (forms E mark (number_in ns) is) ≡ front_bytes packet.defs
+  pub front_is : front_bytes (forms E mark (number_for ns) is) ≡ front_bytes packet.defs
   front_is = ap (λ (f : ℕ → ℕ). front_bytes (forms E mark f is)) placed
 
   same_number : (λ k. get_or ns k 0) ≡ place_in is
   same_number = fun_ext (λ k. sym (unwrap_or-slice_get ns k 0)) ∙ placed
 
   -- the bytes in front, and those of type and value, are the packet's
-  pub joined : (text written : Bytes) → text ≡ front_bytes (forms E mark (number_in ns) is) → written ≡ type_bytes T ++ value_bytes two_written (value_renumbered (λ k. get_or ns k 0) v) → text ++ written ≡ packet_bytes packet
+  pub joined : (text written : Bytes) → text ≡ front_bytes (forms E mark (number_for ns) is) → written ≡ type_bytes T ++ value_bytes two_written (value_renumbered (λ k. get_or ns k 0) v) → text ++ written ≡ packet_bytes packet
   joined text written e w =
       ap₂ (λ (xs ys : Bytes). xs ++ ys) (e ∙ front_is) (w ∙ ap (λ (f : ℕ → ℕ). type_bytes T ++ value_bytes two_written (value_renumbered f v)) same_number)
       ∙ sym (append_assoc (front_bytes packet.defs) (type_bytes T) (value_bytes two_written (value_renumbered (place_in is) v)))
 
   -- those in front are too many
-  pub front_long : (e : Stop) → IsLong e (front_bytes (forms E mark (number_in ns) is)) → IsLong e (packet_bytes packet)
+  pub front_long : (e : Stop) → IsLong e (front_bytes (forms E mark (number_for ns) is)) → IsLong e (packet_bytes packet)
   front_long e h =
       let back : Bytes = type_bytes T ++ value_bytes two_written (value_renumbered (λ k. get_or ns k 0) v) in
-      long_more e (front_bytes (forms E mark (number_in ns) is)) back (packet_bytes packet) h (joined (front_bytes (forms E mark (number_in ns) is)) back refl refl)
+      long_more e (front_bytes (forms E mark (number_for ns) is)) back (packet_bytes packet) h (joined (front_bytes (forms E mark (number_for ns) is)) back refl refl)
 
 module _ (E : Environment) (mark : ℕ) (T : Typ) (v : PValue) (is js : List ℕ) (same : js ≡ is) (chosen : AreChosen E mark T v is) where
   pub few_chosen : length E ≤ 65535 → length js ≤ 65535

@@ -1,3 +1,3 @@
-pub mod Faults
+pub mod PackFaults
 pub mod Needs
 pub mod Wholes

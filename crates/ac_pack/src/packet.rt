@@ -7,13 +7,13 @@ ghost use Rattle.ac_types.specs.ReadTypes.{typ_of};
 ghost use Rattle.ac_terms.specs.Heads.{packed_heads};
 ghost use Rattle.ac_terms.specs.Read.{environment_of};
 ghost use Rattle.ac_terms.specs.Spelling.{packet_bytes};
-ghost use Rattle.ac_code.specs.ReadCode.{code_of};
+ghost use Rattle.ac_code.specs.ReadCode.{table_code};
 ghost use Rattle.ac_values.specs.Values.{stands_as};
 ghost use Rattle.ac_rules.specs.Faults.{first_fault};
 ghost use Rattle.ac_rules.specs.Needed.{place_in, packet_of_entries};
 ghost use Rattle.ac_meaning.specs.BarePacking.{bare_packed};
 ghost use Rattle.ac_simulation.specs.Stands.{stands};
-ghost use Rattle.ac_parts.specs.Numbers.{number_in};
+ghost use Rattle.ac_parts.specs.Numbers.{number_for};
 ghost use Rattle.ac_forms.specs.Forms.{AllBelow, IsLong};
 ghost use Rattle.ac_pack.specs.inner.Wholes.{IsWhole};
 
@@ -43,10 +43,10 @@ pub fn bytes(
     requires below { AllBelow (length env.now.entries) chosen.now }
     requires sound { first_fault 500 longest_packet 0 (packed_heads (typ_of ty.now)
         (bare_packed (environment_of env.now)
-        (stands (code_of table.now) (stands_as store.now value.0)) (typ_of ty.now))) ≡ None }
+        (stands (table_code table.now) (stands_as store.now value.0)) (typ_of ty.now))) ≡ None }
     ensures { IsWhole result (packet_bytes (packet_of_entries (environment_of env.now) mark
         chosen.now (typ_of ty.now) (bare_packed (environment_of env.now)
-        (stands (code_of table.now) (stands_as store.now value.0)) (typ_of ty.now)))) }
+        (stands (table_code table.now) (stands_as store.now value.0)) (typ_of ty.now)))) }
 {
     let numbers = places(alloc, env.entries.len(), chosen)?;
     numbered(
@@ -76,13 +76,13 @@ fn numbered(
 ) -> Result<Text, Stop>
     requires few { length env.now.entries ≤ 65535 }
     requires below { AllBelow (length env.now.entries) chosen.now }
-    requires placed { number_in numbers.now ≡ place_in chosen.now }
+    requires placed { number_for numbers.now ≡ place_in chosen.now }
     requires sound { first_fault 500 longest_packet 0 (packed_heads (typ_of ty.now)
         (bare_packed (environment_of env.now)
-        (stands (code_of table.now) (stands_as store.now value.0)) (typ_of ty.now))) ≡ None }
+        (stands (table_code table.now) (stands_as store.now value.0)) (typ_of ty.now))) ≡ None }
     ensures { IsWhole result (packet_bytes (packet_of_entries (environment_of env.now) mark
         chosen.now (typ_of ty.now) (bare_packed (environment_of env.now)
-        (stands (code_of table.now) (stands_as store.now value.0)) (typ_of ty.now)))) }
+        (stands (table_code table.now) (stands_as store.now value.0)) (typ_of ty.now)))) }
 {
     match front(alloc, env, mark, chosen, numbers) {
         Err(stop) => Err(stop),

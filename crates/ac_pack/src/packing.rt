@@ -6,7 +6,7 @@ ghost use Rattle.ac_types.specs.ReadTypes.{typ_of};
 ghost use Rattle.ac_terms.specs.Heads.{packed_heads};
 ghost use Rattle.ac_terms.specs.Read.{environment_of};
 ghost use Rattle.ac_terms.specs.Terms.{PValue};
-ghost use Rattle.ac_code.specs.ReadCode.{code_of};
+ghost use Rattle.ac_code.specs.ReadCode.{table_code};
 ghost use Rattle.ac_values.specs.Values.{stands_as};
 ghost use Rattle.ac_rules.specs.Coherent.{IsCoherent};
 ghost use Rattle.ac_terms.specs.Defs.{Packet};
@@ -16,7 +16,7 @@ ghost use Rattle.ac_meaning.specs.BarePacking.{bare_packed};
 ghost use Rattle.ac_simulation.specs.Stands.{stands};
 ghost use Rattle.ac_forms.specs.Forms.{AllBelow};
 ghost use Rattle.ac_pack.specs.Packs.{Packed};
-ghost use Rattle.ac_pack.specs.inner.Faults.{of_stop, of_need};
+ghost use Rattle.ac_pack.specs.inner.PackFaults.{of_stop, of_need};
 ghost use Rattle.ac_pack.specs.inner.Needs.{AreChosen};
 
 use crate::packet::bytes;
@@ -81,7 +81,7 @@ pub fn pack(
     requires { IsCoherent (environment_of env.now) }
     ensures { Packed (marshalled (environment_of env.now) mark.now.0 (typ_of ty.now)
         (bare_packed (environment_of env.now)
-        (stands (code_of table.now) (stands_as store.now value.now.0)) (typ_of ty.now)))
+        (stands (table_code table.now) (stands_as store.now value.now.0)) (typ_of ty.now)))
         result }
 {
     match mark_at(env.entries.as_slice(), mark) {
@@ -105,7 +105,7 @@ fn marked(
     requires marked { mark_at (environment_of env.now) mark.now.0 ≡ Some at }
     ensures { Packed (marshalled (environment_of env.now) mark.now.0 (typ_of ty.now)
         (bare_packed (environment_of env.now)
-        (stands (code_of table.now) (stands_as store.now value.0)) (typ_of ty.now)))
+        (stands (table_code table.now) (stands_as store.now value.0)) (typ_of ty.now)))
         result }
 {
     match chosen(alloc, env, table, store, mark, at, value, ty) {
@@ -129,7 +129,7 @@ fn chosen(
     requires few { length env.now.entries ≤ 65535 }
     requires marked { mark_at (environment_of env.now) mark.now.0 ≡ Some at }
     ensures { let v : PValue = bare_packed (environment_of env.now)
-        (stands (code_of table.now) (stands_as store.now value.0)) (typ_of ty.now) in
+        (stands (table_code table.now) (stands_as store.now value.0)) (typ_of ty.now) in
         MatchResult result
         (λ is. AreChosen (environment_of env.now) at (typ_of ty.now) v is)
         (λ e. Packed (marshalled (environment_of env.now) mark.now.0 (typ_of ty.now) v)
@@ -161,10 +161,10 @@ fn whole(
     requires below { AllBelow (length env.now.entries) chosen.now }
     requires sound { first_fault 500 longest_packet 0 (packed_heads (typ_of ty.now)
         (bare_packed (environment_of env.now)
-        (stands (code_of table.now) (stands_as store.now value.0)) (typ_of ty.now))) ≡ None }
+        (stands (table_code table.now) (stands_as store.now value.0)) (typ_of ty.now))) ≡ None }
     ensures { let p : Packet = packet_of_entries (environment_of env.now) mark chosen.now
         (typ_of ty.now) (bare_packed (environment_of env.now)
-        (stands (code_of table.now) (stands_as store.now value.0)) (typ_of ty.now)) in
+        (stands (table_code table.now) (stands_as store.now value.0)) (typ_of ty.now)) in
         Packed (whole p (whole_fault p)) result }
 {
     if !forms_nest(env, mark, chosen) {

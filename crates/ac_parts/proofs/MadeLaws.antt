@@ -7,12 +7,11 @@ use Rattle.ac_terms.specs.declared.term.PVal.{PVal}
 use Rattle.ac_terms.specs.declared.def.Field as code_field
 use Rattle.ac_terms.specs.Defs.{Field}
 use Rattle.ac_terms.specs.Terms.{Pattern, Expr, exprs, expr, arms, arm, PValue, pvalues, pvalue}
-use Rattle.ac_terms.specs.Read.{expr_of, value_of, field_of}
+use Rattle.ac_terms.specs.Read.{expr_of, arm_of, value_of, field_of}
 use Rattle.ac_terms.specs.Renumbered.{renumbered, all_renumbered, arms_renumbered, value_renumbered, values_renumbered, field_renumbered}
-use Rattle.ac_canon.specs.inner.Arms.{arm_of}
 use Rattle.ac_terms.proofs.ReadLaws.{term_laws as read_terms}
 use Rattle.ac_terms.proofs.TermForms.{expr_of-ExnOf}
-use Rattle.ac_canon.proofs.TermForms.{expr_of-Match, expr_of-Try}
+use Rattle.ac_terms.proofs.TermForms.{expr_of-Match, expr_of-Try}
 use Rattle.ac_canon.proofs.ValueForms.{value_laws as value_forms}
 
 pub ruleset made_laws = (read_terms, expr_of-Match, expr_of-Try, expr_of-ExnOf)

@@ -8,7 +8,7 @@ use Rattle.ac_terms.specs.Parts.{Portion, OfType}
 use Rattle.ac_terms.specs.declared.pat.Pat.TheViews as pat_views
 use Rattle.ac_terms.proofs.ReadLaws.{term_laws as read_terms}
 use Rattle.ac_terms.proofs.PatternForms.{pattern_out, pattern_of-Tuple}
-use Rattle.ac_canon.proofs.TermForms.{expr_of-Match, expr_of-Try}
+use Rattle.ac_terms.proofs.TermForms.{expr_of-Match, expr_of-Try}
 use Rattle.ac_terms.proofs.ValueForms.{value_out, value_of-Tuple, value_of-List}
 
 -- the types of variables, as parts

@@ -4,7 +4,7 @@ ghost use Rattle.std.specs.Prelude.{◌≡◌, IfOk, map};
 ghost use Rattle.ac_terms.specs.Defs.{AModule};
 ghost use Rattle.ac_terms.specs.Read.{field_of, module_of_code};
 ghost use Rattle.ac_terms.specs.Renumbered.{field_renumbered, def_renumbered};
-ghost use Rattle.ac_parts.specs.Numbers.{number_in};
+ghost use Rattle.ac_parts.specs.Numbers.{number_for};
 
 use crate::renumber::term_renumbered;
 use ac_terms::{Field, Module};
@@ -13,7 +13,7 @@ use std::alloc::Global;
 
 /// A copy of a module, in which each reference has the number that the list has at its place.
 pub fn module_renumbered(alloc: Global, m: &Module, numbers: &[u32]) -> Result<Module, Memory>
-    ensures { IfOk result (λ c. AModule (module_of_code c) ≡ def_renumbered (number_in numbers.now)
+    ensures { IfOk result (λ c. AModule (module_of_code c) ≡ def_renumbered (number_for numbers.now)
         (AModule (module_of_code m.now))) }
 {
     let (name, version) = both(m.name.copy(alloc), m.version.copy(alloc))?;
@@ -29,7 +29,7 @@ pub fn module_renumbered(alloc: Global, m: &Module, numbers: &[u32]) -> Result<M
 }
 
 fn fields(alloc: Global, all: &[Field], numbers: &[u32]) -> Result<Many<Field>, Memory>
-    ensures { IfOk result (λ fs. map field_of fs ≡ map (field_renumbered (number_in numbers.now))
+    ensures { IfOk result (λ fs. map field_of fs ≡ map (field_renumbered (number_for numbers.now))
         (map field_of all.now)) }
 {
     let mut found = Many::new(alloc);
@@ -41,7 +41,7 @@ fn fields(alloc: Global, all: &[Field], numbers: &[u32]) -> Result<Many<Field>, 
 }
 
 fn field(alloc: Global, one: &Field, numbers: &[u32]) -> Result<Field, Memory>
-    ensures { IfOk result (λ f. field_of f ≡ field_renumbered (number_in numbers.now)
+    ensures { IfOk result (λ f. field_of f ≡ field_renumbered (number_for numbers.now)
         (field_of one.now)) }
 {
     let (name, ty) = both(one.name.copy(alloc), one.ty.copy(alloc))?;

@@ -2,10 +2,9 @@
 
 ghost use Rattle.std.specs.Prelude.{◌≡◌, IfOk, map};
 ghost use Rattle.ac_terms.specs.Terms.{exprs, arms, pvalues};
-ghost use Rattle.ac_terms.specs.Read.{expr_of, value_of, home_of};
+ghost use Rattle.ac_terms.specs.Read.{expr_of, arm_of, value_of, home_of};
 ghost use Rattle.ac_terms.specs.Renumbered.{renumbered, all_renumbered, arms_renumbered, value_renumbered, values_renumbered, home_by};
-ghost use Rattle.ac_parts.specs.Numbers.{number_in};
-ghost use Rattle.ac_canon.specs.inner.Arms.{arm_of};
+ghost use Rattle.ac_parts.specs.Numbers.{number_for};
 
 use ac_terms::{Arm, Home, PVal, Term};
 use ac_types::{Box, Many, Memory, both};
@@ -13,7 +12,7 @@ use std::alloc::Global;
 
 // The number that stands for a number, 0 where none does.
 fn number_in(numbers: &[u32], k: u32) -> u32
-    ensures { result ≡ number_in numbers.now k }
+    ensures { result ≡ number_for numbers.now k }
 {
     match numbers.get(k as usize) {
         None => 0,
@@ -23,7 +22,7 @@ fn number_in(numbers: &[u32], k: u32) -> u32
 
 // The home with another number.
 fn home_renumbered(numbers: &[u32], home: Home) -> Home
-    ensures { home_of result ≡ home_by (number_in numbers.now) (home_of home) }
+    ensures { home_of result ≡ home_by (number_for numbers.now) (home_of home) }
 {
     match home {
         Home::Main => Home::Main,
@@ -36,7 +35,8 @@ fn home_renumbered(numbers: &[u32], home: Home) -> Home
 #[cycle(term)]
 #[tactic(auto, using(crate::proofs::MadeLaws::made_laws))]
 pub fn term_renumbered(alloc: Global, term: &Term, numbers: &[u32]) -> Result<Term, Memory>
-    ensures { IfOk result (λ t. expr_of t ≡ renumbered (number_in numbers.now) (expr_of term.now)) }
+    ensures { IfOk result (λ t. expr_of t ≡ renumbered (number_for numbers.now)
+        (expr_of term.now)) }
 {
     match term {
         Term::Int(n) => Ok(Term::Int(*n)),
@@ -119,14 +119,15 @@ pub fn term_renumbered(alloc: Global, term: &Term, numbers: &[u32]) -> Result<Te
 
 #[cycle(term)]
 fn boxed(alloc: Global, term: &Box<Term>, numbers: &[u32]) -> Result<Box<Term>, Memory>
-    ensures { IfOk result (λ t. expr_of t ≡ renumbered (number_in numbers.now) (expr_of term.now)) }
+    ensures { IfOk result (λ t. expr_of t ≡ renumbered (number_for numbers.now)
+        (expr_of term.now)) }
 {
     Box::new(alloc, term_renumbered(alloc, term, numbers)?)
 }
 
 #[cycle(term)]
 fn terms(alloc: Global, all: &[Term], numbers: &[u32]) -> Result<Many<Term>, Memory>
-    ensures { IfOk result (λ ts. exprs (map expr_of ts) ≡ all_renumbered (number_in numbers.now)
+    ensures { IfOk result (λ ts. exprs (map expr_of ts) ≡ all_renumbered (number_for numbers.now)
         (exprs (map expr_of all.now))) }
 {
     let mut found = Many::new(alloc);
@@ -140,7 +141,7 @@ fn terms(alloc: Global, all: &[Term], numbers: &[u32]) -> Result<Many<Term>, Mem
 #[cycle(term)]
 fn arms(alloc: Global, cases: &[Arm], numbers: &[u32]) -> Result<Many<Arm>, Memory>
     ensures { IfOk result (λ found. arms (map arm_of found) ≡ arms_renumbered
-        (number_in numbers.now) (arms (map arm_of cases.now))) }
+        (number_for numbers.now) (arms (map arm_of cases.now))) }
 {
     let mut found = Many::new(alloc);
     for case in cases {
@@ -154,7 +155,7 @@ fn arms(alloc: Global, cases: &[Arm], numbers: &[u32]) -> Result<Many<Arm>, Memo
 fn arm(alloc: Global, case: &Arm, numbers: &[u32]) -> Result<Arm, Memory>
     ensures { IfOk result (λ a. arm_of a ≡ (
       (arm_of case.now).0,
-      renumbered (number_in numbers.now) (arm_of case.now).1,
+      renumbered (number_for numbers.now) (arm_of case.now).1,
     )) }
 {
     both(
@@ -169,7 +170,7 @@ fn arm(alloc: Global, case: &Arm, numbers: &[u32]) -> Result<Arm, Memory>
 #[cycle(term)]
 #[tactic(auto, using(crate::proofs::MadeLaws::value_laws))]
 pub fn value_renumbered(alloc: Global, value: &PVal, numbers: &[u32]) -> Result<PVal, Memory>
-    ensures { IfOk result (λ v. value_of v ≡ value_renumbered (number_in numbers.now)
+    ensures { IfOk result (λ v. value_of v ≡ value_renumbered (number_for numbers.now)
         (value_of value.now)) }
 {
     match value {
@@ -195,7 +196,7 @@ pub fn value_renumbered(alloc: Global, value: &PVal, numbers: &[u32]) -> Result<
 #[cycle(term)]
 fn values(alloc: Global, all: &[PVal], numbers: &[u32]) -> Result<Many<PVal>, Memory>
     ensures { IfOk result (λ vs. pvalues (map value_of vs) ≡ values_renumbered
-        (number_in numbers.now) (pvalues (map value_of all.now))) }
+        (number_for numbers.now) (pvalues (map value_of all.now))) }
 {
     let mut found = Many::new(alloc);
     for value in all {

@@ -5,8 +5,7 @@ ghost use Rattle.std.specs.List.{list_all};
 ghost use Rattle.ac_types.specs.Types.{Typ};
 ghost use Rattle.ac_terms.specs.Terms.{exprs, arms, pvalues};
 ghost use Rattle.ac_terms.specs.Parts.{OfType, pattern_types, term_parts, all_term_parts, arm_parts, value_parts, all_value_parts};
-ghost use Rattle.ac_terms.specs.Read.{expr_of, value_of};
-ghost use Rattle.ac_canon.specs.inner.Arms.{arm_of};
+ghost use Rattle.ac_terms.specs.Read.{expr_of, arm_of, value_of};
 
 use crate::patterns::pattern_passes;
 use crate::test::Test;

@@ -9,9 +9,9 @@ use Rattle.ac_terms.specs.Defs.{Entry, name_at}
 use Rattle.ac_terms.specs.Read.{entry_of}
 use Rattle.ac_terms.proofs.EnvLaws.{slice_get-map}
 use Rattle.ac_rules.proofs.ListLaws.{get_old}
-use Rattle.ac_placing.specs.inner.Behind.{kept_of}
+use Rattle.ac_placing.specs.inner.Behind.{kept_entry_name}
 
-name_read : (o : Option code.Entry) → option_and_then (λ (e : Entry). e.name) (option_map entry_of o) ≡ kept_of o
+name_read : (o : Option code.Entry) → option_and_then (λ (e : Entry). e.name) (option_map entry_of o) ≡ kept_entry_name o
 name_read None = refl
 name_read (Some e) = refl
 
@@ -26,13 +26,13 @@ module _ (es more : List code.Entry) (j : ℕ) where
   abbrev all : List Entry
   all = map entry_of es ++ map entry_of more
 
-  pub name_there : j < length es → name_at all j ≡ kept_of (slice_get es j)
+  pub name_there : j < length es → name_at all j ≡ kept_entry_name (slice_get es j)
   name_there l =
       let m : length (map entry_of es) ≡ length es = length-map es entry_of in
       let at : j < length (map entry_of es) = omega (arith, l, m) in
       ap name_in (get_old (map entry_of es) (map entry_of more) j at ∙ slice_get-map entry_of es j) ∙ name_read (slice_get es j)
 
-  pub name_coming : length es ≤ j → name_at all j ≡ kept_of (slice_get more (j - length es))
+  pub name_coming : length es ≤ j → name_at all j ≡ kept_entry_name (slice_get more (j - length es))
   name_coming l =
       let m : length (map entry_of es) ≡ length es = length-map es entry_of in
       let k : ℕ = j - length es in

@@ -1,5 +1,5 @@
 -- What a map of keys has, after each key that goes in where it isn't there yet.
-use Rattle.std.proofs.Common.{Ordering, ◌≡◌, refl, sym, ap, ap₂, ◌∙◌, ℕ, zero, suc, ◌+◌, ◌≤◌, ◌<◌, cond, add-one, get_or, Bool, true, false, List, [], ◌∷◌, ◌++◌, map, length, take, drop, Option, Some, None}
+use Rattle.std.proofs.Common.{Ordering, ◌≡◌, refl, sym, ap, ap₂, ◌∙◌, ℕ, ◌+◌, ◌<◌, cond, get_or, Bool, true, false, List, [], ◌∷◌, ◌++◌, map, length, take, drop, Option, Some, None}
 use Rattle.std.proofs.lemmas.List.{map-append, length-map, drop_more, take_more, length-take}
 use native.Mathlib.Omega.{arith}
 use Rattle.ac_terms.specs.declared.def.Entry as code

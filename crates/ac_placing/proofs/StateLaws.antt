@@ -17,7 +17,7 @@ use Rattle.ac_terms.specs.Names.{name_by}
 use Rattle.ac_terms.specs.Parts.{part_refs, def_parts}
 use Rattle.ac_terms.specs.Renumbered.{def_renumbered}
 use Rattle.ac_terms.specs.Bounds.{is_four}
-use Rattle.ac_parts.specs.Numbers.{number_in}
+use Rattle.ac_parts.specs.Numbers.{number_for}
 use Rattle.ac_rules.specs.Coherent.{IsCoherent, IsLinked, link_at}
 use Rattle.ac_rules.specs.Links.{linked, InPacket, is_exact}
 use Rattle.ac_rules.proofs.ViewLaws.{within}
@@ -34,7 +34,7 @@ use Rattle.ac_placing.specs.declared.placing.Placing.{Placing}
 use Rattle.ac_placing.specs.inner.Keys.{key_bytes, keyed, is_short}
 use Rattle.ac_placing.specs.inner.Maps.{Key, key_found}
 use Rattle.ac_placing.specs.inner.Open.{place_of}
-use Rattle.ac_placing.specs.Placed.{state_of, number_of}
+use Rattle.ac_placing.specs.Placed.{state_of, place_number}
 use Rattle.ac_placing.specs.inner.State.{has_short_link, IsSound}
 use Rattle.ac_placing.proofs.FindLaws.{keys_next}
 use Rattle.ac_placing.proofs.KeyLaws.{keyed_is}
@@ -46,8 +46,8 @@ module _ (E : Environment) (old new : Placing) (sound : IsSound E old) (at : Opt
   pub places_more : new.places ≡ old.places ++ q ∷ [] → map place_of new.places ≡ map place_of old.places ++ place_of q ∷ []
   places_more p = ap (map place_of) p ∙ map-append place_of old.places (q ∷ [])
 
-  pub numbers_more : new.numbers ≡ old.numbers ++ unwrap_or at 0 ∷ [] → new.places ≡ old.places ++ q ∷ [] → new.numbers ≡ map number_of (map place_of new.places)
-  numbers_more n p = n ∙ ap (λ xs. xs ++ unwrap_or at 0 ∷ []) sound.numbers ∙ sym (ap (map number_of) (places_more p) ∙ map-append number_of (map place_of old.places) (place_of q ∷ []))
+  pub numbers_more : new.numbers ≡ old.numbers ++ unwrap_or at 0 ∷ [] → new.places ≡ old.places ++ q ∷ [] → new.numbers ≡ map place_number (map place_of new.places)
+  numbers_more n p = n ∙ ap (λ xs. xs ++ unwrap_or at 0 ∷ []) sound.numbers ∙ sym (ap (map place_number) (places_more p) ∙ map-append place_number (map place_of old.places) (place_of q ∷ []))
 
   -- a place without a new entry
   pub stays : new.numbers ≡ old.numbers ++ unwrap_or at 0 ∷ [] → new.places ≡ old.places ++ q ∷ [] → new.more ≡ old.more → new.keys ≡ old.keys → IsSound E new
@@ -98,13 +98,13 @@ found_is E p sound d l s k is =
     sound.keys k ∙ ap (keyed X) is ∙ keyed_is X (λ j e g. all_at has_short_link X j e sound.short g) d l s
 
 -- the number of a definition's place
-pub number_is : (ps : List Place) (k : ℕ) → unwrap_or (slice_get (map number_of ps) k) 0 ≡ placed_number ps k
+pub number_is : (ps : List Place) (k : ℕ) → unwrap_or (slice_get (map place_number ps) k) 0 ≡ placed_number ps k
 number_is [] k = refl
 number_is (q ∷ ps) zero = refl
 number_is (q ∷ ps) (suc k) = number_is ps k
 
-pub numbers_are : (E : Environment) (p : Placing) → IsSound E p → number_in p.numbers ≡ placed_number (state_of E p).1
-numbers_are E p sound = ap number_in sound.numbers ∙ fun_ext (number_is (map place_of p.places))
+pub numbers_are : (E : Environment) (p : Placing) → IsSound E p → number_for p.numbers ≡ placed_number (state_of E p).1
+numbers_are E p sound = ap number_for sound.numbers ∙ fun_ext (number_is (map place_of p.places))
 
 -- a definition that is found, and one that isn't
 pub found_state : (s : Placed) (d : Def) (l : Option ℕ) (j : ℕ) → find_def s.0 d l ≡ Some j → found_or_put sha256 s d l ≡ placed_there sha256 s j
@@ -163,7 +163,7 @@ pub sound_first : (E : Environment) (p : Placing) → IsCoherent E → p.numbers
 sound_first E p c numbers places more keys =
     let all : E ++ map entry_of p.more ≡ E = ap (λ es. E ++ map entry_of es) more ∙ append-nil E in
     record {
-      numbers = numbers ∙ sym (ap (λ ps. map number_of (map place_of ps)) places);
+      numbers = numbers ∙ sym (ap (λ ps. map place_number (map place_of ps)) places);
       keys = λ k. keys k ∙ ap (λ X. keyed X k.items) (sym all);
       short = ap (list_all has_short_link) all ∙ coherent_short E c;
       few = let a = ap length more in let b = ap length places in omega (arith, a, b);
@@ -173,5 +173,5 @@ pub state_first : (E : Environment) (p : Placing) → p.places ≡ [] → p.more
 state_first E p places more = ap₂ (λ es (ps : List Place). (es, ps)) (ap (λ es. E ++ map entry_of es) more ∙ append-nil E) (ap (map place_of) places)
 
 -- the numbers of a state
-pub numbers_of : (E : Environment) (p : Placing) (s : Placed) → IsSound E p → state_of E p ≡ s → p.numbers ≡ map number_of s.1
-numbers_of E p s sound e = sound.numbers ∙ ap (λ (z : Placed). map number_of z.1) e
+pub numbers_of : (E : Environment) (p : Placing) (s : Placed) → IsSound E p → state_of E p ≡ s → p.numbers ≡ map place_number s.1
+numbers_of E p s sound e = sound.numbers ∙ ap (λ (z : Placed). map place_number z.1) e

@@ -10,5 +10,5 @@ use Rattle.ac_placing.specs.inner.Open.{place_of}
 abbrev pub state_of : Environment → Placing → Placed
 state_of E p = (E ++ map entry_of p.more, map place_of p.places)
 
-abbrev pub number_of : Place → ℕ
-number_of q = unwrap_or q.at 0
+abbrev pub place_number : Place → ℕ
+place_number q = unwrap_or q.at 0

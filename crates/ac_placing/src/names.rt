@@ -7,7 +7,7 @@ ghost use Rattle.ac_terms.specs.Names.{name_by};
 ghost use Rattle.ac_terms.specs.Spelling.{type_bytes};
 ghost use Rattle.ac_terms.specs.Read.{environment_of, entry_of, name_of_code, def_of_code, module_of_code, import_of_code};
 ghost use Rattle.ac_canon.specs.Canon.{kept};
-ghost use Rattle.ac_placing.specs.inner.Behind.{all_of, kept_of};
+ghost use Rattle.ac_placing.specs.inner.Behind.{all_entries, kept_entry_name};
 
 use ac_bytes::Out;
 use ac_canon::{Spelling, put_import, put_module, put_type};
@@ -54,7 +54,7 @@ fn kept_name(env: &Env, more: &[Entry], j: usize) -> Option<Name>
 }
 
 fn name_in(entries: &[Entry], j: usize) -> Option<Name>
-    ensures { option_map name_of_code result ≡ kept_of (slice_get entries.now j) }
+    ensures { option_map name_of_code result ≡ kept_entry_name (slice_get entries.now j) }
 {
     match entries.get(j) {
         None => None,
@@ -69,7 +69,7 @@ fn digest(text: &Text) -> Name
 }
 
 fn module_name(alloc: Global, spelling: &Behind<'_>, m: &Module) -> Result<Name, Memory>
-    ensures { IfOk result (λ n. name_by sha256 (all_of spelling.now)
+    ensures { IfOk result (λ n. name_by sha256 (all_entries spelling.now)
         (AModule (module_of_code m.now)) ≡ Some n.0) }
 {
     let mut out = Out::new(alloc);
@@ -79,7 +79,7 @@ fn module_name(alloc: Global, spelling: &Behind<'_>, m: &Module) -> Result<Name,
 }
 
 fn import_name(alloc: Global, spelling: &Behind<'_>, i: &Import) -> Result<Name, Memory>
-    ensures { IfOk result (λ n. name_by sha256 (all_of spelling.now)
+    ensures { IfOk result (λ n. name_by sha256 (all_entries spelling.now)
         (AnImport (import_of_code i.now)) ≡ Some n.0) }
 {
     match &i.constraint {

@@ -9,7 +9,7 @@ ghost use Rattle.ac_terms.specs.Read.{environment_of, def_of_code, pdef_of, modu
 ghost use Rattle.ac_rules.specs.Coherent.{IsCoherent};
 ghost use Rattle.ac_rules.specs.Links.{linked, InPacket};
 ghost use Rattle.ac_rules.specs.Packets.{put, found_or_put, place_exact, place_ranges, place, places};
-ghost use Rattle.ac_placing.specs.Placed.{state_of, number_of};
+ghost use Rattle.ac_placing.specs.Placed.{state_of, place_number};
 ghost use Rattle.ac_placing.specs.inner.Keys.{is_short};
 ghost use Rattle.ac_placing.specs.inner.State.{IsSound};
 
@@ -262,7 +262,7 @@ pub fn placed(alloc: Global, env: &Env, defs: &[PDef]) -> Result<Placing, Memory
     requires fits { IsTrue (list_all fits_def (map pdef_of defs.now)) }
     ensures placed { IfOk result (λ p. state_of (environment_of env.now) p ≡ places sha256
         (environment_of env.now) (map pdef_of defs.now)) }
-    ensures numbers { IfOk result (λ p. p.numbers ≡ map number_of (places sha256
+    ensures numbers { IfOk result (λ p. p.numbers ≡ map place_number (places sha256
         (environment_of env.now) (map pdef_of defs.now)).1) }
     ensures few { IfOk result (λ p. length p.more ≤ length defs.now) }
 {

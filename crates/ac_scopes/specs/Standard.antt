@@ -13,21 +13,21 @@ pub record NamedPrimitive : Type 0 where
   pub number : ℕ
   pub argument : Typ
 
-abbrev pub taking : ℕ → Typ → NamedPrimitive
-taking number argument = record { number = number; argument = argument }
+abbrev pub primitive_on : ℕ → Typ → NamedPrimitive
+primitive_on number argument = record { number = number; argument = argument }
 
 abbrev pub io : List (Bytes × NamedPrimitive)
 io =
-    (codes "print_int", taking primitives.print_int TInt) ∷
-    (codes "print_string", taking primitives.print_string TStr) ∷
-    (codes "send", taking primitives.send TStr) ∷
-    (codes "receive", taking primitives.receive TUnit) ∷ []
+    (codes "print_int", primitive_on primitives.print_int TInt) ∷
+    (codes "print_string", primitive_on primitives.print_string TStr) ∷
+    (codes "send", primitive_on primitives.send TStr) ∷
+    (codes "receive", primitive_on primitives.receive TUnit) ∷ []
 
 abbrev pub str_primitives : List (Bytes × NamedPrimitive)
 str_primitives =
-    (codes "length", taking primitives.length TStr) ∷
-    (codes "sub", taking primitives.sub_string (TTuple (typs (TStr ∷ TInt ∷ TInt ∷ [])))) ∷
-    (codes "of_int", taking primitives.of_int TInt) ∷ []
+    (codes "length", primitive_on primitives.length TStr) ∷
+    (codes "sub", primitive_on primitives.sub_string (TTuple (typs (TStr ∷ TInt ∷ TInt ∷ [])))) ∷
+    (codes "of_int", primitive_on primitives.of_int TInt) ∷ []
 
 abbrev pub standard : List (Bytes × List (Bytes × NamedPrimitive))
 standard = (codes "IO", io) ∷ (codes "Str", str_primitives) ∷ []

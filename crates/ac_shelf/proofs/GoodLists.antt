@@ -7,7 +7,7 @@ use Rattle.ac_types.specs.Types.{Bytes}
 use Rattle.ac_types.specs.Limits.{is_uri}
 use Rattle.ac_types.proofs.Same.{both_true}
 use Rattle.ac_rules.specs.Modules.{are_distinct}
-use Rattle.ac_shelf.specs.ShelfLists.{Listed, ShelfAnswer, Lists, BadLine, lines, has_form, entries_of, listed_uris, are_good, answer_behind, shelf_answer}
+use Rattle.ac_shelf.specs.ShelfLists.{Listed, ShelfAnswer, Lists, BadLine, lines, has_form, entries_of_lines, listed_uris, are_good, answer_behind, shelf_answer}
 use Rattle.ac_shelf.proofs.Lines.{all_uris}
 
 -- entries that a shelf may have
@@ -25,14 +25,14 @@ abbrev IsList : ShelfAnswer → Type 0
 IsList (Lists xs) = Unit {0}
 IsList (BadLine n) = ⊥
 
-good_fit : (ls : List Bytes) → are_good ls ≡ true → AreFit (entries_of ls)
+good_fit : (ls : List Bytes) → are_good ls ≡ true → AreFit (entries_of_lines ls)
 good_fit ls g =
     let p = both_true (list_all has_form ls) _ g in
     let q = both_true (nat_le (length (concat ls)) 65536) _ p.1 in
-    let r = both_true (nat_le (length (entries_of ls)) 256) _ q.1 in
-    record { few = leb-true (length (entries_of ls)) 256 r.0; uris = all_uris ls; apart = r.1 }
+    let r = both_true (nat_le (length (entries_of_lines ls)) 256) _ q.1 in
+    record { few = leb-true (length (entries_of_lines ls)) 256 r.0; uris = all_uris ls; apart = r.1 }
 
-fit_behind : (before rest : List Bytes) (xs : List Listed) → AreFit (entries_of before) → answer_behind before rest ≡ Lists xs → AreFit xs
+fit_behind : (before rest : List Bytes) (xs : List Listed) → AreFit (entries_of_lines before) → answer_behind before rest ≡ Lists xs → AreFit xs
 fit_behind before [] xs h e = subst AreFit (ap listed_in e) h
 fit_behind before (line ∷ rest) xs h e =
     by (are_good (before ++ line ∷ [])) refl e (λ g. fit_behind (before ++ line ∷ []) rest xs (good_fit (before ++ line ∷ []) g)) where

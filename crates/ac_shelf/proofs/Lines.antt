@@ -12,7 +12,7 @@ use Rattle.ac_types.proofs.Same.{both_true, and_true, bytes_eq, bytes_refl}
 use Rattle.ac_rules.specs.Modules.{are_distinct}
 use Rattle.ac_types.specs.Limits.{is_uri}
 use Rattle.ac_shelf.specs.declared.list.ShelfLine as code_line
-use Rattle.ac_shelf.specs.ShelfLists.{Listed, is_space, is_listed_file, pair_of, listed_of, is_feed, in_front, lines, line_has, without_feed, has_form, had_of, entry_of_line, entries_of, listed_uris, are_good}
+use Rattle.ac_shelf.specs.ShelfLists.{Listed, is_space, is_listed_file, pair_of, listed_of, is_feed, byte_in_front, lines, line_has, without_feed, has_form, had_of, entry_of_line, entries_of_lines, listed_uris, are_good}
 use Rattle.ac_shelf.specs.inner.Behind.{are_few, fits_behind}
 
 -- where the first such place is
@@ -39,7 +39,7 @@ no_place {A} p xs h = go (nat_lt (position_or_len p xs) (length xs)) refl h wher
 pub feed_first : (text : Bytes) (n m : ℕ) → n ≡ position_or_len is_feed text → n < length text → m ≡ suc n → lines text ≡ take m text ∷ lines (drop m text)
 feed_first [] n m is lt next = absurd (omega (arith, lt))
 feed_first (b ∷ bs) n m is lt next = go (is_feed b) (λ h. feed_first bs (position_or_len is_feed bs) (suc (position_or_len is_feed bs)) refl h refl) is lt where
-  go : (t : Bool) → (position_or_len is_feed bs < length bs → lines bs ≡ take (suc (position_or_len is_feed bs)) bs ∷ lines (drop (suc (position_or_len is_feed bs)) bs)) → n ≡ cond (not t) (1 + position_or_len is_feed bs) 0 → n < suc (length bs) → cond t ((b ∷ []) ∷ lines bs) (in_front b (lines bs)) ≡ take m (b ∷ bs) ∷ lines (drop m (b ∷ bs))
+  go : (t : Bool) → (position_or_len is_feed bs < length bs → lines bs ≡ take (suc (position_or_len is_feed bs)) bs ∷ lines (drop (suc (position_or_len is_feed bs)) bs)) → n ≡ cond (not t) (1 + position_or_len is_feed bs) 0 → n < suc (length bs) → cond t ((b ∷ []) ∷ lines bs) (byte_in_front b (lines bs)) ≡ take m (b ∷ bs) ∷ lines (drop m (b ∷ bs))
   go true h e l = let one : m ≡ 1 = omega (arith, e, next) in rw one refl
   go false h e l =
       let k : ℕ = position_or_len is_feed bs in
@@ -52,16 +52,16 @@ abbrev all_in_one : Bytes → List Bytes
 all_in_one [] = []
 all_in_one (b ∷ bs) = (b ∷ bs) ∷ []
 
-one_in_front : (b : ℕ) (bs : Bytes) → in_front b (all_in_one bs) ≡ (b ∷ bs) ∷ []
+one_in_front : (b : ℕ) (bs : Bytes) → byte_in_front b (all_in_one bs) ≡ (b ∷ bs) ∷ []
 one_in_front b [] = refl
 one_in_front b (c ∷ bs) = refl
 
 no_feed_in : (text : Bytes) → length text ≡ position_or_len is_feed text → lines text ≡ all_in_one text
 no_feed_in [] is = refl
 no_feed_in (b ∷ bs) is = go (is_feed b) (no_feed_in bs) is where
-  go : (t : Bool) → (length bs ≡ position_or_len is_feed bs → lines bs ≡ all_in_one bs) → suc (length bs) ≡ cond (not t) (1 + position_or_len is_feed bs) 0 → cond t ((b ∷ []) ∷ lines bs) (in_front b (lines bs)) ≡ (b ∷ bs) ∷ []
+  go : (t : Bool) → (length bs ≡ position_or_len is_feed bs → lines bs ≡ all_in_one bs) → suc (length bs) ≡ cond (not t) (1 + position_or_len is_feed bs) 0 → cond t ((b ∷ []) ∷ lines bs) (byte_in_front b (lines bs)) ≡ (b ∷ bs) ∷ []
   go true h e = absurd (omega (arith, e))
-  go false h e = ap (in_front b) (h (omega (arith, e))) ∙ one_in_front b bs
+  go false h e = ap (byte_in_front b) (h (omega (arith, e))) ∙ one_in_front b bs
 
 pub no_feed : (text : Bytes) → length text ≡ position_or_len is_feed text → 0 < length text → lines text ≡ text ∷ []
 no_feed [] is lt = absurd (omega (arith, lt))
@@ -81,9 +81,9 @@ pub concat_more : (ls : List Bytes) (l : Bytes) → length (concat (ls ++ l ∷ 
 concat_more [] l = omega (arith, ap length (append-nil l))
 concat_more (m ∷ ls) l = length-append m (concat (ls ++ l ∷ [])) ∙ omega (arith, concat_more ls l, length-append m (concat ls))
 
-pub entries_more : (ls : List Bytes) (l : Bytes) → entries_of (ls ++ l ∷ []) ≡ entries_of ls ++ entry_of_line l
+pub entries_more : (ls : List Bytes) (l : Bytes) → entries_of_lines (ls ++ l ∷ []) ≡ entries_of_lines ls ++ entry_of_line l
 entries_more [] l = append-nil (entry_of_line l)
-entries_more (m ∷ ls) l = ap (λ (xs : List Listed). entry_of_line m ++ xs) (entries_more ls l) ∙ sym (append_assoc (entry_of_line m) (entries_of ls) (entry_of_line l))
+entries_more (m ∷ ls) l = ap (λ (xs : List Listed). entry_of_line m ++ xs) (entries_more ls l) ∙ sym (append_assoc (entry_of_line m) (entries_of_lines ls) (entry_of_line l))
 
 same_both : (a b : Bytes) → same_bytes a b ≡ same_bytes b a
 same_both a b = go (same_bytes a b) (same_bytes b a) refl refl where
@@ -118,12 +118,12 @@ distinct_more (x ∷ us) u =
 
 -- a line behind good lines
 pub good_more : (ls : List Bytes) (l : Bytes) → are_good ls ≡ true
-    → are_good (ls ++ l ∷ []) ≡ (nat_le (length (concat ls) + length l) 65536 && fits_behind (entries_of ls) (line_has (without_feed l)))
+    → are_good (ls ++ l ∷ []) ≡ (nat_le (length (concat ls) + length l) 65536 && fits_behind (entries_of_lines ls) (line_has (without_feed l)))
 good_more ls l good =
     rw (all_more has_form ls l (both_true (list_all has_form ls) _ good).0, concat_more ls l, entries_more ls l)
     (go (line_has (without_feed l)) (nat_le (length (concat ls) + length l) 65536))
   where
-    go : (o : Option (List Listed)) (n : Bool) → (is_some o && (n && are_few (entries_of ls ++ had_of o))) ≡ (n && fits_behind (entries_of ls) o)
+    go : (o : Option (List Listed)) (n : Bool) → (is_some o && (n && are_few (entries_of_lines ls ++ had_of o))) ≡ (n && fits_behind (entries_of_lines ls) o)
     go None true = refl
     go None false = refl
     go (Some ys) n = refl
@@ -146,9 +146,9 @@ line_uri : (line : Bytes) → list_all (λ (x : Listed). is_uri x.uri) (had_of (
 line_uri [] = refl
 line_uri (b ∷ bs) = pair_uri (before_first is_space (b ∷ bs)) (after_first is_space (b ∷ bs))
 
-pub all_uris : (ls : List Bytes) → list_all (λ (x : Listed). is_uri x.uri) (entries_of ls) ≡ true
+pub all_uris : (ls : List Bytes) → list_all (λ (x : Listed). is_uri x.uri) (entries_of_lines ls) ≡ true
 all_uris [] = refl
-all_uris (l ∷ ls) = all_front (λ (x : Listed). is_uri x.uri) (entry_of_line l) (entries_of ls) (line_uri (without_feed l)) (all_uris ls)
+all_uris (l ∷ ls) = all_front (λ (x : Listed). is_uri x.uri) (entry_of_line l) (entries_of_lines ls) (line_uri (without_feed l)) (all_uris ls)
 
 -- an entry of the code has a URI where one of those of the definition has it
 pub any_listed : (u : Bytes) (xs : List code_line.ShelfLine) → list_any (λ (x : code_line.ShelfLine). same_bytes u x.uri.0) xs ≡ list_any (same_bytes u) (listed_uris (map listed_of xs))

@@ -6,7 +6,7 @@ use Rattle.std.proofs.lemmas.Bool.{leb-true, le-leb, lt-leb}
 use Rattle.ac_types.specs.Types.{Bytes}
 use Rattle.ac_types.proofs.Same.{both_true}
 use Rattle.ac_types.specs.Limits.{is_uri}
-use Rattle.ac_shelf.specs.ShelfLists.{Listed, Lists, BadLine, lines, line_has, without_feed, has_form, had_of, entries_of, are_good, answer_behind, shelf_answer}
+use Rattle.ac_shelf.specs.ShelfLists.{Listed, Lists, BadLine, lines, line_has, without_feed, has_form, had_of, entries_of_lines, are_good, answer_behind, shelf_answer}
 use Rattle.ac_shelf.specs.inner.Behind.{are_few, fits_behind}
 use Rattle.ac_shelf.proofs.Lines.{good_more, concat_more, entries_more, all_uris}
 
@@ -18,7 +18,7 @@ pub record Reached (text rest : Bytes) (number place : ℕ) (xs : List Listed) :
   pub number_is : number ≡ length before
   pub place_is : place ≡ length (concat before)
   pub counted : number ≤ place
-  pub entries : xs ≡ entries_of before
+  pub entries : xs ≡ entries_of_lines before
 
 module _ {text rest : Bytes} {number place : ℕ} {xs : List Listed} (r : Reached text rest number place xs) where
   pub within : place ≤ 65536

@@ -24,14 +24,15 @@ abbrev pub is_space : ℕ → Bool
 is_space byte = byte == 32
 
 -- a byte in front of lines
-abbrev pub in_front : ℕ → List Bytes → List Bytes
-in_front byte [] = (byte ∷ []) ∷ []
-in_front byte (line ∷ rest) = (byte ∷ line) ∷ rest
+abbrev pub byte_in_front : ℕ → List Bytes → List Bytes
+byte_in_front byte [] = (byte ∷ []) ∷ []
+byte_in_front byte (line ∷ rest) = (byte ∷ line) ∷ rest
 
 -- the lines of a text with their line feeds, which the last one may lack
 abbrev pub lines : Bytes → List Bytes
 lines [] = []
-lines (byte ∷ rest) = if is_feed byte then (byte ∷ []) ∷ lines rest else in_front byte (lines rest)
+lines (byte ∷ rest) =
+    if is_feed byte then (byte ∷ []) ∷ lines rest else byte_in_front byte (lines rest)
 
 -- FILE: UTF-8 without spaces, at least a byte of it
 abbrev pub is_listed_file : Bytes → Bool
@@ -59,19 +60,19 @@ had_of (Some xs) = xs
 abbrev pub entry_of_line : Bytes → List Listed
 entry_of_line line = had_of (line_has (without_feed line))
 
-abbrev pub entries_of : List Bytes → List Listed
-entries_of ls = flat_map entry_of_line ls
+abbrev pub entries_of_lines : List Bytes → List Listed
+entries_of_lines ls = flat_map entry_of_line ls
 
 abbrev pub listed_uris : List Listed → List Bytes
 listed_uris xs = map (λ (x : Listed). x.uri) xs
 
 -- lines that may begin a list: each has its form, they have 65,536 bytes and 256 entries at most, and no URI twice
 abbrev pub are_good : List Bytes → Bool
-are_good ls = list_all has_form ls && (nat_le (length (concat ls)) 65536 && (nat_le (length (entries_of ls)) 256 && are_distinct (listed_uris (entries_of ls))))
+are_good ls = list_all has_form ls && (nat_le (length (concat ls)) 65536 && (nat_le (length (entries_of_lines ls)) 256 && are_distinct (listed_uris (entries_of_lines ls))))
 
 -- lines behind good ones: the first that isn't good with those in front of it is bad
 abbrev pub answer_behind : List Bytes → List Bytes → ShelfAnswer
-answer_behind before [] = Lists (entries_of before)
+answer_behind before [] = Lists (entries_of_lines before)
 answer_behind before (line ∷ rest) = if are_good (before ++ line ∷ []) then answer_behind (before ++ line ∷ []) rest else BadLine (length before + 1)
 
 -- what a list says

@@ -3,12 +3,12 @@ use Rattle.std.specs.Prelude.{ℕ, ◌+◌, Bool, true, false, List, [], ◌∷�
 use Rattle.std.specs.Fmt.{decimal}
 use Rattle.hex.specs.Hex.{encode_lower}
 use Rattle.ac_types.specs.Types.{Bytes}
-use Rattle.ac_terms.specs.Defs.{Environment, Def, AModule, AnImport, AMark, Seen, Own', Shelf, Arrived, Entry}
+use Rattle.ac_terms.specs.Defs.{Environment, Def, AModule, AnImport, AMark, Own', Shelf, Arrived, Entry}
 use Rattle.ac_literals.specs.Literals.{literal}
 
 -- the entries that aren't of the shelf, and that haven't arrived
-abbrev pub is_own : Entry → Bool
-is_own e = elim e.seen [ Own' ↦ true | Shelf uri ↦ false | Arrived ↦ false ]
+abbrev pub is_own_entry : Entry → Bool
+is_own_entry e = elim e.seen [ Own' ↦ true | Shelf uri ↦ false | Arrived ↦ false ]
 
 -- the 64 digits of the name that an entry keeps
 abbrev pub digits_of : Option Bytes → Bytes
@@ -27,7 +27,8 @@ name_line number e = decimal number ++ codes " " ++ def_shown e.def e.name ++ co
 -- the lines of the own entries among some, which are numbered from k on
 abbrev pub names_from : ℕ → List Entry → Bytes
 names_from k [] = []
-names_from k (e ∷ es) = if is_own e then name_line k e ++ names_from (k + 1) es else names_from k es
+names_from k (e ∷ es) =
+    if is_own_entry e then name_line k e ++ names_from (k + 1) es else names_from k es
 
 abbrev pub names_shown : Environment → Bytes
 names_shown E = names_from 0 E

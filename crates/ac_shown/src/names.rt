@@ -2,7 +2,7 @@
 
 ghost use Rattle.std.specs.Prelude.{◌≡◌, ◌++◌, ◌+◌, ◌<◌, ◌-◌, ◌^◌, [], IfOk, OnOk, codes, cond, option_map};
 ghost use Rattle.ac_terms.specs.Read.{entry_of, environment_of, def_of_code, name_of_code};
-ghost use Rattle.ac_shown.specs.DefinitionNames.{is_own, digits_of, def_shown, name_line, names_shown};
+ghost use Rattle.ac_shown.specs.DefinitionNames.{is_own_entry, digits_of, def_shown, name_line, names_shown};
 
 use ac_literals::{put_literal, put_number};
 use ac_terms::{Def, Entry, Env, Seen};
@@ -26,9 +26,9 @@ pub fn names_text(alloc: Global, env: &Env) -> Result<Text, Memory>
 fn put_if_own(alloc: Global, text: &mut Text, number: usize, entry: &Entry) -> Result<usize, Memory>
     requires { number + 1 < 2 ^ 64 }
     ensures line { OnOk result (text.new.0 ≡ text.old.0 ++
-        cond (is_own (entry_of entry.now)) (name_line number (entry_of entry.now)) []) }
+        cond (is_own_entry (entry_of entry.now)) (name_line number (entry_of entry.now)) []) }
     ensures next { IfOk result (λ next. next ≡
-        cond (is_own (entry_of entry.now)) (number + 1) number) }
+        cond (is_own_entry (entry_of entry.now)) (number + 1) number) }
 {
     if !is_own(entry) {
         return Ok(number);
@@ -38,7 +38,7 @@ fn put_if_own(alloc: Global, text: &mut Text, number: usize, entry: &Entry) -> R
 }
 
 fn is_own(entry: &Entry) -> bool
-    ensures { result ≡ is_own (entry_of entry.now) }
+    ensures { result ≡ is_own_entry (entry_of entry.now) }
 {
     match &entry.seen {
         Seen::Own => true,

@@ -16,7 +16,7 @@ use Rattle.ac_syntax.specs.declared.surface.SExprKind.TheFolds.{map-SExpr, map-S
 use Rattle.ac_syntax.specs.declared.surface.SExprKind.TheViews.{out-SExpr, out-SExprKind, out-SArm, out-SFun, the_lemmas}
 use Rattle.ac_syntax.specs.declared.surface.SExprKind.TheVariants as variants
 use Rattle.ac_syntax.specs.Trees.{PatTree, PatTuple, pat_trees, Tree, ExTuple, ExSeq, ExOp, ExMatch, ExTry, trees, arm_trees}
-use Rattle.ac_syntax.specs.ReadTrees.{pat_of, pat_kind_of, pat_kind_layer, pat_layer, FunTree, expr_of, expr_kind_of, arm_of, fun_of, expr_kind_layer, expr_tree_layer, arm_tree_layer, fun_layer}
+use Rattle.ac_syntax.specs.ReadTrees.{pat_of, pat_kind_of, pat_kind_layer, pat_layer, FunTree, tree_of, expr_kind_of, arm_tree_of, fun_of, expr_kind_layer, expr_tree_layer, arm_tree_layer, fun_layer}
 
 -- patterns: one layer, read
 abbrev pub read_pat : SPat-F SPatKind SPat → SPat-F (ℕ → PatTree) PatTree
@@ -40,50 +40,50 @@ pub ruleset pat_laws = (pat_out, pat_kind_out, pat_kind_of-Tuple, pat_views.the_
 
 -- expressions: one layer, read
 abbrev pub read_expr : SExpr-F SExprKind SArm SExpr SFun → SExpr-F (ℕ → Tree) (PatTree × Tree) Tree FunTree
-read_expr = map-SExpr SExprKind SArm SExpr SFun (ℕ → Tree) (PatTree × Tree) Tree FunTree expr_kind_of arm_of expr_of fun_of
+read_expr = map-SExpr SExprKind SArm SExpr SFun (ℕ → Tree) (PatTree × Tree) Tree FunTree expr_kind_of arm_tree_of tree_of fun_of
 
 abbrev pub read_expr_kind : SExprKind-F SExprKind SArm SExpr SFun → SExprKind-F (ℕ → Tree) (PatTree × Tree) Tree FunTree
-read_expr_kind = map-SExprKind SExprKind SArm SExpr SFun (ℕ → Tree) (PatTree × Tree) Tree FunTree expr_kind_of arm_of expr_of fun_of
+read_expr_kind = map-SExprKind SExprKind SArm SExpr SFun (ℕ → Tree) (PatTree × Tree) Tree FunTree expr_kind_of arm_tree_of tree_of fun_of
 
 abbrev pub read_arm : SArm-F SExprKind SArm SExpr SFun → SArm-F (ℕ → Tree) (PatTree × Tree) Tree FunTree
-read_arm = map-SArm SExprKind SArm SExpr SFun (ℕ → Tree) (PatTree × Tree) Tree FunTree expr_kind_of arm_of expr_of fun_of
+read_arm = map-SArm SExprKind SArm SExpr SFun (ℕ → Tree) (PatTree × Tree) Tree FunTree expr_kind_of arm_tree_of tree_of fun_of
 
 abbrev pub read_fun : SFun-F SExprKind SArm SExpr SFun → SFun-F (ℕ → Tree) (PatTree × Tree) Tree FunTree
-read_fun = map-SFun SExprKind SArm SExpr SFun (ℕ → Tree) (PatTree × Tree) Tree FunTree expr_kind_of arm_of expr_of fun_of
+read_fun = map-SFun SExprKind SArm SExpr SFun (ℕ → Tree) (PatTree × Tree) Tree FunTree expr_kind_of arm_tree_of tree_of fun_of
 
-pub expr_out : (e : SExpr) → expr_of e ≡ expr_tree_layer (read_expr (out-SExpr e))
-unfolding expr_of expr_kind_of arm_of fun_of
+pub expr_out : (e : SExpr) → tree_of e ≡ expr_tree_layer (read_expr (out-SExpr e))
+unfolding tree_of expr_kind_of arm_tree_of fun_of
 expr_out e = fold_out-SExpr (ℕ → Tree) (PatTree × Tree) Tree FunTree expr_kind_layer arm_tree_layer expr_tree_layer fun_layer e
 
 pub expr_kind_out : (k : SExprKind) → expr_kind_of k ≡ expr_kind_layer (read_expr_kind (out-SExprKind k))
-unfolding expr_of expr_kind_of arm_of fun_of
+unfolding tree_of expr_kind_of arm_tree_of fun_of
 expr_kind_out k = fold_out-SExprKind (ℕ → Tree) (PatTree × Tree) Tree FunTree expr_kind_layer arm_tree_layer expr_tree_layer fun_layer k
 
-pub arm_out : (a : SArm) → arm_of a ≡ arm_tree_layer (read_arm (out-SArm a))
-unfolding expr_of expr_kind_of arm_of fun_of
+pub arm_out : (a : SArm) → arm_tree_of a ≡ arm_tree_layer (read_arm (out-SArm a))
+unfolding tree_of expr_kind_of arm_tree_of fun_of
 arm_out a = fold_out-SArm (ℕ → Tree) (PatTree × Tree) Tree FunTree expr_kind_layer arm_tree_layer expr_tree_layer fun_layer a
 
 pub fun_out : (f : SFun) → fun_of f ≡ fun_layer (read_fun (out-SFun f))
-unfolding expr_of expr_kind_of arm_of fun_of
+unfolding tree_of expr_kind_of arm_tree_of fun_of
 fun_out f = fold_out-SFun (ℕ → Tree) (PatTree × Tree) Tree FunTree expr_kind_layer arm_tree_layer expr_tree_layer fun_layer f
 
 -- the kinds that hold a list
 abbrev pub kind_at : ℕ → SExprKind-F SExprKind SArm SExpr SFun → Tree
 kind_at at x = expr_kind_layer (read_expr_kind x) at
 
-pub expr_kind_of-Tuple : (es : List SExpr) (at : ℕ) → expr_kind_of (Tuple es) at ≡ ExTuple at (trees (map expr_of es))
+pub expr_kind_of-Tuple : (es : List SExpr) (at : ℕ) → expr_kind_of (Tuple es) at ≡ ExTuple at (trees (map tree_of es))
 expr_kind_of-Tuple es at = ap (λ f. f at) (expr_kind_out (Tuple es)) ∙ ap (kind_at at) (variants.outs-Tuple es)
 
-pub expr_kind_of-Seq : (es : List SExpr) (at : ℕ) → expr_kind_of (Seq es) at ≡ ExSeq at (trees (map expr_of es))
+pub expr_kind_of-Seq : (es : List SExpr) (at : ℕ) → expr_kind_of (Seq es) at ≡ ExSeq at (trees (map tree_of es))
 expr_kind_of-Seq es at = ap (λ f. f at) (expr_kind_out (Seq es)) ∙ ap (kind_at at) (variants.outs-Seq es)
 
-pub expr_kind_of-Op : (n : ℕ) (es : List SExpr) (at : ℕ) → expr_kind_of (Op n es) at ≡ ExOp at n (trees (map expr_of es))
+pub expr_kind_of-Op : (n : ℕ) (es : List SExpr) (at : ℕ) → expr_kind_of (Op n es) at ≡ ExOp at n (trees (map tree_of es))
 expr_kind_of-Op n es at = ap (λ f. f at) (expr_kind_out (Op n es)) ∙ ap (kind_at at) (variants.outs-Op n es)
 
-pub expr_kind_of-Match : (e : SExpr) (arms : List SArm) (at : ℕ) → expr_kind_of (Match e arms) at ≡ ExMatch at (expr_of e) (arm_trees (map arm_of arms))
+pub expr_kind_of-Match : (e : SExpr) (arms : List SArm) (at : ℕ) → expr_kind_of (Match e arms) at ≡ ExMatch at (tree_of e) (arm_trees (map arm_tree_of arms))
 expr_kind_of-Match e arms at = ap (λ f. f at) (expr_kind_out (Match e arms)) ∙ ap (kind_at at) (variants.outs-Match e arms)
 
-pub expr_kind_of-Try : (e : SExpr) (arms : List SArm) (at : ℕ) → expr_kind_of (Try e arms) at ≡ ExTry at (expr_of e) (arm_trees (map arm_of arms))
+pub expr_kind_of-Try : (e : SExpr) (arms : List SArm) (at : ℕ) → expr_kind_of (Try e arms) at ≡ ExTry at (tree_of e) (arm_trees (map arm_tree_of arms))
 expr_kind_of-Try e arms at = ap (λ f. f at) (expr_kind_out (Try e arms)) ∙ ap (kind_at at) (variants.outs-Try e arms)
 
 pub ruleset expr_laws = (expr_out, expr_kind_out, arm_out, fun_out, expr_kind_of-Tuple, expr_kind_of-Seq, expr_kind_of-Op, expr_kind_of-Match, expr_kind_of-Try, the_lemmas)

@@ -131,14 +131,14 @@ expr_tree_layer e = e.kind e.at
 abbrev pub fun_layer : code.SFun-F (ℕ → Tree) (PatTree × Tree) Tree FunTree → FunTree
 fun_layer f = record { name = name_of f.name; argument = name_of f.arg; ty = type_of f.ty; result = type_of f.result; body = f.body }
 
-unfoldable pub expr_of : SExpr → Tree
-expr_of = fold-SExpr (ℕ → Tree) (PatTree × Tree) Tree FunTree expr_kind_layer arm_tree_layer expr_tree_layer fun_layer
+unfoldable pub tree_of : SExpr → Tree
+tree_of = fold-SExpr (ℕ → Tree) (PatTree × Tree) Tree FunTree expr_kind_layer arm_tree_layer expr_tree_layer fun_layer
 
 unfoldable pub expr_kind_of : SExprKind → ℕ → Tree
 expr_kind_of = fold-SExprKind (ℕ → Tree) (PatTree × Tree) Tree FunTree expr_kind_layer arm_tree_layer expr_tree_layer fun_layer
 
-unfoldable pub arm_of : SArm → PatTree × Tree
-arm_of = fold-SArm (ℕ → Tree) (PatTree × Tree) Tree FunTree expr_kind_layer arm_tree_layer expr_tree_layer fun_layer
+unfoldable pub arm_tree_of : SArm → PatTree × Tree
+arm_tree_of = fold-SArm (ℕ → Tree) (PatTree × Tree) Tree FunTree expr_kind_layer arm_tree_layer expr_tree_layer fun_layer
 
 unfoldable pub fun_of : SFun → FunTree
 fun_of = fold-SFun (ℕ → Tree) (PatTree × Tree) Tree FunTree expr_kind_layer arm_tree_layer expr_tree_layer fun_layer
@@ -158,7 +158,7 @@ sig_tree_of s = record { at = s.at; specs = map spec_of s.specs }
 -- definitions and programs
 abbrev pub field_tree_of : SField → FieldTree
 field_tree_of (code_field.Abbrev x) = AbbrevField (abbrev_of x)
-field_tree_of (code_field.Val name ty body) = ValField (name_of name) (type_of ty) (expr_of body)
+field_tree_of (code_field.Val name ty body) = ValField (name_of name) (type_of ty) (tree_of body)
 
 abbrev pub version_of : code_version.Version → List Atom
 version_of v = map atom_of v.atoms
@@ -179,4 +179,4 @@ abbrev pub def_tree_of : SDef → DefTree
 def_tree_of d = def_kind_of d.at d.kind
 
 abbrev pub surface_of : Surface → ProgramTree
-surface_of s = record { defs = map def_tree_of s.defs; expr = option_map expr_of s.expr }
+surface_of s = record { defs = map def_tree_of s.defs; expr = option_map tree_of s.expr }

@@ -1,5 +1,5 @@
 -- The reading of each form of terms.
-use Rattle.std.proofs.Common.{◌≡◌, ◌∙◌, ap, refl, ℕ, ℤ, Bool, true, false, ◌||◌, List, map, None, Some}
+use Rattle.std.proofs.Common.{◌≡◌, ◌∙◌, ap, ap₂, refl, ℕ, ℤ, Bool, true, false, ◌||◌, List, [], ◌∷◌, map, None, Some}
 use Rattle.ac_types.specs.ReadTypes.{typ_of}
 use Rattle.ac_types.specs.declared.text.Text.{Text}
 use Rattle.ac_types.specs.declared.ty.Ty.{Ty}
@@ -11,10 +11,10 @@ use Rattle.ac_terms.specs.declared.term.PVal.TheOpen.{Term-F}
 use Rattle.ac_terms.specs.declared.term.PVal.TheFolds.{fold_out-Arm}
 use Rattle.ac_terms.specs.Terms.{Pattern, Expr, Int, Boolean, Str, Unit', Exn, ExnOf, Nil, Empty, Present, Cons, Var, Own, Ref, Lam, Rec, App, Let, If, Match, Try, Raise, Marshal, Unmarshal, Val, arms, PValue}
 use Rattle.ac_terms.specs.Bounds.{is_lambda, is_wanted}
-use Rattle.ac_terms.specs.Read.{pattern_of, expr_of, value_of, value_layer, expr_layer, arm_layer}
+use Rattle.ac_terms.specs.Read.{expr_of, value_of, arm_of, value_layer, expr_layer, arm_layer}
 use Rattle.ac_terms.proofs.ReadLaws.{read_arm, read_parts, expr_out, expr_of-Tuple, expr_of-Seq, expr_of-Prim}
 
-pub one_arm : (a : Arm) → read_arm a ≡ (pattern_of a.pat, expr_of a.body)
+one_arm : (a : Arm) → read_arm a ≡ arm_of a
 unfolding read_arm expr_of value_of
 one_arm a = fold_out-Arm PValue Expr (Pattern × Expr) value_layer expr_layer arm_layer a
 
@@ -88,16 +88,20 @@ expr_of-Unmarshal t e = expr_out (term.Unmarshal t e) ∙ ap layer (term.outs-Un
 pub expr_of-Val : (t : Ty) (v : PVal) → expr_of (term.Val t v) ≡ Val (typ_of t) (value_of v)
 expr_of-Val t v = expr_out (term.Val t v) ∙ ap layer (term.outs-Val t v)
 
--- the forms that have arms, which are read as what reads an arm gives
-pub match_read : (e : Term) (cases : List Arm) → expr_of (term.Match e cases) ≡ Match (expr_of e) (arms (map read_arm cases))
-match_read e cases = expr_out (term.Match e cases) ∙ ap layer (term.outs-Match e cases)
+-- the forms that have arms
+same_arms : (cases : List Arm) → map read_arm cases ≡ map arm_of cases
+same_arms [] = refl
+same_arms (c ∷ cases) = ap₂ (λ (x : Pattern × Expr) xs. x ∷ xs) (one_arm c) (same_arms cases)
 
-pub try_read : (e : Term) (cases : List Arm) → expr_of (term.Try e cases) ≡ Try (expr_of e) (arms (map read_arm cases))
-try_read e cases = expr_out (term.Try e cases) ∙ ap layer (term.outs-Try e cases)
+pub expr_of-Match : (e : Term) (cases : List Arm) → expr_of (term.Match e cases) ≡ Match (expr_of e) (arms (map arm_of cases))
+expr_of-Match e cases = expr_out (term.Match e cases) ∙ ap layer (term.outs-Match e cases) ∙ ap (λ xs. Match (expr_of e) (arms xs)) (same_arms cases)
+
+pub expr_of-Try : (e : Term) (cases : List Arm) → expr_of (term.Try e cases) ≡ Try (expr_of e) (arms (map arm_of cases))
+expr_of-Try e cases = expr_out (term.Try e cases) ∙ ap layer (term.outs-Try e cases) ∙ ap (λ xs. Try (expr_of e) (arms xs)) (same_arms cases)
 
 pub ruleset armless_forms = (expr_of-Int, expr_of-Bool, expr_of-Str, expr_of-Unit, expr_of-Exn, expr_of-ExnOf, expr_of-Tuple, expr_of-Nil, expr_of-Empty, expr_of-Present, expr_of-Cons, expr_of-Var, expr_of-Own, expr_of-Ref, expr_of-Lam, expr_of-Rec, expr_of-App, expr_of-Let, expr_of-If, expr_of-Seq, expr_of-Raise, expr_of-Prim, expr_of-Marshal, expr_of-Unmarshal, expr_of-Val)
 
-pub ruleset read_forms = (armless_forms, match_read, try_read)
+pub ruleset term_forms = (armless_forms, expr_of-Match, expr_of-Try)
 
 pub either_wanted : (e : Expr) → (is_wanted e false || is_wanted e true) ≡ is_lambda e
 either_wanted (Lam T e) = refl

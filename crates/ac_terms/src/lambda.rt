@@ -16,7 +16,7 @@ impl Term {
     }
 
     /// Whether this is a lambda, or a recursive one where that is wanted.
-    #[tactic(auto, using(crate::proofs::TermForms::read_forms))]
+    #[tactic(auto, using(crate::proofs::TermForms::term_forms))]
     pub fn is_wanted(&self, recursive: bool) -> bool
         ensures { result ≡ is_wanted (expr_of self.now) recursive }
     {

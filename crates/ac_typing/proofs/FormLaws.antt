@@ -13,7 +13,7 @@ use Rattle.ac_terms.specs.Read.{home_of}
 use Rattle.ac_terms.specs.TermTyping.{has}
 use Rattle.ac_rules.specs.Views.{Coloured}
 use Rattle.ac_rules.specs.Typing.{type_of, variables, variables_joined, type_seen}
-use Rattle.ac_views.specs.Sites.{scope_of}
+use Rattle.ac_views.specs.Sites.{scope_at}
 use Rattle.ac_typing.specs.inner.Parts.{arm_type, newest_first}
 use Rattle.ac_views.specs.declared.site.Site.{Site}
 use Rattle.ac_typing.proofs.KeptLaws.{K, kept_is, lam_some, lam_none, rec_none, rec_no_result, rec_some, rec_big, rec_small, let_other, let_same}
@@ -25,7 +25,7 @@ carry r x y e h = subst (λ (z : Option Typ). IfOk r (λ o. option_map typ_of o 
 module _ (E : Environment) (p : Site) (v : List Typ) where
   -- the type of a term whose variables have these types, and a type that is written
   abbrev pub typed : List Typ → Expr → Option Typ
-  typed G e = type_of Coloured true E (scope_of p G) e
+  typed G e = type_of Coloured true E (scope_at p G) e
 
   abbrev pub written : Typ → Option Typ
   written T = type_seen Coloured true E (home_of p.home) T
@@ -74,5 +74,5 @@ module _ (E : Environment) (p : Site) (v : List Typ) where
   found_is b o x n h = h ∙ ap (λ (ts : List Ty). variables_joined (Some (newest_first ts)) x) n ∙ joined_nil x
 
   pub body_some : (T : Typ) (q : Pattern) (e : Expr) (b us : List Ty) (G : List Typ) → b ≡ [] → Some (newest_first us) ≡ variables_joined (Some (newest_first b)) (vars q T)
-      → G ≡ newest_first us ++ v → typed G e ≡ arm_type E (scope_of p v) T q e
+      → G ≡ newest_first us ++ v → typed G e ≡ arm_type E (scope_at p v) T q e
   body_some T q e b us G n h g = ap (λ (H : List Typ). typed H e) g ∙ ap (option_and_then (λ (Us : List Typ). typed (Us ++ v) e)) (found_is b (Some (newest_first us)) (vars q T) n h)

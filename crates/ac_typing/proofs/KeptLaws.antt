@@ -1,9 +1,9 @@
 -- Small types: a type is small only where its parts are.
-use Rattle.std.proofs.Common.{ℕ, ◌≡◌, ◌+◌, ◌<◌, ◌≤◌, ◌⊎◌, inl, inr, max, refl, sym, ap, ap₂, ◌∙◌, arith, Bool, true, false, ◌&&◌, Option, Some, None}
-use Rattle.std.specs.Prelude.{option_map, option_and_then, is_some, nat_le}
+use Rattle.std.proofs.Common.{◌≡◌, refl, sym, ap, ap₂, ◌∙◌, arith, Bool, true, false, Option, Some, None}
+use Rattle.std.specs.Prelude.{option_map, option_and_then, is_some}
 use mathlib.Core.Bool.{true≢false}
 use Rattle.ac_types.specs.First.{given}
-use Rattle.ac_types.specs.Types.{Typ, TTuple, TList, TOpt, TFun, Typs, no_types, typ, same, parts, parts_of_all, height, height_of_all, is_small}
+use Rattle.ac_types.specs.Types.{Typ, TList, TOpt, TFun, same, parts, is_small}
 use Rattle.ac_types.proofs.FirstLaws.{none≢some, some_eq, given_some}
 use Rattle.ac_types.proofs.Same.{same_eq, same_refl}
 use Rattle.ac_terms.specs.TermTyping.{has}

@@ -8,19 +8,22 @@ use Rattle.ac_types.specs.declared.ty.Ty.{Ty}
 use Rattle.ac_types.specs.declared.text.Word.{Word}
 use Rattle.ac_terms.specs.Terms.{Expr, Tuple, Nil, Empty, Present, Cons, Var, Own, Ref, Lam, Rec, App, Let, If, Seq, Try, Raise, Prim, Marshal, Unmarshal, Val, exprs, arms}
 use Rattle.ac_terms.specs.Defs.{Environment}
-use Rattle.ac_terms.specs.Read.{expr_of, value_of}
+use Rattle.ac_terms.specs.Read.{expr_of, arm_of, value_of, expr_layer}
 use Rattle.ac_terms.specs.declared.term.Term.{Term}
 use Rattle.ac_terms.specs.declared.term.PVal.{PVal}
 use Rattle.ac_terms.specs.declared.term.Arm.{Arm}
 use Rattle.ac_terms.specs.declared.term.PVal.TheOpen.{Term-F}
 use Rattle.ac_terms.specs.declared.term.PVal.TheViews.{out-Term}
 use Rattle.ac_terms.specs.declared.term.Term.TheVariants as term
-use Rattle.ac_terms.proofs.ReadLaws.{expr_out, expr_of-Tuple, expr_of-Seq, expr_of-Prim}
+use Rattle.ac_terms.proofs.ReadLaws.{read_parts, expr_out, expr_of-Tuple, expr_of-Seq, expr_of-Prim}
+use Rattle.ac_terms.proofs.TermForms.{expr_of-Try}
 use Rattle.ac_rules.specs.Views.{Coloured}
 use Rattle.ac_rules.specs.Typing.{Scope, type_of}
-use Rattle.ac_views.specs.Sites.{arm_of}
-use Rattle.ac_typing.proofs.TermLaws.{layer, expr_of-Try}
 use Rattle.ac_typing.proofs.FormLaws.{carry}
+
+-- one layer, read
+abbrev layer : Term-F PVal Term Arm → Expr
+layer x = expr_layer (read_parts x)
 
 formed : (t u : Term) (x : Term-F PVal Term Arm) → t ≡ u → out-Term u ≡ x → expr_of t ≡ layer x
 formed t u x e o = ap expr_of e ∙ expr_out u ∙ ap layer o

@@ -3,13 +3,13 @@
 ghost use Rattle.std.specs.Prelude.{◌≡◌, ◌<◌, ◌^◌, IfOk, Some, true, length, map, option_map, option_and_then};
 ghost use Rattle.ac_types.specs.ReadTypes.{typ_of};
 ghost use Rattle.ac_terms.specs.Terms.{Lam, Rec, exprs, arms};
-ghost use Rattle.ac_terms.specs.Read.{home_of, expr_of, pattern_of};
+ghost use Rattle.ac_terms.specs.Read.{home_of, expr_of, arm_of, pattern_of};
 ghost use Rattle.ac_terms.specs.TermTyping.{has, last_of};
 ghost use Rattle.ac_types.specs.First.{given};
 ghost use Rattle.ac_types.specs.Types.{TExn};
 ghost use Rattle.ac_rules.specs.Views.{Coloured};
 ghost use Rattle.ac_rules.specs.Typing.{type_of, types_of, arm_types, one_of, kept_in, type_seen};
-ghost use Rattle.ac_views.specs.Sites.{arm_of, entries_of, scope_of, typs_of};
+ghost use Rattle.ac_views.specs.Sites.{entries_of, scope_at, typs_of};
 ghost use Rattle.ac_typing.specs.inner.Parts.{types_in, arm_type};
 
 use crate::arms::{both_same, go_on, if_type, is_test, sequence_type};
@@ -36,7 +36,7 @@ pub fn declared_type<'a>(
 ) -> Result<Option<Ty>, Memory>
     requires { length site.now.env.now.entries < 2 ^ 32 }
     ensures { IfOk result (λ o. option_map typ_of o ≡ type_of Coloured true (entries_of site.now)
-        (scope_of site.now (map typ_of ctx.now)) (expr_of t.now)) }
+        (scope_at site.now (map typ_of ctx.now)) (expr_of t.now)) }
 {
     let vars = Variables::Given(ctx.as_slice());
     typed(alloc, t, site, &vars)
@@ -53,7 +53,7 @@ fn typed<'a>(
 ) -> Result<Option<Ty>, Memory>
     requires { length site.now.env.now.entries < 2 ^ 32 }
     ensures { IfOk result (λ o. option_map typ_of o ≡ type_of Coloured true (entries_of site.now)
-        (scope_of site.now (types_in vars.now)) (expr_of t.now)) }
+        (scope_at site.now (types_in vars.now)) (expr_of t.now)) }
 {
     match t {
         Term::Int(_) => Ok(Some(Ty::Int)),
@@ -166,7 +166,7 @@ fn function<'a>(
 ) -> Result<Option<Ty>, Memory>
     requires { length site.now.env.now.entries < 2 ^ 32 }
     ensures { IfOk result (λ o. option_map typ_of o ≡ type_of Coloured true (entries_of site.now)
-        (scope_of site.now (types_in vars.now)) (Lam (typ_of ty.now) (expr_of body.now))) }
+        (scope_at site.now (types_in vars.now)) (Lam (typ_of ty.now) (expr_of body.now))) }
 {
     let Some(from) = seen_type(alloc, ty, site)? else {
         return Ok(None);
@@ -187,7 +187,7 @@ fn recursive<'a>(
 ) -> Result<Option<Ty>, Memory>
     requires { length site.now.env.now.entries < 2 ^ 32 }
     ensures { IfOk result (λ o. option_map typ_of o ≡ type_of Coloured true (entries_of site.now)
-        (scope_of site.now (types_in vars.now))
+        (scope_at site.now (types_in vars.now))
         (Rec (typ_of from.now) (typ_of to.now) (expr_of body.now))) }
 {
     let Some(from) = seen_type(alloc, from, site)? else {
@@ -222,7 +222,7 @@ fn types_of<'a>(
 ) -> Result<Option<Many<Ty>>, Memory>
     requires { length site.now.env.now.entries < 2 ^ 32 }
     ensures { IfOk result (λ o. option_map typs_of o ≡ types_of Coloured true (entries_of site.now)
-        (scope_of site.now (types_in vars.now)) (exprs (map expr_of terms.now))) }
+        (scope_at site.now (types_in vars.now)) (exprs (map expr_of terms.now))) }
 {
     let mut found = Many::new(alloc);
     for t in terms {
@@ -245,7 +245,7 @@ fn arms_type<'a>(
 ) -> Result<Option<Ty>, Memory>
     requires { length site.now.env.now.entries < 2 ^ 32 }
     ensures { IfOk result (λ o. option_map typ_of o ≡ option_and_then one_of
-        (arm_types Coloured true (entries_of site.now) (scope_of site.now (types_in vars.now))
+        (arm_types Coloured true (entries_of site.now) (scope_at site.now (types_in vars.now))
         (typ_of ty.now) (arms (map arm_of cases.now)))) }
 {
     let mut first = None;
@@ -273,7 +273,7 @@ fn arm_type<'a>(
 ) -> Result<Option<Ty>, Memory>
     requires { length site.now.env.now.entries < 2 ^ 32 }
     ensures { IfOk result (λ o. option_map typ_of o ≡ arm_type (entries_of site.now)
-        (scope_of site.now (types_in vars.now)) (typ_of ty.now) (pattern_of arm.now.pat)
+        (scope_at site.now (types_in vars.now)) (typ_of ty.now) (pattern_of arm.now.pat)
         (expr_of arm.now.body)) }
 {
     let Some(bound) = variables(alloc, &arm.pat, ty, site, Many::new(alloc))? else {

@@ -4,10 +4,8 @@ use Rattle.std.specs.Borrow.{Bor}
 use Rattle.ac_types.specs.Types.{Typ, TInt, TBool, TStr, TUnit, TExn, TTuple, TList, TOpt, TFun, TAbs, TMine, Typs, typs}
 use Rattle.ac_types.specs.ReadTypes.{typ_of}
 use Rattle.ac_types.specs.declared.ty.Ty.{Ty}
-use Rattle.ac_terms.specs.Terms.{Pattern, Expr}
 use Rattle.ac_terms.specs.Defs.{Environment}
-use Rattle.ac_terms.specs.declared.term.Arm.{Arm}
-use Rattle.ac_terms.specs.Read.{environment_of, home_of, pattern_of, expr_of}
+use Rattle.ac_terms.specs.Read.{environment_of, home_of}
 use Rattle.ac_rules.specs.Typing.{Scope}
 use Rattle.ac_views.specs.declared.types.Base.{Base}
 use Rattle.ac_views.specs.declared.types.Base.TheVariants as base
@@ -28,12 +26,8 @@ base_typ base.Exn = TExn
 abbrev pub entries_of : Site → Environment
 entries_of p = environment_of p.env.now
 
-abbrev pub scope_of : Site → List Typ → Scope
-scope_of p vars = record { home = home_of p.home; own = p.own; refs = p.refs; vars = vars }
-
--- an arm
-abbrev pub arm_of : Arm → Pattern × Expr
-arm_of a = (pattern_of a.pat, expr_of a.body)
+abbrev pub scope_at : Site → List Typ → Scope
+scope_at p vars = record { home = home_of p.home; own = p.own; refs = p.refs; vars = vars }
 
 -- the argument and the result of a function type
 abbrev pub ends_of : Typ → Option (Typ × Typ)

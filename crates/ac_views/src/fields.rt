@@ -8,7 +8,7 @@ ghost use Rattle.ac_terms.specs.Defs.{signature};
 ghost use Rattle.ac_terms.specs.Read.{environment_of, home_of, def_of_code, field_of};
 ghost use Rattle.ac_rules.specs.Views.{Coloured, view};
 ghost use Rattle.ac_rules.specs.Typing.{fields_of, field_type, ref_type, kept_in};
-ghost use Rattle.ac_views.specs.Sites.{entries_of, scope_of};
+ghost use Rattle.ac_views.specs.Sites.{entries_of, scope_at};
 
 use crate::outside::outside;
 use crate::seen::viewed;
@@ -42,7 +42,7 @@ pub fn field_type<'a>(alloc: Global, site: &'a Site<'a>, f: u16) -> Result<Optio
     requires { length site.now.env.now.entries < 2 ^ 32 }
     ensures { IfOk result (λ o. option_map typ_of o ≡ kept_in Coloured
         (option_map (view Coloured (entries_of site.now) (home_of site.now.home))
-        (field_type (entries_of site.now) (scope_of site.now []) f))) }
+        (field_type (entries_of site.now) (scope_at site.now []) f))) }
 {
     if f as usize >= site.own {
         return Ok(None);
@@ -87,7 +87,7 @@ pub fn ref_type<'a>(
     requires { length site.now.env.now.entries < 2 ^ 32 }
     ensures { IfOk result (λ o. option_map typ_of o ≡ kept_in Coloured
         (option_map (view Coloured (entries_of site.now) (home_of site.now.home))
-        (ref_type (entries_of site.now) (scope_of site.now []) j x.now))) }
+        (ref_type (entries_of site.now) (scope_at site.now []) j x.now))) }
 {
     if j as usize >= site.refs {
         return Ok(None);

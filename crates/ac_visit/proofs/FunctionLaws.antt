@@ -8,7 +8,7 @@ use Rattle.ac_terms.specs.Bounds.{is_lambda, is_wanted}
 use Rattle.ac_rules.specs.Views.{head}
 use Rattle.ac_rules.specs.Typing.{is_function, is_function_home}
 use Rattle.ac_rules.specs.Plain.{stays, may_travel, travelling}
-use Rattle.ac_canon.proofs.TermForms.{term_forms}
+use Rattle.ac_terms.proofs.TermForms.{term_forms}
 use Rattle.ac_code.specs.Code.{Instr, Block, Code}
 use Rattle.ac_values.specs.Values.{MValue, MStr, value_at, node_value}
 use Rattle.ac_values.specs.declared.node.Value.{Value}

@@ -1,15 +1,14 @@
 -- Lists, as they are packed.
 use Rattle.std.proofs.Common.{◌≡◌, refl, sym, ap, ap₂, ◌∙◌, subst, ℕ, zero, suc, ◌+◌, ◌<◌, Bool, true, false, List, [], ◌∷◌, ◌++◌, length, map, Option, Some, None, Result, arith}
 use Rattle.std.specs.Prelude.{option_map, pos, slice_get, IsSome}
-use Rattle.ac_types.specs.Types.{Typ, TInt, Typs, typs}
-use Rattle.ac_types.specs.ReadTypes.{typ_of}
+use Rattle.ac_types.specs.Types.{Typ, TInt}
 use Rattle.ac_types.specs.declared.ty.Ty.{Ty}
 use Rattle.ac_terms.specs.Terms.{Home, Main, Expr, Int, App, Lam, Rec, PValue, KList, KTuple, KPresent, KFun, PValues, no_pvalues, pvalue, pvalues}
 use Rattle.ac_terms.specs.Defs.{Environment}
 use Rattle.ac_terms.specs.Parts.{all_value_parts}
 use Rattle.ac_terms.specs.Spelling.{one_written, two_written, four_written, value_count}
-use Rattle.ac_terms.specs.Heads.{Head, next_head, value_heads, all_value_heads}
-use Rattle.ac_terms.specs.Renumbered.{value_renumbered, values_renumbered}
+use Rattle.ac_terms.specs.Heads.{Head, next_head, value_heads}
+use Rattle.ac_terms.specs.Renumbered.{values_renumbered}
 use Rattle.ac_terms.specs.Read.{value_of}
 use Rattle.ac_terms.specs.declared.term.PVal.{PVal}
 use Rattle.ac_rules.specs.Views.{head}
@@ -17,16 +16,16 @@ use Rattle.ac_rules.specs.Typing.{tuple_parts, list_item, option_item}
 use Rattle.ac_rules.specs.Plain.{stays, where_there, in_front, may_travel, travelling}
 use Rattle.ac_code.specs.Code.{Block, Code}
 use Rattle.ac_heads.specs.declared.stop.Stop.{Stop}
-use Rattle.ac_values.specs.Values.{MValue, MInt, MBool, MStr, MUnit, MExn, MExnOf, MTuple, MNil, MCons, MAbsent, MPresent, MClosure, MEnd, MMore, values_at}
+use Rattle.ac_values.specs.Values.{MValue, MStr, MExnOf, MTuple, MNil, MCons, MPresent, MClosure, MEnd, MMore, values_at}
 use Rattle.ac_values.specs.ValueReaders.{cons_in}
 use Rattle.ac_values.specs.declared.node.Value.{Value}
-use Rattle.ac_meaning.specs.BareTerms.{BareValue, WInt, WBool, WStr, WUnit, WExn, WTuple, WNil, WCons, WAbsent, WPresent, WLam, WRec, bare, unpacked, all_unpacked, unpacked_list}
+use Rattle.ac_meaning.specs.BareTerms.{bare, unpacked, all_unpacked, unpacked_list}
 use Rattle.ac_meaning.specs.BareReduction.{BareWritten, inst}
 use Rattle.ac_meaning.specs.BarePacking.{bare_packed, bare_all_packed, bare_packed_term}
 use Rattle.ac_simulation.specs.Stands.{senseless, exception_with, closed, closure_of, stands, all_stand, variables}
 use Rattle.ac_views.specs.Sites.{typs_of}
 use Rattle.ac_walk.specs.Items.{items_packed, items_held}
-use Rattle.ac_walk.specs.Pieces.{entries_at, code_at, number_at, spoken_at, values_written}
+use Rattle.ac_walk.specs.Pieces.{number_at, spoken_at, values_written}
 use Rattle.ac_walk.specs.inner.Goes.{Visits, VisitsValue}
 use Rattle.ac_walk.specs.declared.walk.Walk.{Walk}
 use Rattle.ac_walk.proofs.WalkLaws.{wants_memory, visits_same}

@@ -3,7 +3,7 @@ use Rattle.std.proofs.Common.{◌≡◌, refl, sym, ap, ap₂, ◌∙◌, subst,
 use Rattle.std.specs.Prelude.{option_map, option_and_then, IfOk}
 use mathlib.Core.Bool.{true≢false}
 use Rattle.ac_types.specs.First.{given}
-use Rattle.ac_types.specs.Types.{Typ, TInt, TBool, TStr, TUnit, TExn, TTuple, TList, TOpt, TFun, TAbs, TMine, Typs, no_types, typ, agree}
+use Rattle.ac_types.specs.Types.{Typ, TBool, TStr, TUnit, TExn, TTuple, TList, TOpt, TFun, Typs, no_types, typ, agree}
 use Rattle.ac_types.specs.ReadTypes.{typ_of}
 use Rattle.ac_types.proofs.Same.{both_true}
 use Rattle.ac_types.specs.ReadTypes.{typ_layer}
@@ -23,7 +23,7 @@ use Rattle.ac_terms.specs.PrimitiveTypes.{primitive_type}
 use Rattle.ac_terms.specs.TermTyping.{has, both_same, also, last_of}
 use Rattle.ac_rules.specs.Views.{Coloured, head}
 use Rattle.ac_rules.specs.Plain.{may_travel}
-use Rattle.ac_rules.specs.Typing.{Scope, bind, bind_all, all_of, fields_of, is_function, is_function_home, type_of, types_of, arm_types, one_of, type_applied, type_seen, kept_in, variables, variables_of_all, variables_joined}
+use Rattle.ac_rules.specs.Typing.{Scope, fields_of, is_function, is_function_home, type_of, types_of, arm_types, one_of, type_applied, type_seen, kept_in, variables, variables_of_all, variables_joined}
 use Rattle.ac_check.specs.inner.Captured.{is_code, are_code, arms_are_code, travels_with}
 use Rattle.ac_check.proofs.CodeTerms.{code_term}
 use Rattle.ac_meaning.specs.BareTerms.{BareValue, bare, bare_all, bare_arms}

@@ -1,5 +1,4 @@
 -- Values, form by form.
-use Rattle.std.proofs.lemmas.List.{map-append}
 use Rattle.std.proofs.lemmas.List.Concat.{flat_map-append}
 use Rattle.ac_canon.proofs.ValueForms.{value_laws as read_values}
 use Rattle.ac_walk.proofs.WalkLaws.{wants_memory}

@@ -6,11 +6,11 @@ use Rattle.ac_types.specs.Types.{Bytes, Typ}
 use Rattle.ac_terms.specs.Terms.{PValue}
 use Rattle.ac_terms.specs.Defs.{Environment}
 use Rattle.ac_terms.specs.Heads.{Head, packed_heads}
-use Rattle.ac_terms.specs.Parts.{Portion, OfType, value_parts}
+use Rattle.ac_terms.specs.Parts.{Portion, OfType}
 use Rattle.ac_terms.specs.Spelling.{two_written, type_bytes, value_bytes}
 use Rattle.ac_terms.specs.Renumbered.{value_renumbered}
 use Rattle.ac_rules.specs.Faults.{Fault, first_fault}
-use Rattle.ac_heads.specs.Outcomes.{WalkEnd, On, Stopped, after, fault_in}
+use Rattle.ac_heads.specs.Outcomes.{WalkEnd, On, Stopped, walk_end, fault_in}
 use Rattle.ac_heads.specs.declared.stop.Stop.{Stop}
 use Rattle.ac_heads.proofs.FaultLaws.{outcome, written}
 use Rattle.ac_walk.specs.Pieces.{heads_at, roots_at}
@@ -42,17 +42,17 @@ stops_at e p first old mid new i s n v f q =
     ap (λ (x : WalkEnd × List ℕ). x.0) (sym i ∙ n ∙ ap (λ x. comes (heads_at x p) (roots_at x p) mid) (sym s)) ∙ v f q (pending (heads_at mid.site) mid.pieces.items)
 
 -- a walk that has nothing yet, and its first pieces
-begun : (u : Unit) (hs : List Head) (ns : List ℕ) (old new : Walk) → old.text.0 ≡ [] → old.roots ≡ [] → old.pieces.items ≡ [] → Visits (Ok u) hs ns old new → comes [] [] new ≡ (after [] hs, ns)
+begun : (u : Unit) (hs : List Head) (ns : List ℕ) (old new : Walk) → old.text.0 ≡ [] → old.roots ≡ [] → old.pieces.items ≡ [] → Visits (Ok u) hs ns old new → comes [] [] new ≡ (walk_end [] hs, ns)
 unfolding Visits
 begun u hs ns old new t r p v =
     v.1
     ∙ ap₂ (λ (o : WalkEnd) (l : List ℕ). (o, l))
-    (ap₂ (λ x y. after x (hs ++ pending (heads_at old.site) y)) t p ∙ ap (after []) (append-nil hs))
+    (ap₂ (λ x y. walk_end x (hs ++ pending (heads_at old.site) y)) t p ∙ ap (walk_end []) (append-nil hs))
     (ap₂ (λ x y. x ++ (ns ++ pending (roots_at old.site) y)) r p ∙ append-nil ns)
 
-not_begun : (e : Stop) (hs : List Head) (ns : List ℕ) (old new : Walk) → old.text.0 ≡ [] → Visits (Err e) hs ns old new → (f : Fault) → fault_in e ≡ Some f → after [] hs ≡ Stopped f
+not_begun : (e : Stop) (hs : List Head) (ns : List ℕ) (old new : Walk) → old.text.0 ≡ [] → Visits (Err e) hs ns old new → (f : Fault) → fault_in e ≡ Some f → walk_end [] hs ≡ Stopped f
 unfolding Visits
-not_begun e hs ns old new t v f q = ap (after []) (sym (append-nil hs)) ∙ ap (λ x. after x (hs ++ [])) (sym t) ∙ v f q []
+not_begun e hs ns old new t v f q = ap (walk_end []) (sym (append-nil hs)) ∙ ap (λ x. walk_end x (hs ++ [])) (sym t) ∙ v f q []
 
 pub site_kept : (u : Unit) (hs : List Head) (ns : List ℕ) (old new : Walk) → Visits (Ok u) hs ns old new → new.site ≡ old.site
 unfolding Visits
@@ -60,21 +60,21 @@ site_kept u hs ns old new v = v.0
 
 -- the first two pieces of a walk
 pub both_begun : (u : Unit) (s : Site) (p q : Piece) (old new : Walk) → old.site ≡ s → old.text.0 ≡ [] → old.roots ≡ [] → old.pieces.items ≡ [] →
-    Visits (Ok u) (heads_at old.site p ++ heads_at old.site q) (roots_at old.site p ++ roots_at old.site q) old new → comes [] [] new ≡ (after [] (heads_at s p ++ heads_at s q), roots_at s p ++ roots_at s q)
+    Visits (Ok u) (heads_at old.site p ++ heads_at old.site q) (roots_at old.site p ++ roots_at old.site q) old new → comes [] [] new ≡ (walk_end [] (heads_at s p ++ heads_at s q), roots_at s p ++ roots_at s q)
 both_begun u s p q old new e t r i v =
-    begun u _ _ old new t r i v ∙ ap₂ (λ (hs : List Head) (ns : List ℕ). (after [] hs, ns)) (ap (λ x. heads_at x p ++ heads_at x q) e) (ap (λ x. roots_at x p ++ roots_at x q) e)
+    begun u _ _ old new t r i v ∙ ap₂ (λ (hs : List Head) (ns : List ℕ). (walk_end [] hs, ns)) (ap (λ x. heads_at x p ++ heads_at x q) e) (ap (λ x. roots_at x p ++ roots_at x q) e)
 
 pub both_not_begun : (x : Stop) (s : Site) (p q : Piece) (old new : Walk) → old.site ≡ s → old.text.0 ≡ [] → Visits (Err x) (heads_at old.site p ++ heads_at old.site q) (roots_at old.site p ++ roots_at old.site q) old new →
-    (f : Fault) → fault_in x ≡ Some f → after [] (heads_at s p ++ heads_at s q) ≡ Stopped f
-both_not_begun x s p q old new e t v f z = ap (λ y. after [] (heads_at y p ++ heads_at y q)) (sym e) ∙ not_begun x _ _ old new t v f z
+    (f : Fault) → fault_in x ≡ Some f → walk_end [] (heads_at s p ++ heads_at s q) ≡ Stopped f
+both_not_begun x s p q old new e t v f z = ap (λ y. walk_end [] (heads_at y p ++ heads_at y q)) (sym e) ∙ not_begun x _ _ old new t v f z
 
-pub ended : (hs : List Head) (ns ms : List ℕ) (bs : Bytes) (rs : List ℕ) (new : Walk) → comes [] [] new ≡ (after [] hs, ns) → ns ≡ ms → comes [] [] new ≡ (On bs, rs) → (after [] hs ≡ On bs) × (rs ≡ ms)
+pub ended : (hs : List Head) (ns ms : List ℕ) (bs : Bytes) (rs : List ℕ) (new : Walk) → comes [] [] new ≡ (walk_end [] hs, ns) → ns ≡ ms → comes [] [] new ≡ (On bs, rs) → (walk_end [] hs ≡ On bs) × (rs ≡ ms)
 ended hs ns ms bs rs new e s r = (
   ap (λ (x : WalkEnd × List ℕ). x.0) (sym e ∙ r),
   ap (λ (x : WalkEnd × List ℕ). x.1) (sym r ∙ e) ∙ s,
 )
 
-pub stopped : (hs : List Head) (ns : List ℕ) (f : Fault) (new : Walk) → comes [] [] new ≡ (after [] hs, ns) → (comes [] [] new).0 ≡ Stopped f → after [] hs ≡ Stopped f
+pub stopped : (hs : List Head) (ns : List ℕ) (f : Fault) (new : Walk) → comes [] [] new ≡ (walk_end [] hs, ns) → (comes [] [] new).0 ≡ Stopped f → walk_end [] hs ≡ Stopped f
 stopped hs ns f new e s = ap (λ (x : WalkEnd × List ℕ). x.0) (sym e) ∙ s
 
 -- a type, and then other parts
@@ -83,7 +83,7 @@ type_first E T ps = ap (λ ns. ns ++ spoken_by_all E ps) (append-nil (spoken_by 
 
 -- the whole: its bytes, or its first fault, which is the same whatever numbers are written
 pub all_written : (f : ℕ → ℕ) (T : Typ) (v : PValue) (ns : List ℕ) (r : Result Written Stop) →
-    MatchResult r (λ w. (after [] (packed_heads T (value_renumbered f v)) ≡ On w.text.0) × (w.roots ≡ ns)) (λ e. (x : Fault) → fault_in e ≡ Some x → after [] (packed_heads T (value_renumbered f v)) ≡ Stopped x) →
+    MatchResult r (λ w. (walk_end [] (packed_heads T (value_renumbered f v)) ≡ On w.text.0) × (w.roots ≡ ns)) (λ e. (x : Fault) → fault_in e ≡ Some x → walk_end [] (packed_heads T (value_renumbered f v)) ≡ Stopped x) →
     MatchResult r (λ w. (first_fault 500 longest_packet 0 (packed_heads T v) ≡ None) × (w.text.0 ≡ type_bytes T ++ value_bytes two_written (value_renumbered f v)) × (w.roots ≡ ns))
     (λ e. (x : Fault) → fault_in e ≡ Some x → first_fault 500 longest_packet 0 (packed_heads T v) ≡ Some x)
 all_written f T v ns (Ok w) h =

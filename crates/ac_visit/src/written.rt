@@ -11,11 +11,11 @@ ghost use Rattle.ac_terms.specs.Parts.{OfType, value_parts};
 ghost use Rattle.ac_terms.specs.Spelling.{two_written, type_bytes, value_bytes};
 ghost use Rattle.ac_terms.specs.Renumbered.{value_renumbered};
 ghost use Rattle.ac_rules.specs.Faults.{Fault, first_fault};
-ghost use Rattle.ac_code.specs.ReadCode.{code_of};
+ghost use Rattle.ac_code.specs.ReadCode.{table_code};
 ghost use Rattle.ac_values.specs.Values.{stands_as};
 ghost use Rattle.ac_meaning.specs.BarePacking.{bare_packed};
 ghost use Rattle.ac_simulation.specs.Stands.{stands};
-ghost use Rattle.ac_heads.specs.Outcomes.{On, Stopped, after, fault_in};
+ghost use Rattle.ac_heads.specs.Outcomes.{On, Stopped, walk_end, fault_in};
 ghost use Rattle.ac_walk.specs.Spoken.{spoken_by_all};
 ghost use Rattle.ac_walk.specs.Pieces.{held_at, value_written, spoken_at};
 
@@ -51,7 +51,7 @@ pub fn write(
 ) -> Result<Written, Stop>
     requires { length env.now.entries < 2 ^ 32 }
     ensures { let v : PValue = bare_packed (environment_of env.now)
-        (stands (code_of table.now) (stands_as store.now value.0)) (typ_of ty.now) in
+        (stands (table_code table.now) (stands_as store.now value.0)) (typ_of ty.now) in
         MatchResult result
         (λ w. (first_fault 500 longest_packet 0 (packed_heads (typ_of ty.now) v) ≡ None) ×
         (w.text.0 ≡ type_bytes (typ_of ty.now) ++ value_bytes two_written
@@ -79,11 +79,11 @@ fn walked<'a>(alloc: Global, site: Site<'a>, value: Value, ty: &'a Ty) -> Result
     requires entries { length site.env.now.entries < 2 ^ 32 }
     requires int { typ_of site.int.now ≡ TInt }
     ensures { MatchResult result
-        (λ w. (after [] (type_heads (typ_of ty.now) ++ value_written site.entry 1
+        (λ w. (walk_end [] (type_heads (typ_of ty.now) ++ value_written site.entry 1
         (held_at site.entry value (typ_of ty.now))) ≡ On w.text.0) × (w.roots ≡
         spoken_at site.entry (OfType (typ_of ty.now) ∷
         value_parts (held_at site.entry value (typ_of ty.now)))))
-        (λ e. (f : Fault) → fault_in e ≡ Some f → after [] (type_heads (typ_of ty.now) ++
+        (λ e. (f : Fault) → fault_in e ≡ Some f → walk_end [] (type_heads (typ_of ty.now) ++
         value_written site.entry 1 (held_at site.entry value (typ_of ty.now))) ≡ Stopped f) }
 {
     let mut walk = Walk::new(alloc, site);

@@ -5,15 +5,14 @@ use Rattle.std.proofs.lemmas.List.Concat.{flat_map-append}
 use Rattle.ac_types.specs.Types.{Bytes}
 use Rattle.ac_terms.specs.Terms.{Home, Pattern, PWild, PVar, PInt, PBool, PStr, PUnit, PTuple, PNil, PCons, PAbsent, PPresent, PExn, PExnOf, Arms, no_arms, arm, arms, exprs}
 use Rattle.ac_terms.specs.Defs.{Environment}
-use Rattle.ac_terms.specs.Read.{home_of, expr_of}
+use Rattle.ac_terms.specs.Read.{home_of, expr_of, arm_of}
 use Rattle.ac_terms.specs.declared.term.Arm.{Arm}
 use Rattle.ac_terms.specs.declared.term.Term.{Term}
 use Rattle.ac_terms.specs.Spelling.{two_written, arm_count, term_count}
 use Rattle.ac_terms.specs.Heads.{Head, before, pattern_heads, term_heads, arm_heads}
 use Rattle.ac_terms.specs.Renumbered.{all_renumbered, arms_renumbered}
-use Rattle.ac_canon.specs.inner.Arms.{arm_of}
 use Rattle.ac_canon.proofs.PatternForms.{pattern_laws as read_patterns}
-use Rattle.ac_canon.proofs.TermForms.{term_forms}
+use Rattle.ac_terms.proofs.TermForms.{term_forms}
 use Rattle.ac_canon.proofs.ValueForms.{term_laws as read_terms}
 use Rattle.ac_heads.specs.declared.stop.Stop.{Stop}
 use Rattle.ac_meaning.specs.BareTerms.{bare_all, bare_arms}
@@ -22,7 +21,7 @@ use Rattle.ac_meaning.specs.BarePacking.{bare_packed_terms, bare_packed_arms}
 use Rattle.ac_walk.specs.declared.piece.Site.{Site}
 use Rattle.ac_walk.specs.declared.piece.Around.{Around}
 use Rattle.ac_walk.specs.declared.walk.Walk.{Walk}
-use Rattle.ac_walk.specs.Pieces.{entries_at, number_at, captured_at, arms_at, arms_written, cases_written}
+use Rattle.ac_walk.specs.Pieces.{entries_at, number_at, captured_at, arms_at, arms_written_at, cases_written}
 use Rattle.ac_walk.specs.inner.Goes.{Visits}
 use Rattle.ac_walk.proofs.WalkLaws.{wants_memory, visits_same}
 
@@ -62,7 +61,7 @@ some_head d (arm p e rest) some =
 
 -- arms behind their count
 pub counted_arms : (s : Site) (a : Around) (d : ℕ) (cs : List Arm) (bs : Bytes) (r : Result Unit Stop) (ns : List ℕ) (old new : Walk) → (length cs ≡ 0 → ⊥) → bs ≡ two_written (length cs) →
-    ((h : Head) (hs : List Head) → arms_written s d (arms_at s a (arms (map arm_of cs))) ≡ h ∷ hs → Visits r (before bs (h ∷ hs)) ns old new) → Visits r (cases_written s d (arms_at s a (arms (map arm_of cs)))) ns old new
+    ((h : Head) (hs : List Head) → arms_written_at s d (arms_at s a (arms (map arm_of cs))) ≡ h ∷ hs → Visits r (before bs (h ∷ hs)) ns old new) → Visits r (cases_written s d (arms_at s a (arms (map arm_of cs)))) ns old new
 counted_arms s a d cs bs r ns old new some e v =
     let n = site_arms_counted s a cs in
     let p = some_head d (arms_renumbered (number_at s) (arms_at s a (arms (map arm_of cs)))) (λ q. some (sym n ∙ q)) in

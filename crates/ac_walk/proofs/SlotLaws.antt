@@ -1,5 +1,5 @@
 -- What comes in the place of variables.
-use Rattle.std.proofs.Common.{◌≡◌, refl, sym, ap, ap₂, ◌∙◌, ℕ, zero, suc, ◌+◌, ◌<◌, List, [], ◌∷◌, Option, Some, None, arith}
+use Rattle.std.proofs.Common.{◌≡◌, refl, sym, ap, ap₂, ◌∙◌, ℕ, zero, suc, ◌+◌, ◌<◌, List, [], ◌∷◌, Some, None, arith}
 use Rattle.std.specs.Prelude.{unwrap_or}
 use Rattle.ac_types.specs.Types.{Typ, TInt}
 use Rattle.ac_code.specs.Code.{Code}
@@ -7,13 +7,13 @@ use Rattle.ac_values.specs.Values.{MValue, MMore}
 use Rattle.ac_values.specs.ValueReaders.{newest_and_rest}
 use Rattle.ac_meaning.specs.Substitution.{Slot, Free, Bound, up, slot_in, slot}
 use Rattle.ac_simulation.specs.Stands.{stands, variables}
-use Rattle.ac_walk.specs.inner.Slots.{raised, later, newest_type}
+use Rattle.ac_walk.specs.inner.Slots.{slot_under, later, newest_type}
 
-up_raised : {V : Type 0} (d : ℕ) (s : Slot V) → up (raised d s) ≡ raised (suc d) s
+up_raised : {V : Type 0} (d : ℕ) (s : Slot V) → up (slot_under d s) ≡ slot_under (suc d) s
 up_raised d (Free i) = ap Free (omega arith)
 up_raised d (Bound T v) = refl
 
-raised_none : {V : Type 0} (s : Slot V) → s ≡ raised 0 s
+raised_none : {V : Type 0} (s : Slot V) → s ≡ slot_under 0 s
 raised_none (Free i) = ap Free (omega arith)
 raised_none (Bound T v) = refl
 
@@ -22,7 +22,7 @@ slot_below zero ws i h = absurd (omega arith)
 slot_below (suc d) ws zero h = refl
 slot_below (suc d) ws (suc i) h = ap up (slot_below d ws i (omega arith))
 
-pub slot_beyond : {V : Type 0} (d : ℕ) (ws : List (Typ × V)) (i j : ℕ) → i ≡ j + d → raised d (slot_in ws j) ≡ slot d ws i
+pub slot_beyond : {V : Type 0} (d : ℕ) (ws : List (Typ × V)) (i j : ℕ) → i ≡ j + d → slot_under d (slot_in ws j) ≡ slot d ws i
 slot_beyond zero ws i j e = let q : j ≡ i = omega arith in sym (raised_none (slot_in ws j)) ∙ ap (slot_in ws) q
 slot_beyond (suc d) ws zero j e = absurd (omega arith)
 slot_beyond (suc d) ws (suc i) j e = sym (up_raised d (slot_in ws j)) ∙ ap up (slot_beyond d ws i j (omega arith))

@@ -3,7 +3,7 @@ use Rattle.std.proofs.Common.{◌≡◌, refl, sym, ap, ap₂, ◌∙◌, subst,
 use Rattle.std.specs.Prelude.{MatchOption, option_to_list}
 use Rattle.ac_types.specs.Types.{Bytes}
 use Rattle.ac_terms.specs.Heads.{Head, before}
-use Rattle.ac_heads.specs.Outcomes.{WalkEnd, On, after, StopsWalk, Puts}
+use Rattle.ac_heads.specs.Outcomes.{WalkEnd, On, walk_end, StopsWalk, Puts}
 use Rattle.ac_heads.specs.declared.stop.Stop.{Stop}
 use Rattle.ac_heads.specs.declared.stop.Stop.TheVariants as stop
 use Rattle.ac_heads.proofs.HeadLaws.{after_none, preceded_head}
@@ -18,7 +18,7 @@ pending_append f (p ∷ ps) qs = ap (λ x. x ++ f p) (pending_append f ps qs) �
 
 -- a step that has gone on: what it has written, what it speaks of and what it adds
 pub went : (u : Unit) (old new : Walk) (hs : List Head) (ns : List ℕ) (ps : List Piece)
-    → new.site ≡ old.site → ((ks : List Head) → after new.text.0 ks ≡ after old.text.0 (hs ++ ks)) → new.roots ≡ old.roots ++ ns → new.pieces.items ≡ old.pieces.items ++ ps
+    → new.site ≡ old.site → ((ks : List Head) → walk_end new.text.0 ks ≡ walk_end old.text.0 (hs ++ ks)) → new.roots ≡ old.roots ++ ns → new.pieces.items ≡ old.pieces.items ++ ps
     → Visits (Ok u) (hs ++ pending (heads_at old.site) ps) (ns ++ pending (roots_at old.site) ps) old new
 unfolding Visits
 went u old new hs ns ps s t r q =
@@ -27,8 +27,8 @@ went u old new hs ns ps s t r q =
     let now = old.pieces.items in (
       s,
       ap₂ (λ (o : WalkEnd) (l : List ℕ). (o, l))
-          (ap₂ (λ x y. after new.text.0 (pending (heads_at x) y)) s q ∙ ap (after new.text.0) (pending_append H now ps) ∙ t (pending H ps ++ pending H now)
-          ∙ ap (after old.text.0) (sym (append_assoc hs (pending H ps) (pending H now))))
+          (ap₂ (λ x y. walk_end new.text.0 (pending (heads_at x) y)) s q ∙ ap (walk_end new.text.0) (pending_append H now ps) ∙ t (pending H ps ++ pending H now)
+          ∙ ap (walk_end old.text.0) (sym (append_assoc hs (pending H ps) (pending H now))))
           (ap₂ (λ x y. x ++ y) r (ap₂ (λ x y. pending (roots_at x) y) s q ∙ pending_append R now ps)
           ∙ append_assoc old.roots ns (pending R ps ++ pending R now)
           ∙ ap (λ x. old.roots ++ x) (sym (append_assoc ns (pending R ps) (pending R now)))),
@@ -39,7 +39,7 @@ pub put_spoken : (r : Result Unit Stop) (h : Head) (ns : List ℕ) (old new : Wa
 unfolding Visits
 put_spoken (Ok u) h ns old new s r p e = (
   s,
-  ap₂ (λ (o : WalkEnd) (l : List ℕ). (o, l)) (ap₂ (λ x y. after new.text.0 (pending (heads_at x) y.items)) s p ∙ e (pending (heads_at old.site) old.pieces.items))
+  ap₂ (λ (o : WalkEnd) (l : List ℕ). (o, l)) (ap₂ (λ x y. walk_end new.text.0 (pending (heads_at x) y.items)) s p ∙ e (pending (heads_at old.site) old.pieces.items))
       (ap₂ (λ x y. x ++ y) r (ap₂ (λ x y. pending (roots_at x) y.items) s p) ∙ append_assoc old.roots ns (pending (roots_at old.site) old.pieces.items)),
 )
 put_spoken (Err x) h ns old new s r p e = e
@@ -75,8 +75,8 @@ went_before u old new bs p h hs e s t r q =
     let now = old.pieces.items in (
       s,
       ap₂ (λ (o : WalkEnd) (l : List ℕ). (o, l))
-          (ap₂ (λ x y. after new.text.0 (pending (heads_at x) y)) s q ∙ ap (after new.text.0) (pending_append H now (p ∷ []) ∙ ap (λ x. x ++ pending H now) e)
-          ∙ ap (λ x. after x (h ∷ hs ++ pending H now)) t ∙ preceded_head old.text.0 bs h (hs ++ pending H now))
+          (ap₂ (λ x y. walk_end new.text.0 (pending (heads_at x) y)) s q ∙ ap (walk_end new.text.0) (pending_append H now (p ∷ []) ∙ ap (λ x. x ++ pending H now) e)
+          ∙ ap (λ x. walk_end x (h ∷ hs ++ pending H now)) t ∙ preceded_head old.text.0 bs h (hs ++ pending H now))
           (ap₂ (λ x y. x ++ y) r (ap₂ (λ x y. pending (roots_at x) y) s q ∙ pending_append R now (p ∷ []))),
     )
 
@@ -86,12 +86,12 @@ pub popped : (o : Option Piece) (old new : Walk) → new.site ≡ old.site → n
 popped None old new s t r q e =
     let none = e refl in
     ap₂ (λ (o : WalkEnd) (l : List ℕ). (o, l))
-    (ap (λ x. after old.text.0 (pending (heads_at old.site) x)) none ∙ after_none old.text.0 ∙ ap (λ x. On x.0) (sym t))
+    (ap (λ x. walk_end old.text.0 (pending (heads_at old.site) x)) none ∙ after_none old.text.0 ∙ ap (λ x. On x.0) (sym t))
     (ap (λ x. old.roots ++ pending (roots_at old.site) x) none ∙ append-nil old.roots ∙ sym r)
 popped (Some p) old new s t r q e =
     ap₂ (λ (o : WalkEnd) (l : List ℕ). (o, l))
-    (ap₂ (λ x y. after x.0 (pending (heads_at old.site) y)) (sym t) q ∙ ap (after new.text.0) (pending_append (heads_at old.site) new.pieces.items (p ∷ []))
-    ∙ ap (λ x. after new.text.0 (heads_at old.site p ++ pending (heads_at x) new.pieces.items)) (sym s))
+    (ap₂ (λ x y. walk_end x.0 (pending (heads_at old.site) y)) (sym t) q ∙ ap (walk_end new.text.0) (pending_append (heads_at old.site) new.pieces.items (p ∷ []))
+    ∙ ap (λ x. walk_end new.text.0 (heads_at old.site p ++ pending (heads_at x) new.pieces.items)) (sym s))
     (ap₂ (λ x y. x ++ pending (roots_at old.site) y) (sym r) q ∙ ap (λ x. new.roots ++ x) (pending_append (roots_at old.site) new.pieces.items (p ∷ []))
     ∙ ap (λ x. new.roots ++ (roots_at old.site p ++ pending (roots_at x) new.pieces.items)) (sym s))
 

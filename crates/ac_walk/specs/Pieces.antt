@@ -4,15 +4,14 @@ use Rattle.ac_types.specs.Types.{Typ, Typs}
 use Rattle.ac_types.specs.ReadTypes.{typ_of}
 use Rattle.ac_terms.specs.Terms.{Expr, Exprs, Arms, PValue, PValues, exprs, patterns, arms, pvalues}
 use Rattle.ac_terms.specs.Defs.{Environment}
-use Rattle.ac_terms.specs.Read.{environment_of, home_of, pattern_of, expr_of, value_of}
+use Rattle.ac_terms.specs.Read.{environment_of, home_of, pattern_of, expr_of, arm_of, value_of}
 use Rattle.ac_terms.specs.Spelling.{two_written, arm_count}
 use Rattle.ac_terms.specs.Heads.{Head, before, type_heads, pattern_heads, all_pattern_heads, term_heads, all_term_heads, arm_heads, value_heads, all_value_heads}
 use Rattle.ac_terms.specs.Parts.{Portion, OfType, pattern_types, all_pattern_types, term_parts, all_term_parts, arm_parts, value_parts, all_value_parts}
 use Rattle.ac_terms.specs.Renumbered.{renumbered, all_renumbered, arms_renumbered, value_renumbered, values_renumbered}
-use Rattle.ac_canon.specs.inner.Arms.{arm_of}
 use Rattle.ac_views.specs.Sites.{typs_of}
 use Rattle.ac_code.specs.Code.{Code}
-use Rattle.ac_code.specs.ReadCode.{code_of}
+use Rattle.ac_code.specs.ReadCode.{table_code}
 use Rattle.ac_values.specs.Values.{values, values_at, stands_as}
 use Rattle.ac_values.specs.declared.node.Value.{Value}
 use Rattle.ac_meaning.specs.BareTerms.{BareValue, bare, bare_all, bare_arms, unpacked, all_unpacked}
@@ -34,7 +33,7 @@ abbrev pub entries_at : Site → Environment
 entries_at s = environment_of s.env.now
 
 abbrev pub code_at : Site → Code
-code_at s = code_of s.table.now
+code_at s = table_code s.table.now
 
 abbrev pub number_at : Site → ℕ → ℕ
 number_at s k = get_or s.numbers.now k 0
@@ -89,8 +88,8 @@ term_written s d e = term_heads two_written d (renumbered (number_at s) e)
 abbrev pub terms_written : Site → ℕ → Exprs → List Head
 terms_written s d es = all_term_heads two_written d (all_renumbered (number_at s) es)
 
-abbrev pub arms_written : Site → ℕ → Arms → List Head
-arms_written s d cases = arm_heads two_written d (arms_renumbered (number_at s) cases)
+abbrev pub arms_written_at : Site → ℕ → Arms → List Head
+arms_written_at s d cases = arm_heads two_written d (arms_renumbered (number_at s) cases)
 
 abbrev pub value_written : Site → ℕ → PValue → List Head
 value_written s d v = value_heads two_written d (value_renumbered (number_at s) v)
@@ -100,7 +99,7 @@ values_written s d vs = all_value_heads two_written d (values_renumbered (number
 
 -- arms behind their count
 abbrev pub cases_written : Site → ℕ → Arms → List Head
-cases_written s d cases = before (two_written (arm_count (arms_renumbered (number_at s) cases))) (arms_written s d cases)
+cases_written s d cases = before (two_written (arm_count (arms_renumbered (number_at s) cases))) (arms_written_at s d cases)
 
 -- the parts of a piece
 abbrev pub heads_at : Site → Piece → List Head
@@ -110,7 +109,7 @@ heads_at s (piece.Patterns ps d) = all_pattern_heads (suc d) (patterns (map patt
 heads_at s (piece.Term t a d) = term_written s (suc d) (term_at s a (expr_of t.now))
 heads_at s (piece.Terms ts a d) = terms_written s (suc d) (terms_at s a (exprs (map expr_of ts.now)))
 heads_at s (piece.Cases cs a d) = cases_written s (suc d) (arms_at s a (arms (map arm_of cs.now)))
-heads_at s (piece.Arms cs a d) = arms_written s (suc d) (arms_at s a (arms (map arm_of cs.now)))
+heads_at s (piece.Arms cs a d) = arms_written_at s (suc d) (arms_at s a (arms (map arm_of cs.now)))
 heads_at s (piece.Packed v ty d) = value_written s (suc d) (packed_at s (value_of v.now) (typ_of ty.now))
 heads_at s (piece.PackedParts vs tys d) = values_written s (suc d) (packed_parts_at s (pvalues (map value_of vs.now)) (typs_of tys.now))
 heads_at s (piece.PackedItems vs ty d) = values_written s (suc d) (packed_items_at s (pvalues (map value_of vs.now)) (typ_of ty.now))

@@ -7,7 +7,7 @@ ghost use Rattle.ac_values.specs.Values.{stands_as};
 ghost use Rattle.ac_meaning.specs.Substitution.{slot, slot_in};
 ghost use Rattle.ac_simulation.specs.Stands.{variables};
 ghost use Rattle.ac_walk.specs.Pieces.{code_at, captured_at, slot_at};
-ghost use Rattle.ac_walk.specs.inner.Slots.{raised, later, newest_type};
+ghost use Rattle.ac_walk.specs.inner.Slots.{slot_under, later, newest_type};
 
 use crate::piece::{Around, Site};
 use crate::shapes::sum;
@@ -60,7 +60,7 @@ impl<'a> Around<'a> {
 fn held_slot<'a>(site: &Site<'a>, list: Value, context: &'a [Ty], bound: u16, j: u16) -> Slot<'a>
     requires int { typ_of site.now.int.now ≡ TInt }
     requires fits { bound + j < 2 ^ 16 }
-    ensures { slot_at site.now result ≡ raised bound (slot_in
+    ensures { slot_at site.now result ≡ slot_under bound (slot_in
         (variables (code_at site.now) (stands_as site.now.store.now list.0)
         (map typ_of context.now)) j) }
 {

@@ -4,10 +4,9 @@ ghost use Rattle.std.specs.Prelude.{◌≡◌, suc, map};
 ghost use Rattle.ac_types.specs.Types.{TInt};
 ghost use Rattle.ac_types.specs.ReadTypes.{typ_of};
 ghost use Rattle.ac_terms.specs.Terms.{Var, exprs, arms};
-ghost use Rattle.ac_terms.specs.Read.{expr_of};
+ghost use Rattle.ac_terms.specs.Read.{expr_of, arm_of};
 ghost use Rattle.ac_terms.specs.Parts.{all_term_parts, arm_parts};
-ghost use Rattle.ac_canon.specs.inner.Arms.{arm_of};
-ghost use Rattle.ac_walk.specs.Pieces.{term_at, terms_at, arms_at, terms_written, arms_written, cases_written, spoken_at};
+ghost use Rattle.ac_walk.specs.Pieces.{term_at, terms_at, arms_at, terms_written, arms_written_at, cases_written, spoken_at};
 ghost use Rattle.ac_walk.specs.inner.Goes.{Visits, VisitsTerm};
 
 use crate::around::Slot;
@@ -165,7 +164,7 @@ impl<'a> Walk<'a> {
     /// Visits arms.
     #[tactic(auto, using(crate::proofs::FormLaws::term_laws))]
     pub fn arms(&mut self, cases: &'a [Arm], around: Around<'a>, outer: u32) -> Result<(), Stop>
-        ensures { Visits result (arms_written self.old.site (suc outer)
+        ensures { Visits result (arms_written_at self.old.site (suc outer)
             (arms_at self.old.site around.entry (arms (map arm_of cases.now))))
             (spoken_at self.old.site (arm_parts
             (arms_at self.old.site around.entry (arms (map arm_of cases.now))))) self.old

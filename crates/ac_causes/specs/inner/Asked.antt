@@ -1,15 +1,15 @@
 -- What is asked of each entry by itself.
-use Rattle.std.specs.Prelude.{ℕ, Bool, true, Option, Some, None}
+use Rattle.std.specs.Prelude.{ℕ, Bool, true, Option}
 use Rattle.ac_terms.specs.Defs.{Environment, Field, Def, AModule, AnImport, AMark, Entry}
 use Rattle.ac_rules.specs.Modules.{is_valuable, are_typed}
-use Rattle.ac_acceptance.specs.Causes.{Cause, uncovering, not_valuable, unlike, unlinked}
+use Rattle.ac_acceptance.specs.Causes.{Cause, uncovering, not_valuable, without_likespec, unlinked}
 use Rattle.ac_causes.specs.declared.asked.Question.{Question}
 use Rattle.ac_causes.specs.declared.asked.Question.TheVariants as ask
 
 abbrev pub asked : Question → ℕ → Entry → Option Cause
 asked ask.Covers = uncovering
 asked ask.Valuable = not_valuable
-asked ask.Likes = unlike
+asked ask.Likes = without_likespec
 asked ask.Links = unlinked
 
 abbrev pub has_value : Field → Bool

@@ -14,12 +14,12 @@ abbrev pub Strings : Type 0
 Strings = BTreeSet (Vec ℕ Global)
 
 -- whether the set has a string
-abbrev pub has : Strings → Bytes → Bool
-has set s = contains_by (λ (k : Vec ℕ Global). slice_cmp nat_cmp s k.items) set
+abbrev pub has_string : Strings → Bytes → Bool
+has_string set s = contains_by (λ (k : Vec ℕ Global). slice_cmp nat_cmp s k.items) set
 
 -- it has these strings, and no others
 abbrev pub Has : Strings → List Bytes → Type 0
-Has set made = (s : Bytes) → has set s ≡ is_made made s
+Has set made = (s : Bytes) → has_string set s ≡ is_made made s
 
 -- these say which of a journal's strings are native, and the set has those that were made then
 abbrev pub NativeBy : Strings → List code.Crossing → List Bool → Type 0

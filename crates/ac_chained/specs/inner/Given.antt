@@ -52,7 +52,7 @@ AnswersFault f (Err halt.Memory) = Unit {0}
 AnswersFault f (Err halt.WriteFault) = ⊥
 
 -- the answer that has a line alone, or there was no memory for it
-abbrev pub Tells : Status → Result Text Memory → Result Answer Halt → Type 0
-Tells status (Ok line) (Ok a) = answer_of a ≡ telling status line.0
-Tells status (Ok line) (Err h) = ⊥
-Tells status (Err e) r = r ≡ Err halt.Memory
+abbrev pub TellsLine : Status → Result Text Memory → Result Answer Halt → Type 0
+TellsLine status (Ok line) (Ok a) = answer_of a ≡ telling status line.0
+TellsLine status (Ok line) (Err h) = ⊥
+TellsLine status (Err e) r = r ≡ Err halt.Memory

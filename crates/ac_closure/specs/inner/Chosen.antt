@@ -5,21 +5,21 @@ use Rattle.ac_terms.specs.Terms.{Home, Main, In}
 use Rattle.ac_terms.specs.Parts.{Portion, OfType, OfRef, OfHome, Captured}
 
 -- with an entry that is there
-abbrev pub with_entry : List Bool → ℕ → List Bool
-with_entry set j = slice_set set j true
+abbrev pub with_one_entry : List Bool → ℕ → List Bool
+with_one_entry set j = slice_set set j true
 
 abbrev pub with_entries : List Bool → List ℕ → List Bool
 with_entries set [] = set
-with_entries set (j ∷ js) = with_entries (with_entry set j) js
+with_entries set (j ∷ js) = with_entries (with_one_entry set j) js
 
 -- with the entry that was found, if one was
 abbrev pub with_found : List Bool → Option ℕ → List Bool
 with_found set None = set
-with_found set (Some j) = with_entry set j
+with_found set (Some j) = with_one_entry set j
 
 abbrev pub with_home : List Bool → Home → List Bool
 with_home set Main = set
-with_home set (In k) = with_entry set k
+with_home set (In k) = with_one_entry set k
 
 -- where a name is looked up by `find`
 module _ (find : Bytes → Option ℕ) where
@@ -36,7 +36,7 @@ module _ (find : Bytes → Option ℕ) where
 
   abbrev pub with_part : List Bool → Portion → List Bool
   with_part set (OfType T) = with_type set T
-  with_part set (OfRef j x) = with_entry set j
+  with_part set (OfRef j x) = with_one_entry set j
   with_part set (OfHome h) = with_home set h
   with_part set Captured = set
 

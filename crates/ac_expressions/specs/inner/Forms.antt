@@ -5,7 +5,7 @@ use Rattle.ac_syntax.specs.Signs.{Sign, Fixed}
 use Rattle.ac_syntax.specs.Trees.{NameAt, TypeTree, PatTree, Tree, ExBool, ExExn, ExExnOf, ExTuple, ExPresent, ExFun, ExRec, ExLet, ExLetRec, ExIf, ExSeq, ExRaise, ExMarshal, ExUnmarshal, tree, trees, height}
 use Rattle.ac_syntax.specs.Patterns.{IsPattern}
 use Rattle.ac_syntax.specs.Expressions.{Operator, Prim, Consing, Both, Either, operator_of, after_bar, Level, Expr, Part, Binary, Atom, Closed, Parses, front, IsTree}
-use Rattle.ac_syntax.specs.ReadTrees.{expr_of}
+use Rattle.ac_syntax.specs.ReadTrees.{tree_of}
 use Rattle.ac_syntax.specs.PartParsing.{SymbolAt}
 use Rattle.ac_syntax.specs.declared.sign.Symbol.{Symbol}
 use Rattle.ac_syntax.specs.declared.sign.Symbol.TheVariants as symbol
@@ -27,7 +27,7 @@ pub record Same (D : ℕ) (l : Level) (ts : List Sign) (m : Level) (us : List Si
   pub forth : (e : Tree) (s : List Sign) → IsTree D l ts e s → IsTree D m us e s
 
 abbrev pub measured : Parsed → Type 0
-measured p = p.height ≡ height (expr_of p.tree)
+measured p = p.height ≡ height (tree_of p.tree)
 
 abbrev pub prefixed : Prefix → ℕ → Tree → Tree
 prefixed prefix.Present at e = ExPresent at e

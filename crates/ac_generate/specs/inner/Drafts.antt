@@ -41,11 +41,11 @@ jumps_at [] to d = d
 jumps_at (k ∷ ks) to d = jumps_at ks to (set_at k (instr.Jump to) d)
 
 -- a block begins; it ends, and what was written before goes on
-unfoldable pub begun : Draft → Draft
-begun d = record { first = d.first; instrs = []; blocks = d.blocks }
+unfoldable pub block_begun : Draft → Draft
+block_begun d = record { first = d.first; instrs = []; blocks = d.blocks }
 
-unfoldable pub ended : Home → Expr → List Typ → List Instr → Draft → Draft
-ended c l G before d = record { first = d.first; instrs = before; blocks = d.blocks ++ lambda_block c l G d.instrs ∷ [] }
+unfoldable pub block_ended : Home → Expr → List Typ → List Instr → Draft → Draft
+block_ended c l G before d = record { first = d.first; instrs = before; blocks = d.blocks ++ lambda_block c l G d.instrs ∷ [] }
 
 -- with the code of a term, of terms, of the parts of a sequence
 unfoldable pub wrote : Home → List Typ → Expr → Draft → Draft

@@ -11,14 +11,14 @@ abbrev pub word_of : {A : Type 0} → Bytes × A → Bytes
 word_of e = e.0
 
 -- what the map has for a name
-abbrev pub place_in : {Z : Type 0} → BTreeMap (Vec ℕ Z) ℕ → Bytes → Option ℕ
-place_in m name = get_by (λ k. slice_cmp nat_cmp name k.items) m
+abbrev pub place_of_name : {Z : Type 0} → BTreeMap (Vec ℕ Z) ℕ → Bytes → Option ℕ
+place_of_name m name = get_by (λ k. slice_cmp nat_cmp name k.items) m
 
 -- the map has for each name how many came before the latest that is it
 abbrev pub Places : {Z A : Type 0} → BTreeMap (Vec ℕ Z) ℕ → List (Bytes × A) → Type 0
-Places m names = (name : Bytes) → place_in m name ≡ own_number name (map word_of names)
+Places m names = (name : Bytes) → place_of_name m name ≡ own_number name (map word_of names)
 
 -- from the last to the first
-abbrev pub newest : {A : Type 0} → List A → List A
-newest [] = []
-newest (x ∷ xs) = newest xs ++ x ∷ []
+abbrev pub backwards : {A : Type 0} → List A → List A
+backwards [] = []
+backwards (x ∷ xs) = backwards xs ++ x ∷ []

@@ -6,10 +6,10 @@ use Rattle.ac_terms.specs.Read.{environment_of, entry_of, name_of_code}
 use Rattle.ac_terms.specs.declared.def.Entry as code
 use Rattle.ac_placing.specs.declared.names.Behind.{Behind}
 
-abbrev pub all_of : Behind → Environment
-all_of s = environment_of s.env.now ++ map entry_of s.more.now
+abbrev pub all_entries : Behind → Environment
+all_entries s = environment_of s.env.now ++ map entry_of s.more.now
 
 -- the name that an entry of the code keeps
-abbrev pub kept_of : Option code.Entry → Option Bytes
-kept_of None = None
-kept_of (Some e) = option_map name_of_code e.name
+abbrev pub kept_entry_name : Option code.Entry → Option Bytes
+kept_entry_name None = None
+kept_entry_name (Some e) = option_map name_of_code e.name

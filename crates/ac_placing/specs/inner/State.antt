@@ -4,7 +4,7 @@ use Rattle.std.specs.List.{list_all}
 use Rattle.ac_terms.specs.Defs.{Environment, Entry}
 use Rattle.ac_terms.specs.Read.{entry_of}
 use Rattle.ac_placing.specs.declared.placing.Placing.{Placing}
-use Rattle.ac_placing.specs.Placed.{number_of}
+use Rattle.ac_placing.specs.Placed.{place_number}
 use Rattle.ac_placing.specs.inner.Keys.{keyed, is_short}
 use Rattle.ac_placing.specs.inner.Maps.{Key, key_found}
 use Rattle.ac_placing.specs.inner.Open.{place_of}
@@ -14,7 +14,7 @@ has_short_link e = is_short e.link
 
 pub record IsSound (E : Environment) (p : Placing) : Type 0 where
   -- the number of each definition is that of its place
-  pub numbers : p.numbers ≡ map number_of (map place_of p.places)
+  pub numbers : p.numbers ≡ map place_number (map place_of p.places)
   -- each key has its least entry
   pub keys : (k : Key) → key_found p.keys k ≡ keyed (E ++ map entry_of p.more) k.items
   -- links have four bytes

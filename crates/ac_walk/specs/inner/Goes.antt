@@ -3,7 +3,7 @@ use Rattle.std.specs.Prelude.{◌≡◌, ℕ, List, [], ◌∷◌, ◌++◌, Res
 use Rattle.ac_terms.specs.Terms.{Expr, PValue, PValues}
 use Rattle.ac_terms.specs.Parts.{term_parts, value_parts, all_value_parts}
 use Rattle.ac_terms.specs.Heads.{Head}
-use Rattle.ac_heads.specs.Outcomes.{WalkEnd, after, StopsWalk}
+use Rattle.ac_heads.specs.Outcomes.{WalkEnd, walk_end, StopsWalk}
 use Rattle.ac_heads.specs.declared.stop.Stop.{Stop}
 use Rattle.ac_walk.specs.Pieces.{heads_at, roots_at, spoken_at, term_written, value_written, values_written}
 use Rattle.ac_walk.specs.declared.piece.Piece.{Piece}
@@ -16,7 +16,7 @@ pending f (p ∷ ps) = pending f ps ++ f p
 
 -- what is written, and what that speaks of, where some parts and definitions come before the pieces
 abbrev pub comes : List Head → List ℕ → Walk → WalkEnd × List ℕ
-comes hs ns w = (after w.text.0 (hs ++ pending (heads_at w.site) w.pieces.items), w.roots ++ (ns ++ pending (roots_at w.site) w.pieces.items))
+comes hs ns w = (walk_end w.text.0 (hs ++ pending (heads_at w.site) w.pieces.items), w.roots ++ (ns ++ pending (roots_at w.site) w.pieces.items))
 
 -- a step has gone on by these parts, which speak of these definitions, or has stopped in them
 unfoldable pub Visits : Result Unit Stop → List Head → List ℕ → Walk → Walk → Type 0

@@ -10,9 +10,9 @@ use Rattle.ac_meaning.specs.BareReduction.{BareWritten}
 use Rattle.ac_meaning.specs.Substitution.{Slot, Free, Bound}
 
 -- under so many binders more
-abbrev pub raised : {V : Type 0} → ℕ → Slot V → Slot V
-raised d (Free i) = Free (d + i)
-raised d (Bound T v) = Bound T v
+abbrev pub slot_under : {V : Type 0} → ℕ → Slot V → Slot V
+slot_under d (Free i) = Free (d + i)
+slot_under d (Bound T v) = Bound T v
 
 -- the types behind the newest, and the newest, which counts as an int where none is kept
 abbrev pub later : List Typ → List Typ
@@ -24,11 +24,11 @@ newest_type [] = TInt
 newest_type (T ∷ Ts) = T
 
 -- the types of captured values as a home sees them, the newest first; one that has none there has one that no term has
-abbrev pub IsType : Environment → Home → Typ × BareValue → Typ → Type 0
-IsType E h w T = kept_in Coloured (Some T) ≡ kept_in Coloured (type_seen Coloured true E h w.0)
+abbrev pub IsTypeSeen : Environment → Home → Typ × BareValue → Typ → Type 0
+IsTypeSeen E h w T = kept_in Coloured (Some T) ≡ kept_in Coloured (type_seen Coloured true E h w.0)
 
 abbrev pub AreTypes : Environment → Home → BareWritten → List Typ → Type 0
 AreTypes E h [] [] = Unit {0}
 AreTypes E h [] (T ∷ Ts) = ⊥
 AreTypes E h (w ∷ ws) [] = ⊥
-AreTypes E h (w ∷ ws) (T ∷ Ts) = IsType E h w T × AreTypes E h ws Ts
+AreTypes E h (w ∷ ws) (T ∷ Ts) = IsTypeSeen E h w T × AreTypes E h ws Ts

@@ -8,7 +8,7 @@ use Rattle.ac_rules.specs.Typing.{holds}
 use Rattle.ac_rules.specs.Packets.{Placed}
 use Rattle.ac_check.specs.declared.fault.CheckFault.{CheckFault}
 use Rattle.ac_check.specs.Checking.{RefusesWhere}
-use Rattle.ac_parts.specs.Numbers.{number_in}
+use Rattle.ac_parts.specs.Numbers.{number_for}
 use Rattle.ac_admit.proofs.AcceptLaws.{accepts, refuses}
 use Rattle.ac_admit.proofs.admitting.take_in.Goals as goal
 
@@ -21,7 +21,7 @@ returns-in-Ok-clause-accepted c =
     accepts old P (typ_of c.args.expected.now) c.into_parts-entries.result.0 c.into_parts-entries.result.1 c.in_ok-value.value
     (ap (λ (xs : List code_entry.Entry). environment_of old ++ map entry_of xs) parts.1 ∙ ap (λ (s : Placed). s.0) q.placed)
     (parts.0 ∙ q.numbers)
-    (c.in_ok-value.ensures ∙ ap (λ (xs : List ℕ). value_renumbered (number_in xs) P.value) c.as_slice.ensures)
+    (c.in_ok-value.ensures ∙ ap (λ (xs : List ℕ). value_renumbered (number_for xs) P.value) c.as_slice.ensures)
     q.front q.of_type q.spoken c.commit.new.env c.in-Ok.ensures.grown c.in-Ok.ensures.held
 
 pub returns-in-Err-IllTyped-clause-refused : goal.returns-in-Err-IllTyped-clause-refused
@@ -36,6 +36,6 @@ returns-in-Err-IllTyped-clause-refused c =
     refuses old P T c.into_parts-entries.result.0 more v
     (ap (λ (xs : List code_entry.Entry). environment_of old ++ map entry_of xs) parts.1 ∙ ap (λ (s : Placed). s.0) q.placed)
     (parts.0 ∙ q.numbers)
-    (c.in_ok-value.ensures ∙ ap (λ (xs : List ℕ). value_renumbered (number_in xs) P.value) c.as_slice.ensures)
+    (c.in_ok-value.ensures ∙ ap (λ (xs : List ℕ). value_renumbered (number_for xs) P.value) c.as_slice.ensures)
     q.front q.of_type q.spoken
     (subst (λ (f : CheckFault). RefusesWhere f (holds Coloured false (map entry_of (old.entries ++ more)) (value_of v) T)) c.in-Err-IllTyped.field-0-is c.in-Err-IllTyped.ensures.refused)

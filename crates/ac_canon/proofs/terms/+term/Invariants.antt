@@ -1,8 +1,7 @@
 use Rattle.std.proofs.Common.{◌≡◌, ◌++◌, drop, map}
 use Rattle.ac_terms.specs.Terms.{exprs, arms, pvalues}
-use Rattle.ac_terms.specs.Read.{expr_of, value_of}
+use Rattle.ac_terms.specs.Read.{expr_of, arm_of, value_of}
 use Rattle.ac_terms.specs.SpelledBy.{all_term_bytes, arm_bytes, all_value_bytes}
-use Rattle.ac_canon.specs.inner.Arms.{arm_of}
 use Rattle.ac_canon.proofs.terms.+term.Given as goal
 
 abbrev pub invariant-put_terms-loop-term : goal.invariant-put_terms-loop-term

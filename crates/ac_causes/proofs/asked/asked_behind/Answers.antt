@@ -4,7 +4,7 @@ use Rattle.ac_terms.specs.Defs.{Entry, Environment}
 use Rattle.ac_terms.specs.Read.{environment_of, entry_of}
 use Rattle.ac_acceptance.specs.Causes.{first_at}
 use Rattle.ac_acceptance.specs.Counted.{has_counted}
-use Rattle.ac_causes.specs.Entries.{Finds}
+use Rattle.ac_causes.specs.PartCauses.{Finds}
 use Rattle.ac_causes.specs.inner.Asked.{asked}
 use Rattle.ac_causes.proofs.Firsts.{rest_read, rest_counted}
 use Rattle.ac_causes.proofs.asked.asked_behind.Goals as goal

@@ -6,7 +6,7 @@ use Rattle.ac_terms.specs.Terms.{Expr}
 use Rattle.ac_terms.specs.Defs.{Environment}
 use Rattle.ac_load.specs.Loading.{shelf_of}
 use Rattle.ac_rules.specs.declared.loaded.Loaded.{Loaded}
-use Rattle.ac_chain.specs.Clashes.{first_clash}
+use Rattle.ac_chain.specs.Clashes.{first_program_clash}
 use Rattle.ac_chain.specs.ChainTexts.{texts_of, programs_of, LoadAs}
 use Rattle.ac_chain.specs.inner.Running.{AreFew, printed}
 use Rattle.ac_chain.proofs.LoadLaws.{as_many, are_few}
@@ -27,17 +27,17 @@ first_clash-requires-clause-few g c = subst AreFew (sym c.as_slice-2.ensures) (a
 
 pub returns-in-Ok-None-clause-ran : goal.returns-in-Ok-None-clause-ran
 returns-in-Ok-None-clause-ran g c =
-    all_have_run (texts_of c.args.programs.now) (shelf_of c.args.shelf.now) c.args.steps (printed g.C.Sink.told g.C.Sink.written g.C.Sink.faults c.args.console.now c.run_all.new.console) c.in_ok-loaded.loaded (subst (λ (ts : List Text). LoadAs (texts_of ts) (shelf_of c.args.shelf.now) (programs_of c.in_ok-loaded.loaded)) c.as_slice.ensures c.in_ok-loaded.ensures.load) (rw c.in-Ok-None.field-0-is at c.in-Ok-None.ensures ∙ ap (λ l. first_clash 0 (programs_of l)) c.as_slice-2.ensures) c.run_all.result c.run_all.ensures.ran
+    all_have_run (texts_of c.args.programs.now) (shelf_of c.args.shelf.now) c.args.steps (printed g.C.Sink.told g.C.Sink.written g.C.Sink.faults c.args.console.now c.run_all.new.console) c.in_ok-loaded.loaded (subst (λ (ts : List Text). LoadAs (texts_of ts) (shelf_of c.args.shelf.now) (programs_of c.in_ok-loaded.loaded)) c.as_slice.ensures c.in_ok-loaded.ensures.load) (rw c.in-Ok-None.field-0-is at c.in-Ok-None.ensures ∙ ap (λ l. first_program_clash 0 (programs_of l)) c.as_slice-2.ensures) c.run_all.result c.run_all.ensures.ran
 
 pub returns-in-Ok-None-clause-provenance : goal.returns-in-Ok-None-clause-provenance
 returns-in-Ok-None-clause-provenance g c =
-    all_provenance (texts_of c.args.programs.now) (shelf_of c.args.shelf.now) c.args.steps g.C.Sink.told c.in_ok-loaded.loaded _ _ (subst (λ (ts : List Text). LoadAs (texts_of ts) (shelf_of c.args.shelf.now) (programs_of c.in_ok-loaded.loaded)) c.as_slice.ensures c.in_ok-loaded.ensures.load) c.in_ok-loaded.ensures.loaded (sym (rw c.in-Ok-None.field-0-is at c.in-Ok-None.ensures ∙ ap (λ l. first_clash 0 (programs_of l)) c.as_slice-2.ensures)) c.run_all.result c.run_all.ensures.ran
+    all_provenance (texts_of c.args.programs.now) (shelf_of c.args.shelf.now) c.args.steps g.C.Sink.told c.in_ok-loaded.loaded _ _ (subst (λ (ts : List Text). LoadAs (texts_of ts) (shelf_of c.args.shelf.now) (programs_of c.in_ok-loaded.loaded)) c.as_slice.ensures c.in_ok-loaded.ensures.load) c.in_ok-loaded.ensures.loaded (sym (rw c.in-Ok-None.field-0-is at c.in-Ok-None.ensures ∙ ap (λ l. first_program_clash 0 (programs_of l)) c.as_slice-2.ensures)) c.run_all.result c.run_all.ensures.ran
 
 pub returns-in-Ok-None-clause-fault : goal.returns-in-Ok-None-clause-fault
 returns-in-Ok-None-clause-fault g c =
-    all_faults (texts_of c.args.programs.now) (shelf_of c.args.shelf.now) c.args.steps (printed g.C.Sink.told g.C.Sink.written g.C.Sink.faults c.args.console.now c.run_all.new.console) c.in_ok-loaded.loaded (subst (λ (ts : List Text). LoadAs (texts_of ts) (shelf_of c.args.shelf.now) (programs_of c.in_ok-loaded.loaded)) c.as_slice.ensures c.in_ok-loaded.ensures.load) (rw c.in-Ok-None.field-0-is at c.in-Ok-None.ensures ∙ ap (λ l. first_clash 0 (programs_of l)) c.as_slice-2.ensures) c.run_all.result c.run_all.ensures.fault c.run_all.ensures.cause
+    all_faults (texts_of c.args.programs.now) (shelf_of c.args.shelf.now) c.args.steps (printed g.C.Sink.told g.C.Sink.written g.C.Sink.faults c.args.console.now c.run_all.new.console) c.in_ok-loaded.loaded (subst (λ (ts : List Text). LoadAs (texts_of ts) (shelf_of c.args.shelf.now) (programs_of c.in_ok-loaded.loaded)) c.as_slice.ensures c.in_ok-loaded.ensures.load) (rw c.in-Ok-None.field-0-is at c.in-Ok-None.ensures ∙ ap (λ l. first_program_clash 0 (programs_of l)) c.as_slice-2.ensures) c.run_all.result c.run_all.ensures.fault c.run_all.ensures.cause
     c.run_all.ensures.stopped
 
 pub returns-in-Ok-Some-clause-fault : goal.returns-in-Ok-Some-clause-fault
 returns-in-Ok-Some-clause-fault g c =
-    clash_fault (texts_of c.args.programs.now) (shelf_of c.args.shelf.now) c.args.steps (printed g.C.Sink.told g.C.Sink.written g.C.Sink.faults c.args.console.now c.args.console.now) c.in_ok-loaded.loaded (subst (λ (ts : List Text). LoadAs (texts_of ts) (shelf_of c.args.shelf.now) (programs_of c.in_ok-loaded.loaded)) c.as_slice.ensures c.in_ok-loaded.ensures.load) c.in-Ok-Some.clash (rw c.in-Ok-Some.field-0-is at c.in-Ok-Some.ensures ∙ ap (λ l. first_clash 0 (programs_of l)) c.as_slice-2.ensures)
+    clash_fault (texts_of c.args.programs.now) (shelf_of c.args.shelf.now) c.args.steps (printed g.C.Sink.told g.C.Sink.written g.C.Sink.faults c.args.console.now c.args.console.now) c.in_ok-loaded.loaded (subst (λ (ts : List Text). LoadAs (texts_of ts) (shelf_of c.args.shelf.now) (programs_of c.in_ok-loaded.loaded)) c.as_slice.ensures c.in_ok-loaded.ensures.load) c.in-Ok-Some.clash (rw c.in-Ok-Some.field-0-is at c.in-Ok-Some.ensures ∙ ap (λ l. first_program_clash 0 (programs_of l)) c.as_slice-2.ensures)

@@ -1,5 +1,5 @@
 use Rattle.std.proofs.Common.{◌∙◌, ap, refl, ◌∷◌, drop, ◌+◌}
-use Rattle.ac_chain.specs.inner.Made.{has}
+use Rattle.ac_chain.specs.inner.Made.{has_string}
 use Rattle.ac_chain.proofs.Lists.{left_next, left_none}
 use Rattle.ac_chain.proofs.MadeLaws.{starts, next_made, next_read, all_come}
 use Rattle.ac_chain.proofs.made.natives.Goals as goal
@@ -16,7 +16,7 @@ loop-crossing-preserved c =
     elim c.match-crossing.branch [
       | in-Made+in_ok-note-in-Made w ↦ λ earlier so.
           next_made journal (drop i journal) (drop (i + 1) journal) w.in-Made.text c.loop-crossing.native c.match-crossing.native c.loop-crossing.made c.match-crossing.made earlier (next ∙ ap (λ x. x ∷ drop (i + 1) journal) w.in-Made.is) (c.loop-crossing.invariant earlier so)
-          w.native-is (λ now h s. ap (λ x. has x s) w.made-is ∙ w.in_ok-note-in-Made.ensures now h s)
+          w.native-is (λ now h s. ap (λ x. has_string x s) w.made-is ∙ w.in_ok-note-in-Made.ensures now h s)
       | in-Read+in_ok-push-in-Read w ↦ λ earlier so.
           next_read journal (drop i journal) (drop (i + 1) journal) w.in-Read.text c.loop-crossing.native c.match-crossing.native w.is_made.result c.loop-crossing.made c.match-crossing.made earlier (next ∙ ap (λ x. x ∷ drop (i + 1) journal) w.in-Read.is) (c.loop-crossing.invariant earlier so)
           (w.native-is ∙ w.in_ok-push-in-Read.ensures.ok) w.is_made.ensures w.made-is

@@ -1,8 +1,7 @@
 use Rattle.std.proofs.Common.{◌≡◌, drop, map}
 use Rattle.ac_terms.specs.Terms.{exprs, arms, pvalues}
 use Rattle.ac_terms.specs.Parts.{all_term_parts, arm_parts, all_value_parts}
-use Rattle.ac_terms.specs.Read.{expr_of, value_of}
-use Rattle.ac_closure.specs.inner.Arms.{arm_of}
+use Rattle.ac_terms.specs.Read.{expr_of, arm_of, value_of}
 use Rattle.ac_closure.specs.inner.Chosen.{with_parts}
 use Rattle.ac_closure.specs.inner.Names.{entry_named}
 use Rattle.ac_closure.proofs.terms.+term.Given as goal

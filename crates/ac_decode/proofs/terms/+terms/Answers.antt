@@ -3,11 +3,10 @@ use Rattle.std.proofs.lemmas.Result.{err_from_is_err_and}
 use Rattle.ac_terms.specs.Terms.{Expr, no_exprs, expr, exprs, Arms, no_arms, arms, If, Val, KTuple, KList, KPresent, KFun, no_pvalues, pvalue, pvalues}
 use Rattle.ac_types.specs.ReadTypes.{typ_of}
 use Rattle.ac_terms.specs.Bounds.{is_lambda}
-use Rattle.ac_terms.specs.Read.{expr_of, value_of, home_of}
+use Rattle.ac_terms.specs.Read.{expr_of, arm_of, value_of, home_of}
 use Rattle.ac_terms.specs.declared.term.Term.{Term}
 use Rattle.ac_terms.specs.declared.term.Arm.{Arm}
 use Rattle.ac_terms.specs.declared.term.PVal.{PVal}
-use Rattle.ac_canon.specs.inner.Arms.{arm_of}
 use Rattle.ac_decode.specs.inner.ExactTerms.{an_arm, exact_cases, exact_pattern, exact_term, exact_value}
 use Rattle.ac_terms.specs.PacketReading.{times, pair}
 use Rattle.ac_pieces.proofs.Loops.{with_front, starts, goes_on, ends, all_read}

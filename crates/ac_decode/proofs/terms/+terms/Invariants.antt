@@ -1,7 +1,6 @@
 use Rattle.std.proofs.Common.{◌≡◌, ◌-◌, ◌+◌, ◌*◌, map}
 use Rattle.ac_terms.specs.Terms.{no_exprs, expr, no_arms, no_pvalues, pvalue}
-use Rattle.ac_terms.specs.Read.{expr_of, value_of}
-use Rattle.ac_canon.specs.inner.Arms.{arm_of}
+use Rattle.ac_terms.specs.Read.{expr_of, arm_of, value_of}
 use Rattle.ac_decode.specs.inner.ExactTerms.{an_arm, exact_pattern, exact_term, exact_value}
 use Rattle.ac_terms.specs.PacketReading.{times, pair}
 use Rattle.ac_pieces.proofs.Loops.{with_front}

@@ -5,12 +5,11 @@ use Rattle.std.specs.Prelude.{IfOk}
 use Rattle.ac_terms.specs.Terms.{Expr}
 use Rattle.ac_scopes.specs.Written.{term_in}
 use Rattle.ac_scopes.specs.Searches.{found}
-use Rattle.ac_syntax.proofs.TreeLaws.{expr_of-Of}
-use Rattle.ac_syntax.specs.ReadTrees.{expr_of as tree_of}
+use Rattle.ac_syntax.proofs.TreeLaws.{tree_of-Of}
+use Rattle.ac_syntax.specs.ReadTrees.{tree_of}
 use Rattle.ac_elaborate.specs.inner.Crowd.{crowd}
 use Rattle.ac_elaborate.proofs.Within.{found_in_arm, item_within, item_arm_within}
-use Rattle.ac_terms.specs.Read.{expr_of}
-use Rattle.ac_elaborate.specs.inner.Arms.{read_arm}
+use Rattle.ac_terms.specs.Read.{expr_of, arm_of}
 use Rattle.ac_types.proofs.Loops.{built}
 use Rattle.ac_outer.specs.Fronts.{scope_of}
 use Rattle.ac_elaborate.proofs.Made.{term_made, all_terms, arm_made, all_arms}
@@ -35,11 +34,11 @@ all-returns t c = let e : c.loop-tree.tree-index ≡ length c.args.parts.now = o
 
 pub arms-loop-case-preserved : goal.arms-loop-case-preserved
 arms-loop-case-preserved t c =
-    built read_arm (arm_made (scope_of c.args.scope.now)) _ _ _ _ _ _ c.loop-case.invariant c.loop-case-test.true c.case-item.is c.in_ok-push.ensures.ok c.in_ok-made.ensures
+    built arm_of (arm_made (scope_of c.args.scope.now)) _ _ _ _ _ _ c.loop-case.invariant c.loop-case-test.true c.case-item.is c.in_ok-push.ensures.ok c.in_ok-made.ensures
 
 pub arms-returns : goal.arms-returns
 arms-returns t c = let e : c.loop-case.case-index ≡ length c.args.cases.now = omega arith in all_arms (scope_of c.args.scope.now) _ _ _ e c.loop-case.invariant
 
 pub term-returns-in-Of : goal.term-returns-in-Of
 term-returns-in-Of t c =
-    subst (λ (e : Expr). IfOk c.dotted_value.result (λ t. expr_of t ≡ e)) (sym (ap (term_in (scope_of c.args.scope.now)) (expr_of-Of c.args.tree.now c.in-Of.owner c.in-Of.name c.in-Of.is))) c.dotted_value.ensures
+    subst (λ (e : Expr). IfOk c.dotted_value.result (λ t. expr_of t ≡ e)) (sym (ap (term_in (scope_of c.args.scope.now)) (tree_of-Of c.args.tree.now c.in-Of.owner c.in-Of.name c.in-Of.is))) c.dotted_value.ensures

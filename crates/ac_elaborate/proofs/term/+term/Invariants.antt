@@ -1,6 +1,5 @@
 use Rattle.std.proofs.Common.{◌≡◌, map, take}
-use Rattle.ac_terms.specs.Read.{expr_of}
-use Rattle.ac_elaborate.specs.inner.Arms.{read_arm}
+use Rattle.ac_terms.specs.Read.{expr_of, arm_of}
 use Rattle.ac_outer.specs.Fronts.{scope_of}
 use Rattle.ac_elaborate.proofs.Made.{term_made, arm_made}
 use Rattle.ac_elaborate.proofs.term.+term.Given as goal
@@ -9,4 +8,4 @@ abbrev pub invariant-all-loop-tree : goal.invariant-all-loop-tree
 invariant-all-loop-tree l = map expr_of l.terms ≡ map (term_made (scope_of l.scope)) (take l.tree-index l.parts)
 
 abbrev pub invariant-arms-loop-case : goal.invariant-arms-loop-case
-invariant-arms-loop-case l = map read_arm l.found ≡ map (arm_made (scope_of l.scope)) (take l.case-index l.cases)
+invariant-arms-loop-case l = map arm_of l.found ≡ map (arm_made (scope_of l.scope)) (take l.case-index l.cases)

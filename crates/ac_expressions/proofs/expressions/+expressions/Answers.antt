@@ -7,7 +7,7 @@ use Rattle.ac_syntax.specs.Signs.{Sign}
 use Rattle.ac_syntax.specs.Trees.{PatTree, Tree, ExInt, trees, arm_trees, height, highest, highest_arm}
 use Rattle.ac_syntax.specs.Expressions.{Expr, Part, Binary, After, Unary, App, Args, Atom, front, IsTree}
 use Rattle.ac_syntax.specs.ReadSigns.{read_signs}
-use Rattle.ac_syntax.specs.ReadTrees.{pat_of, expr_of, arm_of}
+use Rattle.ac_syntax.specs.ReadTrees.{pat_of, tree_of, arm_tree_of}
 use Rattle.ac_syntax.specs.declared.surface.SExpr.{SExpr}
 use Rattle.ac_syntax.specs.declared.surface.SArm.{SArm}
 use Rattle.ac_syntax.specs.declared.surface.SPat.{SPat}
@@ -15,7 +15,7 @@ use Rattle.ac_syntax.specs.declared.sign.Symbol.TheVariants.{Close, Comma, Semic
 use Rattle.ac_syntax.proofs.OnStop.{on_syntax_more, refused}
 use Rattle.ac_expressions.specs.inner.Pieces.{Before, Made}
 use Rattle.ac_expressions.specs.inner.Forms.{Same, NoTree, IsLastPart, operator_read, IsArm, IsArms, IsParts, sequence_tree}
-use Rattle.ac_expressions.proofs.ExprLaws.{arm_of-made}
+use Rattle.ac_expressions.proofs.ExprLaws.{arm_tree_of-made}
 use Rattle.ac_expressions.proofs.Readers.{word_at, second_read, then, first_none, behind, no_symbol, behind_none, before, before_none}
 use Rattle.ac_expressions.proofs.Levels.{flat_none, same_then, same_none, args_ended, argument_none, argument_high, next_argument, applied_none, same_applied, same_operand, prefixed_none, prefixed_tree, second_none, lone_tree, minus_none, minus_tree, not_none, not_tree, app_tree, app_none, unary_tree, unary_none, joined_height, operand_none, binary_tree, after_none, after_ended, left_step, right_step, once_step, goes_on, past_operator}
 use Rattle.ac_expressions.proofs.Words.{operators_tree, operators_none, let_back, let_none, let_rec_back, let_rec_none, fun_back, fun_none, rec_back, rec_none, if_back, if_none, marshal_back, marshal_none, unmarshal_back, unmarshal_none, raise_back, raise_none}
@@ -51,14 +51,14 @@ arm-returns-in_err-body-clause-none t c =
 
 pub arm-returns-clause-tree : goal.arm-returns-clause-tree
 arm-returns-clause-tree t c =
-    let made = arm_of-made c.into_tree-pat.result c.into_inner-body.result ∙ ap (λ (e : SExpr). (pat_of c.into_tree-pat.result, expr_of e)) c.into_inner-body.ensures
-    ∙ ap (λ (p : SPat). (pat_of p, expr_of c.in_ok-body.body.tree)) c.into_tree-pat.ensures in
+    let made = arm_tree_of-made c.into_tree-pat.result c.into_inner-body.result ∙ ap (λ (e : SExpr). (pat_of c.into_tree-pat.result, tree_of e)) c.into_inner-body.ensures
+    ∙ ap (λ (p : SPat). (pat_of p, tree_of c.in_ok-body.body.tree)) c.into_tree-pat.ensures in
     subst (λ (x : PatTree × Tree). IsArm c.args.depth (read_signs c.args.signs.now) x (read_signs c.in_ok-body.rest.now)) (sym made) (then _ (before c.in_ok-parsed.ensures.tree c.in_ok-later.ensures.found) c.in_ok-body.ensures.tree)
 
 pub arm-returns-clause-height : goal.arm-returns-clause-height
 arm-returns-clause-height t c =
-    let made = arm_of-made c.into_tree-pat.result c.into_inner-body.result ∙ ap (λ (e : SExpr). (pat_of c.into_tree-pat.result, expr_of e)) c.into_inner-body.ensures
-    ∙ ap (λ (p : SPat). (pat_of p, expr_of c.in_ok-body.body.tree)) c.into_tree-pat.ensures in
+    let made = arm_tree_of-made c.into_tree-pat.result c.into_inner-body.result ∙ ap (λ (e : SExpr). (pat_of c.into_tree-pat.result, tree_of e)) c.into_inner-body.ensures
+    ∙ ap (λ (p : SPat). (pat_of p, tree_of c.in_ok-body.body.tree)) c.into_tree-pat.ensures in
     c.in_ok-body.ensures.height ∙ sym (ap (λ (x : PatTree × Tree). height x.1) made)
 
 pub arms-returns-in_err-first-clause-none : goal.arms-returns-in_err-first-clause-none
@@ -90,7 +90,7 @@ choice-returns-in_err-arms-clause-none t c =
     rw (p.1, p.2) (on_syntax_more _ (choice_no_arms _ _ _ _ _ c.in_ok-of.ensures.tree c.after_bar.ensures.found) c.in_err-arms.ensures.none)
 
 pub choice-returns-clause-tree : goal.choice-returns-clause-tree
-choice-returns-clause-tree t c = then _ c.in_ok-of.ensures.tree (subst (λ (l : List Sign). IsArms c.args.depth l (map arm_of c.in_ok-arms.arms) (read_signs c.in_ok-arms.rest.now)) c.after_bar.ensures.found c.in_ok-arms.ensures.tree)
+choice-returns-clause-tree t c = then _ c.in_ok-of.ensures.tree (subst (λ (l : List Sign). IsArms c.args.depth l (map arm_tree_of c.in_ok-arms.arms) (read_signs c.in_ok-arms.rest.now)) c.after_bar.ensures.found c.in_ok-arms.ensures.tree)
 
 pub tuple-returns-in_err-second-clause-none : goal.tuple-returns-in_err-second-clause-none
 tuple-returns-in_err-second-clause-none t c =
@@ -274,7 +274,7 @@ pub part-returns-then-depth-eq0-clause-none : goal.part-returns-then-depth-eq0-c
 part-returns-then-depth-eq0-clause-none t c = refused _ _ c.refused_at.ensures (flat_none _ _ _ c.if-depth-eq0.true)
 
 pub part-returns-clause-tree : goal.part-returns-clause-tree
-part-returns-clause-tree t c = IfOk-weaker c.keyword_part.result _ _ (λ x o. subst (λ (l : List Sign). IsTree c.args.depth Part l (expr_of x.0.tree) (read_signs x.1.now)) (sym (word_at c.in-Some.ensures.found c.here.ensures)) o) c.keyword_part.ensures.tree
+part-returns-clause-tree t c = IfOk-weaker c.keyword_part.result _ _ (λ x o. subst (λ (l : List Sign). IsTree c.args.depth Part l (tree_of x.0.tree) (read_signs x.1.now)) (sym (word_at c.in-Some.ensures.found c.here.ensures)) o) c.keyword_part.ensures.tree
 
 pub part-returns-clause-none : goal.part-returns-clause-none
 part-returns-clause-none t c = IfErr-weaker c.keyword_part.result _ _ (λ e o. on_syntax_more e (λ n. subst (λ (l : List Sign). NoTree c.args.depth Part l) (sym (word_at c.in-Some.ensures.found c.here.ensures)) n) o) c.keyword_part.ensures.none
@@ -292,10 +292,10 @@ expr-returns-then-first-depth-clause-none t c = refused _ _ c.refused_at.ensures
 
 pub expr-returns-clause-tree : goal.expr-returns-clause-tree
 expr-returns-clause-tree t c =
-    let low : height (expr_of c.in_ok-first.first.tree) < c.args.depth = omega (arith, c.in_ok-first.ensures.height, c.if-first-depth.false) in
+    let low : height (tree_of c.in_ok-first.first.tree) < c.args.depth = omega (arith, c.in_ok-first.ensures.height, c.if-first-depth.false) in
     IfOk-weaker c.sequence.result _ _
     (λ x o. sequence_made _ _ _ _ _ c.in_ok-first.ensures.tree c.in-Some.ensures.found _ _ low
-    (subst (λ (at : ℕ). Made (IsParts (c.args.depth - 1)) (sequence_tree at (expr_of c.in_ok-first.first.tree)) (read_signs c.in-Some.behind.now) (expr_of x.0.tree) (read_signs x.1.now)) c.here.ensures o)) c.sequence.ensures.tree
+    (subst (λ (at : ℕ). Made (IsParts (c.args.depth - 1)) (sequence_tree at (tree_of c.in_ok-first.first.tree)) (read_signs c.in-Some.behind.now) (tree_of x.0.tree) (read_signs x.1.now)) c.here.ensures o)) c.sequence.ensures.tree
 
 pub expr-returns-clause-none : goal.expr-returns-clause-none
 expr-returns-clause-none t c = IfErr-weaker c.sequence.result _ _ (λ e o. on_syntax_more e (sequence_none _ _ _ _ _ c.in_ok-first.ensures.tree c.in-Some.ensures.found) o) c.sequence.ensures.none
@@ -317,7 +317,7 @@ pub atom-returns-then-depth-eq0-clause-none : goal.atom-returns-then-depth-eq0-c
 atom-returns-then-depth-eq0-clause-none t c = refused _ _ c.refused_at.ensures (flat_none _ _ _ c.if-depth-eq0.true)
 
 pub atom-returns-in-Some-clause-tree : goal.atom-returns-in-Some-clause-tree
-atom-returns-in-Some-clause-tree t c = IfOk-weaker c.opened.result _ _ (λ x o. subst (λ (l : List Sign). IsTree c.args.depth Atom l (expr_of x.0.tree) (read_signs x.1.now)) (sym (word_at c.in-Some.ensures.found c.here-at.ensures)) o) c.opened.ensures.tree
+atom-returns-in-Some-clause-tree t c = IfOk-weaker c.opened.result _ _ (λ x o. subst (λ (l : List Sign). IsTree c.args.depth Atom l (tree_of x.0.tree) (read_signs x.1.now)) (sym (word_at c.in-Some.ensures.found c.here-at.ensures)) o) c.opened.ensures.tree
 
 pub atom-returns-in-Some-clause-none : goal.atom-returns-in-Some-clause-none
 atom-returns-in-Some-clause-none t c = IfErr-weaker c.opened.result _ _ (λ e o. on_syntax_more e (λ n. subst (λ (l : List Sign). NoTree c.args.depth Atom l) (sym (word_at c.in-Some.ensures.found c.here-at.ensures)) n) o) c.opened.ensures.none
@@ -350,10 +350,10 @@ atom-returns-in_err-tree-clause-none t c =
 pub atom-returns-clause-tree : goal.atom-returns-clause-tree
 atom-returns-clause-tree t c =
     let pos : 0 < c.args.depth = omega (arith, c.if-depth-eq0.false) in
-    subst (λ (e : SExpr). IsTree c.args.depth Atom (read_signs c.args.signs.now) (expr_of e) (read_signs c.in_ok-tree.rest.now)) (sym c.in_ok-tree-2.ensures) (leaf_tree _ _ _ _ pos c.in_ok-tree.ensures.found)
+    subst (λ (e : SExpr). IsTree c.args.depth Atom (read_signs c.args.signs.now) (tree_of e) (read_signs c.in_ok-tree.rest.now)) (sym c.in_ok-tree-2.ensures) (leaf_tree _ _ _ _ pos c.in_ok-tree.ensures.found)
 
 pub atom-returns-clause-height : goal.atom-returns-clause-height
-atom-returns-clause-height t c = sym (ap (λ (e : SExpr). height (expr_of e)) c.in_ok-tree-2.ensures ∙ c.in_ok-tree.ensures.found.leaf)
+atom-returns-clause-height t c = sym (ap (λ (e : SExpr). height (tree_of e)) c.in_ok-tree-2.ensures ∙ c.in_ok-tree.ensures.found.leaf)
 
 pub app-returns-then-depth-eq0-clause-none : goal.app-returns-then-depth-eq0-clause-none
 app-returns-then-depth-eq0-clause-none t c = refused _ _ c.refused_at.ensures (flat_none _ _ _ c.if-depth-eq0.true)
@@ -391,7 +391,7 @@ pub unary-returns-then-depth-eq0-clause-none : goal.unary-returns-then-depth-eq0
 unary-returns-then-depth-eq0-clause-none t c = refused _ _ c.refused_at.ensures (flat_none _ _ _ c.if-depth-eq0.true)
 
 pub unary-returns-in-Some-clause-tree : goal.unary-returns-in-Some-clause-tree
-unary-returns-in-Some-clause-tree t c = IfOk-weaker c.minus.result _ _ (λ x o. subst (λ (l : List Sign). IsTree c.args.depth Unary l (expr_of x.0.tree) (read_signs x.1.now)) (sym (word_at c.in-Some.ensures.found c.here-at.ensures)) o) c.minus.ensures.tree
+unary-returns-in-Some-clause-tree t c = IfOk-weaker c.minus.result _ _ (λ x o. subst (λ (l : List Sign). IsTree c.args.depth Unary l (tree_of x.0.tree) (read_signs x.1.now)) (sym (word_at c.in-Some.ensures.found c.here-at.ensures)) o) c.minus.ensures.tree
 
 pub unary-returns-in-Some-clause-none : goal.unary-returns-in-Some-clause-none
 unary-returns-in-Some-clause-none t c = IfErr-weaker c.minus.result _ _ (λ e o. on_syntax_more e (λ n. subst (λ (l : List Sign). NoTree c.args.depth Unary l) (sym (word_at c.in-Some.ensures.found c.here-at.ensures)) n) o) c.minus.ensures.none
@@ -417,7 +417,7 @@ unary-returns-clause-none t c = IfErr-weaker c.app.result _ _ (λ e o. on_syntax
 
 pub to_right-returns-in_default-clause-tree : goal.to_right-returns-in_default-clause-tree
 to_right-returns-in_default-clause-tree t c =
-    let low : height (expr_of c.args.first.tree) ≤ c.args.depth = omega (arith, c.requires.first, c.requires.low) in
+    let low : height (tree_of c.args.first.tree) ≤ c.args.depth = omega (arith, c.requires.first, c.requires.low) in
     after_ended _ _ _ _ _ c.requires.level.0 c.requires.level.1 low c.requires.stops c.in_default.ensures.found
 
 pub to_right-returns-then-first-depth-clause-none : goal.to_right-returns-then-first-depth-clause-none
@@ -428,7 +428,7 @@ to_right-returns-then-first-depth-clause-none t c =
 
 pub once-returns-in_default-clause-tree : goal.once-returns-in_default-clause-tree
 once-returns-in_default-clause-tree t c =
-    let low : height (expr_of c.args.first.tree) ≤ c.args.depth = omega (arith, c.requires.first, c.requires.low) in
+    let low : height (tree_of c.args.first.tree) ≤ c.args.depth = omega (arith, c.requires.first, c.requires.low) in
     after_ended _ _ _ _ _ c.requires.level.0 c.requires.level.1 low c.requires.stops c.in_default.ensures.found
 
 pub once-returns-then-first-depth-clause-none : goal.once-returns-then-first-depth-clause-none
@@ -452,8 +452,8 @@ binary-returns-in_err-first-clause-none t c =
 pub arms-loop-behind-init : goal.arms-loop-behind-init
 arms-loop-behind-init t c =
     let h = c.in_ok-first.ensures in
-    let arms = ap (map arm_of) (c.in_ok-push.ensures.ok ∙ ap (λ (l : List SArm). l ++ c.in_ok-first.first ∷ []) c.new-arms.ensures) in
-    let low : height (arm_of c.in_ok-first.first).1 ≤ c.args.depth = h.tree.second.low in
+    let arms = ap (map arm_tree_of) (c.in_ok-push.ensures.ok ∙ ap (λ (l : List SArm). l ++ c.in_ok-first.first ∷ []) c.new-arms.ensures) in
+    let low : height (arm_tree_of c.in_ok-first.first).1 ≤ c.args.depth = h.tree.second.low in
     record {
       read = first_arm _ _ _ _ _ h.tree arms;
       height = omega (arith, h.height, ap (λ (l : List (PatTree × Tree)). highest_arm (arm_trees l)) arms);
@@ -465,11 +465,11 @@ pub arms-loop-behind-preserved : goal.arms-loop-behind-preserved
 arms-loop-behind-preserved t c =
     let i = c.loop-behind.invariant in
     let h = c.in_ok-next.ensures in
-    let arms = ap (map arm_of) c.in_ok-push-2.ensures.ok ∙ map-append arm_of c.loop-behind.arms (c.in_ok-next.next ∷ []) in
-    let low : height (arm_of c.in_ok-next.next).1 ≤ c.args.depth = h.tree.second.low in
+    let arms = ap (map arm_tree_of) c.in_ok-push-2.ensures.ok ∙ map-append arm_tree_of c.loop-behind.arms (c.in_ok-next.next ∷ []) in
+    let low : height (arm_tree_of c.in_ok-next.next).1 ≤ c.args.depth = h.tree.second.low in
     record {
       read = next_arm _ _ _ _ i.read _ c.in-Some.ensures.found _ _ _ h.tree arms;
-      height = highest_next_arm (map arm_of c.loop-behind.arms) (arm_of c.in_ok-next.next) _ _ _ _ arms i.height h.height c.max-height.ensures;
+      height = highest_next_arm (map arm_tree_of c.loop-behind.arms) (arm_tree_of c.in_ok-next.next) _ _ _ _ arms i.height h.height c.max-height.ensures;
       low = omega (arith, c.max-height.ensures, i.low, low, h.height);
       shorter = omega (arith, i.shorter, c.in-Some.ensures.shorter, h.shorter);
     }
@@ -478,11 +478,11 @@ pub tuple-loop-behind-preserved : goal.tuple-loop-behind-preserved
 tuple-loop-behind-preserved t c =
     let i = c.loop-behind.invariant in
     let h = c.in_ok-part.ensures in
-    let parts = ap (map expr_of) (c.in_ok-push.ensures.ok ∙ ap (λ (e : SExpr). c.loop-behind.parts ++ e ∷ []) c.into_inner.ensures) ∙ map-append expr_of c.loop-behind.parts (c.in_ok-part.part.tree ∷ []) in
-    let low : height (expr_of c.in_ok-part.part.tree) ≤ c.args.depth = h.tree.low in
+    let parts = ap (map tree_of) (c.in_ok-push.ensures.ok ∙ ap (λ (e : SExpr). c.loop-behind.parts ++ e ∷ []) c.into_inner.ensures) ∙ map-append tree_of c.loop-behind.parts (c.in_ok-part.part.tree ∷ []) in
+    let low : height (tree_of c.in_ok-part.part.tree) ≤ c.args.depth = h.tree.low in
     record {
       read = item_read _ _ _ _ _ i.read _ c.in-Some.ensures.found _ _ _ h.tree parts;
-      height = highest_next (map expr_of c.loop-behind.parts) (expr_of c.in_ok-part.part.tree) _ _ _ _ parts i.height h.height c.max-height-in-Some.ensures;
+      height = highest_next (map tree_of c.loop-behind.parts) (tree_of c.in_ok-part.part.tree) _ _ _ _ parts i.height h.height c.max-height-in-Some.ensures;
       low = omega (arith, c.max-height-in-Some.ensures, i.low, low, h.height, c.requires.small);
       shorter = omega (arith, i.shorter, c.in-Some.ensures.shorter, h.shorter);
     }
@@ -491,11 +491,11 @@ pub sequence-loop-behind-preserved : goal.sequence-loop-behind-preserved
 sequence-loop-behind-preserved t c =
     let i = c.loop-behind.invariant in
     let h = c.in_ok-next.ensures in
-    let parts = ap (map expr_of) (c.in_ok-push.ensures.ok ∙ ap (λ (e : SExpr). c.loop-behind.parts ++ e ∷ []) c.into_inner.ensures) ∙ map-append expr_of c.loop-behind.parts (c.in_ok-next.next.tree ∷ []) in
-    let low : height (expr_of c.in_ok-next.next.tree) ≤ c.args.depth = h.tree.low in
+    let parts = ap (map tree_of) (c.in_ok-push.ensures.ok ∙ ap (λ (e : SExpr). c.loop-behind.parts ++ e ∷ []) c.into_inner.ensures) ∙ map-append tree_of c.loop-behind.parts (c.in_ok-next.next.tree ∷ []) in
+    let low : height (tree_of c.in_ok-next.next.tree) ≤ c.args.depth = h.tree.low in
     record {
       read = next_part _ _ _ _ _ i.read _ c.in-Some.ensures.found _ _ _ h.tree parts;
-      height = highest_next (map expr_of c.loop-behind.parts) (expr_of c.in_ok-next.next.tree) _ _ _ _ parts i.height h.height c.max-height-in-Some.ensures;
+      height = highest_next (map tree_of c.loop-behind.parts) (tree_of c.in_ok-next.next.tree) _ _ _ _ parts i.height h.height c.max-height-in-Some.ensures;
       low = omega (arith, c.max-height-in-Some.ensures, i.low, low, h.height, c.requires.small);
       shorter = omega (arith, i.shorter, c.in-Some.ensures.shorter, h.shorter);
     }
@@ -516,9 +516,9 @@ applied-returns-in_err-function-clause-none t c =
 pub applied-loop-alloc-init : goal.applied-loop-alloc-init
 applied-loop-alloc-init t c =
     let h = c.in_ok-function.ensures in
-    let low : height (expr_of c.in_ok-function.function.tree) ≤ c.args.depth = h.tree.low in
+    let low : height (tree_of c.in_ok-function.function.tree) ≤ c.args.depth = h.tree.low in
     record {
-      same = subst (λ (at : ℕ). Same c.args.depth App (read_signs c.args.signs.now) (Args at (expr_of c.in_ok-function.function.tree)) (read_signs c.in_ok-function.rest.now)) (sym c.here-at.ensures) (same_applied _ _ _ _ h.tree c.requires);
+      same = subst (λ (at : ℕ). Same c.args.depth App (read_signs c.args.signs.now) (Args at (tree_of c.in_ok-function.function.tree)) (read_signs c.in_ok-function.rest.now)) (sym c.here-at.ensures) (same_applied _ _ _ _ h.tree c.requires);
       height = h.height;
       low = omega (arith, h.height, low);
       shorter = h.shorter;
@@ -550,7 +550,7 @@ applied-loop-alloc-preserved t c =
 pub applied-returns-clause-tree : goal.applied-returns-clause-tree
 applied-returns-clause-tree t c =
     let i = c.loop-alloc.invariant in
-    let low : height (expr_of c.loop-alloc.function.tree) ≤ c.args.depth = omega (arith, i.height, i.low) in
+    let low : height (tree_of c.loop-alloc.function.tree) ≤ c.args.depth = omega (arith, i.height, i.low) in
     i.same.back _ _ (args_ended _ _ _ _ (sym c.begins_atom.ensures ∙ c.loop-alloc-test.false) low)
 
 pub right_side-returns-in_err-right-clause-none : goal.right_side-returns-in_err-right-clause-none
@@ -571,10 +571,10 @@ pub to_left-loop-operator-init : goal.to_left-loop-operator-init
 to_left-loop-operator-init t c =
     let lv : suc (c.args.level - 1) ≡ c.args.level = omega (arith, c.requires.level.0) in
     let h = c.in_ok-left.ensures in
-    let low : height (expr_of c.in_ok-left.left.tree) ≤ c.args.depth = h.tree.low in
+    let low : height (tree_of c.in_ok-left.left.tree) ≤ c.args.depth = h.tree.low in
     let stops : suc (c.args.level - 1) < front (read_signs c.in_ok-left.rest.now) = h.tree.stops in
     record {
-      same = subst (λ (at : ℕ). Same c.args.depth (Binary c.args.level) (read_signs c.args.signs.now) (After c.args.level at (expr_of c.in_ok-left.left.tree)) (read_signs c.in_ok-left.rest.now)) (sym c.here-at.ensures)
+      same = subst (λ (at : ℕ). Same c.args.depth (Binary c.args.level) (read_signs c.args.signs.now) (After c.args.level at (tree_of c.in_ok-left.left.tree)) (read_signs c.in_ok-left.rest.now)) (sym c.here-at.ensures)
           (same_operand _ _ _ _ lv _ _ h.tree);
       height = h.height;
       low = omega (arith, h.height, low);
@@ -608,7 +608,7 @@ to_left-loop-operator-preserved t c =
       same = subst (λ (x : Tree). Same c.args.depth (Binary c.args.level) (read_signs c.args.signs.now) (After c.args.level c.here-at.result x) (read_signs c.in_ok-joined.later.now)) (sym h.tree.is)
           (same_then i.same (s.next _ _ h.tree.read));
       height = h.height;
-      low = omega (arith, h.height, ap height h.tree.is, joined_height c.here-at.result (operator_read c.in-Some.operator) (expr_of c.loop-operator.left.tree) h.tree.parts, i.height, c.if-left-depth.false, low);
+      low = omega (arith, h.height, ap height h.tree.is, joined_height c.here-at.result (operator_read c.in-Some.operator) (tree_of c.loop-operator.left.tree) h.tree.parts, i.height, c.if-left-depth.false, low);
       stops = omega (arith, stops);
       shorter = omega (arith, i.shorter, c.in-Some.ensures.shorter, h.shorter);
     }
@@ -616,16 +616,16 @@ to_left-loop-operator-preserved t c =
 pub to_left-returns-clause-tree : goal.to_left-returns-clause-tree
 to_left-returns-clause-tree t c =
     let i = c.loop-operator.invariant in
-    let low : height (expr_of c.loop-operator.left.tree) ≤ c.args.depth = omega (arith, i.height, i.low) in
+    let low : height (tree_of c.loop-operator.left.tree) ≤ c.args.depth = omega (arith, i.height, i.low) in
     i.same.back _ _ (after_ended _ _ _ _ _ c.requires.level.0 c.requires.level.1 low i.stops c.in_default.ensures.found)
 
 pub to_right-returns-clause-tree : goal.to_right-returns-clause-tree
 to_right-returns-clause-tree t c =
     let lv : suc (c.args.level - 1) ≡ c.args.level = omega (arith, c.requires.level.0) in
     let s = right_step _ _ c.args.depth c.args.at _ _ _ _ lv c.in-Some.ensures.found c.requires.side in
-    let low : height (expr_of c.args.first.tree) < c.args.depth = omega (arith, c.requires.first, c.if-first-depth.false) in
+    let low : height (tree_of c.args.first.tree) < c.args.depth = omega (arith, c.requires.first, c.if-first-depth.false) in
     IfOk-weaker c.right_side.result _ _
-    (λ x o. subst (λ (e : Tree). IsTree c.args.depth (After c.args.level c.args.at (expr_of c.args.first.tree)) (read_signs c.args.signs.now) e (read_signs x.1.now)) (sym o.is) (s.made _ _ o.read low o.read.stops)) c.right_side.ensures.tree
+    (λ x o. subst (λ (e : Tree). IsTree c.args.depth (After c.args.level c.args.at (tree_of c.args.first.tree)) (read_signs c.args.signs.now) e (read_signs x.1.now)) (sym o.is) (s.made _ _ o.read low o.read.stops)) c.right_side.ensures.tree
 
 pub to_right-returns-clause-none : goal.to_right-returns-clause-none
 to_right-returns-clause-none t c =
@@ -638,28 +638,28 @@ binary-returns-then-level-eq4-clause-tree t c =
     let lv : suc (c.args.level - 1) ≡ c.args.level = omega (arith, c.if-level-eq0.false) in
     IfOk-weaker c.once.result _ _
     (λ x o. binary_tree _ _ _ _ lv _ _ c.in_ok-first.ensures.tree _ _
-    (subst (λ (at : ℕ). IsTree c.args.depth (After c.args.level at (expr_of c.in_ok-first.first.tree)) (read_signs c.in_ok-first.rest.now) (expr_of x.0.tree) (read_signs x.1.now)) c.here-at.ensures o)) c.once.ensures.tree
+    (subst (λ (at : ℕ). IsTree c.args.depth (After c.args.level at (tree_of c.in_ok-first.first.tree)) (read_signs c.in_ok-first.rest.now) (tree_of x.0.tree) (read_signs x.1.now)) c.here-at.ensures o)) c.once.ensures.tree
 
 pub binary-returns-then-level-eq4-clause-none : goal.binary-returns-then-level-eq4-clause-none
 binary-returns-then-level-eq4-clause-none t c =
     let lv : suc (c.args.level - 1) ≡ c.args.level = omega (arith, c.if-level-eq0.false) in
     IfErr-weaker c.once.result _ _
     (λ e o. on_syntax_more e (λ n. after_none _ _ _ _ lv _ _ c.in_ok-first.ensures.tree
-    (subst (λ (at : ℕ). NoTree c.args.depth (After c.args.level at (expr_of c.in_ok-first.first.tree)) (read_signs c.in_ok-first.rest.now)) c.here-at.ensures n)) o) c.once.ensures.none
+    (subst (λ (at : ℕ). NoTree c.args.depth (After c.args.level at (tree_of c.in_ok-first.first.tree)) (read_signs c.in_ok-first.rest.now)) c.here-at.ensures n)) o) c.once.ensures.none
 
 pub binary-returns-else-level-eq4-clause-tree : goal.binary-returns-else-level-eq4-clause-tree
 binary-returns-else-level-eq4-clause-tree t c =
     let lv : suc (c.args.level - 1) ≡ c.args.level = omega (arith, c.if-level-eq0.false) in
     IfOk-weaker c.to_right.result _ _
     (λ x o. binary_tree _ _ _ _ lv _ _ c.in_ok-first.ensures.tree _ _
-    (subst (λ (at : ℕ). IsTree c.args.depth (After c.args.level at (expr_of c.in_ok-first.first.tree)) (read_signs c.in_ok-first.rest.now) (expr_of x.0.tree) (read_signs x.1.now)) c.here-at.ensures o)) c.to_right.ensures.tree
+    (subst (λ (at : ℕ). IsTree c.args.depth (After c.args.level at (tree_of c.in_ok-first.first.tree)) (read_signs c.in_ok-first.rest.now) (tree_of x.0.tree) (read_signs x.1.now)) c.here-at.ensures o)) c.to_right.ensures.tree
 
 pub binary-returns-else-level-eq4-clause-none : goal.binary-returns-else-level-eq4-clause-none
 binary-returns-else-level-eq4-clause-none t c =
     let lv : suc (c.args.level - 1) ≡ c.args.level = omega (arith, c.if-level-eq0.false) in
     IfErr-weaker c.to_right.result _ _
     (λ e o. on_syntax_more e (λ n. after_none _ _ _ _ lv _ _ c.in_ok-first.ensures.tree
-    (subst (λ (at : ℕ). NoTree c.args.depth (After c.args.level at (expr_of c.in_ok-first.first.tree)) (read_signs c.in_ok-first.rest.now)) c.here-at.ensures n)) o) c.to_right.ensures.none
+    (subst (λ (at : ℕ). NoTree c.args.depth (After c.args.level at (tree_of c.in_ok-first.first.tree)) (read_signs c.in_ok-first.rest.now)) c.here-at.ensures n)) o) c.to_right.ensures.none
 
 pub opened-returns-in-Some-clause-tree : goal.opened-returns-in-Some-clause-tree
 opened-returns-in-Some-clause-tree t c = unit_tree _ _ _ _ _ c.requires c.in-Some.ensures.found c.in_ok-unit.ensures.tree
@@ -679,7 +679,7 @@ opened-returns-then-first-depth-clause-none t c =
 
 pub opened-returns-clause-tree : goal.opened-returns-clause-tree
 opened-returns-clause-tree t c =
-    let low : height (expr_of c.in_ok-first.first.tree) < c.args.depth = omega (arith, c.in_ok-first.ensures.height, c.if-first-depth.false) in
+    let low : height (tree_of c.in_ok-first.first.tree) < c.args.depth = omega (arith, c.in_ok-first.ensures.height, c.if-first-depth.false) in
     IfOk-weaker c.tuple.result _ _ (λ x o. tuple_made _ _ _ c.in_default.ensures.found c.in_default-after.ensures.found c.in_default-after-2.ensures.found _ _ c.in_ok-first.ensures.tree _ c.in_default-after-3.ensures.found c.in_ok-behind-2.ensures.found _ _ low o) c.tuple.ensures.tree
 
 pub opened-returns-clause-none : goal.opened-returns-clause-none
@@ -751,12 +751,12 @@ pub once-returns-clause-tree : goal.once-returns-clause-tree
 once-returns-clause-tree t c =
     let lv : suc (c.args.level - 1) ≡ c.args.level = omega (arith, c.requires.level.0) in
     let s = once_step _ _ c.args.depth c.args.at _ _ _ _ lv c.in-Some.ensures.found c.requires.side in
-    let low : height (expr_of c.args.first.tree) < c.args.depth = omega (arith, c.requires.first, c.if-first-depth.false) in
+    let low : height (tree_of c.args.first.tree) < c.args.depth = omega (arith, c.requires.first, c.if-first-depth.false) in
     IfOk-weaker c.compared.result _ _
     (λ x o.
     let stops : suc (c.args.level - 1) < front (read_signs x.1.now) = o.read.is.stops in
     let level : c.args.level < front (read_signs x.1.now) = omega (arith, stops) in
-    subst (λ (e : Tree). IsTree c.args.depth (After c.args.level c.args.at (expr_of c.args.first.tree)) (read_signs c.args.signs.now) e (read_signs x.1.now)) (sym o.is)
+    subst (λ (e : Tree). IsTree c.args.depth (After c.args.level c.args.at (tree_of c.args.first.tree)) (read_signs c.args.signs.now) e (read_signs x.1.now)) (sym o.is)
     (s.made _ _ o.read.is low (past_operator _ _ c.requires.level.0 c.requires.level.1 level o.read.ends))) c.compared.ensures.tree
 
 pub once-returns-clause-none : goal.once-returns-clause-none
@@ -768,8 +768,8 @@ once-returns-clause-none t c =
 pub tuple-loop-behind-init : goal.tuple-loop-behind-init
 tuple-loop-behind-init t c =
     let h = c.in_ok-second.ensures in
-    let parts = ap (map expr_of) c.in_ok-parts.ensures in
-    let low : height (expr_of c.in_ok-second.second.tree) ≤ c.args.depth = h.tree.low in
+    let parts = ap (map tree_of) c.in_ok-parts.ensures in
+    let low : height (tree_of c.in_ok-second.second.tree) ≤ c.args.depth = h.tree.low in
     record {
       read = second_read (Before Comma (IsTree c.args.depth Expr)) (Before Close (IsTree c.args.depth Expr)) h.tree parts;
       height = omega (arith, c.max-height.ensures, c.requires.first, h.height, ap (λ (l : List Tree). highest (trees l)) parts);
@@ -780,8 +780,8 @@ tuple-loop-behind-init t c =
 pub sequence-loop-behind-init : goal.sequence-loop-behind-init
 sequence-loop-behind-init t c =
     let h = c.in_ok-second.ensures in
-    let parts = ap (map expr_of) c.in_ok-parts.ensures in
-    let low : height (expr_of c.in_ok-second.second.tree) ≤ c.args.depth = h.tree.low in
+    let parts = ap (map tree_of) c.in_ok-parts.ensures in
+    let low : height (tree_of c.in_ok-second.second.tree) ≤ c.args.depth = h.tree.low in
     record {
       read = second_read (Before Semicolon (IsTree c.args.depth Part)) (IsLastPart c.args.depth) h.tree parts;
       height = omega (arith, c.max-height.ensures, c.requires.first, h.height, ap (λ (l : List Tree). highest (trees l)) parts);

@@ -2,7 +2,7 @@ use Rattle.std.proofs.Common.{◌≡◌, ◌<◌, ◌≤◌, ◌+◌, ◌*◌, �
 use Rattle.ac_syntax.specs.Trees.{trees, arm_trees, height, highest, highest_arm}
 use Rattle.ac_syntax.specs.Expressions.{Binary, After, App, Args, front}
 use Rattle.ac_syntax.specs.ReadSigns.{read_signs}
-use Rattle.ac_syntax.specs.ReadTrees.{expr_of, arm_of}
+use Rattle.ac_syntax.specs.ReadTrees.{tree_of, arm_tree_of}
 use Rattle.ac_expressions.specs.inner.Forms.{Same}
 use Rattle.ac_expressions.proofs.Atoms.{ItemsSoFar, PartsSoFar, ArmsSoFar}
 use Rattle.ac_expressions.proofs.expressions.+expressions.Given as goal
@@ -100,8 +100,8 @@ decreases-keyword_part l = 30 * length l.signs.now + 23
 
 abbrev pub invariant-to_left-loop-operator : goal.invariant-to_left-loop-operator
 invariant-to_left-loop-operator l = record {
-  same : Same l.depth (Binary l.level) (read_signs l.signs) (After l.level l.at (expr_of l.left.tree)) (read_signs l.rest);
-  height : l.left.height ≡ height (expr_of l.left.tree);
+  same : Same l.depth (Binary l.level) (read_signs l.signs) (After l.level l.at (tree_of l.left.tree)) (read_signs l.rest);
+  height : l.left.height ≡ height (tree_of l.left.tree);
   low : l.left.height ≤ l.depth;
   stops : l.level < front (read_signs l.rest);
   shorter : length l.rest < length l.signs;
@@ -112,8 +112,8 @@ decreases-to_left-loop-operator l = length l.rest
 
 abbrev pub invariant-applied-loop-alloc : goal.invariant-applied-loop-alloc
 invariant-applied-loop-alloc l = record {
-  same : Same l.depth App (read_signs l.signs) (Args l.at (expr_of l.function.tree)) (read_signs l.rest);
-  height : l.function.height ≡ height (expr_of l.function.tree);
+  same : Same l.depth App (read_signs l.signs) (Args l.at (tree_of l.function.tree)) (read_signs l.rest);
+  height : l.function.height ≡ height (tree_of l.function.tree);
   low : l.function.height ≤ l.depth;
   shorter : length l.rest < length l.signs;
 }
@@ -123,8 +123,8 @@ decreases-applied-loop-alloc l = length l.rest
 
 abbrev pub invariant-tuple-loop-behind : goal.invariant-tuple-loop-behind
 invariant-tuple-loop-behind l = record {
-  read : ItemsSoFar l.depth (expr_of l.fn.first.tree) (read_signs l.signs) (map expr_of l.parts) (read_signs l.rest);
-  height : l.height ≡ highest (trees (map expr_of l.parts));
+  read : ItemsSoFar l.depth (tree_of l.fn.first.tree) (read_signs l.signs) (map tree_of l.parts) (read_signs l.rest);
+  height : l.height ≡ highest (trees (map tree_of l.parts));
   low : l.height < 2 ^ 32 - 1;
   shorter : length l.rest < length l.signs;
 }
@@ -134,8 +134,8 @@ decreases-tuple-loop-behind l = length l.rest
 
 abbrev pub invariant-sequence-loop-behind : goal.invariant-sequence-loop-behind
 invariant-sequence-loop-behind l = record {
-  read : PartsSoFar l.depth (expr_of l.fn.first.tree) (read_signs l.signs) (map expr_of l.parts) (read_signs l.rest);
-  height : l.height ≡ highest (trees (map expr_of l.parts));
+  read : PartsSoFar l.depth (tree_of l.fn.first.tree) (read_signs l.signs) (map tree_of l.parts) (read_signs l.rest);
+  height : l.height ≡ highest (trees (map tree_of l.parts));
   low : l.height < 2 ^ 32 - 1;
   shorter : length l.rest < length l.signs;
 }
@@ -145,8 +145,8 @@ decreases-sequence-loop-behind l = length l.rest
 
 abbrev pub invariant-arms-loop-behind : goal.invariant-arms-loop-behind
 invariant-arms-loop-behind l = record {
-  read : ArmsSoFar l.depth (read_signs l.signs) (map arm_of l.arms) (read_signs l.rest);
-  height : l.height ≡ highest_arm (arm_trees (map arm_of l.arms));
+  read : ArmsSoFar l.depth (read_signs l.signs) (map arm_tree_of l.arms) (read_signs l.rest);
+  height : l.height ≡ highest_arm (arm_trees (map arm_tree_of l.arms));
   low : l.height ≤ l.depth;
   shorter : length l.rest < length l.signs;
 }

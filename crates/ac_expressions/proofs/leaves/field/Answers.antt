@@ -4,7 +4,7 @@ use Rattle.ac_types.specs.Types.{Bytes}
 use Rattle.ac_syntax.specs.Trees.{ExOf}
 use Rattle.ac_syntax.specs.ReadTrees.{name_of}
 use Rattle.ac_syntax.proofs.OnStop.{on_syntax_more}
-use Rattle.ac_expressions.proofs.ExprLaws.{expr_of-Of}
+use Rattle.ac_expressions.proofs.ExprLaws.{tree_of-Of}
 use Rattle.ac_expressions.proofs.Atoms.{undotted_none, unnamed_none, field_leaf}
 use Rattle.ac_expressions.proofs.leaves.field.Goals as goal
 
@@ -21,4 +21,4 @@ returns-in_err-field-clause-none c =
 pub returns-clause-found : goal.returns-clause-found
 returns-clause-found c =
     field_leaf _ _ (name_of c.in_ok-field.field) _ _ _ _ c.in_ok-behind.ensures.found c.in_ok-field.ensures.found
-    (expr_of-Of c.args.at _ c.in_ok-field.field ∙ ap (λ (w : Bytes). ExOf c.args.at (record { at = c.args.at; word = w }) (name_of c.in_ok-field.field)) c.in_ok-word.ensures)
+    (tree_of-Of c.args.at _ c.in_ok-field.field ∙ ap (λ (w : Bytes). ExOf c.args.at (record { at = c.args.at; word = w }) (name_of c.in_ok-field.field)) c.in_ok-word.ensures)

@@ -3,36 +3,36 @@ use Rattle.std.proofs.lemmas.Int.{to_z-of_z}
 use Rattle.ac_syntax.specs.Trees.{ExInt, ExStr, ExVar}
 use Rattle.ac_syntax.specs.ReadSigns.{read_kind, read_signs}
 use Rattle.ac_syntax.specs.declared.sign.SignKind.{SignKind}
-use Rattle.ac_syntax.specs.ReadTrees.{expr_of}
+use Rattle.ac_syntax.specs.ReadTrees.{tree_of}
 use Rattle.ac_syntax.specs.declared.surface.SExprKind.{Int}
 use Rattle.ac_syntax.specs.declared.surface.SExprKind.TheViews.{roll-SExpr}
 use Rattle.ac_syntax.proofs.OnStop.{refused}
 use Rattle.ac_expressions.specs.inner.Forms.{FormLeafAt}
-use Rattle.ac_expressions.proofs.ExprLaws.{expr_of-Int, expr_of-Str, expr_of-Var, expr_of-kind}
+use Rattle.ac_expressions.proofs.ExprLaws.{tree_of-Int, tree_of-Str, tree_of-Var, tree_of-kind}
 use Rattle.ac_expressions.proofs.Atoms.{int_leaf, str_leaf, var_leaf, base_leaf, no_base_leaf}
 use Rattle.ac_expressions.proofs.leaves.leaf.Goals as goal
 
 pub returns-in_ok-constant-in-Int-clause-found : goal.returns-in_ok-constant-in-Int-clause-found
 returns-in_ok-constant-in-Int-clause-found c =
     let f : FitsSigned w64 c.in_ok-constant-in-Int.field-0 = search rules in
-    subst (λ (z : ℤ). FormLeafAt (read_signs c.args.signs.now) (expr_of (roll-SExpr (record { at = c.in-Some.first.at; kind = Int z }))) (read_signs c.in-Some.rest.now)) (sym (to_z-of_z w64 c.in_ok-constant-in-Int.field-0 f))
+    subst (λ (z : ℤ). FormLeafAt (read_signs c.args.signs.now) (tree_of (roll-SExpr (record { at = c.in-Some.first.at; kind = Int z }))) (read_signs c.in-Some.rest.now)) (sym (to_z-of_z w64 c.in_ok-constant-in-Int.field-0 f))
     (int_leaf _ c.in-Some.first.at _ _ _ (c.in-Some.ensures.first ∙ ap (λ (k : SignKind). read_kind c.in-Some.first.at k ∷ read_signs c.in-Some.rest.now) c.in-Int.is)
-    (expr_of-Int c.in-Some.first.at c.in_ok-constant-in-Int.field-0 ∙ ap (ExInt c.in-Some.first.at) c.in_ok-constant-in-Int.ensures))
+    (tree_of-Int c.in-Some.first.at c.in_ok-constant-in-Int.field-0 ∙ ap (ExInt c.in-Some.first.at) c.in_ok-constant-in-Int.ensures))
 
 pub returns-in_ok-copy-in-Str-clause-found : goal.returns-in_ok-copy-in-Str-clause-found
 returns-in_ok-copy-in-Str-clause-found c =
     str_leaf _ c.in-Some.first.at _ _ _ (c.in-Some.ensures.first ∙ ap (λ (k : SignKind). read_kind c.in-Some.first.at k ∷ read_signs c.in-Some.rest.now) c.in-Str.is)
-    (expr_of-Str c.in-Some.first.at _ ∙ ap (λ t. ExStr c.in-Some.first.at t.0) c.in_ok-copy-in-Str.ensures)
+    (tree_of-Str c.in-Some.first.at _ ∙ ap (λ t. ExStr c.in-Some.first.at t.0) c.in_ok-copy-in-Str.ensures)
 
 pub returns-in_ok-copy-in-Lower-clause-found : goal.returns-in_ok-copy-in-Lower-clause-found
 returns-in_ok-copy-in-Lower-clause-found c =
     var_leaf _ c.in-Some.first.at _ _ _ (c.in-Some.ensures.first ∙ ap (λ (k : SignKind). read_kind c.in-Some.first.at k ∷ read_signs c.in-Some.rest.now) c.in-Lower.is)
-    (expr_of-Var c.in-Some.first.at _ ∙ ap (ExVar c.in-Some.first.at) c.in_ok-copy-in-Lower.ensures)
+    (tree_of-Var c.in-Some.first.at _ ∙ ap (ExVar c.in-Some.first.at) c.in_ok-copy-in-Lower.ensures)
 
 pub returns-in-Some-base_kind-clause-found : goal.returns-in-Some-base_kind-clause-found
 returns-in-Some-base_kind-clause-found c =
     base_leaf c.in-Some.first.at c.in-Fixed.symbol _ _ _ _ (c.in-Some.ensures.first ∙ ap (λ (k : SignKind). read_kind c.in-Some.first.at k ∷ read_signs c.in-Some.rest.now) c.in-Fixed.is)
-    (c.in-Some-base_kind.ensures c.in-Some.first.at) (expr_of-kind c.in-Some.first.at c.in-Some-base_kind.kind)
+    (c.in-Some-base_kind.ensures c.in-Some.first.at) (tree_of-kind c.in-Some.first.at c.in-Some-base_kind.kind)
 
 pub returns-in-None-clause-none : goal.returns-in-None-clause-none
 returns-in-None-clause-none c =

@@ -7,7 +7,7 @@ use Rattle.ac_terms.specs.Defs.{Environment}
 use Rattle.ac_terms.specs.Read.{environment_of, entry_of}
 use Rattle.ac_terms.specs.Spelling.{def_bytes}
 use Rattle.ac_heads.specs.declared.stop.Stop.{Stop}
-use Rattle.ac_parts.specs.Numbers.{number_in}
+use Rattle.ac_parts.specs.Numbers.{number_for}
 use Rattle.ac_forms.specs.Forms.{AllBelow, forms, front_bytes, IsLong}
 use Rattle.ac_forms.proofs.FrontLaws.{as_many, front_joined}
 use Rattle.ac_forms.proofs.definitions.front.Goals as goal
@@ -20,7 +20,7 @@ returns c =
     let ns : List ℕ = c.as_slice.result.now in
     let same : ns ≡ c.args.numbers.now = c.as_slice.ensures.value ∙ c.in_ok-numbers.ensures in
     let inside : AllBelow (length E) is = subst (λ n. AllBelow n is) (sym (length-map c.args.env.now.entries entry_of)) c.requires in
-    let joined : c.in_ok-text.text.0 ++ flat_map def_bytes (forms E mark (number_in ns) is) ≡ front_bytes (forms E mark (number_in c.args.numbers.now) is) =
-    front_joined (length is) (forms E mark (number_in ns) is) c.in_ok-text.text.0 (as_many (number_in ns) E mark is inside) c.in_ok-text.ensures
-    ∙ ap (λ (xs : List ℕ). front_bytes (forms E mark (number_in xs) is)) same in
+    let joined : c.in_ok-text.text.0 ++ flat_map def_bytes (forms E mark (number_for ns) is) ≡ front_bytes (forms E mark (number_for c.args.numbers.now) is) =
+    front_joined (length is) (forms E mark (number_for ns) is) c.in_ok-text.text.0 (as_many (number_for ns) E mark is inside) c.in_ok-text.ensures
+    ∙ ap (λ (xs : List ℕ). front_bytes (forms E mark (number_for xs) is)) same in
     subst (λ (bs : Bytes). MatchResult c.with_forms.result (λ (t : Text). t.0 ≡ bs) (λ (e : Stop). IsLong e bs)) joined c.with_forms.ensures

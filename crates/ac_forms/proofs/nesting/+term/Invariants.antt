@@ -2,8 +2,7 @@ use Rattle.std.proofs.Common.{◌≡◌, drop, map}
 use Rattle.std.specs.Prelude.{nat_le}
 use Rattle.ac_terms.specs.Terms.{exprs, arms, pvalues}
 use Rattle.ac_terms.specs.Nesting.{depth, arm_depth, value_depth}
-use Rattle.ac_terms.specs.Read.{expr_of, value_of}
-use Rattle.ac_canon.specs.inner.Arms.{arm_of}
+use Rattle.ac_terms.specs.Read.{expr_of, arm_of, value_of}
 use Rattle.ac_forms.proofs.nesting.+term.Given as goal
 
 abbrev pub invariant-terms_nest-loop-term : goal.invariant-terms_nest-loop-term

@@ -2,7 +2,7 @@ use Rattle.std.proofs.Common.{◌∙◌, map, ap}
 use Rattle.ac_terms.specs.Terms.{In}
 use Rattle.ac_terms.specs.Defs.{AModule, AnImport, AMark}
 use Rattle.ac_terms.specs.Read.{environment_of, field_of, def_of_code, module_of_code, import_of_code}
-use Rattle.ac_code.specs.ReadCode.{code_of}
+use Rattle.ac_code.specs.ReadCode.{table_code}
 use Rattle.ac_generate.specs.Generated.{fields_generated, field_numbers}
 use Rattle.ac_generate.proofs.Written.{on_ok}
 use Rattle.ac_generate.proofs.TableLaws.{entry_module, module_generated, nothing_generated, fields_kept}
@@ -10,7 +10,7 @@ use Rattle.ac_generate.proofs.generating.add_entry.Goals as goal
 
 pub returns-in_ok-numbers-in-Module-clause-ok : goal.returns-in_ok-numbers-in-Module-clause-ok
 returns-in_ok-numbers-in-Module-clause-ok c =
-    let K = code_of c.args.table.now in
+    let K = table_code c.args.table.now in
     let m = module_of_code c.in-Module.module in
     on_ok c.set_fields.result (λ h. module_generated (environment_of c.args.env.now) c.args.i m K _
     (entry_module c.args.env.now c.args.i c.in-Some.entry.now (AModule m) c.in-Some.ensures (ap def_of_code c.in-Module.is))
@@ -22,10 +22,10 @@ returns-in_ok-numbers-in-Module-clause-ok c =
 
 pub returns-in-Import-clause-ok : goal.returns-in-Import-clause-ok
 returns-in-Import-clause-ok c =
-    nothing_generated (environment_of c.args.env.now) c.args.i (code_of c.args.table.now)
+    nothing_generated (environment_of c.args.env.now) c.args.i (table_code c.args.table.now)
     (entry_module c.args.env.now c.args.i c.in-Some.entry.now (AnImport (import_of_code c.in-Import.field-0)) c.in-Some.ensures (ap def_of_code c.in-Import.is))
 
 pub returns-in-Mark-clause-ok : goal.returns-in-Mark-clause-ok
 returns-in-Mark-clause-ok c =
-    nothing_generated (environment_of c.args.env.now) c.args.i (code_of c.args.table.now)
+    nothing_generated (environment_of c.args.env.now) c.args.i (table_code c.args.table.now)
     (entry_module c.args.env.now c.args.i c.in-Some.entry.now (AMark c.in-Mark.field-0.0) c.in-Some.ensures (ap def_of_code c.in-Mark.is))

@@ -2,7 +2,7 @@ use Rattle.std.proofs.Common.{ap, refl}
 use Rattle.std.specs.Prelude.{Some, option_map}
 use Rattle.ac_terms.specs.Read.{environment_of, bytes_of}
 use Rattle.ac_terms.specs.declared.term.Exn.{Exn}
-use Rattle.ac_code.specs.ReadCode.{code_of}
+use Rattle.ac_code.specs.ReadCode.{table_code}
 use Rattle.ac_machine.specs.States.{AskDone, AskRaised, AskSpent, Ask, Paused}
 use Rattle.ac_machine.specs.Resumes.{At}
 use Rattle.ac_machine.specs.Held.{core}
@@ -14,26 +14,26 @@ use Rattle.ac_machine.proofs.machine.advance.Goals as goal
 
 pub stand_at-requires : goal.stand_at-requires
 stand_at-requires c e =
-    not_memory (environment_of c.args.env.now) (code_of c.args.table.now) c.args.engine.now c.run.new.self c.in_ok-pause-in-Running.pause (rw c.in-Running.is at c.requires.pauses) c.in_ok-pause-in-Running.ensures
+    not_memory (environment_of c.args.env.now) (table_code c.args.table.now) c.args.engine.now c.run.new.self c.in_ok-pause-in-Running.pause (rw c.in-Running.is at c.requires.pauses) c.in_ok-pause-in-Running.ensures
     (ap (ask_of c.run.new.self.store) e)
 
 pub returns-in_ok-stand-in-Running : goal.returns-in_ok-stand-in-Running
 returns-in_ok-stand-in-Running c =
     rw c.in-Running.is
-    (advanced (environment_of c.args.env.now) (code_of c.args.table.now) c.args.engine.now c.run.new.self c.in_ok-pause-in-Running.pause c.in_ok-stand-in-Running.stand
+    (advanced (environment_of c.args.env.now) (table_code c.args.table.now) c.args.engine.now c.run.new.self c.in_ok-pause-in-Running.pause c.in_ok-stand-in-Running.stand
     (rw c.in-Running.is at c.requires.pauses) c.in_ok-pause-in-Running.ensures c.in_ok-stand-in-Running.ensures)
 
 pub returns-in-Done : goal.returns-in-Done
 returns-in-Done c =
-    rw c.in-Done.is (stopped (environment_of c.args.env.now) (code_of c.args.table.now) c.args.engine.now AskDone answers.Done stand.Done c.requires.sound refl refl refl)
+    rw c.in-Done.is (stopped (environment_of c.args.env.now) (table_code c.args.table.now) c.args.engine.now AskDone answers.Done stand.Done c.requires.sound refl refl refl)
 
 pub returns-in_ok-kept-in-Raised : goal.returns-in_ok-kept-in-Raised
 returns-in_ok-kept-in-Raised c =
     let asks : Exn → Ask = λ x. AskRaised x.number (option_map bytes_of x.text) in
     rw c.in-Raised.is
-    (stopped (environment_of c.args.env.now) (code_of c.args.table.now) c.args.engine.now (asks c.in-Raised.exn) (answers.Raised c.in_ok-again-in-Raised.again) (stand.Raised c.in_ok-kept-in-Raised.kept) c.requires.sound
+    (stopped (environment_of c.args.env.now) (table_code c.args.table.now) c.args.engine.now (asks c.in-Raised.exn) (answers.Raised c.in_ok-again-in-Raised.again) (stand.Raised c.in_ok-kept-in-Raised.kept) c.requires.sound
     (ap (λ (x : Exn). Some (asks x)) c.in_ok-again-in-Raised.ensures) (ap (λ (x : Exn). At (Paused (asks x) (core c.args.engine.now))) c.in_ok-kept-in-Raised.ensures) refl)
 
 pub returns-in-Spent : goal.returns-in-Spent
 returns-in-Spent c =
-    rw c.in-Spent.is (stopped (environment_of c.args.env.now) (code_of c.args.table.now) c.args.engine.now AskSpent answers.Spent stand.Spent c.requires.sound refl refl refl)
+    rw c.in-Spent.is (stopped (environment_of c.args.env.now) (table_code c.args.table.now) c.args.engine.now AskSpent answers.Spent stand.Spent c.requires.sound refl refl refl)

@@ -1,5 +1,5 @@
 use Rattle.ac_terms.specs.Read.{environment_of}
-use Rattle.ac_code.specs.ReadCode.{code_of}
+use Rattle.ac_code.specs.ReadCode.{table_code}
 use Rattle.ac_machine.specs.States.{Run}
 use Rattle.ac_machine.specs.Resumes.{At}
 use Rattle.ac_machine.specs.Held.{core, Sound}
@@ -9,5 +9,5 @@ use Rattle.ac_machine_table.proofs.going.ahead.Given as goal
 abbrev pub invariant-loop : goal.invariant-loop
 invariant-loop l = record {
   sound : Sound l.engine;
-  reaches : Reaches (environment_of l.env) (code_of l.table) (At (Run (core l.fn.engine))) (Run (core l.engine));
+  reaches : Reaches (environment_of l.env) (table_code l.table) (At (Run (core l.fn.engine))) (Run (core l.engine));
 }

@@ -4,7 +4,7 @@ use Rattle.ac_types.specs.ReadTypes.{typ_of}
 use Rattle.ac_terms.specs.Terms.{PValue}
 use Rattle.ac_terms.specs.Defs.{Environment}
 use Rattle.ac_terms.specs.Read.{environment_of, entry_of}
-use Rattle.ac_code.specs.ReadCode.{code_of}
+use Rattle.ac_code.specs.ReadCode.{table_code}
 use Rattle.ac_values.specs.Values.{stands_as}
 use Rattle.ac_meaning.specs.BarePacking.{bare_packed}
 use Rattle.ac_simulation.specs.Stands.{stands}
@@ -15,13 +15,13 @@ use Rattle.ac_pack.proofs.packing.marked.Goals as goal
 pub whole-requires-clause-short : goal.whole-requires-clause-short
 whole-requires-clause-short c =
     let E : Environment = environment_of c.args.env.now in
-    let v : PValue = bare_packed E (stands (code_of c.args.table.now) (stands_as c.args.store.now c.args.value.0)) (typ_of c.args.ty.now) in
+    let v : PValue = bare_packed E (stands (table_code c.args.table.now) (stands_as c.args.store.now c.args.value.0)) (typ_of c.args.ty.now) in
     let few : length E ≤ 65535 = omega (arith, c.requires.few, length-map c.args.env.now.entries entry_of) in
     few_chosen E c.args.at (typ_of c.args.ty.now) v c.in-Ok.chosen c.as_slice.result.now c.as_slice.ensures c.in-Ok.ensures few
 
 pub whole-requires-clause-below : goal.whole-requires-clause-below
 whole-requires-clause-below c =
     let E : Environment = environment_of c.args.env.now in
-    let v : PValue = bare_packed E (stands (code_of c.args.table.now) (stands_as c.args.store.now c.args.value.0)) (typ_of c.args.ty.now) in
+    let v : PValue = bare_packed E (stands (table_code c.args.table.now) (stands_as c.args.store.now c.args.value.0)) (typ_of c.args.ty.now) in
     subst (λ n. AllBelow n c.as_slice.result.now) (length-map c.args.env.now.entries entry_of)
     (inside E c.args.at (typ_of c.args.ty.now) v c.in-Ok.chosen c.as_slice.result.now c.as_slice.ensures c.in-Ok.ensures)

@@ -2,7 +2,7 @@ use Rattle.std.proofs.Common.{Some, map, sym, ap, subst}
 use Rattle.ac_syntax.specs.Trees.{Tree}
 use Rattle.ac_syntax.specs.Programs.{IsProgram}
 use Rattle.ac_syntax.specs.ReadSigns.{read_signs}
-use Rattle.ac_syntax.specs.ReadTrees.{def_tree_of, expr_of}
+use Rattle.ac_syntax.specs.ReadTrees.{def_tree_of, tree_of}
 use Rattle.std.proofs.lemmas.Result.{err_from_is_err_and}
 use Rattle.ac_syntax.proofs.OnStop.{on_syntax_more}
 use Rattle.ac_parser.proofs.ProgramSteps.{no_expression, more_behind, program_read}
@@ -20,5 +20,5 @@ returns-in_err-expr-2-clause-none c =
 
 pub returns-clause-tree : goal.returns-clause-tree
 returns-clause-tree c =
-    subst (λ (e : Tree). IsProgram (read_signs c.args.signs.now) (record { defs = map def_tree_of c.in_ok-defs.defs; expr = Some e })) (ap expr_of (sym c.in_ok-expr-2.ensures.same))
+    subst (λ (e : Tree). IsProgram (read_signs c.args.signs.now) (record { defs = map def_tree_of c.in_ok-defs.defs; expr = Some e })) (ap tree_of (sym c.in_ok-expr-2.ensures.same))
     (program_read _ _ _ c.in_ok-defs.ensures.defs _ _ c.in_ok-expr.ensures.tree c.in_ok-expr-2.ensures.end)

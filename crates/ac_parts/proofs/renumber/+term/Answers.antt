@@ -1,28 +1,27 @@
 use Rattle.std.proofs.Common.{◌≡◌, arith, length}
-use Rattle.ac_terms.specs.Read.{expr_of, value_of}
-use Rattle.ac_canon.specs.inner.Arms.{arm_of}
-use Rattle.ac_parts.specs.Numbers.{number_in}
+use Rattle.ac_terms.specs.Read.{expr_of, arm_of, value_of}
+use Rattle.ac_parts.specs.Numbers.{number_for}
 use Rattle.ac_types.proofs.Loops.{built}
 use Rattle.ac_parts.proofs.MadeLaws.{term_made, all_terms, arm_made, all_arms, value_made, all_values}
 use Rattle.ac_parts.proofs.renumber.+term.Goals as goal
 
 pub terms-loop-term-preserved : goal.terms-loop-term-preserved
 terms-loop-term-preserved t c =
-    built expr_of (term_made (number_in c.args.numbers.now)) _ _ _ _ _ _ c.loop-term.invariant c.loop-term-test.true c.term-item.is c.in_ok-push.ensures.ok c.in_ok-made.ensures
+    built expr_of (term_made (number_for c.args.numbers.now)) _ _ _ _ _ _ c.loop-term.invariant c.loop-term-test.true c.term-item.is c.in_ok-push.ensures.ok c.in_ok-made.ensures
 
 pub terms-returns : goal.terms-returns
-terms-returns t c = let e : c.loop-term.term-index ≡ length c.args.all.now = omega arith in all_terms (number_in c.args.numbers.now) _ _ _ e c.loop-term.invariant
+terms-returns t c = let e : c.loop-term.term-index ≡ length c.args.all.now = omega arith in all_terms (number_for c.args.numbers.now) _ _ _ e c.loop-term.invariant
 
 pub arms-loop-case-preserved : goal.arms-loop-case-preserved
 arms-loop-case-preserved t c =
-    built arm_of (arm_made (number_in c.args.numbers.now)) _ _ _ _ _ _ c.loop-case.invariant c.loop-case-test.true c.case-item.is c.in_ok-push.ensures.ok c.in_ok-made.ensures
+    built arm_of (arm_made (number_for c.args.numbers.now)) _ _ _ _ _ _ c.loop-case.invariant c.loop-case-test.true c.case-item.is c.in_ok-push.ensures.ok c.in_ok-made.ensures
 
 pub arms-returns : goal.arms-returns
-arms-returns t c = let e : c.loop-case.case-index ≡ length c.args.cases.now = omega arith in all_arms (number_in c.args.numbers.now) _ _ _ e c.loop-case.invariant
+arms-returns t c = let e : c.loop-case.case-index ≡ length c.args.cases.now = omega arith in all_arms (number_for c.args.numbers.now) _ _ _ e c.loop-case.invariant
 
 pub values-loop-value-preserved : goal.values-loop-value-preserved
 values-loop-value-preserved t c =
-    built value_of (value_made (number_in c.args.numbers.now)) _ _ _ _ _ _ c.loop-value.invariant c.loop-value-test.true c.value-item.is c.in_ok-push.ensures.ok c.in_ok-made.ensures
+    built value_of (value_made (number_for c.args.numbers.now)) _ _ _ _ _ _ c.loop-value.invariant c.loop-value-test.true c.value-item.is c.in_ok-push.ensures.ok c.in_ok-made.ensures
 
 pub values-returns : goal.values-returns
-values-returns t c = let e : c.loop-value.value-index ≡ length c.args.all.now = omega arith in all_values (number_in c.args.numbers.now) _ _ _ e c.loop-value.invariant
+values-returns t c = let e : c.loop-value.value-index ≡ length c.args.all.now = omega arith in all_values (number_for c.args.numbers.now) _ _ _ e c.loop-value.invariant

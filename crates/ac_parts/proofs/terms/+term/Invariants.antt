@@ -2,8 +2,7 @@ use Rattle.std.proofs.Common.{◌≡◌, drop, map}
 use Rattle.std.specs.List.{list_all}
 use Rattle.ac_terms.specs.Terms.{exprs, arms, pvalues}
 use Rattle.ac_terms.specs.Parts.{all_term_parts, arm_parts, all_value_parts}
-use Rattle.ac_terms.specs.Read.{expr_of, value_of}
-use Rattle.ac_canon.specs.inner.Arms.{arm_of}
+use Rattle.ac_terms.specs.Read.{expr_of, arm_of, value_of}
 use Rattle.ac_parts.proofs.terms.+term.Given as goal
 
 abbrev pub invariant-terms_pass-loop-term : goal.invariant-terms_pass-loop-term

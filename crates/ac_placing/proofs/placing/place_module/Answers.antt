@@ -5,7 +5,7 @@ use Rattle.ac_terms.specs.Defs.{AModule, AMark}
 use Rattle.ac_terms.specs.Parts.{part_refs, def_parts}
 use Rattle.ac_terms.specs.Read.{environment_of, module_of_code}
 use Rattle.ac_terms.specs.Renumbered.{def_renumbered}
-use Rattle.ac_parts.specs.Numbers.{number_in}
+use Rattle.ac_parts.specs.Numbers.{number_for}
 use Rattle.ac_rules.specs.Packets.{is_unresolved, put, found_or_put}
 use Rattle.ac_placing.specs.Placed.{state_of}
 use Rattle.ac_placing.specs.inner.Open.{place_of}
@@ -20,7 +20,7 @@ returns-then-is_resolved-clause-placed c =
     let is : c.is_resolved.result ≡ not (list_any (is_unresolved (map place_of p.places)) (part_refs (def_parts (AModule m)))) =
     c.is_resolved.ensures ∙ ap (λ ps. not (list_any (is_unresolved (map place_of ps)) (part_refs (def_parts (AModule m))))) c.as_slice-places.ensures in
     c.in_ok-find_or_put.ensures.placed ∙ ap (λ d. found_or_put sha256 (state_of E p) d None)
-    (c.in_ok-m.ensures ∙ ap (λ f. def_renumbered f (AModule m)) (ap number_in c.as_slice-numbers.ensures ∙ numbers_are E p c.requires.sound))
+    (c.in_ok-m.ensures ∙ ap (λ f. def_renumbered f (AModule m)) (ap number_for c.as_slice-numbers.ensures ∙ numbers_are E p c.requires.sound))
     ∙ sym (module_state E p m c.is_resolved.result is c.if-is_resolved.true)
 
 pub returns-clause-placed : goal.returns-clause-placed

@@ -9,7 +9,7 @@ use Rattle.ac_terms.specs.Read.{home_of, entry_of, name_of_code}
 use Rattle.ac_terms.proofs.EnvLaws.{entry_get}
 use Rattle.ac_rules.specs.Views.{Coloured, view, opened_at_home}
 use Rattle.ac_rules.specs.Typing.{ref_type, kept_in}
-use Rattle.ac_views.specs.Sites.{entries_of, scope_of}
+use Rattle.ac_views.specs.Sites.{entries_of, scope_at}
 use Rattle.ac_views.proofs.SmallLaws.{not_shown}
 use Rattle.ac_views.proofs.RefLaws.{ref_there}
 use Rattle.ac_views.proofs.fields.ref_type.Goals as goal
@@ -17,7 +17,7 @@ use Rattle.ac_views.proofs.fields.ref_type.Goals as goal
 pub returns-then-not-small : goal.returns-then-not-small
 returns-then-not-small c =
     let E = entries_of c.args.site.now in
-    let S = scope_of c.args.site.now [] in
+    let S = scope_at c.args.site.now [] in
     let home = home_of c.args.site.now.home in
     let T = typ_of c.in-Some-type_shown.ty.now in
     let n = c.in-Some-name.name.0 in
@@ -34,7 +34,7 @@ returns-then-not-small c =
 pub returns : goal.returns
 returns c =
     let E = entries_of c.args.site.now in
-    let S = scope_of c.args.site.now [] in
+    let S = scope_at c.args.site.now [] in
     let home = home_of c.args.site.now.home in
     let T = typ_of c.in-Some-type_shown.ty.now in
     let n = c.in-Some-name.name.0 in

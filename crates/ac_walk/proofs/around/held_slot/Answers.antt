@@ -2,7 +2,7 @@ use Rattle.std.proofs.Common.{◌≡◌, suc, ◌+◌, ◌-◌, ◌∙◌, sym, 
 use Rattle.ac_types.specs.ReadTypes.{typ_of}
 use Rattle.ac_meaning.specs.Substitution.{Free}
 use Rattle.ac_walk.specs.Pieces.{code_at}
-use Rattle.ac_walk.specs.inner.Slots.{raised}
+use Rattle.ac_walk.specs.inner.Slots.{slot_under}
 use Rattle.ac_walk.proofs.SlotLaws.{slot_further, slot_here, slot_past}
 use Rattle.ac_walk.proofs.around.held_slot.Goals as goal
 
@@ -10,7 +10,7 @@ pub returns-in-None : goal.returns-in-None
 returns-in-None c =
     let m = c.args.j - c.loop-k.k in
     let i = c.loop-k.invariant m (omega arith) in
-    ap (raised c.args.bound) (sym (i ∙ slot_past (code_at c.args.site.now) _ _ m c.in-None.ensures))
+    ap (slot_under c.args.bound) (sym (i ∙ slot_past (code_at c.args.site.now) _ _ m c.in-None.ensures))
 
 pub loop-k-preserved : goal.loop-k-preserved
 loop-k-preserved c = λ m h.
@@ -24,11 +24,11 @@ returns-in-Some-opened c =
     let i = c.loop-k.invariant 0 (omega arith) in
     let f = slot_here (code_at c.args.site.now) _ _ _ (map typ_of c.loop-k.types.now) c.in-Some-opened.ensures.3 in
     let t = c.newest_type.ensures in
-    let r = ap (raised c.args.bound) (i ∙ f) in
+    let r = ap (slot_under c.args.bound) (i ∙ f) in
     cc
 
 pub returns-in-None-opened : goal.returns-in-None-opened
 returns-in-None-opened c =
     let i = c.loop-k.invariant 0 (omega arith) in
     let z : c.args.bound ≡ c.args.bound + 0 = omega arith in
-    ap (λ n. Free n) z ∙ ap (raised c.args.bound) (sym (i ∙ slot_past (code_at c.args.site.now) _ _ 0 c.in-None-opened.ensures))
+    ap (λ n. Free n) z ∙ ap (slot_under c.args.bound) (sym (i ∙ slot_past (code_at c.args.site.now) _ _ 0 c.in-None-opened.ensures))

@@ -1,13 +1,12 @@
-use Rattle.std.proofs.Common.{rules, ◌≡◌, ◌∙◌, List, ◌++◌, ◌∷◌, map, reverse, refl, sym, ap, subst}
+use Rattle.std.proofs.Common.{rules, ◌≡◌, ◌∙◌, List, ◌++◌, ◌∷◌, map, reverse, refl, ap, subst}
 use Rattle.std.specs.Prelude.{OnOk, IfOk}
 use Rattle.ac_types.specs.Types.{Typ, TFun}
 use Rattle.ac_types.specs.ReadTypes.{typ_of}
-use Rattle.ac_terms.specs.Read.{home_of, pattern_of, expr_of}
+use Rattle.ac_terms.specs.Read.{home_of, pattern_of, expr_of, arm_of}
 use Rattle.ac_terms.specs.Terms.{arms}
-use Rattle.ac_generate.specs.inner.Arms.{arm_of}
 use Rattle.ac_generate.specs.inner.CodeScopes.{types_of}
-use Rattle.ac_generate.specs.inner.Drafts.{draft_of, address, count, begun, ended, wrote, wrote_arm, arm_end}
-use Rattle.ac_generate.proofs.FormLaws.{types_of-Empty, types_of-Variable, types_of-Variables, arm_fields, lam_is, rec_is, if_is, match_is, try_is}
+use Rattle.ac_generate.specs.inner.Drafts.{draft_of, address, count, block_begun, block_ended, wrote}
+use Rattle.ac_generate.proofs.FormLaws.{types_of-Empty, types_of-Variable, types_of-Variables, lam_is, rec_is, if_is, match_is, try_is}
 use Rattle.ac_generate.proofs.TermLaws.{count_types, plain_written}
 use Rattle.ac_generate.proofs.Written.{on_ok, rec_written, packed_lam_written, packed_rec_written, if_written, match_written, try_written, arm_written, arm_ended}
 use Rattle.ac_generate.proofs.writer.Writer.+term.Goals as goal
@@ -23,7 +22,6 @@ arm-returns-clause-ok t c =
     (count_types _ c.in_ok-bound.bound.items _ (search rules) c.in_ok-bound.ensures)
     c.in_ok-test.ensures.ok c.in_ok-term.ensures c.in_ok-unbind.ensures
     (draft_of c.hold-2.new.self) (draft_of c.test.new.self) _ (address (draft_of c.hold-2.new.self)) c.in_ok-test.ensures.address c.in_ok-end.ensures.ok refl c.in_ok-test-2.ensures
-    ∙ ap (λ x. wrote_arm home G x.0 x.1 d) (sym (arm_fields c.args.case.now))
 
 pub arm-returns-clause-address : goal.arm-returns-clause-address
 arm-returns-clause-address t c =
@@ -33,7 +31,6 @@ arm-returns-clause-address t c =
     (types_of-Variables c.args.scope c.as_slice.result ∙ ap (λ Ts. reverse Ts ++ G) (ap (map typ_of) c.as_slice.ensures.value ∙ c.in_ok-bound.ensures))
     (count_types _ c.in_ok-bound.bound.items _ (search rules) c.in_ok-bound.ensures)
     c.in_ok-test.ensures.ok c.in_ok-term.ensures c.in_ok-unbind.ensures c.in_ok-end.end c.in_ok-end.ensures.address
-    ∙ ap (λ x. arm_end x.0 x.1 (address d)) (sym (arm_fields c.args.case.now))
 
 pub function-returns-in_default : goal.function-returns-in_default
 function-returns-in_default t c = plain_written (home_of c.args.home) c.args.function.now (draft_of c.args.self.now) c.in_default.not-Lam c.in_default.not-Rec
@@ -56,14 +53,14 @@ function-returns-in_ok-id-in-Rec t c =
 
 pub recursive-returns-clause-number : goal.recursive-returns-clause-number
 recursive-returns-clause-number t c =
-    subst (λ (K : List Typ). IfOk c.lambda-made.result (λ id. id.0 ≡ count (wrote (home_of c.args.home) K (expr_of c.args.body.now) (begun (draft_of c.args.self.now)))))
+    subst (λ (K : List Typ). IfOk c.lambda-made.result (λ id. id.0 ≡ count (wrote (home_of c.args.home) K (expr_of c.args.body.now) (block_begun (draft_of c.args.self.now)))))
     (types_of-Variable _ _ ∙ ap (λ K. typ_of c.args.from.now ∷ K) (types_of-Variable _ _ ∙ ap (λ (x : Typ). x ∷ types_of c.args.scope.now) c.in_ok-function.ensures))
     c.lambda-made.ensures.number
 
 pub recursive-returns-clause-ok : goal.recursive-returns-clause-ok
 recursive-returns-clause-ok t c =
     let d = draft_of c.args.self.now in
-    subst (λ (K : List Typ). OnOk c.lambda-made.result (draft_of c.lambda-made.new.self ≡ ended (home_of c.args.home) (expr_of c.args.lambda.now) (types_of c.args.scope.now) d.instrs (wrote (home_of c.args.home) K (expr_of c.args.body.now) (begun d))))
+    subst (λ (K : List Typ). OnOk c.lambda-made.result (draft_of c.lambda-made.new.self ≡ block_ended (home_of c.args.home) (expr_of c.args.lambda.now) (types_of c.args.scope.now) d.instrs (wrote (home_of c.args.home) K (expr_of c.args.body.now) (block_begun d))))
     (types_of-Variable _ _ ∙ ap (λ K. typ_of c.args.from.now ∷ K) (types_of-Variable _ _ ∙ ap (λ (x : Typ). x ∷ types_of c.args.scope.now) c.in_ok-function.ensures))
     c.lambda-made.ensures.ok
 

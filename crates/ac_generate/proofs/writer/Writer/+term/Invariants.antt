@@ -1,7 +1,6 @@
 use Rattle.std.proofs.Common.{◌≡◌, ◌++◌, drop, map}
-use Rattle.ac_terms.specs.Read.{home_of, expr_of, value_of}
+use Rattle.ac_terms.specs.Read.{home_of, expr_of, arm_of, value_of}
 use Rattle.ac_terms.specs.Terms.{exprs, arms, pvalues}
-use Rattle.ac_generate.specs.inner.Arms.{arm_of}
 use Rattle.ac_generate.specs.inner.CodeScopes.{types_of}
 use Rattle.ac_generate.specs.inner.Drafts.{draft_of, address, wrote_all, wrote_seq, wrote_rest, wrote_arms, ends, wrote_values}
 use Rattle.ac_generate.proofs.writer.Writer.+term.Given as goal

@@ -1,6 +1,6 @@
 use Rattle.std.proofs.Common.{◌∙◌, ap, [], ◌∷◌, ◌++◌}
-use Rattle.ac_outer.specs.inner.Places.{newest}
-use Rattle.ac_outer.proofs.Places.{more_places, newest-push}
+use Rattle.ac_outer.specs.inner.Places.{backwards}
+use Rattle.ac_outer.proofs.Places.{more_places, backwards-push}
 use Rattle.ac_outer.proofs.latest.Latest.with.Goals as goal
 
 pub invariant_of-result : goal.invariant_of-result
@@ -11,5 +11,5 @@ invariant_of-result g c =
 
 pub returns : goal.returns
 returns g c =
-    ap newest (c.in_ok-push.ensures.ok ∙ ap (λ w. c.self.inside.items ++ (w, c.args.means) ∷ []) c.in_ok-copy.ensures)
-    ∙ newest-push c.self.inside.items (c.args.name.now, c.args.means) ∙ ap (λ l. (c.args.name.now, c.args.means) ∷ l) c.self.view_is
+    ap backwards (c.in_ok-push.ensures.ok ∙ ap (λ w. c.self.inside.items ++ (w, c.args.means) ∷ []) c.in_ok-copy.ensures)
+    ∙ backwards-push c.self.inside.items (c.args.name.now, c.args.means) ∙ ap (λ l. (c.args.name.now, c.args.means) ∷ l) c.self.view_is

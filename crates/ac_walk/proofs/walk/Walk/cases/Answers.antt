@@ -4,18 +4,18 @@ use Rattle.ac_terms.specs.Terms.{arms}
 use Rattle.ac_terms.specs.Spelling.{two_written}
 use Rattle.ac_terms.specs.Heads.{Head, before}
 use Rattle.ac_terms.specs.declared.term.Arm.{Arm}
-use Rattle.ac_canon.specs.inner.Arms.{arm_of}
+use Rattle.ac_terms.specs.Read.{arm_of}
 use Rattle.ac_heads.specs.declared.stop.Stop.{Stop}
 use Rattle.ac_walk.specs.declared.piece.Site.{Site}
 use Rattle.ac_walk.specs.declared.piece.Around.{Around}
 use Rattle.ac_walk.specs.declared.walk.Walk.{Walk}
-use Rattle.ac_walk.specs.Pieces.{arms_at, arms_written, cases_written}
+use Rattle.ac_walk.specs.Pieces.{arms_at, arms_written_at, cases_written}
 use Rattle.ac_walk.specs.inner.Goes.{Visits}
 use Rattle.ac_walk.proofs.FormLaws.{counted_arms}
 use Rattle.ac_walk.proofs.walk.Walk.cases.Goals as goal
 
 by_count : (s : Site) (a : Around) (d : ℕ) (cs : List Arm) (bs : Bytes) (r : Result Unit Stop) (ns : List ℕ) (old new : Walk) →
-    ((h : Head) (hs : List Head) → arms_written s d (arms_at s a (arms (map arm_of cs))) ≡ h ∷ hs → Visits r (before bs (h ∷ hs)) ns old new) → (length cs ≡ 0 → ⊥) → bs ≡ two_written (length cs) →
+    ((h : Head) (hs : List Head) → arms_written_at s d (arms_at s a (arms (map arm_of cs))) ≡ h ∷ hs → Visits r (before bs (h ∷ hs)) ns old new) → (length cs ≡ 0 → ⊥) → bs ≡ two_written (length cs) →
     Visits r (cases_written s d (arms_at s a (arms (map arm_of cs)))) ns old new
 by_count s a d cs bs r ns old new v some e = counted_arms s a d cs bs r ns old new some e v
 

@@ -6,7 +6,7 @@ use Rattle.ac_terms.specs.Terms.{Main, Expr}
 use Rattle.ac_terms.specs.Defs.{Environment}
 use Rattle.ac_rules.specs.Views.{Coloured}
 use Rattle.ac_rules.specs.Typing.{all_of, type_of}
-use Rattle.ac_acceptance.specs.Causes.{Cause, IllTyped, Uncovered, NotValuable, LikeMissing, Unresolved, Clash, first_at, ill_typed, uncovering, not_valuable, unlike, unlinked, first_clash}
+use Rattle.ac_acceptance.specs.Causes.{Cause, IllTyped, Uncovered, NotValuable, LikeMissing, Unresolved, Clash, first_at, ill_typed, uncovering, not_valuable, without_likespec, unlinked, first_clash}
 use Rattle.ac_causes.specs.declared.fault.PartFault.{PartFault}
 use Rattle.ac_causes.specs.declared.fault.PartFault.TheVariants as fault
 
@@ -19,7 +19,7 @@ abbrev pub causes_behind : Environment → ℕ → List (Option Cause)
 causes_behind E n =
     first_at 0 uncovering (drop n E) ∷
     first_at 0 not_valuable (drop n E) ∷
-    first_at 0 unlike (drop n E) ∷
+    first_at 0 without_likespec (drop n E) ∷
     first_at 0 unlinked (drop n E) ∷
     first_clash E ∷ []
 
