@@ -1,25 +1,29 @@
 -- What is wrong with expressions by what is known is what is wrong with them in the scope.
-use Rattle.std.proofs.Common.{◌≡◌, ◌∙◌, ap, refl, ℕ, Bool, true, false, List, [], ◌∷◌, Option, Some, None}
-use Rattle.std.specs.Prelude.{is_some, ◌||◌, option_map, option_and_then}
+use Rattle.std.proofs.Common.{◌≡◌, ◌∙◌, ap, refl, ℕ, List, [], ◌∷◌, Option, Some, None}
+use Rattle.std.specs.Prelude.{is_some, ◌||◌, option_map}
 use Rattle.ac_types.specs.First.{or_else}
 use Rattle.ac_types.specs.Types.{Bytes}
-use Rattle.ac_terms.specs.Terms.{Expr, Var, Own}
-use Rattle.ac_syntax.specs.Trees.{NameAt, TypeTree, Tree, ExInt, ExBool, ExStr, ExUnit, ExExn, ExExnOf, ExTuple, ExNil, ExAbsent, ExPresent, ExCons, ExVar, ExOf, ExFun, ExRec, ExApp, ExLet, ExLetRec, ExIf, ExSeq, ExMatch, ExTry, ExRaise, ExAnd, ExOr, ExOp, ExMarshal, ExUnmarshal, Trees, no_trees, tree, ArmTrees, no_arm_trees, arm_tree}
-use Rattle.ac_scopes.specs.Standard.{NamedPrimitive, is_standard, primitive_named}
-use Rattle.ac_scopes.specs.Scopes.{NameScope, own_number, binders_to, definition, before_dot, value_outside, primitive_function, plain_value, dotted_value, scope_with}
+use Rattle.ac_terms.specs.Terms.{Var, Own}
+use Rattle.ac_syntax.specs.Trees.{TypeTree, Tree, ExInt, ExBool, ExStr, ExUnit, ExExn, ExExnOf, ExTuple, ExNil, ExAbsent, ExPresent, ExCons, ExVar, ExOf, ExFun, ExRec, ExApp, ExLet, ExLetRec, ExIf, ExSeq, ExMatch, ExTry, ExRaise, ExAnd, ExOr, ExOp, ExMarshal, ExUnmarshal, Trees, no_trees, tree, ArmTrees, no_arm_trees, arm_tree}
+use Rattle.ac_scopes.specs.Standard.{is_standard}
+use Rattle.ac_scopes.specs.Scopes.{NameScope, own_number, binders_to, definition, plain_value, dotted_value, scope_with}
 use Rattle.ac_scopes.specs.Written.{variables}
 use Rattle.ac_scopes.specs.Searches.{tree_count, arms_written, found, found_in_all, found_in_arms}
 use Rattle.ac_scopes.specs.Unbound.{unless, unbound_behind, unbound_pattern, unbound}
 use Rattle.ac_scopes.specs.Repeated.{repeated_name, repeated}
 use Rattle.ac_scopes.specs.Counts.{over, width_limit, arms_limit, large_pattern, large}
-use Rattle.ac_flaws.specs.declared.flaws.Flaws.{Flaws}
-use Rattle.ac_flaws.specs.inner.Joined.{counts, repeats, flaws_joined}
-use Rattle.ac_flaws.specs.inner.Known.{Known, is_value_behind}
-use Rattle.ac_flaws.specs.inner.TypeFlaws.{type_flaws, pat_flaws}
-use Rattle.ac_flaws.specs.inner.ExprFlaws.{place_unless, place_behind, leaf_flaws, flaws, flaws_of_all, flaws_of_arms}
-use Rattle.ac_flaws.proofs.Leasts.{least-none, three, same, joined-assoc, both_joined}
-use Rattle.ac_flaws.proofs.Knowing.{Knows, outer-is, is_value_behind-is}
-use Rattle.ac_flaws.proofs.TypesAre.{type_faults, type_flaws-are, pat_flaws-are}
+use Rattle.ac_signatures.specs.declared.flaws.Flaws.{Flaws}
+use Rattle.ac_signatures.specs.Joined.{counts, repeats, flaws_joined}
+use Rattle.ac_signatures.specs.KnownScopes.{KnownScope}
+use Rattle.ac_signatures.specs.TypeFlaws.{type_flaws}
+use Rattle.ac_flaws.specs.inner.PatFlaws.{pat_flaws}
+use Rattle.ac_signatures.specs.NameFlaws.{place_unless}
+use Rattle.ac_flaws.specs.inner.ExprFlaws.{leaf_flaws, flaws, flaws_of_all, flaws_of_arms}
+use Rattle.ac_signatures.proofs.Leasts.{least-none, three, same, joined-assoc, both_joined}
+use Rattle.ac_signatures.proofs.Knowing.{Knows}
+use Rattle.ac_signatures.proofs.TypesAre.{type_faults, type_flaws-are}
+use Rattle.ac_flaws.proofs.PatternsAre.{pat_flaws-are}
+use Rattle.ac_signatures.proofs.NamesAre.{dotted-is}
 
 abbrev pub faults : NameScope → Tree → Flaws
 faults S e = record { unbound = found unbound S e; repeated = found repeated S e; count = found large S e }
@@ -34,7 +38,7 @@ faults_of_arms S arms = record { unbound = found_in_arms unbound S arms; repeate
 abbrev pub with_names : NameScope → List Bytes → NameScope
 with_names S names = record S { variables = names }
 
-known_with_names : (K : Known) (S : NameScope) (names : List Bytes) → Knows K S → Knows K (with_names S names)
+known_with_names : (K : KnownScope) (S : NameScope) (names : List Bytes) → Knows K S → Knows K (with_names S names)
 known_with_names K S names k = record { outer = k.outer; types = k.types; fields = k.fields }
 
 -- names
@@ -43,23 +47,9 @@ plain-is (Some i) f at = refl
 plain-is None (Some f) at = refl
 plain-is None None at = refl
 
-behind-is : (b : Bool) (p : Option NamedPrimitive) (o : Option Expr) (m x : NameAt) → place_behind b (is_some p || is_some o) m x ≡ unbound_behind b (or_else (option_map primitive_function p) o) m x
-behind-is false p o m x = refl
-behind-is true (Some p) o m x = refl
-behind-is true None (Some e) m x = refl
-behind-is true None None m x = refl
-
-module _ (K : Known) (S : NameScope) (k : Knows K S) where
+module _ (K : KnownScope) (S : NameScope) (k : Knows K S) where
   variable-is : (names : List Bytes) (at : ℕ) (x : Bytes) → place_unless (is_some (binders_to x names) || K.fields x) at ≡ unless (plain_value (with_names S names) x) at
   variable-is names at x = ap (λ b. place_unless (is_some (binders_to x names) || b) at) (k.fields x) ∙ plain-is (binders_to x names) (own_number x S.fields) at
-
-  dotted-is : (m x : NameAt) →
-      place_behind (is_standard m.word || is_some (K.outer m.word)) (is_some (primitive_named m.word x.word) || is_value_behind K m.word x.word) m x
-      ≡ unbound_behind (is_standard m.word || is_some (definition S m.word)) (dotted_value S m.word x.word) m x
-  dotted-is m x =
-      ap (λ b. place_behind (is_standard m.word || b) (is_some (primitive_named m.word x.word) || is_value_behind K m.word x.word) m x) (outer-is K.outer S k.outer m.word)
-      ∙ ap (λ b. place_behind (is_standard m.word || is_some (definition S m.word)) (is_some (primitive_named m.word x.word) || b) m x) (is_value_behind-is K S k m.word x.word)
-      ∙ behind-is (is_standard m.word || is_some (definition S m.word)) (primitive_named m.word x.word) (option_and_then (value_outside S.entries x.word) (before_dot S m.word)) m x
 
   type-is : (names : List Bytes) (T : TypeTree) → type_flaws K T ≡ type_faults (with_names S names) T
   type-is names T = type_flaws-are K (with_names S names) (known_with_names K S names k) T
@@ -84,7 +74,7 @@ module _ (K : Known) (S : NameScope) (k : Knows K S) where
     flaws-are names (ExPresent at a) = flaws-are names a
     flaws-are names (ExCons at a b) = both_joined _ _ _ _ (flaws-are names a) (flaws-are names b)
     flaws-are names (ExVar at x) = leaf-is names _ _ (variable-is names at x) ∙ unbound_leaf names (unless (plain_value (with_names S names) x) at)
-    flaws-are names (ExOf at m x) = leaf-is names _ _ (dotted-is m x) ∙ unbound_leaf names (unbound_behind (is_standard m.word || is_some (definition S m.word)) (dotted_value S m.word x.word) m x)
+    flaws-are names (ExOf at m x) = leaf-is names _ _ (dotted-is K S k m x) ∙ unbound_leaf names (unbound_behind (is_standard m.word || is_some (definition S m.word)) (dotted_value S m.word x.word) m x)
     flaws-are names (ExFun at x T b) = both_joined _ _ _ _ (type-is names T) (flaws-are (x.word ∷ names) b)
     flaws-are names (ExRec at f x T U b) = both_joined _ _ _ _ (type-is names T) (both_joined _ _ _ _ (type-is names U) (flaws-are (x.word ∷ f.word ∷ names) b))
     flaws-are names (ExApp at f a) = both_joined _ _ _ _ (flaws-are names f) (flaws-are names a)

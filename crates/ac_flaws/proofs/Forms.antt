@@ -1,15 +1,8 @@
 -- The equations of the readings, as the proofs of this crate use them.
 use Rattle.std.proofs.Common.{append_assoc, append-nil}
-use Rattle.ac_types.proofs.SizeLaws.{type_laws as typ_laws}
-use Rattle.ac_syntax.proofs.TypeLaws.{type_laws}
 use Rattle.ac_syntax.proofs.ReadLaws.{pat_laws, expr_laws}
-use Rattle.ac_flaws.proofs.Counted.{type_count_of, pat_count_of, tree_count_of, arm_count_of}
+use Rattle.ac_signatures.proofs.Counted.{pat_count_of, tree_count_of, arm_count_of}
 use Rattle.ac_flaws.proofs.Scoping.{scope_laws}
-use Rattle.ac_flaws.proofs.Sizes.{around-sizes}
-
-pub ruleset typ_forms = (typ_laws, around-sizes)
-
-pub ruleset type_forms = (type_laws, type_count_of)
 
 pub ruleset pat_forms = (pat_laws, pat_count_of, append_assoc, append-nil)
 

@@ -1,12 +1,6 @@
-pub mod Counted
 pub mod DefsAre
 pub mod ExprsAre
 pub mod Forms
-pub mod Knowing
-pub mod Leasts
-pub mod Lookups
-pub mod Repeats
+pub mod PatternsAre
 pub mod Scoping
-pub mod Sizes
 pub mod SurfacesAre
-pub mod TypesAre

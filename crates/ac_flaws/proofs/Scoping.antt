@@ -5,40 +5,35 @@ use Rattle.std.specs.List.{list_any}
 use Rattle.ac_types.specs.Types.{Bytes, same_bytes}
 use Rattle.ac_syntax.specs.declared.surface.SName.{SName}
 use Rattle.ac_scopes.specs.Scopes.{binders_to, scope_with}
-use Rattle.ac_flaws.specs.declared.named.Named.{Named}
+use Rattle.ac_signatures.specs.declared.named.Named.{Named}
 use Rattle.ac_flaws.specs.declared.scope.Scope.{Scope, out-Scope, map-Scope, fold_out-Scope}
 use Rattle.ac_flaws.specs.declared.scope.Scope.TheOpen.{Scope-F}
 use Rattle.ac_flaws.specs.declared.scope.Scope.TheVariants as scope
-use Rattle.ac_flaws.specs.inner.Reads.{named, names_in, scope_layer}
+use Rattle.ac_signatures.specs.Reads.{named}
+use Rattle.ac_flaws.specs.inner.Variables.{variables_in, scope_layer}
+use Rattle.ac_signatures.proofs.SigsAre.{any_first}
 
-scope_out : (s : Scope) → names_in s ≡ scope_layer (map-Scope Scope (List Bytes) names_in (out-Scope s))
-unfolding names_in
+scope_out : (s : Scope) → variables_in s ≡ scope_layer (map-Scope Scope (List Bytes) variables_in (out-Scope s))
+unfolding variables_in
 scope_out s = fold_out-Scope (List Bytes) scope_layer s
 
 abbrev one_scope : Scope-F Scope → List Bytes
-one_scope x = scope_layer (map-Scope Scope (List Bytes) names_in x)
+one_scope x = scope_layer (map-Scope Scope (List Bytes) variables_in x)
 
-pub names_in-Empty : names_in scope.Empty ≡ []
-names_in-Empty = scope_out scope.Empty ∙ ap one_scope scope.outs-Empty
+pub variables_in-Empty : variables_in scope.Empty ≡ []
+variables_in-Empty = scope_out scope.Empty ∙ ap one_scope scope.outs-Empty
 
-pub names_in-Inner : (outer : Bor Scope) (name : Bor SName) → names_in (scope.Inner outer name) ≡ name.now.word ∷ names_in outer.now
-names_in-Inner outer name = scope_out (scope.Inner outer name) ∙ ap one_scope (scope.outs-Inner outer name)
+pub variables_in-Inner : (outer : Bor Scope) (name : Bor SName) → variables_in (scope.Inner outer name) ≡ name.now.word ∷ variables_in outer.now
+variables_in-Inner outer name = scope_out (scope.Inner outer name) ∙ ap one_scope (scope.outs-Inner outer name)
 
-pub names_in-Arm : (outer : Bor Scope) (names : Bor (List Named)) → names_in (scope.Arm outer names) ≡ scope_with (map named names.now) (names_in outer.now)
-names_in-Arm outer names = scope_out (scope.Arm outer names) ∙ ap one_scope (scope.outs-Arm outer names)
+pub variables_in-Arm : (outer : Bor Scope) (names : Bor (List Named)) → variables_in (scope.Arm outer names) ≡ scope_with (map named names.now) (variables_in outer.now)
+variables_in-Arm outer names = scope_out (scope.Arm outer names) ∙ ap one_scope (scope.outs-Arm outer names)
 
 pub bound-length : (names : List Named) (outer : List Bytes) → length (scope_with (map named names) outer) ≡ length outer + length names
 bound-length [] outer = omega arith
 bound-length (x ∷ names) outer = omega (arith, bound-length names (x.word.now ∷ outer))
 
 -- a name among those of a pattern, or in the scope around
-pub any_first : (b c : Bool) (o : Option ℕ) → (c || is_some (elim b [ true ↦ Some 0 | false ↦ option_map suc o ])) ≡ ((b || c) || is_some o)
-any_first true true o = refl
-any_first true false o = refl
-any_first false true o = refl
-any_first false false None = refl
-any_first false false (Some i) = refl
-
 pub bound_among : (w : Bytes) (names : List Named) (outer : List Bytes) → is_some (binders_to w (scope_with (map named names) outer)) ≡ (list_any (λ (n : Named). same_bytes n.word.now w) names || is_some (binders_to w outer))
 bound_among w [] outer = refl
 bound_among w (x ∷ names) outer = bound_among w names (x.word.now ∷ outer) ∙ any_first (same_bytes x.word.now w) (list_any (λ (n : Named). same_bytes n.word.now w) names) (binders_to w outer)
@@ -51,6 +46,6 @@ bound_first false (Some i) = refl
 pub bound_inner : (w y : Bytes) (outer : List Bytes) → is_some (binders_to w (y ∷ outer)) ≡ (same_bytes y w || is_some (binders_to w outer))
 bound_inner w y outer = bound_first (same_bytes y w) (binders_to w outer)
 
-pub ruleset bound_laws = (names_in-Empty, names_in-Inner, names_in-Arm, bound_among, bound_inner)
+pub ruleset bound_laws = (variables_in-Empty, variables_in-Inner, variables_in-Arm, bound_among, bound_inner)
 
-pub ruleset scope_laws = (names_in-Empty, names_in-Inner, names_in-Arm, bound-length)
+pub ruleset scope_laws = (variables_in-Empty, variables_in-Inner, variables_in-Arm, bound-length)

@@ -11,13 +11,14 @@ use Rattle.ac_scopes.specs.Unbound.{unbound, unbound_in_def}
 use Rattle.ac_scopes.specs.Repeated.{repeated, repeated_in_def}
 use Rattle.ac_scopes.specs.Counts.{large, large_in_def}
 use Rattle.ac_scopes.specs.Surfaces.{first_scope, surface_fault}
-use Rattle.ac_flaws.specs.declared.flaws.Flaws.{Flaws}
-use Rattle.ac_flaws.specs.inner.Joined.{flaws_joined}
-use Rattle.ac_flaws.specs.inner.Known.{Behind, known_outside}
+use Rattle.ac_signatures.specs.declared.flaws.Flaws.{Flaws}
+use Rattle.ac_signatures.specs.Joined.{flaws_joined}
+use Rattle.ac_signatures.specs.KnownScopes.{Members, known_outside}
 use Rattle.ac_flaws.specs.inner.DefFlaws.{past_def}
-use Rattle.ac_flaws.specs.inner.SurfaceFlaws.{no_outer, first_outer, main_flaws, rest_flaws, defs_flaws, surface_flaws, first_fault}
-use Rattle.ac_flaws.proofs.Leasts.{three, joined-assoc, both_joined}
-use Rattle.ac_flaws.proofs.Knowing.{KnowsOuter, AtStart, known_at_start, knows_entry, starts, knows_entries, starts_behind, knows_none, starts_alone}
+use Rattle.ac_signatures.specs.EntriesInFront.{no_outer}
+use Rattle.ac_flaws.specs.inner.SurfaceFlaws.{first_outer, main_flaws, rest_flaws, defs_flaws, surface_flaws, first_fault}
+use Rattle.ac_signatures.proofs.Leasts.{three, joined-assoc, both_joined}
+use Rattle.ac_signatures.proofs.Knowing.{KnowsOuter, AtStart, known_at_start, knows_entry, starts, knows_entries, starts_behind, knows_none, starts_alone}
 use Rattle.ac_flaws.proofs.DefsAre.{body-is, past_def-is, def-is}
 
 knows_front : (E : Environment) (e : Option Tree) → KnowsOuter (first_outer E e) (first_scope E e)
@@ -32,7 +33,7 @@ starts_front E (Some e) = starts_alone E
 abbrev main_faults : NameScope → Option Tree → Flaws
 main_faults S e = three (option_and_then (found unbound S) e) (option_and_then (found repeated S) e) (option_and_then (found large S) e)
 
-main-is : (outer : Bytes → Option Behind) (S : NameScope) (e : Option Tree) → KnowsOuter outer S → AtStart S → main_flaws outer e ≡ main_faults S e
+main-is : (outer : Bytes → Option Members) (S : NameScope) (e : Option Tree) → KnowsOuter outer S → AtStart S → main_flaws outer e ≡ main_faults S e
 main-is outer S None k s = refl
 main-is outer S (Some e) k s = body-is (known_outside outer) S (known_at_start outer S k s) s.variables e
 
@@ -41,11 +42,11 @@ module _ (digest : Bytes → Bytes) where
   abbrev def_faults : NameScope → List DefTree → Flaws
   def_faults S ds = three (least_in (after_def digest) unbound_in_def S ds) (least_in (after_def digest) repeated_in_def S ds) (least_in (after_def digest) large_in_def S ds)
 
-  knows_def : (outer : Bytes → Option Behind) (S : NameScope) (d : DefTree) → KnowsOuter outer S → AtStart S → KnowsOuter (past_def outer d) (after_def digest S d)
+  knows_def : (outer : Bytes → Option Members) (S : NameScope) (d : DefTree) → KnowsOuter outer S → AtStart S → KnowsOuter (past_def outer d) (after_def digest S d)
   knows_def outer S d k s =
-      subst (λ (o : Bytes → Option Behind). KnowsOuter o (after_def digest S d)) (sym (past_def-is outer S d (known_at_start outer S k s))) (knows_entry outer S (entry_in digest S d) k)
+      subst (λ (o : Bytes → Option Members). KnowsOuter o (after_def digest S d)) (sym (past_def-is outer S d (known_at_start outer S k s))) (knows_entry outer S (entry_in digest S d) k)
 
-  rest-is : (outer : Bytes → Option Behind) (S : NameScope) (ds : List DefTree) (e : Option Tree) → KnowsOuter outer S → AtStart S
+  rest-is : (outer : Bytes → Option Members) (S : NameScope) (ds : List DefTree) (e : Option Tree) → KnowsOuter outer S → AtStart S
       → rest_flaws outer ds e ≡ flaws_joined (def_faults S ds) (main_faults (after_all (after_def digest) S ds) e)
   rest-is outer S [] e k s = main-is outer S e k s
   rest-is outer S (d ∷ ds) e k s =

@@ -3,7 +3,7 @@ use Rattle.ac_flaws.specs.declared.fault.FirstFault.{FirstFault}
 use Rattle.ac_flaws.specs.declared.fault.FirstFault.TheVariants as code
 use Rattle.ac_scopes.specs.Surfaces.{SurfaceFault, Unbound, Repeated, TooMany}
 
-abbrev pub fault_of : FirstFault → SurfaceFault
-fault_of (code.Unbound at) = Unbound at
-fault_of (code.Repeated at) = Repeated at
-fault_of (code.TooMany count) = TooMany count
+abbrev pub surface_fault_of : FirstFault → SurfaceFault
+surface_fault_of (code.Unbound at) = Unbound at
+surface_fault_of (code.Repeated at) = Repeated at
+surface_fault_of (code.TooMany count) = TooMany count

@@ -1,8 +1,6 @@
-pub mod Joined
 pub mod Joining
-pub mod Known
-pub mod TypeFlaws
+pub mod PatFlaws
 pub mod ExprFlaws
 pub mod DefFlaws
 pub mod SurfaceFlaws
-pub mod Reads
+pub mod Variables

@@ -3,9 +3,9 @@
 ghost use Rattle.std.specs.Prelude.{◌≡◌, map};
 ghost use Rattle.ac_types.specs.ReadTypes.{resolve_of};
 ghost use Rattle.ac_scopes.specs.Counts.{many_atoms, long_uri};
-ghost use Rattle.ac_flaws.specs.inner.Joined.{counts};
+ghost use Rattle.ac_signatures.specs.Joined.{counts};
 
-use crate::flaws::Flaws;
+use ac_signatures::Flaws;
 use ac_types::Resolve;
 
 // The most atoms of a resolvespec.

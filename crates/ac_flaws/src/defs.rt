@@ -3,21 +3,21 @@
 ghost use Rattle.std.specs.Prelude.{◌≡◌, [], map, option_map, unwrap_or, IfOk, OnOk};
 ghost use Rattle.ac_types.specs.ReadTypes.{resolve_of};
 ghost use Rattle.ac_syntax.specs.ReadTrees.{name_of, abbrev_of, abbrevs_of, spec_of, field_tree_of, wants_of, def_tree_of};
-ghost use Rattle.ac_flaws.specs.inner.Joined.{flaws_joined};
-ghost use Rattle.ac_flaws.specs.inner.Known.{known_outside};
-ghost use Rattle.ac_flaws.specs.inner.DefFlaws.{past_abbrev, past_field, abbrev_flaws, field_flaws, flaws_in, shown, sig_flaws, struct_flaws, like_flaws, wants_flaws, name_flaws, demand_flaws, def_flaws, past_def};
-ghost use Rattle.ac_flaws.specs.inner.Reads.{known_of, behind_of, outer_of};
+ghost use Rattle.ac_signatures.specs.Joined.{flaws_joined};
+ghost use Rattle.ac_signatures.specs.KnownScopes.{known_outside};
+ghost use Rattle.ac_signatures.specs.SigFlaws.{past_abbrev, abbrev_flaws, flaws_in, spec_members, sig_flaws};
+ghost use Rattle.ac_flaws.specs.inner.DefFlaws.{past_field, field_flaws, struct_flaws, like_flaws, wants_flaws, demand_flaws, def_flaws, past_def};
+ghost use Rattle.ac_signatures.specs.NameFlaws.{name_flaws};
+ghost use Rattle.ac_signatures.specs.Reads.{known_in, members_of, externals_of};
 
 use crate::atoms::atom_flaws;
 use crate::exprs::flaws;
-use crate::flaws::Flaws;
-use crate::known::Scan;
-use crate::lists::{field_types, field_values, like_types, list_flaws};
-use crate::outside::{Externals, outside_of, put_outside};
+use crate::lists::{field_types, field_values, like_types};
 use crate::scope::Scope;
-use crate::sigs::{Shown, sig};
-use crate::standard::is_standard;
-use crate::types::{measure, type_flaws};
+use ac_signatures::{
+    Externals, Flaws, Scan, Shown, list_flaws, name_flaws, outside_of, put_outside, sig,
+    type_flaws, walk_abbrev,
+};
 use ac_syntax::{SAbbrev, SDef, SDefKind, SField, SName, SSpec, SWants};
 use ac_types::{Many, Memory, Resolve};
 use std::alloc::Global;
@@ -28,10 +28,10 @@ pub fn def_flaws<'a>(
     externals: &mut Externals<'a>,
     def: &'a SDef,
 ) -> Result<Flaws, Memory>
-    ensures flaws { IfOk result (λ f. f ≡ def_flaws (outer_of externals.old)
+    ensures flaws { IfOk result (λ f. f ≡ def_flaws (externals_of externals.old)
         (def_tree_of def.now)) }
-    ensures externals { OnOk result (outer_of externals.new
-        ≡ past_def (outer_of externals.old) (def_tree_of def.now)) }
+    ensures externals { OnOk result (externals_of externals.new
+        ≡ past_def (externals_of externals.old) (def_tree_of def.now)) }
 {
     match &def.kind {
         SDefKind::Module {
@@ -70,10 +70,10 @@ fn module_flaws<'a>(
     fields: &'a [SField],
 ) -> Result<Shown<'a>, Memory>
     ensures flaws { IfOk result (λ s. s.flaws ≡ flaws_joined (name_flaws (name_of name.now))
-        (flaws_joined (sig_flaws (outer_of externals.now) (map spec_of specs.now))
-        (struct_flaws (outer_of externals.now) (map field_tree_of fields.now)))) }
-    ensures outside { IfOk result (λ s. behind_of s.outside
-        ≡ shown (known_outside (outer_of externals.now)) (map spec_of specs.now)) }
+        (flaws_joined (sig_flaws (externals_of externals.now) (map spec_of specs.now))
+        (struct_flaws (externals_of externals.now) (map field_tree_of fields.now)))) }
+    ensures outside { IfOk result (λ s. members_of s.outside
+        ≡ spec_members (known_outside (externals_of externals.now)) (map spec_of specs.now)) }
 {
     let found = sig(alloc, externals, specs)?;
     let body = struct_flaws(alloc, externals, fields)?;
@@ -91,11 +91,11 @@ fn import_flaws<'a>(
     like: &'a Option<Many<SAbbrev>>,
 ) -> Result<Shown<'a>, Memory>
     ensures flaws { IfOk result (λ s. s.flaws ≡ flaws_joined demand
-        (flaws_joined (sig_flaws (outer_of externals.now) (map spec_of specs.now))
-        (like_flaws (outer_of externals.now)
+        (flaws_joined (sig_flaws (externals_of externals.now) (map spec_of specs.now))
+        (like_flaws (externals_of externals.now)
         (unwrap_or (option_map abbrevs_of like.now) [])))) }
-    ensures outside { IfOk result (λ s. behind_of s.outside
-        ≡ shown (known_outside (outer_of externals.now)) (map spec_of specs.now)) }
+    ensures outside { IfOk result (λ s. members_of s.outside
+        ≡ spec_members (known_outside (externals_of externals.now)) (map spec_of specs.now)) }
 {
     let found = sig(alloc, externals, specs)?;
     let like = match like {
@@ -115,14 +115,14 @@ fn demand_flaws<'a>(
     wants: &'a SWants,
     by: &[Resolve],
 ) -> Flaws
-    ensures { result ≡ demand_flaws (outer_of externals.now) (name_of name.now)
+    ensures { result ≡ demand_flaws (externals_of externals.now) (name_of name.now)
         (wants_of wants.now) (map resolve_of by.now) }
 {
     name_flaws(name).join(wants_flaws(externals, wants).join(atom_flaws(by)))
 }
 
 fn wants_flaws<'a>(externals: &Externals<'a>, wants: &'a SWants) -> Flaws
-    ensures { result ≡ wants_flaws (outer_of externals.now) (wants_of wants.now) }
+    ensures { result ≡ wants_flaws (externals_of externals.now) (wants_of wants.now) }
 {
     match wants {
         SWants::Ranges(_) => Flaws::none(),
@@ -133,16 +133,6 @@ fn wants_flaws<'a>(externals: &Externals<'a>, wants: &'a SWants) -> Flaws
     }
 }
 
-// The names of the standard modules are taken.
-fn name_flaws(name: &SName) -> Flaws
-    ensures { result ≡ name_flaws (name_of name.now) }
-{
-    if is_standard(&name.word) {
-        return Flaws::repeated(Some(name.at));
-    }
-    Flaws::none()
-}
-
 // What is wrong with a struct.
 fn struct_flaws<'a>(
     alloc: Global,
@@ -150,7 +140,7 @@ fn struct_flaws<'a>(
     fields: &'a [SField],
 ) -> Result<Flaws, Memory>
     ensures { IfOk result (λ f. f
-        ≡ struct_flaws (outer_of externals.now) (map field_tree_of fields.now)) }
+        ≡ struct_flaws (externals_of externals.now) (map field_tree_of fields.now)) }
 {
     let types = field_types(alloc, fields)?;
     let type_list = list_flaws(alloc, types.as_slice())?;
@@ -166,7 +156,7 @@ fn walk_fields<'a>(
     fields: &'a [SField],
 ) -> Result<Flaws, Memory>
     ensures { IfOk result (λ f. f ≡ flaws_in past_field field_flaws
-        (known_outside (outer_of externals.now)) (map field_tree_of fields.now)) }
+        (known_outside (externals_of externals.now)) (map field_tree_of fields.now)) }
 {
     let mut scan = Scan::new(alloc, externals);
     let mut found = Flaws::none();
@@ -184,9 +174,9 @@ fn walk_field<'a>(
     field: &'a SField,
 ) -> Result<Flaws, Memory>
     ensures flaws { IfOk result (λ f. f
-        ≡ field_flaws (known_of scan.old) (field_tree_of field.now)) }
-    ensures scan { OnOk result (known_of scan.new
-        ≡ past_field (known_of scan.old) (field_tree_of field.now)) }
+        ≡ field_flaws (known_in scan.old) (field_tree_of field.now)) }
+    ensures scan { OnOk result (known_in scan.new
+        ≡ past_field (known_in scan.old) (field_tree_of field.now)) }
 {
     match field {
         SField::Abbrev(alias) => walk_abbrev(scan, alias),
@@ -200,16 +190,6 @@ fn walk_field<'a>(
     }
 }
 
-fn walk_abbrev<'a>(scan: &mut Scan<'_, 'a>, alias: &'a SAbbrev) -> Result<Flaws, Memory>
-    ensures flaws { IfOk result (λ f. f ≡ abbrev_flaws (known_of scan.old) (abbrev_of alias.now)) }
-    ensures scan { OnOk result (known_of scan.new
-        ≡ past_abbrev (known_of scan.old) (abbrev_of alias.now)) }
-{
-    let found = measure(&alias.ty, scan);
-    scan.put_type(&alias.name.word, found.size)?;
-    Ok(found.flaws())
-}
-
 // What is wrong with a likespec.
 fn like_flaws<'a>(
     alloc: Global,
@@ -217,7 +197,7 @@ fn like_flaws<'a>(
     like: &'a [SAbbrev],
 ) -> Result<Flaws, Memory>
     ensures { IfOk result (λ f. f
-        ≡ like_flaws (outer_of externals.now) (map abbrev_of like.now)) }
+        ≡ like_flaws (externals_of externals.now) (map abbrev_of like.now)) }
 {
     let types = like_types(alloc, like)?;
     let list = list_flaws(alloc, types.as_slice())?;
@@ -231,7 +211,7 @@ fn walk_like<'a>(
     like: &'a [SAbbrev],
 ) -> Result<Flaws, Memory>
     ensures { IfOk result (λ f. f ≡ flaws_in past_abbrev abbrev_flaws
-        (known_outside (outer_of externals.now)) (map abbrev_of like.now)) }
+        (known_outside (externals_of externals.now)) (map abbrev_of like.now)) }
 {
     let mut scan = Scan::new(alloc, externals);
     let mut found = Flaws::none();

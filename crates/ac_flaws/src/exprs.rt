@@ -2,23 +2,21 @@
 
 ghost use Rattle.std.specs.Prelude.{◌≡◌, ◌∷◌, [], map, IfOk};
 ghost use Rattle.ac_syntax.specs.Trees.{trees, arm_trees};
-ghost use Rattle.ac_syntax.specs.ReadTrees.{expr_of, arm_of, type_of, pat_of, name_of};
+ghost use Rattle.ac_syntax.specs.ReadTrees.{tree_of, arm_tree_of, type_of, pat_of};
 ghost use Rattle.ac_scopes.specs.Written.{variables};
 ghost use Rattle.ac_scopes.specs.Repeated.{repeated_name};
-ghost use Rattle.ac_flaws.specs.inner.Joined.{flaws_joined, repeats, missing};
+ghost use Rattle.ac_signatures.specs.Joined.{flaws_joined, repeats, missing};
 ghost use Rattle.ac_flaws.specs.inner.Joining.{JoinsTyped};
-ghost use Rattle.ac_flaws.specs.inner.TypeFlaws.{pat_flaws};
-ghost use Rattle.ac_flaws.specs.inner.ExprFlaws.{place_unless, leaf_flaws, variable_flaws, dotted_flaws, flaws, flaws_of_all, arm_flaws, flaws_of_arms};
-ghost use Rattle.ac_flaws.specs.inner.Reads.{known_of, named, names_in};
+ghost use Rattle.ac_flaws.specs.inner.PatFlaws.{pat_flaws};
+ghost use Rattle.ac_flaws.specs.inner.ExprFlaws.{leaf_flaws, variable_flaws, flaws, flaws_of_all, arm_flaws, flaws_of_arms};
+ghost use Rattle.ac_signatures.specs.NameFlaws.{dotted_flaws};
+ghost use Rattle.ac_signatures.specs.Reads.{known_in, named};
+ghost use Rattle.ac_flaws.specs.inner.Variables.{variables_in};
 
-use crate::flaws::{Flaws, behind, join};
-use crate::known::Scan;
-use crate::named::{Named, repeated_name};
-use crate::outside::{has, outside_of};
+use crate::joining::{behind, join};
 use crate::patterns::{pat_flaws, variables};
 use crate::scope::{Scope, depth, is_bound};
-use crate::standard::{is_primitive, is_standard};
-use crate::types::{WIDTH_LIMIT, type_flaws};
+use ac_signatures::{Flaws, Named, Scan, WIDTH_LIMIT, dotted_flaws, repeated_name, type_flaws};
 use ac_syntax::{SArm, SExpr, SExprKind, SName, SPat, SType};
 use ac_types::{Memory, Word};
 use std::alloc::Global;
@@ -30,41 +28,18 @@ const ARMS_LIMIT: u32 = 1024;
 const SCOPE_LIMIT: u32 = 65535;
 
 // What is wrong with a leaf: too many variables may be in scope.
-#[tactic(auto, using(crate::proofs::Counted::over_laws))]
+#[tactic(auto, using(ac_signatures::proofs::Counted::over_laws))]
 fn leaf(scope: &Scope) -> Flaws
-    ensures { result ≡ leaf_flaws (names_in scope.now) }
+    ensures { result ≡ leaf_flaws (variables_in scope.now) }
 {
     Flaws::counted(SCOPE_LIMIT, depth(scope))
 }
 
 // What is wrong with a variable or a field.
 fn variable<'a>(at: u32, word: &'a Word, scan: &Scan<'_, 'a>, scope: &Scope) -> Flaws
-    ensures { result ≡ variable_flaws (known_of scan.now) (names_in scope.now) at word.now }
+    ensures { result ≡ variable_flaws (known_in scan.now) (variables_in scope.now) at word.now }
 {
-    if is_bound(scope, word) || has(&scan.fields, word) {
-        return Flaws::none();
-    }
-    Flaws::missing(Some(at))
-}
-
-// What is wrong with a name behind a definition's name and a dot.
-fn dotted<'a>(owner: &'a SName, name: &'a SName, scan: &Scan<'_, 'a>) -> Flaws
-    ensures { result ≡ dotted_flaws (known_of scan.now) (name_of owner.now) (name_of name.now) }
-{
-    if is_standard(&owner.word) {
-        return unless(is_primitive(&owner.word, &name.word), name.at);
-    }
-    match outside_of(scan.externals, &owner.word) {
-        None => Flaws::missing(Some(owner.at)),
-        Some(outside) => unless(has(&outside.values, &name.word), name.at),
-    }
-}
-
-// A name isn't in scope, where a test fails.
-fn unless(there: bool, at: u32) -> Flaws
-    ensures { result ≡ missing (place_unless there at) }
-{
-    if there {
+    if is_bound(scope, word) || scan.has_field(word) {
         return Flaws::none();
     }
     Flaws::missing(Some(at))
@@ -79,8 +54,8 @@ pub fn flaws<'s, 'a>(
     scan: &Scan<'_, 'a>,
     scope: &'s Scope<'s, 'a>,
 ) -> Result<Flaws, Memory>
-    ensures { IfOk result (λ f. f ≡ flaws (known_of scan.now) (names_in scope.now)
-        (expr_of tree.now)) }
+    ensures { IfOk result (λ f. f ≡ flaws (known_in scan.now) (variables_in scope.now)
+        (tree_of tree.now)) }
 {
     match &tree.kind {
         SExprKind::Int(_) => Ok(leaf(scope)),
@@ -103,7 +78,7 @@ pub fn flaws<'s, 'a>(
             )
         }
         SExprKind::Var(word) => Ok(variable(tree.at, word, scan, scope).join(leaf(scope))),
-        SExprKind::Of(owner, name) => Ok(dotted(owner, name, scan).join(leaf(scope))),
+        SExprKind::Of(owner, name) => Ok(dotted_flaws(owner, name, scan).join(leaf(scope))),
         SExprKind::Fun(name, ty, body) => {
             behind(type_flaws(ty, scan), under(alloc, body, name, scan, scope))
         }
@@ -191,8 +166,8 @@ fn under<'s, 'a>(
     scan: &Scan<'_, 'a>,
     scope: &'s Scope<'s, 'a>,
 ) -> Result<Flaws, Memory>
-    ensures { IfOk result (λ f. f ≡ flaws (known_of scan.now) (name.now.word ∷ names_in scope.now)
-        (expr_of body.now)) }
+    ensures { IfOk result (λ f. f ≡ flaws (known_in scan.now)
+        (name.now.word ∷ variables_in scope.now) (tree_of body.now)) }
 {
     let inner = Scope::Inner(scope, name);
     flaws(alloc, body, scan, &inner)
@@ -209,9 +184,9 @@ fn in_fun<'s, 'a>(
     scan: &Scan<'_, 'a>,
     scope: &'s Scope<'s, 'a>,
 ) -> Result<Flaws, Memory>
-    ensures { IfOk result (λ f. f ≡ flaws (known_of scan.now)
-        (argument.now.word ∷ name.now.word ∷ names_in scope.now)
-        (expr_of body.now)) }
+    ensures { IfOk result (λ f. f ≡ flaws (known_in scan.now)
+        (argument.now.word ∷ name.now.word ∷ variables_in scope.now)
+        (tree_of body.now)) }
 {
     let outer = Scope::Inner(scope, name);
     under(alloc, body, argument, scan, &outer)
@@ -224,7 +199,7 @@ fn with_types<'a>(
     scan: &Scan<'_, 'a>,
     inner: Result<Flaws, Memory>,
 ) -> Result<Flaws, Memory>
-    ensures { IfOk result (λ f. JoinsTyped (known_of scan.now) (type_of ty.now) (type_of to.now)
+    ensures { IfOk result (λ f. JoinsTyped (known_in scan.now) (type_of ty.now) (type_of to.now)
         inner f) }
 {
     let inner = inner?;
@@ -238,8 +213,8 @@ fn all<'s, 'a>(
     scan: &Scan<'_, 'a>,
     scope: &'s Scope<'s, 'a>,
 ) -> Result<Flaws, Memory>
-    ensures { IfOk result (λ f. f ≡ flaws_of_all (known_of scan.now) (names_in scope.now)
-        (trees (map expr_of parts.now))) }
+    ensures { IfOk result (λ f. f ≡ flaws_of_all (known_in scan.now) (variables_in scope.now)
+        (trees (map tree_of parts.now))) }
 {
     let mut found = Flaws::none();
     for tree in parts {
@@ -256,8 +231,8 @@ fn arms<'s, 'a>(
     scan: &Scan<'_, 'a>,
     scope: &'s Scope<'s, 'a>,
 ) -> Result<Flaws, Memory>
-    ensures { IfOk result (λ f. f ≡ flaws_of_arms (known_of scan.now) (names_in scope.now)
-        (arm_trees (map arm_of cases.now))) }
+    ensures { IfOk result (λ f. f ≡ flaws_of_arms (known_in scan.now) (variables_in scope.now)
+        (arm_trees (map arm_tree_of cases.now))) }
 {
     let mut found = Flaws::none();
     for case in cases {
@@ -276,8 +251,8 @@ fn arm<'s, 'a>(
     scan: &Scan<'_, 'a>,
     scope: &'s Scope<'s, 'a>,
 ) -> Result<Flaws, Memory>
-    ensures { IfOk result (λ f. f ≡ arm_flaws (known_of scan.now) (names_in scope.now)
-        (arm_of case.now)) }
+    ensures { IfOk result (λ f. f ≡ arm_flaws (known_in scan.now) (variables_in scope.now)
+        (arm_tree_of case.now)) }
 {
     let names = variables(alloc, &case.pat)?;
     let pattern = pattern(alloc, &case.pat, names.as_slice(), scan)?;
@@ -294,7 +269,7 @@ fn pattern<'a>(
     scan: &Scan<'_, 'a>,
 ) -> Result<Flaws, Memory>
     requires { map named names.now ≡ variables (pat_of tree.now) }
-    ensures { IfOk result (λ f. f ≡ flaws_joined (pat_flaws (known_of scan.now) (pat_of tree.now))
+    ensures { IfOk result (λ f. f ≡ flaws_joined (pat_flaws (known_in scan.now) (pat_of tree.now))
         (repeats (repeated_name [] (variables (pat_of tree.now))))) }
 {
     let again = repeated_name(alloc, names)?;

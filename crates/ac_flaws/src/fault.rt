@@ -1,5 +1,11 @@
 // Why a surface is refused.
 
+ghost use Rattle.std.specs.Prelude.{◌≡◌, option_map};
+ghost use Rattle.ac_flaws.specs.Answers.{surface_fault_of};
+ghost use Rattle.ac_flaws.specs.inner.SurfaceFlaws.{first_fault};
+
+use ac_signatures::Flaws;
+
 /// Why a surface is refused for its names and counts. Where several stand, the first of them in this
 /// order.
 #[derive(Clone, Copy, Debug, PartialEq, Eq)]
@@ -10,4 +16,18 @@ pub enum FirstFault {
     Repeated { at: u32 },
     /// One more than the least limit that a count passes.
     TooMany { count: u32 },
+}
+
+/// The first of the three kinds that is there.
+pub fn first(found: Flaws) -> Option<FirstFault>
+    ensures { option_map surface_fault_of result ≡ first_fault found }
+{
+    if let Some(at) = found.unbound {
+        return Some(FirstFault::Unbound { at });
+    }
+    if let Some(at) = found.repeated {
+        return Some(FirstFault::Repeated { at });
+    }
+    let count = found.count?;
+    Some(FirstFault::TooMany { count })
 }

@@ -1,17 +1,14 @@
 // Why patterns are refused for their names and counts, and the variables that they bind.
 
-ghost use Rattle.std.specs.Prelude.{◌≡◌, ◌++◌, ◌∷◌, [], map, IfOk};
+ghost use Rattle.std.specs.Prelude.{◌≡◌, ◌++◌, map, IfOk};
 ghost use Rattle.ac_syntax.specs.Trees.{pat_trees};
-ghost use Rattle.ac_syntax.specs.ReadTrees.{pat_of, name_of};
+ghost use Rattle.ac_syntax.specs.ReadTrees.{pat_of};
 ghost use Rattle.ac_scopes.specs.Written.{variables, variables_of_all};
-ghost use Rattle.ac_flaws.specs.inner.TypeFlaws.{pat_flaws, pats_flaws};
-ghost use Rattle.ac_flaws.specs.inner.Reads.{known_of, named};
+ghost use Rattle.ac_flaws.specs.inner.PatFlaws.{pat_flaws, pats_flaws};
+ghost use Rattle.ac_signatures.specs.Reads.{known_in, named};
 
-use crate::flaws::Flaws;
-use crate::known::Scan;
-use crate::named::Named;
-use crate::types::{WIDTH_LIMIT, type_flaws};
-use ac_syntax::{SName, SPat, SPatKind};
+use ac_signatures::{Flaws, Named, Scan, WIDTH_LIMIT, type_flaws, with_name};
+use ac_syntax::{SPat, SPatKind};
 use ac_types::Memory;
 use std::alloc::Global;
 
@@ -19,7 +16,7 @@ use std::alloc::Global;
 #[cycle(pat_flaws)]
 #[tactic(auto, using(crate::proofs::Forms::pat_forms))]
 pub fn pat_flaws<'a>(tree: &'a SPat, scan: &Scan<'_, 'a>) -> Flaws
-    ensures { result ≡ pat_flaws (known_of scan.now) (pat_of tree.now) }
+    ensures { result ≡ pat_flaws (known_in scan.now) (pat_of tree.now) }
 {
     match &tree.kind {
         SPatKind::Wild => Flaws::none(),
@@ -43,7 +40,7 @@ pub fn pat_flaws<'a>(tree: &'a SPat, scan: &Scan<'_, 'a>) -> Flaws
 
 #[cycle(pat_flaws)]
 fn pats_flaws<'a>(trees: &'a [SPat], scan: &Scan<'_, 'a>) -> Flaws
-    ensures { result ≡ pats_flaws (known_of scan.now) (pat_trees (map pat_of trees.now)) }
+    ensures { result ≡ pats_flaws (known_in scan.now) (pat_trees (map pat_of trees.now)) }
 {
     let mut found = Flaws::none();
     for tree in trees {
@@ -100,15 +97,5 @@ fn add_variables_of_all<'a>(
         let more = add_variables(tree, names)?;
         names = more;
     }
-    Ok(names)
-}
-
-/// These names, and behind them this one.
-pub fn with_name<'a>(found: Vec<Named<'a>>, name: &'a SName) -> Result<Vec<Named<'a>>, Memory>
-    ensures { IfOk result (λ names.
-        map named names.items ≡ map named found.entry.items ++ (name_of name.now ∷ [])) }
-{
-    let mut names = found;
-    names.push(Named::of(name))?;
     Ok(names)
 }

@@ -4,10 +4,10 @@ ghost use Rattle.std.specs.Prelude.{◌≡◌, min, is_some, length};
 ghost use Rattle.std.specs.List.{list_any};
 ghost use Rattle.ac_types.specs.Types.{same_bytes};
 ghost use Rattle.ac_scopes.specs.Scopes.{binders_to};
-ghost use Rattle.ac_flaws.specs.declared.named.Named.{Named};
-ghost use Rattle.ac_flaws.specs.inner.Reads.{names_in};
+ghost use Rattle.ac_signatures.specs.declared.named.Named.{Named};
+ghost use Rattle.ac_flaws.specs.inner.Variables.{variables_in};
 
-use crate::named::Named;
+use ac_signatures::Named;
 use ac_syntax::SName;
 use ac_types::Word;
 
@@ -28,7 +28,7 @@ const MOST: usize = 65536;
 /// How many variables are in scope, at most 65,536.
 #[tactic(auto, using(crate::proofs::Scoping::scope_laws))]
 pub fn depth(scope: &Scope) -> usize
-    ensures { result ≡ min (length (names_in scope.now)) 65536 }
+    ensures { result ≡ min (length (variables_in scope.now)) 65536 }
 {
     match scope {
         Scope::Empty => 0,
@@ -40,7 +40,7 @@ pub fn depth(scope: &Scope) -> usize
 /// Whether a variable is in scope.
 #[tactic(auto, using(crate::proofs::Scoping::bound_laws))]
 pub fn is_bound(scope: &Scope, word: &Word) -> bool
-    ensures { result ≡ is_some (binders_to word.now (names_in scope.now)) }
+    ensures { result ≡ is_some (binders_to word.now (variables_in scope.now)) }
 {
     match scope {
         Scope::Empty => false,

@@ -3,22 +3,18 @@
 ghost use Rattle.std.specs.Prelude.{◌≡◌, map, option_map, IfOk};
 ghost use Rattle.ac_types.specs.Types.{Bytes};
 ghost use Rattle.ac_terms.specs.Read.{entry_of, environment_of};
-ghost use Rattle.ac_syntax.specs.ReadTrees.{expr_of, def_tree_of, surface_of};
+ghost use Rattle.ac_syntax.specs.ReadTrees.{tree_of, def_tree_of, surface_of};
 ghost use Rattle.ac_scopes.specs.Surfaces.{surface_fault};
-ghost use Rattle.ac_flaws.specs.Answers.{fault_of};
+ghost use Rattle.ac_flaws.specs.Answers.{surface_fault_of};
 ghost use Rattle.ac_flaws.specs.inner.SurfaceFlaws.{first_outer, main_flaws, rest_flaws, defs_flaws, surface_flaws};
-ghost use Rattle.ac_flaws.specs.inner.Reads.{outer_of};
+ghost use Rattle.ac_signatures.specs.Reads.{externals_of};
 
 use crate::defs::def_flaws;
 use crate::exprs::flaws;
-use crate::fault::FirstFault;
-use crate::flaws::Flaws;
-use crate::front::entries_in_front;
-use crate::known::Scan;
+use crate::fault::{FirstFault, first};
 use crate::lists::marks;
-use crate::named::repeated_name;
-use crate::outside::Externals;
 use crate::scope::Scope;
+use ac_signatures::{Externals, Flaws, Scan, entries_in_front, repeated_name};
 use ac_syntax::{SDef, SExpr, Surface};
 use ac_terms::{Entry, Env};
 use ac_types::Memory;
@@ -36,11 +32,11 @@ pub fn scope_fault(
     surface: &Surface,
     env: &Env,
 ) -> Result<Option<FirstFault>, Memory>
-    ensures { IfOk result (λ fault. (digest : Bytes → Bytes) → option_map fault_of fault
+    ensures { IfOk result (λ fault. (digest : Bytes → Bytes) → option_map surface_fault_of fault
         ≡ surface_fault digest (environment_of env.now) (surface_of surface.now)) }
 {
     let found = surface_flaws(alloc, surface, env)?;
-    Ok(found.first())
+    Ok(first(found))
 }
 
 fn surface_flaws(alloc: Global, surface: &Surface, env: &Env) -> Result<Flaws, Memory>
@@ -60,8 +56,8 @@ fn first_externals<'a>(
     expr: &Option<SExpr>,
     entries: &'a [Entry],
 ) -> Result<Externals<'a>, Memory>
-    ensures { IfOk result (λ x. outer_of x
-        ≡ first_outer (map entry_of entries.now) (option_map expr_of expr.now)) }
+    ensures { IfOk result (λ x. externals_of x
+        ≡ first_outer (map entry_of entries.now) (option_map tree_of expr.now)) }
 {
     match expr {
         None => entries_in_front(alloc, entries),
@@ -90,8 +86,8 @@ fn rest_flaws<'a>(
     defs: &'a [SDef],
     expr: &'a Option<SExpr>,
 ) -> Result<Flaws, Memory>
-    ensures { IfOk result (λ f. f ≡ rest_flaws (outer_of front.entry) (map def_tree_of defs.now)
-        (option_map expr_of expr.now)) }
+    ensures { IfOk result (λ f. f ≡ rest_flaws (externals_of front.entry) (map def_tree_of defs.now)
+        (option_map tree_of expr.now)) }
 {
     let mut externals = front;
     let mut found = Flaws::none();
@@ -111,7 +107,7 @@ fn main_flaws<'a>(
     expr: &'a Option<SExpr>,
 ) -> Result<Flaws, Memory>
     ensures { IfOk result (λ f. f
-        ≡ main_flaws (outer_of externals.now) (option_map expr_of expr.now)) }
+        ≡ main_flaws (externals_of externals.now) (option_map tree_of expr.now)) }
 {
     match expr {
         None => Ok(Flaws::none()),

@@ -1,39 +1,27 @@
 -- What is wrong with expressions, by what is known of a scope and the variables in it.
-use Rattle.std.specs.Prelude.{ℕ, Bool, true, false, ◌||◌, is_some, List, [], ◌∷◌, length, Option, Some, None}
+use Rattle.std.specs.Prelude.{ℕ, ◌||◌, is_some, List, [], ◌∷◌, length}
 use Rattle.ac_types.specs.Types.{Bytes}
-use Rattle.ac_syntax.specs.Trees.{NameAt, PatTree, Tree, ExInt, ExBool, ExStr, ExUnit, ExExn, ExExnOf, ExTuple, ExNil, ExAbsent, ExPresent, ExCons, ExVar, ExOf, ExFun, ExRec, ExApp, ExLet, ExLetRec, ExIf, ExSeq, ExMatch, ExTry, ExRaise, ExAnd, ExOr, ExOp, ExMarshal, ExUnmarshal, Trees, no_trees, tree, ArmTrees, no_arm_trees, arm_tree}
-use Rattle.ac_scopes.specs.Standard.{is_standard, primitive_named}
+use Rattle.ac_syntax.specs.Trees.{PatTree, Tree, ExInt, ExBool, ExStr, ExUnit, ExExn, ExExnOf, ExTuple, ExNil, ExAbsent, ExPresent, ExCons, ExVar, ExOf, ExFun, ExRec, ExApp, ExLet, ExLetRec, ExIf, ExSeq, ExMatch, ExTry, ExRaise, ExAnd, ExOr, ExOp, ExMarshal, ExUnmarshal, Trees, no_trees, tree, ArmTrees, no_arm_trees, arm_tree}
 use Rattle.ac_scopes.specs.Scopes.{binders_to, scope_with}
 use Rattle.ac_scopes.specs.Written.{variables}
 use Rattle.ac_scopes.specs.Searches.{tree_count, arms_written}
 use Rattle.ac_scopes.specs.Repeated.{repeated_name}
 use Rattle.ac_scopes.specs.Counts.{over, width_limit, arms_limit, scope_limit}
-use Rattle.ac_flaws.specs.declared.flaws.Flaws.{Flaws}
-use Rattle.ac_flaws.specs.inner.Joined.{no_flaws, missing, repeats, counts, flaws_joined}
-use Rattle.ac_flaws.specs.inner.Known.{Known, is_value_behind}
-use Rattle.ac_flaws.specs.inner.TypeFlaws.{type_flaws, pat_flaws}
-
--- the place, where a test fails
-abbrev pub place_unless : Bool → ℕ → Option ℕ
-place_unless true at = None
-place_unless false at = Some at
-
--- of `M.x` the first name is unbound, or the second
-abbrev pub place_behind : Bool → Bool → NameAt → NameAt → Option ℕ
-place_behind false there m x = Some m.at
-place_behind true there m x = place_unless there x.at
+use Rattle.ac_signatures.specs.declared.flaws.Flaws.{Flaws}
+use Rattle.ac_signatures.specs.Joined.{no_flaws, missing, repeats, counts, flaws_joined}
+use Rattle.ac_signatures.specs.KnownScopes.{KnownScope}
+use Rattle.ac_signatures.specs.TypeFlaws.{type_flaws}
+use Rattle.ac_flaws.specs.inner.PatFlaws.{pat_flaws}
+use Rattle.ac_signatures.specs.NameFlaws.{dotted_flaws, place_unless}
 
 -- at a leaf the most variables are in scope
 abbrev pub leaf_flaws : List Bytes → Flaws
 leaf_flaws names = counts (over scope_limit (length names))
 
-abbrev pub variable_flaws : Known → List Bytes → ℕ → Bytes → Flaws
+abbrev pub variable_flaws : KnownScope → List Bytes → ℕ → Bytes → Flaws
 variable_flaws K names at x = missing (place_unless (is_some (binders_to x names) || K.fields x) at)
 
-abbrev pub dotted_flaws : Known → NameAt → NameAt → Flaws
-dotted_flaws K m x = missing (place_behind (is_standard m.word || is_some (K.outer m.word)) (is_some (primitive_named m.word x.word) || is_value_behind K m.word x.word) m x)
-
-module _ (K : Known) where
+module _ (K : KnownScope) where
   abbrev mutual
     pub flaws : List Bytes → Tree → Flaws
     flaws names (ExInt at n) = leaf_flaws names

@@ -3,9 +3,9 @@ use Rattle.ac_types.specs.declared.sig.Resolve as code
 use Rattle.ac_types.specs.ReadTypes.{resolve_of}
 use Rattle.ac_scopes.specs.Searches.{least_of}
 use Rattle.ac_scopes.specs.Counts.{long_uri}
-use Rattle.ac_flaws.specs.declared.flaws.Flaws.{Flaws}
-use Rattle.ac_flaws.specs.inner.Joined.{counts}
-use Rattle.ac_flaws.proofs.Leasts.{next_part, last_part}
+use Rattle.ac_signatures.specs.declared.flaws.Flaws.{Flaws}
+use Rattle.ac_signatures.specs.Joined.{counts}
+use Rattle.ac_signatures.proofs.Leasts.{next_part, last_part}
 use Rattle.ac_flaws.proofs.atoms.atom_flaws.Goals as goal
 
 abbrev of_all : List code.Resolve → Flaws

@@ -2,7 +2,7 @@ use Rattle.std.proofs.Common.{◌≡◌, map, drop}
 use Rattle.ac_types.specs.ReadTypes.{resolve_of}
 use Rattle.ac_scopes.specs.Searches.{least_of}
 use Rattle.ac_scopes.specs.Counts.{long_uri, many_atoms}
-use Rattle.ac_flaws.specs.inner.Joined.{counts, flaws_joined}
+use Rattle.ac_signatures.specs.Joined.{counts, flaws_joined}
 use Rattle.ac_flaws.proofs.atoms.atom_flaws.Given as goal
 
 abbrev pub invariant-loop-resolve : goal.invariant-loop-resolve

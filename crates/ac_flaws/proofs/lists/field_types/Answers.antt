@@ -4,7 +4,7 @@ use Rattle.ac_syntax.specs.declared.surface.SField.{SField}
 use Rattle.ac_syntax.specs.Trees.{NameAt}
 use Rattle.ac_syntax.specs.ReadTrees.{field_tree_of}
 use Rattle.ac_scopes.specs.Repeated.{field_type_name}
-use Rattle.ac_flaws.specs.inner.Reads.{named}
+use Rattle.ac_signatures.specs.Reads.{named}
 use Rattle.ac_types.proofs.Loops.{lengthened, lengthened_all}
 use Rattle.ac_flaws.proofs.lists.field_types.Goals as goal
 

@@ -3,7 +3,7 @@ use Rattle.ac_syntax.specs.declared.surface.SAbbrev.{SAbbrev}
 use Rattle.ac_syntax.specs.Trees.{NameAt}
 use Rattle.ac_syntax.specs.ReadTrees.{abbrev_of}
 use Rattle.ac_flaws.specs.inner.DefFlaws.{abbrev_name}
-use Rattle.ac_flaws.specs.inner.Reads.{named}
+use Rattle.ac_signatures.specs.Reads.{named}
 use Rattle.ac_types.proofs.Loops.{lengthened, lengthened_all}
 use Rattle.ac_flaws.proofs.lists.like_types.Goals as goal
 

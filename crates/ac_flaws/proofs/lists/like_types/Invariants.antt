@@ -1,7 +1,7 @@
 use Rattle.std.proofs.Common.{◌≡◌, ◌++◌, map, drop}
 use Rattle.ac_syntax.specs.ReadTrees.{abbrev_of}
 use Rattle.ac_flaws.specs.inner.DefFlaws.{abbrev_name}
-use Rattle.ac_flaws.specs.inner.Reads.{named}
+use Rattle.ac_signatures.specs.Reads.{named}
 use Rattle.ac_flaws.proofs.lists.like_types.Given as goal
 
 abbrev pub invariant-loop-alias : goal.invariant-loop-alias

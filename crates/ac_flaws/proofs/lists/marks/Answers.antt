@@ -4,7 +4,7 @@ use Rattle.ac_syntax.specs.declared.surface.SDef.{SDef}
 use Rattle.ac_syntax.specs.Trees.{NameAt}
 use Rattle.ac_syntax.specs.ReadTrees.{def_tree_of}
 use Rattle.ac_scopes.specs.Repeated.{mark_name}
-use Rattle.ac_flaws.specs.inner.Reads.{named}
+use Rattle.ac_signatures.specs.Reads.{named}
 use Rattle.ac_types.proofs.Loops.{lengthened, lengthened_all}
 use Rattle.ac_flaws.proofs.lists.marks.Goals as goal
 

@@ -2,7 +2,7 @@ use Rattle.std.proofs.Common.{◌≡◌, ◌++◌, map, drop}
 use Rattle.std.specs.Prelude.{flat_map}
 use Rattle.ac_syntax.specs.ReadTrees.{def_tree_of}
 use Rattle.ac_scopes.specs.Repeated.{mark_name}
-use Rattle.ac_flaws.specs.inner.Reads.{named}
+use Rattle.ac_signatures.specs.Reads.{named}
 use Rattle.ac_flaws.proofs.lists.marks.Given as goal
 
 abbrev pub invariant-loop-def : goal.invariant-loop-def

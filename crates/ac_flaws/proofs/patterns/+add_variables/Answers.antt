@@ -3,7 +3,7 @@ use Rattle.ac_syntax.specs.declared.surface.SPat.{SPat}
 use Rattle.ac_syntax.specs.Trees.{NameAt, pat_trees}
 use Rattle.ac_syntax.specs.ReadTrees.{pat_of}
 use Rattle.ac_scopes.specs.Written.{variables, variables_of_all}
-use Rattle.ac_flaws.specs.inner.Reads.{named}
+use Rattle.ac_signatures.specs.Reads.{named}
 use Rattle.ac_types.proofs.Loops.{lengthened, lengthened_all}
 use Rattle.ac_flaws.proofs.patterns.+add_variables.Goals as goal
 

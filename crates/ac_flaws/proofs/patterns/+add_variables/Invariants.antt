@@ -2,7 +2,7 @@ use Rattle.std.proofs.Common.{◌≡◌, ◌++◌, map, drop}
 use Rattle.ac_syntax.specs.Trees.{pat_trees}
 use Rattle.ac_syntax.specs.ReadTrees.{pat_of}
 use Rattle.ac_scopes.specs.Written.{variables_of_all}
-use Rattle.ac_flaws.specs.inner.Reads.{named}
+use Rattle.ac_signatures.specs.Reads.{named}
 use Rattle.ac_flaws.proofs.patterns.+add_variables.Given as goal
 
 abbrev pub invariant-add_variables_of_all-loop-tree : goal.invariant-add_variables_of_all-loop-tree

@@ -1,0 +1,10 @@
+pub mod Counted
+pub mod Forms
+pub mod Knowing
+pub mod Leasts
+pub mod Lookups
+pub mod NamesAre
+pub mod Repeats
+pub mod SigsAre
+pub mod Sizes
+pub mod TypesAre
