@@ -25,7 +25,7 @@ use Rattle.ac_top.proofs.EndingLaws.{Still, still_whole}
 module _ (r : Request) (files : Bytes → Reading) (output errors : Writing) where
   ended_by : (a : Answer) → Gives files r (answer_of a) → (end : Status) → Delivered a output errors end → AnswerEnded r files output errors end
   ended_by a g end (whole w s) = has_printed (answer_of a) g w s
-  ended_by a g end (print_failed rose p s) = unprinted (answer_of a) g rose p s
+  ended_by a g end (print_failed some rose p s) = unprinted (answer_of a) g some rose p s
   ended_by a g end (lost_in_print p s) = no_memory_to_print (answer_of a) g p s
 
   -- the answer that was found is given by the request

@@ -14,7 +14,7 @@ use Rattle.ac_chain.specs.ChainTexts.{texts_of}
 use Rattle.ac_chain.specs.Endings.{Printed}
 use Rattle.ac_answers.specs.declared.answer.Answer.{Answer}
 use Rattle.ac_answers.specs.declared.status.Status.{Status}
-use Rattle.ac_answers.specs.declared.status.TheConstants.Status.{OUT_OF_MEMORY, WRITE_FAULT}
+use Rattle.ac_answers.specs.declared.status.TheConstants.Status.{FINISHED, OUT_OF_MEMORY, WRITE_FAULT}
 use Rattle.ac_answers.specs.Answers.{ShownAnswer}
 use Rattle.ac_chained.specs.Chaining.{Chains, refused_program, clashing, ran, lines_behind}
 use Rattle.ac_chained.specs.inner.Given.{GivesRest, GivesPart}
@@ -39,6 +39,12 @@ console_rest texts shelf steps told _ _ (refused_program program part kind x) = 
 console_rest texts shelf steps told _ _ (clashing a i b j x) = ([], refl)
 console_rest texts shelf steps told _ _ (ran r h) = (lines_behind 1 [] r.ends, refl)
 
+-- where something is printed the programs run
+run_if_printed : (texts : List Bytes) (shelf : List Shelved) (steps : ℕ) (told : Bool) (printed : Bytes) (a : ShownAnswer) → Chains Plain texts shelf steps told printed a → (rest : Bytes) → (rest ≡ [] → ⊥) → a.printed ≡ printed ++ rest → a.status ≡ FINISHED
+run_if_printed texts shelf steps told _ _ (refused_program program part kind x) rest some is = absurd (some (sym is))
+run_if_printed texts shelf steps told _ _ (clashing a i b j x) rest some is = absurd (some (sym is))
+run_if_printed texts shelf steps told _ _ (ran r h) rest some is = refl
+
 -- a part of what comes behind some front
 behind : (old mid new front rest all : Bytes) → mid ≡ old ++ front → all ≡ front ++ rest → Extends mid new rest → Extends old new all
 behind old mid new front rest all at is x = record {
@@ -55,8 +61,8 @@ module _ (texts : List Bytes) (shelf : List Shelved) (steps : ℕ) (told : Bool)
       whole_chain g.console g.whole g.gives
       (λ t. w t ∙ ap (λ (l : Bytes). l ++ a.printed.0) (g.printed t) ∙ append_assoc old g.console a.printed.0 ∙ ap (λ (l : Bytes). old ++ l) (sym g.rest))
       (subst (λ (l : Bytes). SaidIfAny errors l g.whole.status end) (sym g.line) (subst (λ (n : Status). SaidIfAny errors a.line.0 n end) (sym g.status) s))
-  delivered_behind a later g end (print_failed rose p s) =
-      failed_chain g.console g.whole g.gives (rose_earlier before between after later rose) (λ t. behind old mid new g.console a.printed.0 g.whole.printed (g.printed t) g.rest (p t)) s
+  delivered_behind a later g end (print_failed some rose p s) =
+      failed_chain g.console g.whole g.gives (run_if_printed texts shelf steps told g.console g.whole (g.gives Plain) a.printed.0 some g.rest) (rose_earlier before between after later rose) (λ t. behind old mid new g.console a.printed.0 g.whole.printed (g.printed t) g.rest (p t)) s
   delivered_behind a later g end (lost_in_print p s) =
       lost_chain g.console g.whole g.gives (λ t. behind old mid new g.console a.printed.0 g.whole.printed (g.printed t) g.rest (p t)) s
 
@@ -68,7 +74,7 @@ module _ (texts : List Bytes) (shelf : List Shelved) (steps : ℕ) (told : Bool)
 
   -- a print of a program failed
   pub delivered_failed : Rose before after × GivesPart texts shelf steps (console told old new before after) → (end : Status) → Said errors write_line WRITE_FAULT end → ChainDelivered texts shelf steps (stream told old new before after) errors end
-  delivered_failed g end s = failed_chain g.1.console g.1.whole g.1.gives g.0 (of_console g.1) s
+  delivered_failed g end s = failed_chain g.1.console g.1.whole g.1.gives g.1.runs g.0 (of_console g.1) s
 
   -- memory ran out
   pub delivered_lost : (new ≡ old) ⊎ GivesPart texts shelf steps (console told old new before after) → (end : Status) → Said errors memory_line OUT_OF_MEMORY end → ChainDelivered texts shelf steps (stream told old new before after) errors end
@@ -79,7 +85,7 @@ module _ (programs : List Bytes) (list : Option Bytes) (steps : ℕ) (files : By
   -- the texts of files were chained
   pub chained : (shelf : List Shelved) (texts : List Text) → IsShelfBy files list shelf → AreTexts files programs texts → (end : Status) → ChainDelivered (texts_of texts) shelf steps output errors end → ChainEnded programs list steps files output errors end
   chained shelf texts is are end (whole_chain console a g w s) = has_chained a (record { shelf = shelf; is_shelf = is; texts = texts; are_texts = are; console = console; chains = g }) w s
-  chained shelf texts is are end (failed_chain console a g rose p s) = unprinted_chain a (record { shelf = shelf; is_shelf = is; texts = texts; are_texts = are; console = console; chains = g }) rose p s
+  chained shelf texts is are end (failed_chain console a g runs rose p s) = unprinted_chain a (record { shelf = shelf; is_shelf = is; texts = texts; are_texts = are; console = console; chains = g }) runs rose p s
   chained shelf texts is are end (lost_chain console a g p s) = no_memory_in_chain a (record { shelf = shelf; is_shelf = is; texts = texts; are_texts = are; console = console; chains = g }) p s
   chained shelf texts is are end (never_begun w s) = no_memory_to_chain w s
 

@@ -1,6 +1,6 @@
 -- What the calls of a world do to its channels.
 use Rattle.std.proofs.Common.{◌≡◌, ◌⊎◌, inl, inr, ◌≤◌, ℕ, Bool, true, false, IsTrue, List, [], ◌++◌, Option, Some, None, refl, sym, ◌∙◌, ap, arith, take, drop, take-append-drop, nat_le, cond}
-use Rattle.std.specs.Prelude.{◌&&◌}
+use Rattle.std.specs.Prelude.{◌&&◌, is_some}
 use mathlib.Core.Bool.{true≢false}
 use Rattle.std.proofs.lemmas.List.{append-nil}
 use Rattle.std.proofs.lemmas.Bool.{leb-true, le-leb}
@@ -25,6 +25,14 @@ pub appended : (p : Put) (old new : Option (List ℕ)) (piece : List ℕ) → Ap
 appended put.Done old new piece h = ap or_empty h
 appended put.Failed old new piece h = some_of old new piece h
 appended put.Memory old new piece h = some_of old new piece h
+
+-- a file that is there stays so
+pub there_after : (p : Put) (old new : Option (List ℕ)) (piece : List ℕ) → Appended p old new piece → IsTrue (is_some old) → IsTrue (is_some new)
+there_after put.Done old new piece h there = ap is_some h
+there_after put.Failed old new piece (inl same) there = ap is_some same ∙ there
+there_after put.Failed old new piece (inr more) there = ap is_some more.1
+there_after put.Memory old new piece (inl same) there = ap is_some same ∙ there
+there_after put.Memory old new piece (inr more) there = ap is_some more.1
 
 pub third : (a b c : Bool) → IsTrue (a && (b && c)) → IsTrue c
 third true true c h = h

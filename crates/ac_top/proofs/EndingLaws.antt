@@ -14,8 +14,8 @@ use Rattle.ac_answers.specs.declared.status.TheConstants.Status.{OUT_OF_MEMORY, 
 use Rattle.ac_answers.specs.Meaning.{CommandAnswer}
 use Rattle.ac_top.specs.Streams.{Writing, AllWritten, memory_line, words_line}
 use Rattle.ac_top.specs.Saying.{Said, SaidIfAny}
-use Rattle.ac_top.specs.Handed.{Handed, is_told, before_run, after_run, behind_run, Untouched}
-use Rattle.ac_top.specs.RunEndings.{HasRead, GivesStatus, RunEnded, has_run, bad_list, unread_file, no_memory_yet, no_memory_left}
+use Rattle.ac_top.specs.Handed.{Handed, is_told, before_run, after_run, behind_run, IsMade, Untouched}
+use Rattle.ac_top.specs.RunEndings.{HasRead, GivesStatus, InputLeft, RunEnded, has_run, bad_list, unread_file, no_memory_yet, no_memory_left}
 use Rattle.ac_top.specs.Requests.{files_loaded, Touches}
 use Rattle.ac_top.specs.ChainEndings.{no_memory_to_chain}
 use Rattle.ac_top.specs.Endings.{Ended, NoCommand, refused_words, no_memory_for_words, no_memory_to_find}
@@ -52,10 +52,10 @@ behind_all told writes old new h = record { before = writes; after = []; order =
 
 module _ (prog : ProgramFiles) (steps : ℕ) (from to : Option ChannelName) (o : Handed) where
   -- what the text means, with its line, or the line of want of memory in its place
-  pub end_told : (r : HasRead prog steps from to o) (a : CommandAnswer) (mid : Bytes) → GivesStatus prog steps from to o r a → a.runs ≡ true → (IsTrue (is_told from to o) → after_run to o mid ≡ with_writes a.writes (before_run to o)) → (c : ℕ) (rest : List ℕ) → a.line ≡ c ∷ rest
+  pub end_told : (r : HasRead prog steps from to o) (a : CommandAnswer) (mid : Bytes) → GivesStatus prog steps from to o r a → a.runs ≡ true → (IsTrue (is_told from to o) → after_run to o mid ≡ with_writes a.writes (before_run to o)) → InputLeft prog steps from to o r → IsMade to o → (c : ℕ) (rest : List ℕ) → a.line ≡ c ∷ rest
       → (end : Status) → Said (behind_run to o mid) a.line a.status end ⊎ Said (behind_run to o mid) memory_line OUT_OF_MEMORY end → RunEnded prog steps from to o end
-  end_told r a mid g runs whole c rest is end (inl s) = has_run r a mid g runs whole (said_if_any (behind_run to o mid) a.line rest c a.status end is s)
-  end_told r a mid g runs whole c rest is end (inr s) = no_memory_left r a mid g runs (inr (behind_all (is_told from to o) a.writes (before_run to o) (after_run to o mid) whole)) s
+  end_told r a mid g runs whole left made c rest is end (inl s) = has_run r a mid g runs whole left made (said_if_any (behind_run to o mid) a.line rest c a.status end is s)
+  end_told r a mid g runs whole left made c rest is end (inr s) = no_memory_left r a mid g runs made (inr (behind_all (is_told from to o) a.writes (before_run to o) (after_run to o mid) whole)) s
 
   -- want of memory before anything was written on output
   pub end_early : Still o.output → Untouched to o → IsTrue o.idle → (end : Status) → Said o.errors memory_line OUT_OF_MEMORY end → RunEnded prog steps from to o end

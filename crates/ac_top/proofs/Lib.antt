@@ -4,6 +4,7 @@ pub mod ChannelLaws
 pub mod EndingLaws
 pub mod FewFiles
 pub mod FileLaws
+pub mod LeftLaws
 pub mod OneChain
 pub mod PlaceLaws
 pub mod RefusedLaws

@@ -15,7 +15,7 @@ use Rattle.ac_load.specs.declared.kind.Kind.{Kind}
 use Rattle.ac_chain.specs.declared.chained.ChainFault.{ChainFault}
 use Rattle.ac_chain.specs.declared.chained.ChainFault.TheVariants as fault
 use Rattle.ac_chain.specs.ChainTexts.{LoadAs, RejectsFirst}
-use Rattle.ac_chain.specs.Clashes.{first_clash}
+use Rattle.ac_chain.specs.Clashes.{first_program_clash}
 use Rattle.ac_chain.specs.ChainMeaning.{RunInTurn, Runs, console_of}
 use Rattle.ac_chain.proofs.LoadLaws.{one_list}
 use Rattle.ac_answers.specs.declared.status.TheConstants.Status.{REFUSED}
@@ -59,13 +59,13 @@ module _ (texts : List Bytes) (shelf : List Shelved) where
   one_clash : (a i b j c k d l : ℕ) → ClashAt texts shelf a i b j → ClashAt texts shelf c k d l → clash_line a i b j ≡ clash_line c k d l
   one_clash a i b j c k d l x y =
       let same = one_list texts shelf x.programs y.programs x.load y.load in
-      ap line_of (some_eq (sym x.is_first ∙ ap (first_clash 0) same ∙ y.is_first))
+      ap line_of (some_eq (sym x.is_first ∙ ap (first_program_clash 0) same ∙ y.is_first))
 
   module _ (mode : Mode) (N : ℕ) (told : Bool) where
     no_clash : (a i b j : ℕ) → ClashAt texts shelf a i b j → Runs mode texts shelf N told → ⊥
     no_clash a i b j x r =
         let same = one_list texts shelf r.programs x.programs r.load x.load in
-        none≢some (sym r.apart ∙ ap (first_clash 0) same ∙ x.is_first)
+        none≢some (sym r.apart ∙ ap (first_program_clash 0) same ∙ x.is_first)
 
     one_ends : (r s : Runs mode texts shelf N told) → IsTrue told → r.ends ≡ s.ends
     one_ends r s t =

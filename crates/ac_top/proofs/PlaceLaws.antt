@@ -1,6 +1,6 @@
 -- What a run's channels have in front of it and behind it, as the call's end says it.
 use Rattle.std.proofs.Common.{◌≡◌, ◌≤◌, ◌⊎◌, inl, inr, ℕ, Bool, true, false, IsTrue, List, [], Option, Some, None, refl, sym, ◌∙◌, ap, subst, arith}
-use Rattle.std.specs.Prelude.{◌&&◌}
+use Rattle.std.specs.Prelude.{◌&&◌, is_some}
 use Rattle.std.specs.Str.{bytes_eq}
 use Rattle.std.proofs.lemmas.List.{append-nil}
 use Rattle.std.proofs.lemmas.Slice.Eq.{bytes_eq-Decides}
@@ -21,13 +21,13 @@ use Rattle.ac_answers.specs.declared.status.Status.{Status}
 use Rattle.ac_top.specs.inner.Told.{tells, left_in, sent_in}
 use Rattle.ac_top.specs.Channels.{of_channel, of_console, GetsInput}
 use Rattle.ac_acceptance.specs.Accepting.{Shelved}
-use Rattle.ac_files.specs.Files.{FilesSeen, Reading, IsTextOf, Since}
+use Rattle.ac_files.specs.Files.{FilesSeen, IsTextOf, Since}
 use Rattle.ac_files.specs.ProgramTexts.{IsShelfBy}
-use Rattle.ac_top.specs.Streams.{Writing, AllWritten, writing}
-use Rattle.ac_top.specs.Handed.{Handed, what_is_handed, is_told, input_of, Untouched, MadeAtMost, MakingFailed}
+use Rattle.ac_top.specs.Streams.{Feeding, Writing, AllWritten, writing}
+use Rattle.ac_top.specs.Handed.{Handed, what_is_handed, is_told, input_of, IsMade, Untouched, MadeAtMost, MakingFailed}
 use Rattle.ac_top.specs.Saying.{Said, said, failed, no_memory}
 use Rattle.ac_top.specs.RunEndings.{HasRead}
-use Rattle.ac_top.specs.inner.Runs.{ErrorsApart, Prepared, Makes}
+use Rattle.ac_top.specs.inner.Runs.{ErrorsApart, Prepared, is_there, MakesFile}
 use Rattle.ac_top.proofs.ChannelLaws.{third}
 
 first : (a b : Bool) → IsTrue (a && b) → IsTrue a
@@ -177,13 +177,13 @@ abbrev pub read_all : (prog : ProgramFiles) (steps : ℕ) (from to : Option Chan
 read_all prog steps from to o shelf is_shelf text is_text = record { shelf = shelf; is_shelf = is_shelf; text = text; is_text = is_text; input = input_of from o; is_input = gets_all from (is_told from to o) o }
 
 -- files that are as they were
-pub untouched_by : (told : Bool) (start now : FilesSeen) (input : Reading) (idle : Bool) (output errors : Writing) (to : Option ChannelName) → (IsTrue told → now.contents ≡ start.contents) → Untouched to (what_is_handed told start now input idle output errors)
+pub untouched_by : (told : Bool) (start now : FilesSeen) (input : Feeding) (idle : Bool) (output errors : Writing) (to : Option ChannelName) → (IsTrue told → now.contents ≡ start.contents) → Untouched to (what_is_handed told start now input idle output errors)
 untouched_by told start now input idle output errors None same = tt
 untouched_by told start now input idle output errors (Some standard) same = tt
-untouched_by told start now input idle output errors (Some (file name)) same = λ t. ap (λ (k : Contents). or_empty (k name)) (same t)
+untouched_by told start now input idle output errors (Some (file name)) same = λ t. ap (λ (k : Contents). k name) (same t)
 
 -- files in front of a run
-pub prepared : (told : Bool) (start old now : FilesSeen) (to : Option ChannelName) → Since told start old → Makes to told put.Done old now → Prepared told to start now
+pub prepared : (told : Bool) (start old now : FilesSeen) (to : Option ChannelName) → Since told start old → MakesFile to told put.Done old now → Prepared told to start now
 prepared told start old now None since m =
     subst (λ (f : FilesSeen). Prepared told None start f) (sym m.1)
     (record { kept = λ t name h. ap (λ (k : Contents). k name) (since.same t); emptied = λ t. tt; reads = since.reads; writes = since.writes })
@@ -197,17 +197,23 @@ prepared told start old now (Some (file n)) since m = record {
   writes = λ name. omega (arith, since.writes name, m.1.1.1.1 name);
 }
 
--- where a file isn't made
-made_or_not : (start old now : FilesSeen) (name : Text) → old.contents ≡ start.contents → (now.contents name ≡ old.contents name) ⊎ (now.contents name ≡ Some []) → (or_empty (now.contents name) ≡ or_empty (start.contents name)) ⊎ (or_empty (now.contents name) ≡ [])
-made_or_not start old now name same (inl is) = inl (ap or_empty (is ∙ ap (λ (k : Contents). k name) same))
-made_or_not start old now name same (inr is) = inr (ap or_empty is)
+-- a file that has been made empty, and is there still
+pub made_still : (told : Bool) (start old now : FilesSeen) (input : Feeding) (idle : Bool) (output errors : Writing) (to : Option ChannelName) → Prepared told to start old → (IsTrue told → IsTrue (is_there to old.contents) → IsTrue (is_there to now.contents)) → IsMade to (what_is_handed told start now input idle output errors)
+made_still told start old now input idle output errors None p still = tt
+made_still told start old now input idle output errors (Some standard) p still = tt
+made_still told start old now input idle output errors (Some (file name)) p still = λ t. still t (ap is_some (p.emptied t))
 
-at_most : (told : Bool) (start old now : FilesSeen) (name : Text) (p : Put) → (p ≡ put.Done → ⊥) → Since told start old → (IsTrue told → Created p (old.contents name) (now.contents name)) → IsTrue told → (or_empty (now.contents name) ≡ or_empty (start.contents name)) ⊎ (or_empty (now.contents name) ≡ [])
+-- where a file isn't made
+made_or_not : (start old now : FilesSeen) (name : Text) → old.contents ≡ start.contents → (now.contents name ≡ old.contents name) ⊎ (now.contents name ≡ Some []) → (now.contents name ≡ start.contents name) ⊎ (now.contents name ≡ Some [])
+made_or_not start old now name same (inl is) = inl (is ∙ ap (λ (k : Contents). k name) same)
+made_or_not start old now name same (inr is) = inr is
+
+at_most : (told : Bool) (start old now : FilesSeen) (name : Text) (p : Put) → (p ≡ put.Done → ⊥) → Since told start old → (IsTrue told → Created p (old.contents name) (now.contents name)) → IsTrue told → (now.contents name ≡ start.contents name) ⊎ (now.contents name ≡ Some [])
 at_most told start old now name put.Done undone since m t = absurd (undone refl)
 at_most told start old now name put.Failed undone since m t = made_or_not start old now name (since.same t) (m t)
 at_most told start old now name put.Memory undone since m t = made_or_not start old now name (since.same t) (m t)
 
-pub made_at_most : (told : Bool) (start old now : FilesSeen) (input : Reading) (idle : Bool) (output errors : Writing) (to : Option ChannelName) (p : Put) → (p ≡ put.Done → ⊥) → Since told start old → Makes to told p old now → MadeAtMost to (what_is_handed told start now input idle output errors)
+pub made_at_most : (told : Bool) (start old now : FilesSeen) (input : Feeding) (idle : Bool) (output errors : Writing) (to : Option ChannelName) (p : Put) → (p ≡ put.Done → ⊥) → Since told start old → MakesFile to told p old now → MadeAtMost to (what_is_handed told start now input idle output errors)
 made_at_most told start old now input idle output errors None p undone since m = tt
 made_at_most told start old now input idle output errors (Some standard) p undone since m = tt
 made_at_most told start old now input idle output errors (Some (file name)) p undone since m = at_most told start old now name p undone since m.0
@@ -215,13 +221,13 @@ made_at_most told start old now input idle output errors (Some (file name)) p un
 failed≢done : put.Failed ≡ put.Done → ⊥
 failed≢done is = absurd cc
 
-pub making_failed : (told : Bool) (start old now : FilesSeen) (input : Reading) (idle : Bool) (output errors : Writing) (to : Option ChannelName) → Since told start old → Makes to told put.Failed old now → MakingFailed to (what_is_handed told start now input idle output errors)
+pub making_failed : (told : Bool) (start old now : FilesSeen) (input : Feeding) (idle : Bool) (output errors : Writing) (to : Option ChannelName) → Since told start old → MakesFile to told put.Failed old now → MakingFailed to (what_is_handed told start now input idle output errors)
 making_failed told start old now input idle output errors None since m = absurd (failed≢done m.0)
 making_failed told start old now input idle output errors (Some standard) since m = absurd (failed≢done m.0)
 making_failed told start old now input idle output errors (Some (file name)) since m = rose_earlier (start.write_faults name) (old.write_faults name) (now.write_faults name) (since.writes name) (m.1.1.0 refl)
 
 -- the other files have what they had before the file of the channel was made
-pub making_keeps : (to : Option ChannelName) (told : Bool) (p : Put) (old now : FilesSeen) → Makes to told p old now → IsTrue told → (name : Text) → (to ≡ Some (file name) → ⊥) → {last : Option Bytes} → last ≡ now.contents name → last ≡ old.contents name
+pub making_keeps : (to : Option ChannelName) (told : Bool) (p : Put) (old now : FilesSeen) → MakesFile to told p old now → IsTrue told → (name : Text) → (to ≡ Some (file name) → ⊥) → {last : Option Bytes} → last ≡ now.contents name → last ≡ old.contents name
 making_keeps None told p old now m t name h is = is ∙ ap (λ (f : FilesSeen). f.contents name) m.1
 making_keeps (Some standard) told p old now m t name h is = is ∙ ap (λ (f : FilesSeen). f.contents name) m.1
 making_keeps (Some (file n)) told p old now m t name h is = is ∙ m.1.0 t name (λ e. h (ap (λ (x : Text). Some (file x)) (sym e)))

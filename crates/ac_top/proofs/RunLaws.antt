@@ -17,7 +17,7 @@ use Rattle.ac_meaning.proofs.Endings.{some_end}
 use Rattle.ac_meaning.proofs.NeverStuck.{never_stuck}
 use Rattle.ac_meaning.proofs.Admitted.{grow, arrives}
 use Rattle.ac_meaning.proofs.ReceiveOrders.{written_in_front}
-use Rattle.ac_run.specs.Sessions.{Session, Streams, with_writes, StopsBehind, StopsAtReceive, IsEnd, Leaves, RunsTo}
+use Rattle.ac_run.specs.Sessions.{Session, Streams, left_of, NoFrame, HasLeft, with_writes, StopsBehind, StopsAtReceive, IsEnd, Leaves, RunsTo}
 use Rattle.ac_run.specs.Course.{begun}
 use Rattle.ac_run.specs.declared.end.RunEnd.{RunEnd}
 use Rattle.ac_run.specs.declared.end.RunEnd.TheVariants as end
@@ -32,12 +32,13 @@ use Rattle.ac_words.specs.Form.{Text}
 use Rattle.ac_outside.specs.Outside.{Rose}
 use Rattle.ac_top.specs.Channels.{of_channel, of_console}
 use Rattle.ac_top.specs.Streams.{AllWritten, read_line, write_line, memory_line}
-use Rattle.ac_top.specs.Handed.{Handed, is_told, input_of, InputFailed, OutputFailed, MakingFailed, MadeAtMost, before_run, after_run, behind_run}
+use Rattle.ac_top.specs.Handed.{Handed, is_told, input_of, InputFailed, OutputFailed, MakingFailed, IsMade, MadeAtMost, before_run, after_run, behind_run}
 use Rattle.ac_answers.specs.Lines.{uncaught_line, spent_line}
 use Rattle.ac_answers.specs.Meaning.{CommandAnswer, run_answer, Means, finished, uncaught, spent}
 use Rattle.ac_top.specs.Saying.{Said}
-use Rattle.ac_top.specs.RunEndings.{HasRead, GivesStatus, RunEnded, has_run, unmade_file, unread_input, unwritten, no_memory_making, no_memory_left}
-use Rattle.ac_top.specs.inner.Runs.{RanIn}
+use Rattle.ac_top.specs.RunEndings.{HasRead, GivesStatus, InputLeft, RunEnded, has_run, unmade_file, unread_input, unwritten, no_memory_making, no_memory_left}
+use Rattle.ac_top.specs.inner.Told.{stream_left}
+use Rattle.ac_top.specs.inner.Runs.{RanIn, StreamLeft}
 use Rattle.ac_answers.proofs.TextLaws.{given_by, one_answer}
 use Rattle.ac_top.proofs.PlaceLaws.{read_all, gets_moved, runs_moved, input_earlier, output_failed}
 use Rattle.ac_top.proofs.EndingLaws.{end_told}
@@ -68,7 +69,7 @@ module _ (prog : ProgramFiles) (steps : ℕ) (from to : Option ChannelName) (o :
 
 module _ (prog : ProgramFiles) (steps : ℕ) (from to : Option ChannelName) (o : Handed) (loaded : Loaded) (machine : MachineSeen) (t : Session) (mid : Bytes) (r : HasRead prog steps from to o)
     (accepted : Loads r.text r.shelf (environment_of loaded.env) (expr_of loaded.main) (typ_of loaded.ty))
-    (typed : IsTypedProgram (environment_of loaded.env) (expr_of loaded.main) (typ_of loaded.ty)) where
+    (typed : IsTypedProgram (environment_of loaded.env) (expr_of loaded.main) (typ_of loaded.ty)) (made : IsMade to o) where
   -- the session has run to this end
   abbrev pub Runs : RunEnd → Type 0
   Runs e = RunsTo (is_told from to o) (begun loaded steps (is_some to) machine) t r.input e (before_run to o) (after_run to o mid)
@@ -84,38 +85,56 @@ module _ (prog : ProgramFiles) (steps : ℕ) (from to : Option ChannelName) (o :
   ended : (e : RunEnd) → Runs e → IsEnd e last t × Leaves e (is_told from to o) last t (before_run to o) (after_run to o mid)
   ended e runs = let h = some prog steps from to o loaded r accepted typed Coloured in runs.ends Coloured h.0 h.1
 
-  finished_by : (p : Outcome Value) → GivesStatus prog steps from to o r (given_by steps p) → IsEnd end.Finished p t → (IsTrue (is_told from to o) → after_run to o mid ≡ with_writes (writes_of p) (before_run to o)) → AllWritten (behind_run to o mid) [] → RunEnded prog steps from to o FINISHED
-  finished_by (Returned v z) g is all still = has_run r (run_answer FINISHED z.writes []) mid g refl all (refl, still)
-  finished_by (Raised x z) g is all still = absurd is
-  finished_by (Spent z) g is all still = absurd is
-  finished_by Stuck g is all still = absurd is
+  -- behind an end without a fault, what is left of input
+  abbrev pub LeavesSo : RunEnd → Type 0
+  LeavesSo e = StreamLeft from (is_told from to o) (begun loaded steps (is_some to) machine) r.input e (stream_left from o.input.new)
 
-  uncaught_by : (exn : Exn) (p : Outcome Value) → GivesStatus prog steps from to o r (given_by steps p) → IsEnd (end.Uncaught exn) p t → (IsTrue (is_told from to o) → after_run to o mid ≡ with_writes (writes_of p) (before_run to o))
+  -- in each mode that is what the reduction leaves
+  left_by : (e : RunEnd) → ((p : Outcome Value) → HasLeft e p o.input.new → (o.input.new ≡ left_of p) ⊎ NoFrame (left_of p) o.input.new) → LeavesSo e → InputLeft prog steps from to o r
+  left_by e fine leaves is told mode =
+      let h = some prog steps from to o loaded r accepted typed mode in
+      record {
+        definitions = environment_of loaded.env;
+        term = expr_of loaded.main;
+        ty = typ_of loaded.ty;
+        accepted = accepted;
+        last = h.0;
+        ends = h.1;
+        leaves = fine h.0 (subst (HasLeft e h.0) (ap (λ (f : Option ChannelName). stream_left f o.input.new) is) (leaves is told mode h.0 h.1));
+      }
+
+  finished_by : (p : Outcome Value) → GivesStatus prog steps from to o r (given_by steps p) → IsEnd end.Finished p t → (IsTrue (is_told from to o) → after_run to o mid ≡ with_writes (writes_of p) (before_run to o)) → InputLeft prog steps from to o r → AllWritten (behind_run to o mid) [] → RunEnded prog steps from to o FINISHED
+  finished_by (Returned v z) g is all left still = has_run r (run_answer FINISHED z.writes []) mid g refl all left made (refl, still)
+  finished_by (Raised x z) g is all left still = absurd is
+  finished_by (Spent z) g is all left still = absurd is
+  finished_by Stuck g is all left still = absurd is
+
+  uncaught_by : (exn : Exn) (p : Outcome Value) → GivesStatus prog steps from to o r (given_by steps p) → IsEnd (end.Uncaught exn) p t → (IsTrue (is_told from to o) → after_run to o mid ≡ with_writes (writes_of p) (before_run to o)) → InputLeft prog steps from to o r
       → (status : Status) → Said (behind_run to o mid) (uncaught_line (exn_of exn)) UNCAUGHT status ⊎ Said (behind_run to o mid) memory_line OUT_OF_MEMORY status → RunEnded prog steps from to o status
-  uncaught_by exn (Returned v z) g is all status s = absurd is
-  uncaught_by exn (Raised x z) g is all status s =
-      end_told prog steps from to o r (run_answer UNCAUGHT z.writes (uncaught_line x)) mid g refl all _ _ refl status
+  uncaught_by exn (Returned v z) g is all left status s = absurd is
+  uncaught_by exn (Raised x z) g is all left status s =
+      end_told prog steps from to o r (run_answer UNCAUGHT z.writes (uncaught_line x)) mid g refl all left made _ _ refl status
       (subst (λ (x : Exception). Said (behind_run to o mid) (uncaught_line x) UNCAUGHT status ⊎ Said (behind_run to o mid) memory_line OUT_OF_MEMORY status) is.0 s)
-  uncaught_by exn (Spent z) g is all status s = absurd is
-  uncaught_by exn Stuck g is all status s = absurd is
+  uncaught_by exn (Spent z) g is all left status s = absurd is
+  uncaught_by exn Stuck g is all left status s = absurd is
 
-  spent_by : (budget : ℕ) (p : Outcome Value) → t.steps ≡ steps → GivesStatus prog steps from to o r (given_by steps p) → IsEnd (end.Spent budget) p t → (IsTrue (is_told from to o) → after_run to o mid ≡ with_writes (writes_of p) (before_run to o))
+  spent_by : (budget : ℕ) (p : Outcome Value) → t.steps ≡ steps → GivesStatus prog steps from to o r (given_by steps p) → IsEnd (end.Spent budget) p t → (IsTrue (is_told from to o) → after_run to o mid ≡ with_writes (writes_of p) (before_run to o)) → InputLeft prog steps from to o r
       → (status : Status) → Said (behind_run to o mid) (spent_line budget) SPENT status ⊎ Said (behind_run to o mid) memory_line OUT_OF_MEMORY status → RunEnded prog steps from to o status
-  spent_by budget (Returned v z) same g is all status s = absurd is
-  spent_by budget (Raised x z) same g is all status s = absurd is
-  spent_by budget (Spent z) same g is all status s =
-      end_told prog steps from to o r (run_answer SPENT z.writes (spent_line steps)) mid g refl all _ _ refl status
+  spent_by budget (Returned v z) same g is all left status s = absurd is
+  spent_by budget (Raised x z) same g is all left status s = absurd is
+  spent_by budget (Spent z) same g is all left status s =
+      end_told prog steps from to o r (run_answer SPENT z.writes (spent_line steps)) mid g refl all left made _ _ refl status
       (subst (λ (n : ℕ). Said (behind_run to o mid) (spent_line n) SPENT status ⊎ Said (behind_run to o mid) memory_line OUT_OF_MEMORY status) (is.0 ∙ same) s)
-  spent_by budget Stuck same g is all status s = absurd is
+  spent_by budget Stuck same g is all left status s = absurd is
 
-  pub has_finished : Runs end.Finished → AllWritten (behind_run to o mid) [] → RunEnded prog steps from to o FINISHED
-  has_finished runs still = let e = ended end.Finished runs in finished_by last meaning e.0 e.1 still
+  pub has_finished : Runs end.Finished → LeavesSo end.Finished → AllWritten (behind_run to o mid) [] → RunEnded prog steps from to o FINISHED
+  has_finished runs leaves still = let e = ended end.Finished runs in finished_by last meaning e.0 e.1 (left_by end.Finished (λ p h. h) leaves) still
 
-  pub has_raised : (exn : Exn) → Runs (end.Uncaught exn) → (status : Status) → Said (behind_run to o mid) (uncaught_line (exn_of exn)) UNCAUGHT status ⊎ Said (behind_run to o mid) memory_line OUT_OF_MEMORY status → RunEnded prog steps from to o status
-  has_raised exn runs status s = let e = ended (end.Uncaught exn) runs in uncaught_by exn last meaning e.0 e.1 status s
+  pub has_raised : (exn : Exn) → Runs (end.Uncaught exn) → LeavesSo (end.Uncaught exn) → (status : Status) → Said (behind_run to o mid) (uncaught_line (exn_of exn)) UNCAUGHT status ⊎ Said (behind_run to o mid) memory_line OUT_OF_MEMORY status → RunEnded prog steps from to o status
+  has_raised exn runs leaves status s = let e = ended (end.Uncaught exn) runs in uncaught_by exn last meaning e.0 e.1 (left_by (end.Uncaught exn) (λ p h. h) leaves) status s
 
-  pub has_spent : (budget : ℕ) → t.steps ≡ steps → Runs (end.Spent budget) → (status : Status) → Said (behind_run to o mid) (spent_line budget) SPENT status ⊎ Said (behind_run to o mid) memory_line OUT_OF_MEMORY status → RunEnded prog steps from to o status
-  has_spent budget same runs status s = let e = ended (end.Spent budget) runs in spent_by budget last same meaning e.0 e.1 status s
+  pub has_spent : (budget : ℕ) → t.steps ≡ steps → Runs (end.Spent budget) → LeavesSo (end.Spent budget) → (status : Status) → Said (behind_run to o mid) (spent_line budget) SPENT status ⊎ Said (behind_run to o mid) memory_line OUT_OF_MEMORY status → RunEnded prog steps from to o status
+  has_spent budget same runs leaves status s = let e = ended (end.Spent budget) runs in spent_by budget last same meaning e.0 e.1 (left_by (end.Spent budget) (λ p h. h) leaves) status s
 
   -- what was written in front of a receive stands in front of all
   in_front : EndsSo prog steps from to o loaded r accepted typed Coloured last → StopsAtReceive (is_told from to o) (receives_of last) (before_run to o) (after_run to o mid) → StopsBehind (is_told from to o) (writes_of last) (before_run to o) (after_run to o mid)
@@ -125,7 +144,7 @@ module _ (prog : ProgramFiles) (steps : ℕ) (from to : Option ChannelName) (o :
 
   pub has_unread : Runs end.ReadFault → InputFailed from o → (status : Status) → Said (behind_run to o mid) read_line READ_FAULT status → RunEnded prog steps from to o status
   has_unread runs rose status s =
-      unread_input r _ mid meaning refl rose (in_front (some prog steps from to o loaded r accepted typed Coloured).1 (ended end.ReadFault runs).1.0)
+      unread_input r _ mid meaning refl made rose (in_front (some prog steps from to o loaded r accepted typed Coloured).1 (ended end.ReadFault runs).1.0)
       (λ mode.
       let h = some prog steps from to o loaded r accepted typed mode in
       record {
@@ -139,10 +158,10 @@ module _ (prog : ProgramFiles) (steps : ℕ) (from to : Option ChannelName) (o :
       }) s
 
   pub has_failed : Runs end.WriteFault → OutputFailed to o → (status : Status) → Said (behind_run to o mid) write_line WRITE_FAULT status → RunEnded prog steps from to o status
-  has_failed runs rose status s = unwritten r _ mid meaning refl rose (ended end.WriteFault runs).1.0.stops s
+  has_failed runs rose status s = unwritten r _ mid meaning refl made rose (ended end.WriteFault runs).1.0.stops s
 
   pub has_lost : Runs end.Memory → (status : Status) → Said (behind_run to o mid) memory_line OUT_OF_MEMORY status → RunEnded prog steps from to o status
-  has_lost runs status s = no_memory_left r _ mid meaning refl (ended end.Memory runs).1.0 s
+  has_lost runs status s = no_memory_left r _ mid meaning refl made (ended end.Memory runs).1.0 s
 
 -- where the file of the channel isn't made
 module _ (prog : ProgramFiles) (steps : ℕ) (from to : Option ChannelName) (o : Handed) (shelf : List Shelved) (is_shelf : IsShelfBy o.files prog.shelf shelf) (text : Bytes) (is_text : IsTextOf (o.files prog.file) text) (loaded : Loaded)
@@ -172,7 +191,8 @@ pub record Setting (prog : ProgramFiles) (steps : ℕ) (from to : Option Channel
   pub left_is : IsTrue (is_told from to o) → left ≡ input_of from o
   pub old : Streams
   pub old_is : IsTrue (is_told from to o) → old ≡ before_run to o
-  pub ran : RanIn from (is_told from to o) left old (after_run to o mid) s t e
+  pub made : IsMade to o
+  pub ran : RanIn from (is_told from to o) left (stream_left from o.input.new) old (after_run to o mid) s t e
 
 module _ {prog : ProgramFiles} {steps : ℕ} {from to : Option ChannelName} {o : Handed} {mid : Bytes} {s t : Session} where
   abbrev read_in : {e : RunEnd} → Setting prog steps from to o mid s t e → HasRead prog steps from to o
@@ -183,27 +203,30 @@ module _ {prog : ProgramFiles} {steps : ℕ} {from to : Option ChannelName} {o :
       subst (λ (y : Session). RunsTo (is_told from to o) y t x.ran.input e (before_run to o) (after_run to o mid)) x.is
       (runs_moved (is_told from to o) x.old (before_run to o) (after_run to o mid) x.old_is s t x.ran.input e x.ran.runs)
 
+  leaves_in : {e : RunEnd} (x : Setting prog steps from to o mid s t e) → StreamLeft from (is_told from to o) (begun x.loaded steps (is_some to) x.machine) x.ran.input e (stream_left from o.input.new)
+  leaves_in {e} x = subst (λ (y : Session). StreamLeft from (is_told from to o) y x.ran.input e (stream_left from o.input.new)) x.is x.ran.leaves
+
   pub finished_in : Setting prog steps from to o mid s t end.Finished → AllWritten (behind_run to o mid) [] → RunEnded prog steps from to o FINISHED
-  finished_in x still = has_finished prog steps from to o x.loaded x.machine t mid (read_in x) x.accepted x.typed (runs_in x) still
+  finished_in x still = has_finished prog steps from to o x.loaded x.machine t mid (read_in x) x.accepted x.typed x.made (runs_in x) (leaves_in x) still
 
   pub raised_in : {exn : Exn} → Setting prog steps from to o mid s t (end.Uncaught exn) → (status : Status) → Said (behind_run to o mid) (uncaught_line (exn_of exn)) UNCAUGHT status ⊎ Said (behind_run to o mid) memory_line OUT_OF_MEMORY status → RunEnded prog steps from to o status
-  raised_in {exn} x status told = has_raised prog steps from to o x.loaded x.machine t mid (read_in x) x.accepted x.typed exn (runs_in x) status told
+  raised_in {exn} x status told = has_raised prog steps from to o x.loaded x.machine t mid (read_in x) x.accepted x.typed x.made exn (runs_in x) (leaves_in x) status told
 
   pub spent_in : {budget : ℕ} → Setting prog steps from to o mid s t (end.Spent budget) → (status : Status) → Said (behind_run to o mid) (spent_line budget) SPENT status ⊎ Said (behind_run to o mid) memory_line OUT_OF_MEMORY status → RunEnded prog steps from to o status
-  spent_in {budget} x status told = has_spent prog steps from to o x.loaded x.machine t mid (read_in x) x.accepted x.typed budget (x.ran.budget ∙ ap (λ (y : Session). y.steps) x.is) (runs_in x) status told
+  spent_in {budget} x status told = has_spent prog steps from to o x.loaded x.machine t mid (read_in x) x.accepted x.typed x.made budget (x.ran.budget ∙ ap (λ (y : Session). y.steps) x.is) (runs_in x) (leaves_in x) status told
 
   pub unread_in : Setting prog steps from to o mid s t end.ReadFault → (g : Text → ℕ) → ((file : Text) → (o.files file).before ≤ g file)
       → Rose (of_channel from 0 o.input.before g) (of_channel from 0 o.input.after (λ file. (o.files file).after)) → (status : Status) → Said (behind_run to o mid) read_line READ_FAULT status → RunEnded prog steps from to o status
   unread_in x g earlier rose status told =
-      has_unread prog steps from to o x.loaded x.machine t mid (read_in x) x.accepted x.typed (runs_in x)
+      has_unread prog steps from to o x.loaded x.machine t mid (read_in x) x.accepted x.typed x.made (runs_in x)
       (input_earlier from o.input.before (λ file. (o.files file).before) g (of_channel from 0 o.input.after (λ file. (o.files file).after)) earlier rose) status told
 
   pub failed_in : Setting prog steps from to o mid s t end.WriteFault → (d : ℕ) (g : Text → ℕ) → d ≤ o.errors.after → ((file : Text) → (o.made file).before ≤ g file)
       → Rose (of_console to o.output.before o.errors.before) (of_console to o.output.after d) ⊎ Rose (of_channel to 0 o.output.before g) (of_channel to 0 o.output.after (λ file. (o.made file).after))
       → (status : Status) → Said (behind_run to o mid) write_line WRITE_FAULT status → RunEnded prog steps from to o status
   failed_in x d g le earlier rose status told =
-      has_failed prog steps from to o x.loaded x.machine t mid (read_in x) x.accepted x.typed (runs_in x)
+      has_failed prog steps from to o x.loaded x.machine t mid (read_in x) x.accepted x.typed x.made (runs_in x)
       (output_failed to o.output.before o.errors.before o.output.after d o.errors.after o.output.before (λ file. (o.made file).before) g (of_channel to 0 o.output.after (λ file. (o.made file).after)) le earlier rose) status told
 
   pub lost_in : Setting prog steps from to o mid s t end.Memory → (status : Status) → Said (behind_run to o mid) memory_line OUT_OF_MEMORY status → RunEnded prog steps from to o status
-  lost_in x status told = has_lost prog steps from to o x.loaded x.machine t mid (read_in x) x.accepted x.typed (runs_in x) status told
+  lost_in x status told = has_lost prog steps from to o x.loaded x.machine t mid (read_in x) x.accepted x.typed x.made (runs_in x) status told

@@ -1,5 +1,5 @@
 -- How a chain ends: what the texts of its files give where nothing fails, and what a fault leaves of that.
-use Rattle.std.specs.Prelude.{ℕ, Bool, List, [], Option}
+use Rattle.std.specs.Prelude.{◌≡◌, ℕ, Bool, List, [], Option}
 use Rattle.ac_types.specs.Types.{Bytes}
 use Rattle.ac_types.specs.declared.text.Text.{Text}
 use Rattle.ac_outside.specs.Outside.{Rose}
@@ -9,7 +9,7 @@ use Rattle.ac_files.specs.ManyTexts.{AreTexts, TextsFail}
 use Rattle.ac_files.specs.ProgramTexts.{IsShelfBy, HasBadLine}
 use Rattle.ac_chain.specs.ChainTexts.{texts_of}
 use Rattle.ac_answers.specs.declared.status.Status.{Status}
-use Rattle.ac_answers.specs.declared.status.TheConstants.Status.{OUT_OF_MEMORY, READ_FAULT, WRITE_FAULT, SHELF_REFUSED}
+use Rattle.ac_answers.specs.declared.status.TheConstants.Status.{FINISHED, OUT_OF_MEMORY, READ_FAULT, WRITE_FAULT, SHELF_REFUSED}
 use Rattle.ac_answers.specs.Answers.{ShownAnswer}
 use Rattle.ac_chained.specs.Chaining.{ChainsInEach}
 use Rattle.ac_top.specs.Streams.{Writing, AllWritten, PrefixWritten, read_line, write_line, memory_line, shelf_line}
@@ -32,8 +32,8 @@ pub data ChainEnded (programs : List Bytes) (list : Option Bytes) (steps : ℕ) 
   bad_chain_list : (n : ℕ) → HasBadLine files list n → AllWritten output [] → Said errors (shelf_line n) SHELF_REFUSED end → ChainEnded programs list steps files output errors end
   -- a read of the list, of a file that it names, or of a program's file failed
   unread_chain : TextsFail files programs list → AllWritten output [] → Said errors read_line READ_FAULT end → ChainEnded programs list steps files output errors end
-  -- a print failed
-  unprinted_chain : (a : ShownAnswer) → ChainsFiles files programs list steps output.told a → Rose output.before output.after → PrefixWritten output a.printed → Said errors write_line WRITE_FAULT end → ChainEnded programs list steps files output errors end
+  -- a print failed, where the programs run
+  unprinted_chain : (a : ShownAnswer) → ChainsFiles files programs list steps output.told a → a.status ≡ FINISHED → Rose output.before output.after → PrefixWritten output a.printed → Said errors write_line WRITE_FAULT end → ChainEnded programs list steps files output errors end
   -- memory ran out in front of the runs, or in them, or behind them
   no_memory_to_chain : AllWritten output [] → Said errors memory_line OUT_OF_MEMORY end → ChainEnded programs list steps files output errors end
   no_memory_in_chain : (a : ShownAnswer) → ChainsFiles files programs list steps output.told a → PrefixWritten output a.printed → Said errors memory_line OUT_OF_MEMORY end → ChainEnded programs list steps files output errors end

@@ -1,5 +1,5 @@
 -- How a call ends: what the words ask for where nothing fails, and what a fault leaves of that.
-use Rattle.std.specs.Prelude.{ℕ, List, [], Option, Some, None, map, string_bytes, String}
+use Rattle.std.specs.Prelude.{◌≡◌, ℕ, List, [], Option, Some, None, map, string_bytes, String}
 use Rattle.std.specs.declared.alloc.Global.{Global}
 use Rattle.ac_types.specs.Types.{Bytes}
 use Rattle.ac_outside.specs.Outside.{Rose}
@@ -34,8 +34,8 @@ pub data AnswerEnded (r : Request) (files : Bytes → Reading) (output errors : 
   no_shelf : (n : ℕ) → HasBadLine files (list_named r) n → AllWritten output [] → Said errors (shelf_line n) SHELF_REFUSED end → AnswerEnded r files output errors end
   -- a read of the list, of a file that it names, or of a file that is loaded failed
   unread : IsUnreadable files r → AllWritten output [] → Said errors read_line READ_FAULT end → AnswerEnded r files output errors end
-  -- a print failed
-  unprinted : (a : ShownAnswer) → Gives files r a → Rose output.before output.after → PrefixWritten output a.printed → Said errors write_line WRITE_FAULT end → AnswerEnded r files output errors end
+  -- a print failed, and there was something to print
+  unprinted : (a : ShownAnswer) → Gives files r a → (a.printed ≡ [] → ⊥) → Rose output.before output.after → PrefixWritten output a.printed → Said errors write_line WRITE_FAULT end → AnswerEnded r files output errors end
   -- memory ran out in front of the print, or in it
   no_memory_to_find : AllWritten output [] → Said errors memory_line OUT_OF_MEMORY end → AnswerEnded r files output errors end
   no_memory_to_print : (a : ShownAnswer) → Gives files r a → PrefixWritten output a.printed → Said errors memory_line OUT_OF_MEMORY end → AnswerEnded r files output errors end

@@ -1,26 +1,30 @@
 -- What a call is handed, before it and after it, and what a run's channels have of that.
-use Rattle.std.specs.Prelude.{◌≡◌, ◌⊎◌, ℕ, Bool, true, IsTrue, List, [], ◌&&◌, Option, Some, None}
-use Rattle.ac_outside.specs.Outside.{Rose, or_empty}
+use Rattle.std.specs.Prelude.{◌≡◌, ◌⊎◌, ℕ, Bool, true, IsTrue, List, [], ◌&&◌, Option, Some, None, is_some}
+use Rattle.ac_outside.specs.Outside.{Contents, Rose, or_empty}
 use Rattle.ac_words.specs.Commands.{ChannelName, standard, file}
 use Rattle.ac_run.specs.Sessions.{Streams, streams}
 use Rattle.ac_top.specs.Channels.{of_channel, of_console}
 use Rattle.ac_files.specs.Files.{FilesSeen, Reading, files_read}
-use Rattle.ac_top.specs.Streams.{Writing}
+use Rattle.ac_top.specs.Streams.{Feeding, Writing}
 
--- the files as they are read and as they are written, the streams, and whether input is known to be as it was
+-- the files as they are read and as they are written, what each has before and after, the streams, and whether input is known to be as it was
 pub record Handed : Type 0 where
   pub files : List ℕ → Reading
   pub made : List ℕ → Writing
-  pub input : Reading
+  pub was : Contents
+  pub is : Contents
+  pub input : Feeding
   pub idle : Bool
   pub output : Writing
   pub errors : Writing
 
 -- files whose contents are told or not, before a call and after it, and the streams
-abbrev pub what_is_handed : Bool → FilesSeen → FilesSeen → Reading → Bool → Writing → Writing → Handed
+abbrev pub what_is_handed : Bool → FilesSeen → FilesSeen → Feeding → Bool → Writing → Writing → Handed
 what_is_handed told old new input idle output errors = record {
   files = files_read told old new;
   made = λ name. record { told = told; old = or_empty (old.contents name); new = or_empty (new.contents name); before = old.write_faults name; after = new.write_faults name };
+  was = old.contents;
+  is = new.contents;
   input = input;
   idle = idle;
   output = output;
@@ -35,7 +39,7 @@ is_told from to o =
 
 -- the bytes of the channel that a run reads from
 abbrev pub input_of : Option ChannelName → Handed → List ℕ
-input_of from o = of_channel from [] (or_empty o.input.bytes) (λ name. or_empty (o.files name).bytes)
+input_of from o = of_channel from [] o.input.old (λ name. or_empty (o.files name).bytes)
 
 -- the count of failed reads of that channel rose
 abbrev pub InputFailed : Option ChannelName → Handed → Type 0
@@ -59,17 +63,23 @@ OutputFailed to o =
     Rose (of_console to o.output.before o.errors.before) (of_console to o.output.after o.errors.after)
     ⊎ Rose (of_channel to 0 o.output.before (λ name. (o.made name).before)) (of_channel to 0 o.output.after (λ name. (o.made name).after))
 
--- the file of the channel is as it was
+-- the file of the channel is as it was, and missing where it was
 abbrev pub Untouched : Option ChannelName → Handed → Type 0
 Untouched None o = Unit {0}
 Untouched (Some standard) o = Unit {0}
-Untouched (Some (file name)) o = IsTrue (o.made name).told → (o.made name).new ≡ (o.made name).old
+Untouched (Some (file name)) o = IsTrue (o.made name).told → o.is name ≡ o.was name
 
 -- it is as it was, or empty
 abbrev pub MadeAtMost : Option ChannelName → Handed → Type 0
 MadeAtMost None o = Unit {0}
 MadeAtMost (Some standard) o = Unit {0}
-MadeAtMost (Some (file name)) o = IsTrue (o.made name).told → ((o.made name).new ≡ (o.made name).old) ⊎ ((o.made name).new ≡ [])
+MadeAtMost (Some (file name)) o = IsTrue (o.made name).told → (o.is name ≡ o.was name) ⊎ (o.is name ≡ Some [])
+
+-- it is there
+abbrev pub IsMade : Option ChannelName → Handed → Type 0
+IsMade None o = Unit {0}
+IsMade (Some standard) o = Unit {0}
+IsMade (Some (file name)) o = IsTrue (o.made name).told → IsTrue (is_some (o.is name))
 
 -- the count of failed writes of that file rose
 abbrev pub MakingFailed : Option ChannelName → Handed → Type 0

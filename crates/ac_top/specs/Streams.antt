@@ -1,8 +1,7 @@
 -- Streams before and after a call, and what a call wrote.
-use Rattle.std.specs.Prelude.{◌≡◌, ℕ, Bool, IsTrue, List, [], ◌∷◌, ◌++◌, codes, Some}
+use Rattle.std.specs.Prelude.{◌≡◌, ℕ, Bool, IsTrue, List, [], ◌∷◌, ◌++◌, codes}
 use Rattle.std.specs.Fmt.{decimal}
 use Rattle.ac_outside.specs.Outside.{Extends}
-use Rattle.ac_files.specs.Files.{Reading}
 
 -- a stream or a file: what was written to it before and after the call, where that is told, and its count of failed writes
 pub record Writing : Type 0 where
@@ -12,10 +11,18 @@ pub record Writing : Type 0 where
   pub before : ℕ
   pub after : ℕ
 
--- a stream that is read, by what it has left and counts, before and after the call
-abbrev pub feeding : {Source : Type 0} → Bool → (Source → List ℕ) → (Source → ℕ) → Source → Source → Reading
+-- a stream that is read: what it has left before and after the call, where that is told, and its count of failed reads
+pub record Feeding : Type 0 where
+  pub told : Bool
+  pub old : List ℕ
+  pub new : List ℕ
+  pub before : ℕ
+  pub after : ℕ
+
+-- such a stream, by what it has left and counts, before and after the call
+abbrev pub feeding : {Source : Type 0} → Bool → (Source → List ℕ) → (Source → ℕ) → Source → Source → Feeding
 feeding told left faults old new =
-    record { told = told; bytes = Some (left old); before = faults old; after = faults new }
+    record { told = told; old = left old; new = left new; before = faults old; after = faults new }
 
 -- a stream, by what it has and counts, before and after the call
 abbrev pub writing : {Sink : Type 0} → Bool → (Sink → List ℕ) → (Sink → ℕ) → Sink → Sink → Writing

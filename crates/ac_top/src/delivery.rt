@@ -1,5 +1,5 @@
 // Answers are delivered: what they print goes to output, and then their line to errors.
-ghost use Rattle.std.specs.Prelude.{◌≡◌, IsTrue};
+ghost use Rattle.std.specs.Prelude.{◌≡◌, [], IsTrue};
 ghost use Rattle.ac_outside.specs.Outside.{Rose, Wrote};
 ghost use Rattle.ac_top.specs.Saying.{SaidIfAny};
 ghost use Rattle.ac_top.specs.Streams.{writing};
@@ -42,6 +42,7 @@ fn print<O: Sink>(bytes: &[u8], output: &mut O) -> Put
     ensures bytes { IsTrue O.told → Wrote result (O.written output.old) (O.written output.new)
         bytes.now }
     ensures cause { result ≡ Put.Failed → Rose (O.faults output.old) (O.faults output.new) }
+    ensures some { result ≡ Put.Failed → bytes.now ≡ [] → ⊥ }
 {
     if bytes.is_empty() {
         return Put::Done;

@@ -14,7 +14,7 @@ ghost use Rattle.ac_top.specs.Channels.{KeptBut, NoFile, NotStandard};
 ghost use Rattle.ac_top.specs.Streams.{feeding, writing};
 ghost use Rattle.ac_top.specs.Handed.{what_is_handed};
 ghost use Rattle.ac_top.specs.RunEndings.{RunEnded};
-ghost use Rattle.ac_top.specs.inner.Runs.{Prepared, Makes};
+ghost use Rattle.ac_top.specs.inner.Runs.{Prepared, MakesFile};
 
 use crate::saying::{no_memory, refuse, say, tell_spent, tell_uncaught, tell_unread};
 use crate::world::run_among;
@@ -185,7 +185,7 @@ fn make_and_run<F: Files, I: Source, O: Sink, E: Sink>(
 
 // Makes the file of a channel empty, if the channel is one.
 fn make_channel<F: Files>(to: Option<Channel>, files: &mut F) -> Put
-    ensures makes { Makes (option_map channel_of to.entry) F.told result
+    ensures makes { MakesFile (option_map channel_of to.entry) F.told result
         (files_seen F.contents F.read_faults F.write_faults files.old)
         (files_seen F.contents F.read_faults F.write_faults files.new) }
     ensures only { NoFile (option_map channel_of to.entry) → files.new ≡ files.old }

@@ -4,10 +4,10 @@ ghost use native.Mathlib.Omega.{arith};
 ghost use Rattle.ac_outside.specs.Outside.{Rose, Contents, NeverFall};
 ghost use Rattle.ac_words.specs.Commands.{ChannelName, are_one, channel_of};
 ghost use Rattle.ac_run.specs.Sessions.{streams};
-ghost use Rattle.ac_top.specs.inner.Told.{tells, left_in, sent_in};
+ghost use Rattle.ac_top.specs.inner.Told.{tells, left_in, stream_left, sent_in};
 ghost use Rattle.ac_top.specs.Channels.{of_channel, of_console, KeptBut, NoFile, NotStandard};
 ghost use Rattle.ac_top.specs.inner.Counts.{count_of_both};
-ghost use Rattle.ac_top.specs.inner.Runs.{RanIn, ErrorsApart};
+ghost use Rattle.ac_top.specs.inner.Runs.{RanIn, ErrorsApart, is_there};
 
 use crate::no_files::NoFiles;
 use crate::no_input::NoInput;
@@ -78,6 +78,8 @@ struct Joined<'a, F: Files, I: Source, C: Sink, S: Sink, K: Fixed> {
     ghost same_to: { option_map channel_of to ≡ K.to },
     ghost apart: { are_one K.from K.to ≡ false },
     ghost kept: { IsTrue F.told → KeptBut K.to K.contents (F.contents files.now) },
+    ghost there: { IsTrue F.told → IsTrue (is_there K.to K.contents) →
+        IsTrue (is_there K.to (F.contents files.now)) },
     ghost console_later: { K.console_faults ≤ C.faults console.now },
     ghost channel_later: { K.channel_faults ≤ of_channel K.to 0 (S.faults stream.now)
         (F.write_faults files.now) },
@@ -144,7 +146,7 @@ impl<F: Files, I: Source, C: Sink, S: Sink, K: Fixed> World for Joined<'_, F, I,
         self.console.write(bytes)
     }
 
-    #[tactic(auto, using(crate::proofs::ChannelLaws::appended))]
+    #[tactic(auto, using(crate::proofs::ChannelLaws::appended, crate::proofs::ChannelLaws::there_after))]
     fn send(&mut self, bytes: &[u8]) -> Put {
         match self.to {
             None => Put::Memory,
@@ -173,6 +175,7 @@ pub fn run_among<F: Files, I: Source, O: Sink, E: Sink>(
         session.old.end ≡ None → RanIn a
         (tells a b F.told I.told (of_console b O.told E.told) O.told)
         (left_in a (F.contents files.old) (I.left input.old) 0)
+        (stream_left a (I.left input.new))
         (streams (of_console b (O.written output.old) (E.written errors.old))
         (sent_in b (F.contents files.old) (O.written output.old)))
         (streams (of_console b (O.written output.new) (E.written errors.new))
@@ -192,6 +195,9 @@ pub fn run_among<F: Files, I: Source, O: Sink, E: Sink>(
     ensures apart { ErrorsApart (option_map channel_of to.entry) errors.old errors.new }
     ensures kept { IsTrue F.told →
         KeptBut (option_map channel_of to.entry) (F.contents files.old) (F.contents files.new) }
+    ensures there { IsTrue F.told →
+        IsTrue (is_there (option_map channel_of to.entry) (F.contents files.old)) →
+        IsTrue (is_there (option_map channel_of to.entry) (F.contents files.new)) }
     ensures idle { NotStandard (option_map channel_of from.entry) → input.new ≡ input.old }
     ensures only { NoFile (option_map channel_of from.entry) → NoFile
         (option_map channel_of to.entry) →
@@ -275,6 +281,7 @@ fn run_between<F: Files, I: Source, O: Sink, E: Sink>(
         session.old.end ≡ None → RanIn a
         (tells a b F.told I.told (of_console b O.told E.told) O.told)
         (left_in a (F.contents files.old) (I.left input.old) 0)
+        (stream_left a (I.left input.new))
         (streams (of_console b (O.written output.old) (E.written errors.old))
         (sent_in b (F.contents files.old) (O.written output.old)))
         (streams (of_console b (O.written output.new) (E.written errors.new))
@@ -294,6 +301,9 @@ fn run_between<F: Files, I: Source, O: Sink, E: Sink>(
     ensures apart { ErrorsApart (option_map channel_of to.entry) errors.old errors.new }
     ensures kept { IsTrue F.told →
         KeptBut (option_map channel_of to.entry) (F.contents files.old) (F.contents files.new) }
+    ensures there { IsTrue F.told →
+        IsTrue (is_there (option_map channel_of to.entry) (F.contents files.old)) →
+        IsTrue (is_there (option_map channel_of to.entry) (F.contents files.new)) }
 {
     let mut none = SureSink::new(alloc);
     match to {
@@ -338,6 +348,7 @@ fn run_on<F: Files, I: Source, C: Sink, S: Sink>(
         to.entry in
         session.old.end ≡ None → RanIn a (tells a b F.told I.told C.told S.told)
         (left_in a (F.contents files.old) (I.left input.old) 0)
+        (stream_left a (I.left input.new))
         (streams (C.written console.old) (sent_in b (F.contents files.old) (S.written stream.old)))
         (streams (C.written console.new) (sent_in b (F.contents files.new) (S.written stream.new)))
         session.old session.new result }
@@ -353,6 +364,9 @@ fn run_on<F: Files, I: Source, C: Sink, S: Sink>(
     ensures later { C.faults console.old ≤ C.faults console.new }
     ensures kept { IsTrue F.told →
         KeptBut (option_map channel_of to.entry) (F.contents files.old) (F.contents files.new) }
+    ensures there { IsTrue F.told →
+        IsTrue (is_there (option_map channel_of to.entry) (F.contents files.old)) →
+        IsTrue (is_there (option_map channel_of to.entry) (F.contents files.new)) }
 {
     let mut end = RunEnd::Memory;
     let _ = run_at::<F, I, C, S, Brand>(session, from, to, files, input, console, stream, &mut end);
@@ -361,6 +375,7 @@ fn run_on<F: Files, I: Source, C: Sink, S: Sink>(
 
 // Runs it over references of these names, and gives them back. The end is written to a place of its
 // own: in one tuple with them, what it owns would hide what becomes of them.
+#[tactic(auto, using(crate::proofs::LeftLaws::same_left))]
 fn run_at<'a, F: Files, I: Source, C: Sink, S: Sink, K: Fixed>(
     session: &mut Session,
     from: Option<Channel<'a>>,
@@ -385,6 +400,7 @@ fn run_at<'a, F: Files, I: Source, C: Sink, S: Sink, K: Fixed>(
     ensures ends { session.old.end ≡ None → RanIn K.from
         (tells K.from K.to F.told I.told C.told S.told)
         (left_in K.from (F.contents files.entry.now) (I.left input.entry.now) 0)
+        (stream_left K.from (I.left result.1.now))
         (streams (C.written console.entry.now)
         (sent_in K.to (F.contents files.entry.now) (S.written stream.entry.now)))
         (streams (C.written result.2.now) (sent_in K.to (F.contents result.0.now)
@@ -399,6 +415,8 @@ fn run_at<'a, F: Files, I: Source, C: Sink, S: Sink, K: Fixed>(
         (of_channel K.from 0 (I.read_faults result.1.now) (F.read_faults result.0.now)) }
     ensures later { K.console_faults ≤ C.faults result.2.now }
     ensures kept { IsTrue F.told → KeptBut K.to K.contents (F.contents result.0.now) }
+    ensures there { IsTrue F.told → IsTrue (is_there K.to K.contents) →
+        IsTrue (is_there K.to (F.contents result.0.now)) }
     ensures same_files { result.0.ghost_name ≡ files.entry.ghost_name }
     ensures same_input { result.1.ghost_name ≡ input.entry.ghost_name }
     ensures same_console { result.2.ghost_name ≡ console.entry.ghost_name }
@@ -431,7 +449,9 @@ fn run_at<'a, F: Files, I: Source, C: Sink, S: Sink, K: Fixed>(
 // Runs a session in a world, whose input is this channel.
 fn run_in<W: World>(session: &mut Session, from: Option<Channel>, world: &mut W) -> RunEnd
     ensures ends { session.old.end ≡ None → RanIn (option_map channel_of from.entry) W.Source.told
-        (W.Source.left world.old) (streams (W.console world.old) (W.channel world.old))
+        (W.Source.left world.old)
+        (stream_left (option_map channel_of from.entry) (W.Source.left world.new))
+        (streams (W.console world.old) (W.channel world.old))
         (streams (W.console world.new) (W.channel world.new)) session.old session.new result }
     ensures cause { session.old.end ≡ None → result ≡ RunEnd.WriteFault →
         Rose (W.write_faults world.old) (W.write_faults world.new) }

@@ -13,7 +13,7 @@ use Rattle.ac_top.specs.Saying.{Said, SaidIfAny}
 -- an answer was to be printed and its line to be written, before an end with its status
 pub data Delivered (a : Answer) (output errors : Writing) (end : Status) : Type 0 where
   whole : AllWritten output a.printed.0 → SaidIfAny errors a.line.0 a.status end → Delivered a output errors end
-  print_failed : Rose output.before output.after → PrefixWritten output a.printed.0 → Said errors write_line WRITE_FAULT end → Delivered a output errors end
+  print_failed : (a.printed.0 ≡ [] → ⊥) → Rose output.before output.after → PrefixWritten output a.printed.0 → Said errors write_line WRITE_FAULT end → Delivered a output errors end
   lost_in_print : PrefixWritten output a.printed.0 → Said errors memory_line OUT_OF_MEMORY end → Delivered a output errors end
 
 -- that, or there was no memory to find the answer

@@ -1,21 +1,29 @@
 -- A run in its world, and the files in front of it.
-use Rattle.std.specs.Prelude.{◌≡◌, Bool, IsTrue, [], Option, Some, None}
+use Rattle.std.specs.Prelude.{◌≡◌, Bool, true, IsTrue, [], Option, Some, None, is_some}
 use Rattle.ac_types.specs.Types.{Bytes}
 use Rattle.ac_outside.specs.Outside.{Contents, NeverFall, Created, OthersSame, Rose}
 use Rattle.ac_outside.specs.declared.traits.Put.{Put}
 use Rattle.ac_outside.specs.declared.traits.Put.TheVariants as put
 use Rattle.ac_words.specs.Commands.{ChannelName, standard, file}
-use Rattle.ac_run.specs.Sessions.{Session, Streams, RunsTo}
+use Rattle.ac_rules.specs.Views.{Mode}
+use Rattle.ac_terms.specs.Terms.{Value}
+use Rattle.ac_meaning.specs.Acts.{Outcome}
+use Rattle.ac_run.specs.Sessions.{Session, Streams, ProgramEnds, HasLeft, RunsTo}
 use Rattle.ac_run.specs.declared.end.RunEnd.{RunEnd}
-use Rattle.ac_top.specs.Channels.{GetsInput, KeptBut}
+use Rattle.ac_top.specs.Channels.{of_channel, GetsInput, KeptBut}
 use Rattle.ac_files.specs.Files.{FilesSeen}
 
--- a session has run with some input that a channel may give
-pub record RanIn (from : Option ChannelName) (told : Bool) (left : Bytes) (old new : Streams) (s t : Session) (r : RunEnd) : Type 0 where
+-- behind an end without a fault this is left of the standard stream that is the channel
+abbrev pub StreamLeft : Option ChannelName → Bool → Session → Bytes → RunEnd → Bytes → Type 0
+StreamLeft from told s input r left = from ≡ Some standard → IsTrue told → (mode : Mode) (o : Outcome Value) → ProgramEnds mode s input o → HasLeft r o left
+
+-- a session has run with some input that a channel may give, which had one thing left before it and another behind it
+pub record RanIn (from : Option ChannelName) (told : Bool) (before after : Bytes) (old new : Streams) (s t : Session) (r : RunEnd) : Type 0 where
   pub input : Bytes
-  pub gets : GetsInput from told left input
+  pub gets : GetsInput from told before input
   pub runs : RunsTo told s t input r old new
   pub budget : t.steps ≡ s.steps
+  pub leaves : StreamLeft from told s input r after
 
 -- errors are as they were, unless they are the console
 abbrev pub ErrorsApart : {Errors : Type 0} → Option ChannelName → Errors → Errors → Type 0
@@ -29,6 +37,10 @@ Emptied None now = Unit {0}
 Emptied (Some standard) now = Unit {0}
 Emptied (Some (file name)) now = now name ≡ Some []
 
+-- whether the channel's file is there
+abbrev pub is_there : Option ChannelName → Contents → Bool
+is_there to now = of_channel to true true (λ name. is_some (now name))
+
 -- files in front of a run: the channel's has been made empty, and the others have what they had
 pub record Prepared (told : Bool) (to : Option ChannelName) (start now : FilesSeen) : Type 0 where
   pub kept : IsTrue told → KeptBut to start.contents now.contents
@@ -37,10 +49,10 @@ pub record Prepared (told : Bool) (to : Option ChannelName) (start now : FilesSe
   pub writes : NeverFall start.write_faults now.write_faults
 
 -- what the making of the channel's file answers and leaves
-abbrev pub Makes : Option ChannelName → Bool → Put → FilesSeen → FilesSeen → Type 0
-Makes None told p old new = (p ≡ put.Done) × (new ≡ old)
-Makes (Some standard) told p old new = (p ≡ put.Done) × (new ≡ old)
-Makes (Some (file name)) told p old new =
+abbrev pub MakesFile : Option ChannelName → Bool → Put → FilesSeen → FilesSeen → Type 0
+MakesFile None told p old new = (p ≡ put.Done) × (new ≡ old)
+MakesFile (Some standard) told p old new = (p ≡ put.Done) × (new ≡ old)
+MakesFile (Some (file name)) told p old new =
     (IsTrue told → Created p (old.contents name) (new.contents name))
     × ((IsTrue told → OthersSame name old.contents new.contents)
     × ((p ≡ put.Failed → Rose (old.write_faults name) (new.write_faults name))

@@ -13,6 +13,10 @@ tells from to files input console stream =
 abbrev pub left_in : Option ChannelName → Contents → List ℕ → ℕ → List ℕ
 left_in from files input place = of_channel from [] input (λ name. drop place (or_empty (files name)))
 
+-- the bytes that a standard stream has left, where that is the channel
+abbrev pub stream_left : Option ChannelName → List ℕ → List ℕ
+stream_left from input = of_channel from [] input (λ name. [])
+
 -- the bytes that it has sent
 abbrev pub sent_in : Option ChannelName → Contents → List ℕ → List ℕ
 sent_in to files stream = of_channel to [] stream (λ name. or_empty (files name))

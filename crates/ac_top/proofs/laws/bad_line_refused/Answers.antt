@@ -32,27 +32,27 @@ module _ (o : Handed) {end : Status} (told : (name : Bytes) → IsTrue (o.files 
   answering r f bad (has_printed a g x s) = absurd (not_given r a bad g)
   answering r f bad (no_shelf k other x s) = said_wholly m o.errors e refl s
   answering r f bad (unread fails x s) = absurd (f fails)
-  answering r f bad (unprinted a g rose x s) = absurd (not_given r a bad g)
+  answering r f bad (unprinted a g some rose x s) = absurd (not_given r a bad g)
   answering r f bad (no_memory_to_find x s) = absurd (m (said_wholly m o.errors e refl s))
   answering r f bad (no_memory_to_print a g x s) = absurd (not_given r a bad g)
 
   running : (prog : ProgramFiles) (steps : ℕ) (from to : Option ChannelName) → (ReadsFail o.files prog.file prog.shelf → ⊥) → HasBadLine o.files prog.shelf n → RunEnded prog steps from to o end → end ≡ SHELF_REFUSED
   running prog steps from to f bad (is_refused r b g runs x u h s) = absurd (shelf_or_bad o.files told r.is_shelf bad)
-  running prog steps from to f bad (has_run r b mid g runs x s) = absurd (shelf_or_bad o.files told r.is_shelf bad)
+  running prog steps from to f bad (has_run r b mid g runs x left made s) = absurd (shelf_or_bad o.files told r.is_shelf bad)
   running prog steps from to f bad (bad_list k other x u h s) = said_wholly m o.errors e refl s
   running prog steps from to f bad (unread_file fails x u h s) = absurd (f fails)
   running prog steps from to f bad (unmade_file r b g runs rose x u h s) = absurd (shelf_or_bad o.files told r.is_shelf bad)
-  running prog steps from to f bad (unread_input r b mid g runs rose stops x s) = absurd (shelf_or_bad o.files told r.is_shelf bad)
-  running prog steps from to f bad (unwritten r b mid g runs rose x s) = absurd (shelf_or_bad o.files told r.is_shelf bad)
+  running prog steps from to f bad (unread_input r b mid g runs made rose stops x s) = absurd (shelf_or_bad o.files told r.is_shelf bad)
+  running prog steps from to f bad (unwritten r b mid g runs made rose x s) = absurd (shelf_or_bad o.files told r.is_shelf bad)
   running prog steps from to f bad (no_memory_yet x u h s) = absurd (m (said_wholly m o.errors e refl s))
   running prog steps from to f bad (no_memory_making r b g runs x u h s) = absurd (shelf_or_bad o.files told r.is_shelf bad)
-  running prog steps from to f bad (no_memory_left r b mid g runs x s) = absurd (shelf_or_bad o.files told r.is_shelf bad)
+  running prog steps from to f bad (no_memory_left r b mid g runs made x s) = absurd (shelf_or_bad o.files told r.is_shelf bad)
 
   chaining : (programs : List Bytes) (list : Option Bytes) (steps : ℕ) → (TextsFail o.files programs list → ⊥) → HasBadLine o.files list n → ChainEnded programs list steps o.files o.output o.errors end → end ≡ SHELF_REFUSED
   chaining programs list steps f bad (has_chained a g x s) = absurd (shelf_or_bad o.files told g.is_shelf bad)
   chaining programs list steps f bad (bad_chain_list k other x s) = said_wholly m o.errors e refl s
   chaining programs list steps f bad (unread_chain fails x s) = absurd (f fails)
-  chaining programs list steps f bad (unprinted_chain a g rose x s) = absurd (shelf_or_bad o.files told g.is_shelf bad)
+  chaining programs list steps f bad (unprinted_chain a g runs rose x s) = absurd (shelf_or_bad o.files told g.is_shelf bad)
   chaining programs list steps f bad (no_memory_to_chain x s) = absurd (m (said_wholly m o.errors e refl s))
   chaining programs list steps f bad (no_memory_in_chain a g x s) = absurd (shelf_or_bad o.files told g.is_shelf bad)
 

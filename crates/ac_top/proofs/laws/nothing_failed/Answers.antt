@@ -44,15 +44,15 @@ module _ (prog : ProgramFiles) (steps : ℕ) (from to : Option ChannelName) (o :
 
   complete : RunEnded prog steps from to o end → end ≡ a.status
   complete (is_refused r b g runs x u h s) = said_wholly m o.errors e refl s ∙ as_meant r b g
-  complete (has_run r b mid g runs x s) = said_if_any_wholly m (behind_run to o mid) (behind to o mid e) b.line b.status s ∙ as_meant r b g
+  complete (has_run r b mid g runs x left made s) = said_if_any_wholly m (behind_run to o mid) (behind to o mid e) b.line b.status s ∙ as_meant r b g
   complete (bad_list n bad x u h s) = absurd (shelf_or_bad o.files told is_shelf bad)
   complete (unread_file fails x u h s) = absurd (f fails)
   complete (unmade_file r b g runs rose x u h s) = absurd (k rose)
-  complete (unread_input r b mid g runs rose stops x s) = absurd (i rose)
-  complete (unwritten r b mid g runs rose x s) = absurd (w rose)
+  complete (unread_input r b mid g runs made rose stops x s) = absurd (i rose)
+  complete (unwritten r b mid g runs made rose x s) = absurd (w rose)
   complete (no_memory_yet x u h s) = absurd (m (said_wholly m o.errors e refl s))
   complete (no_memory_making r b g runs x u h s) = absurd (m (said_wholly m o.errors e refl s))
-  complete (no_memory_left r b mid g runs x s) = absurd (m (said_wholly m (behind_run to o mid) (behind to o mid e) refl s))
+  complete (no_memory_left r b mid g runs made x s) = absurd (m (said_wholly m (behind_run to o mid) (behind to o mid e) refl s))
 
 pub returns : goal.returns
 returns c = λ prog steps from to o status ended told known f i w k e m shelf text is_shelf is_text mode a means. complete prog steps from to o told known f i w k e m shelf text is_shelf is_text mode a means ended

@@ -25,7 +25,7 @@ module _ (r : Request) (o : Handed) {end : Status} (b : (n : ℕ) → HasBadLine
   complete (has_printed a g x s) = (a, (g, (said_if_any_wholly m o.errors e a.line a.status s, (x, line_if_any_whole m o.errors e a.line a.status s))))
   complete (no_shelf n bad x s) = absurd (b n bad)
   complete (unread fails x s) = absurd (f fails)
-  complete (unprinted a g rose x s) = absurd (w rose)
+  complete (unprinted a g some rose x s) = absurd (w rose)
   complete (no_memory_to_find x s) = absurd (m (said_wholly m o.errors e refl s))
   complete (no_memory_to_print a g x s) = absurd (m (said_wholly m o.errors e refl s))
 
@@ -34,7 +34,7 @@ module _ (programs : List Bytes) (list : Option Bytes) (steps : ℕ) (o : Handed
   chained (has_chained a g x s) = (a, (g, (said_if_any_wholly m o.errors e a.line a.status s, (x, line_if_any_whole m o.errors e a.line a.status s))))
   chained (bad_chain_list n bad x s) = absurd (b n bad)
   chained (unread_chain fails x s) = absurd (f fails)
-  chained (unprinted_chain a g rose x s) = absurd (w rose)
+  chained (unprinted_chain a g runs rose x s) = absurd (w rose)
   chained (no_memory_to_chain x s) = absurd (m (said_wholly m o.errors e refl s))
   chained (no_memory_in_chain a g x s) = absurd (m (said_wholly m o.errors e refl s))
 

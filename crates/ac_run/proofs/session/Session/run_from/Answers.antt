@@ -4,7 +4,7 @@ use Rattle.ac_terms.specs.Terms.{Value}
 use Rattle.ac_terms.specs.Read.{environment_of, expr_of}
 use Rattle.ac_rules.specs.Views.{Mode}
 use Rattle.ac_meaning.specs.Acts.{Outcome}
-use Rattle.ac_code.specs.ReadCode.{code_of}
+use Rattle.ac_code.specs.ReadCode.{table_code}
 use Rattle.ac_run.specs.Sessions.{Session, HasLeft, ProgramEnds, RunsTo, streams}
 use Rattle.ac_run.specs.inner.Inboxes.{MayCome, IsLeft}
 use Rattle.ac_run.proofs.Starts.{can_run, stands_ready, run_done, left_done}
@@ -27,7 +27,7 @@ returns-clause-ends g c = λ none.
     subst (λ s. (first : Bytes) × MayCome c.args.inbox g.W.Source.told (g.W.Source.left c.args.world.now) first × ((input : Bytes) → IsLeft g.W.Source.told c.args.inbox first input → RunsTo g.W.Source.told s after input c.twice-end.result.0 old new)) c.self.view_is
     (run_done before g.W.Source.told c.self.inside.table c.args.inbox (g.W.Source.left c.args.world.now) old
     c.self.inside.journal ready.1 ready.0
-    after (environment_of c.drive-end.new.env) (code_of c.drive-end.new.table) c.drive-end.new.inbox (g.W.Source.left c.drive-end.new.world) new c.drive-end.new.journal c.drive-end.result refl refl refl refl
+    after (environment_of c.drive-end.new.env) (table_code c.drive-end.new.table) c.drive-end.new.inbox (g.W.Source.left c.drive-end.new.world) new c.drive-end.new.journal c.drive-end.result refl refl refl refl
     c.twice-end.result.0 c.twice-end.ensures.is c.drive-end.ensures.ends)
 
 pub returns-clause-left : goal.returns-clause-left
@@ -40,5 +40,5 @@ returns-clause-left g c = λ none.
     subst (λ s. (first : Bytes) × MayCome c.args.inbox g.W.Source.told (g.W.Source.left c.args.world.now) first × ((input : Bytes) → IsLeft g.W.Source.told c.args.inbox first input → IsTrue g.W.Source.told → (mode : Mode) (o : Outcome Value) → ProgramEnds mode s input o → HasLeft c.twice-end.result.0 o (g.W.Source.left c.drive-end.new.world))) c.self.view_is
     (left_done before g.W.Source.told c.self.inside.table c.args.inbox (g.W.Source.left c.args.world.now) old
     c.self.inside.journal ready.1 ready.0
-    after (environment_of c.drive-end.new.env) (code_of c.drive-end.new.table) c.drive-end.new.inbox (g.W.Source.left c.drive-end.new.world) new c.drive-end.new.journal c.drive-end.result refl refl refl refl
+    after (environment_of c.drive-end.new.env) (table_code c.drive-end.new.table) c.drive-end.new.inbox (g.W.Source.left c.drive-end.new.world) new c.drive-end.new.journal c.drive-end.result refl refl refl refl
     c.twice-end.result.0 c.twice-end.ensures.is c.drive-end.ensures.ends)
