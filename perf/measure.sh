@@ -1,6 +1,6 @@
 #!/usr/bin/env bash
 # Runs loops by `acute` and by OCaml's bytecode, and prints seconds of the processor, MB and how many times longer `acute` takes.
-# Each loop is run three times and the least is taken, since others may be at work beside it.
+# Each loop is run five times by both in turn and the mean is taken, since others may be at work beside it.
 # It wants ocamlc, ocamlrun and /usr/bin/time. The program that runs may be given: perf/measure.sh PROGRAM.
 set -euo pipefail
 top=$(cd "$(dirname "${BASH_SOURCE[0]}")/.." && pwd)
@@ -9,12 +9,10 @@ room=$(mktemp -d)
 trap 'rm -rf "$room"' EXIT
 export OCAMLRUNPARAM=l=256M
 
-# Runs a command three times, and prints its least user seconds and the most KB that it held.
+# Runs a command, and prints its user seconds and the KB that it held.
 taken() {
-    for _ in 1 2 3; do
-        /usr/bin/time -f '%U %M' -o "$room/once" "$@" >"$room/printed"
-        cat "$room/once"
-    done | sort -n | head -n 1
+    /usr/bin/time -f '%U %M' -o "$room/once" "$@" >"$room/printed"
+    cat "$room/once"
 }
 
 # Measures a loop: its name, its text, and the same in OCaml. Both have to print the same.
@@ -22,13 +20,16 @@ measure() {
     printf '%s\n' "$2" >"$room/loop.ac"
     printf '%s\n' "$3" >"$room/loop.ml"
     ocamlc -w -a -o "$room/loop.byte" "$room/loop.ml"
-    local ours theirs
-    ours=$(taken "$program" run "$room/loop.ac" --steps 1000000000)
-    mv "$room/printed" "$room/ours"
-    theirs=$(taken ocamlrun "$room/loop.byte")
-    cmp -s "$room/ours" "$room/printed" || { echo "$1: they print different things" >&2; exit 1; }
-    echo "$ours $theirs" | awk -v name="$1" \
-        '{ printf "%-32s %7.2f s %7.1f MB %9.2f s %7.1f MB %8.1f\n", name, $1, $2 / 1024, $3, $4 / 1024, $1 / ($3 > 0 ? $3 : 0.01) }'
+    for _ in 1 2 3 4 5; do
+        taken "$program" run "$room/loop.ac" --steps 1000000000
+        mv "$room/printed" "$room/ours"
+        taken ocamlrun "$room/loop.byte"
+        cmp -s "$room/ours" "$room/printed" || { echo "$1: they print different things" >&2; exit 1; }
+    done >"$room/all"
+    awk -v name="$1" \
+        'NR % 2 { ours += $1; held = $2; next } { theirs += $1; kept = $2 }
+        END { printf "%-32s %7.2f s %7.1f MB %9.2f s %7.1f MB %8.1f\n", name, ours / 5, held / 1024, theirs / 5, kept / 1024, ours / (theirs > 0 ? theirs : 0.05) }' \
+        "$room/all"
 }
 
 # The arms of a match, which give 0 to 1022.

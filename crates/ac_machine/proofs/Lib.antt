@@ -9,3 +9,4 @@ pub mod PrimitiveLaws
 pub mod RunLaws
 pub mod TakenLaws
 pub mod TestLaws
+pub mod TogetherLaws

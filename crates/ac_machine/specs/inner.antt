@@ -1,3 +1,4 @@
 pub mod Going
 pub mod Meant
 pub mod Steps
+pub mod Together

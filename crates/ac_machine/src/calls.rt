@@ -2,10 +2,11 @@
 
 ghost use Rattle.std.specs.Prelude.{◌≡◌, ◌<◌, length, cond, get_or, [], ◌∷◌, IfOk, IfSome};
 ghost use Rattle.ac_values.specs.Values.{MMore, stands_as, values};
-ghost use Rattle.ac_machine.specs.States.{Run};
-ghost use Rattle.ac_machine.specs.Machine.{applies, returns, going_back};
+ghost use Rattle.ac_values.specs.ValueReaders.{closure_in};
+ghost use Rattle.ac_machine.specs.States.{Run, state_given};
+ghost use Rattle.ac_machine.specs.Machine.{applies, called, returns, going_back};
 ghost use Rattle.ac_machine.specs.Held.{core, call_frame_of, frames_of, Sound};
-ghost use Rattle.ac_machine.specs.inner.Steps.{Does, Grown, entering};
+ghost use Rattle.ac_machine.specs.inner.Steps.{stack_at, Does, Goes, Grown, entering};
 
 use crate::engine::{Engine, Frame, Position, Step};
 use crate::pause::Pause;
@@ -28,6 +29,21 @@ impl Engine {
         let Some((function, rest)) = self.newest(below) else {
             return Ok(Step::Wrong);
         };
+        self.call(function, argument, rest)
+    }
+
+    /// Calls a closure with an argument, with this stack behind the call.
+    #[inline(always)]
+    pub fn call(&mut self, function: Value, argument: Value, rest: usize) -> Result<Step, Memory>
+        requires sound { Sound self.old }
+        requires function { function.0 < length self.old.store }
+        requires argument { argument.0 < length self.old.store }
+        requires rest { rest < length self.old.stacks }
+        ensures { IfOk result (λ s. Does self.new s
+            (state_given (closure_in (stands_as self.old.store function.0))
+            (called (stands_as self.old.store argument.0) (stack_at self.old rest)
+            (core self.old)))) }
+    {
         let Some((block, recursive, env)) = closure_in(&self.store, function) else {
             return Ok(Step::Wrong);
         };
@@ -117,24 +133,24 @@ impl Engine {
         let Some((frame, rest)) = self.frames.top(self.at.frames) else {
             return Ok(Step::Wrong);
         };
-        if !frame.keeps {
-            return Ok(self.go_back(frame, rest));
+        if frame.keeps {
+            let Some((v, _)) = self.newest(self.at.stack) else {
+                return Ok(Step::Wrong);
+            };
+            self.keep(self.at.block, v)?;
         }
-        let Some((v, _)) = self.newest(self.at.stack) else {
-            return Ok(Step::Wrong);
-        };
-        self.keep(self.at.block, v)?;
-        Ok(self.go_back(frame, rest))
+        self.go_back(frame, rest);
+        Ok(Step::On)
     }
 
-    // Goes on at the newest frame.
+    /// Goes on at the newest frame.
     #[inline(always)]
-    fn go_back(&mut self, frame: Frame, rest: usize) -> Step
+    pub fn go_back(&mut self, frame: Frame, rest: usize)
         requires sound { Sound self.old }
         requires older { rest < self.old.at.frames }
         requires frame { get_or self.old.frames self.old.at.frames [] ≡ frame ∷ get_or
             self.old.frames rest [] }
-        ensures { Does self.new result (Run (going_back
+        ensures { Goes self.new (Run (going_back
             (call_frame_of (values self.old.store) frame)
             (frames_of (values self.old.store) (get_or self.old.frames rest [])) (core self.old))) }
     {
@@ -142,7 +158,6 @@ impl Engine {
         self.at.address = frame.address as usize;
         self.at.env = frame.env;
         self.at.frames = rest;
-        Step::On
     }
 }
 

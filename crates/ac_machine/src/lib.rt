@@ -17,6 +17,7 @@ mod pause;
 mod primitive;
 mod quick;
 mod step;
+mod together;
 mod variables;
 
 pub use machine::Machine;
