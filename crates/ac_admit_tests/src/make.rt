@@ -1,6 +1,6 @@
 // Environments and packets, from texts and bytes.
 
-ghost use Rattle.std.specs.Prelude.{IfOk, IsTrue};
+ghost use Rattle.std.specs.Prelude.{IsTrue};
 ghost use Rattle.ac_terms.specs.Bounds.{fits_packet};
 ghost use Rattle.ac_terms.specs.Read.{environment_of, packet_of};
 ghost use Rattle.ac_rules.specs.Coherent.{IsCoherent};
@@ -10,8 +10,9 @@ use ac_decode::decode;
 use ac_load::{Shelf, load};
 use ac_rules::Loaded;
 use ac_terms::{Env, Packet};
-use ac_types::{Many, Memory, Ty};
+use ac_types::Ty;
 use std::alloc::Global;
+use std::process::Abort;
 
 /// A program without definitions.
 pub const NOTHING: &[u8] = b"()";
@@ -31,63 +32,77 @@ pub const BRINGS_M1: &[u8] =
 /// The packet of the int 5.
 pub const FIVE: &[u8] = b"ACUP\x01\x00\x00\x01\x01\x00\x00\x00\x00\x00\x00\x00\x05";
 
-/// The packet that the bytes spell.
-pub fn packet(alloc: Global, bytes: &[u8]) -> Result<Packet, Memory>
-    ensures { IfOk result (λ p. IsTrue (fits_packet (packet_of p))) }
+// The packet that the bytes spell.
+fn packet(rt: &impl Abort, alloc: Global, bytes: &[u8]) -> Packet
+    ensures { IsTrue (fits_packet (packet_of result)) }
 {
-    match decode(alloc, bytes) {
-        Ok(packet) => Ok(packet),
-        Err(_) => Err(Memory),
-    }
+    decode(alloc, bytes).expect(rt, "a packet")
 }
 
 /// The definitions of a program.
-pub fn own(alloc: Global, text: &[u8]) -> Result<Env, Memory>
-    ensures { IfOk result (λ env. IsCoherent (environment_of env)) }
+pub fn own(rt: &impl Abort, alloc: Global, text: &[u8]) -> Env
+    ensures { IsCoherent (environment_of result) }
 {
-    match load(alloc, text, &Shelf::empty(alloc)) {
-        Ok(Loaded { env, main, ty }) => {
-            drop(main);
-            drop(ty);
-            Ok(env)
-        }
-        Err(_) => Err(Memory),
-    }
-}
-
-fn admitted(alloc: Global, env: &mut Env, bytes: &[u8], ty: &Ty) -> Result<Admitted, AdmitFault>
-    requires { IsCoherent (environment_of env.old) }
-    ensures { IsCoherent (environment_of env.new) }
-{
-    let p = packet(alloc, bytes)?;
-    match admit(alloc, env, &p, ty) {
-        Ok(admitted) => Ok(admitted),
-        Err(fault) => Err(fault),
-    }
-}
-
-/// The entries that the packet's definitions become.
-pub fn entries(alloc: Global, env: &mut Env, bytes: &[u8], ty: &Ty) -> Result<Many<u32>, AdmitFault>
-    requires { IsCoherent (environment_of env.old) }
-    ensures { IsCoherent (environment_of env.new) }
-{
-    let Admitted { entries, value } = admitted(alloc, env, bytes, ty)?;
-    drop(value);
-    Ok(entries)
-}
-
-/// Why the packet is refused.
-pub fn fault(alloc: Global, env: &mut Env, bytes: &[u8], ty: &Ty) -> Option<AdmitFault>
-    requires { IsCoherent (environment_of env.old) }
-    ensures { IsCoherent (environment_of env.new) }
-{
-    match admitted(alloc, env, bytes, ty) {
-        Ok(_) => None,
-        Err(fault) => Some(fault),
-    }
+    let Loaded { env, main, ty } = load(alloc, text, &Shelf::empty(alloc)).expect(rt, "a program");
+    drop(main);
+    drop(ty);
+    env
 }
 
 /// The type of the packet that the bytes spell.
-pub fn type_of(alloc: Global, bytes: &[u8]) -> Result<Ty, Memory> {
-    packet(alloc, bytes)?.ty.copy(alloc)
+pub fn type_of(rt: &impl Abort, alloc: Global, bytes: &[u8]) -> Ty {
+    let Packet { defs, ty, value } = packet(rt, alloc, bytes);
+    drop(defs);
+    drop(value);
+    ty
+}
+
+fn admitted(
+    rt: &impl Abort,
+    alloc: Global,
+    env: &mut Env,
+    bytes: &[u8],
+    ty: Ty,
+) -> Result<Admitted, AdmitFault>
+    requires { IsCoherent (environment_of env.old) }
+    ensures { IsCoherent (environment_of env.new) }
+{
+    let packet = packet(rt, alloc, bytes);
+    let admitted = admit(alloc, env, &packet, &ty);
+    drop(packet);
+    drop(ty);
+    admitted
+}
+
+/// Checks which entries the packet's definitions become.
+pub fn check_entries(
+    rt: &impl Abort,
+    alloc: Global,
+    env: &mut Env,
+    bytes: &[u8],
+    ty: Ty,
+    want: &[u32],
+)
+    requires { IsCoherent (environment_of env.old) }
+    ensures { IsCoherent (environment_of env.new) }
+{
+    let admitted = admitted(rt, alloc, env, bytes, ty).expect(rt, "an accepted packet");
+    assert_eq!(rt; admitted.entries.as_slice(), want);
+    drop(admitted);
+}
+
+/// Checks why the packet is refused, or that it isn't.
+pub fn check_fault(
+    rt: &impl Abort,
+    alloc: Global,
+    env: &mut Env,
+    bytes: &[u8],
+    ty: Ty,
+    want: Option<AdmitFault>,
+)
+    requires { IsCoherent (environment_of env.old) }
+    ensures { IsCoherent (environment_of env.new) }
+{
+    let found = admitted(rt, alloc, env, bytes, ty).err();
+    assert_eq!(rt; found, want);
 }

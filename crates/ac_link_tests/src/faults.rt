@@ -1,32 +1,127 @@
 // The fault between an import and an entry, the first where there are several.
 
-use crate::make::{EMPTY, Made, Make, Shape, fault};
-use ac_link::LinkFault;
-use ac_terms::{Def, Entry, Env, Import, Module, Seen};
-use ac_types::{Atom, Constraint, Many, Name, Range, both};
-use std::test::Fail;
+use crate::make::{Asked, EMPTY, Shape, import, module, text};
+use ac_link::{LinkFault, link_ok};
+use ac_terms::{Def, Entry, Env, Seen};
+use ac_types::{Atom, Many, Name, Range};
+use std::alloc::Global;
+use std::process::Abort;
 
-// The name that the module keeps, and its version.
+type Fault = Option<LinkFault>;
+
+// An own entry of a letter, whose module has that shape.
+type Own = (u8, Shape);
+
+// The shape of an import, and what it asks.
+type Wanted = (Shape, Asked);
+
+// The name that the entry keeps, and its module's version.
 const NAME: u8 = b'7';
 
 const VERSION: &[Atom] = &[Atom::Number(1), Atom::Number(4)];
 
-const HAS_X: Shape = Shape {
-    types: b"",
-    vals: b"xi",
-    behind: b"",
-};
+const HAS_X: Shape = b":xi";
 
-// What an import by version asks of the version: ranges, and whether a star follows.
-type Wanted = (&'static [Range], bool);
+const ANY: Asked = Asked::Ranges(&[], true);
 
-const ANY: Wanted = (&[], true);
+const TWO: Asked = Asked::Ranges(&[Range::One(2)], false);
 
-const TWO: Wanted = (&[Range::One(2)], false);
+const FROM_0: Asked = Asked::Ranges(&[Range::From(0)], true);
 
-const FROM_0: Wanted = (&[Range::From(0)], true);
+const ITS_NAME: Asked = Asked::Exact(NAME);
 
-// What is asked, and whether the version meets it.
+const OTHER_NAME: Asked = Asked::Exact(b'8');
+
+const KIND: Fault = Some(LinkFault::Kind);
+
+const EXTERNAL: Fault = Some(LinkFault::External);
+
+const UNMET: Fault = Some(LinkFault::Version);
+
+const MISNAMED: Fault = Some(LinkFault::Name);
+
+// The spec of that number isn't there.
+const LACKS_0: Fault = Some(LinkFault::Signature { spec: 0 });
+
+const LACKS_1: Fault = Some(LinkFault::Signature { spec: 1 });
+
+const LACKS_2: Fault = Some(LinkFault::Signature { spec: 2 });
+
+const LACKS_3: Fault = Some(LinkFault::Signature { spec: 3 });
+
+// The abstract type of that number has another representation than the likespec says.
+const UNLIKE_0: Fault = Some(LinkFault::Like { spec: 0 });
+
+const UNLIKE_1: Fault = Some(LinkFault::Like { spec: 1 });
+
+// Of the letter `!` a mark and of `>` an import; else a module of that external name, of `m` the
+// module `M` of version `myname`.
+fn def(rt: &impl Abort, alloc: Global, (letter, shape): Own) -> Def {
+    match letter {
+        b'!' => Def::Mark(text(rt, alloc, b'M')),
+        b'>' => Def::Import(import(rt, alloc, EMPTY, ITS_NAME, b"H")),
+        b'm' => Def::Module(module(rt, alloc, b'M', &[Atom::MyName], shape)),
+        _ => Def::Module(module(rt, alloc, letter, VERSION, shape)),
+    }
+}
+
+// The definition alone, under its name unless it is a mark.
+fn alone(rt: &impl Abort, alloc: Global, own: Own) -> Env {
+    let entry = Entry {
+        def: def(rt, alloc, own),
+        name: if own.0 == b'!' {
+            None
+        } else {
+            Some(Name([NAME; 32]))
+        },
+        seen: Seen::Own,
+        link: None,
+    };
+    let mut entries = Many::new(alloc);
+    entries.push(entry).expect(rt, "memory");
+    Env { entries }
+}
+
+// Checks the fault between an import and entry `j` where the entry stands alone.
+fn check(rt: &impl Abort, alloc: Global, own: Own, j: u32, (shape, asked): Wanted, want: Fault) {
+    let env = alone(rt, alloc, own);
+    let import = import(rt, alloc, shape, asked, b"H");
+    assert!(rt; import.sig.types.len() < 10 && import.sig.vals.len() < 10);
+    assert_eq!(rt; link_ok(&env, &import, j).err(), want);
+    drop(import);
+}
+
+// An entry without specs, the number to link to, the import, and the fault.
+const FIRST: [(u8, u32, Wanted, Fault); 17] = [
+    (b'!', 0, (EMPTY, ANY), KIND),
+    (b'!', 0, (EMPTY, ITS_NAME), KIND),
+    (b'>', 0, (EMPTY, ANY), KIND),
+    (b'>', 0, (EMPTY, ITS_NAME), KIND),
+    (b'M', 0, (EMPTY, ANY), None),
+    (b'M', 0, (EMPTY, ITS_NAME), None),
+    (b'M', 1, (EMPTY, ANY), KIND),
+    (b'M', 1, (EMPTY, ITS_NAME), KIND),
+    (b'N', 0, (EMPTY, ANY), EXTERNAL),
+    (b'N', 0, (EMPTY, ITS_NAME), EXTERNAL),
+    (b'N', 0, (HAS_X, TWO), EXTERNAL),
+    (b'N', 0, (HAS_X, OTHER_NAME), EXTERNAL),
+    (b'M', 0, (EMPTY, ITS_NAME), None),
+    (b'M', 0, (EMPTY, OTHER_NAME), MISNAMED),
+    (b'M', 0, (HAS_X, OTHER_NAME), LACKS_0),
+    (b'm', 0, (EMPTY, ANY), None),
+    (b'm', 0, (EMPTY, FROM_0), UNMET),
+];
+
+// Only modules are linked to. The external name comes before the version, the signature and the
+// name, and by exact name the signature before the name; no range holds `myname`.
+#[test]
+fn kinds_and_names(rt: HostRuntime) {
+    for (letter, j, wanted, want) in FIRST {
+        check(&rt, rt.alloc(), (letter, EMPTY), j, wanted, want);
+    }
+}
+
+// What is asked, and whether version 1.4 meets it.
 const MEETINGS: [(&[Range], bool, bool); 9] = [
     (&[Range::One(1), Range::One(4)], false, true),
     (&[Range::One(1), Range::From(2)], false, true),
@@ -39,372 +134,121 @@ const MEETINGS: [(&[Range], bool, bool); 9] = [
     (&[Range::One(2)], true, false),
 ];
 
-// A fault by version and one by exact name.
-type Faults = (Option<LinkFault>, Option<LinkFault>);
-
-// The signatures of a module and of an import, and the faults between them by version and by
-// exact name.
-#[derive(Clone, Copy)]
-struct Case {
-    module: Shape,
-    import: Shape,
-    by_version: Option<LinkFault>,
-    by_name: Option<LinkFault>,
-}
-
-fn row(
-    module: [&'static [u8]; 3],
-    import: [&'static [u8]; 3],
-    by_version: Option<LinkFault>,
-    by_name: Option<LinkFault>,
-) -> Case {
-    Case {
-        module: shape(module),
-        import: shape(import),
-        by_version,
-        by_name,
-    }
-}
-
-fn shape(parts: [&'static [u8]; 3]) -> Shape {
-    let [types, vals, behind] = parts;
-    Shape {
-        types,
-        vals,
-        behind,
-    }
-}
-
-// That spec isn't there.
-fn lacks(spec: u32) -> Option<LinkFault> {
-    Some(LinkFault::Signature { spec })
-}
-
-// That abstract type has another representation than the likespec says.
-fn unlike(spec: u32) -> Option<LinkFault> {
-    Some(LinkFault::Like { spec })
-}
-
-impl Make {
-    fn only(self, def: Def, name: Option<u8>) -> Made<Env> {
-        let mut entries = Many::new(self.0);
-        entries.push(self.entry(def, name, Seen::Own))?;
-        Ok(Env { entries })
-    }
-
-    // One own module under its name.
-    fn alone(self, letter: u8, version: &[Atom], shape: Shape) -> Made<Env> {
-        let module = self.module(letter, version, shape)?;
-        self.only(Def::Module(module), Some(NAME))
-    }
-
-    fn mark(self) -> Made<Env> {
-        let text = self.text(b'M')?;
-        self.only(Def::Mark(text), None)
-    }
-
-    // An import of that name.
-    fn import_alone(self) -> Made<Env> {
-        let import = self.exact(EMPTY, NAME)?;
-        self.only(Def::Import(import), Some(NAME))
-    }
-
-    fn exact(self, import: Shape, name: u8) -> Made<Import> {
-        let import = Shape {
-            behind: b"",
-            ..import
-        };
-        self.import(import, Constraint::Exact(Name([name; 32])), b"H")
-    }
-
-    // The fault of an import by version.
-    fn by_version(
-        self,
-        env: &Env,
-        j: u32,
-        import: Shape,
-        wanted: Wanted,
-    ) -> Made<Option<LinkFault>> {
-        let (ranges, star) = wanted;
-        let constraint = self.ranges(ranges, star)?;
-        let import = self.import(import, constraint, b"H")?;
-        fault(env, &import, j)
-    }
-
-    // The fault of an import by exact name.
-    fn by_name(self, env: &Env, j: u32, import: Shape, name: u8) -> Made<Option<LinkFault>> {
-        let import = self.exact(import, name)?;
-        fault(env, &import, j)
-    }
-
-    // The faults of an import by any version and of one by the entry's name.
-    fn both_faults(self, env: &Env, j: u32, import: Shape) -> Made<Faults> {
-        both(
-            self.by_version(env, j, import, ANY),
-            self.by_name(env, j, import, NAME),
-        )
-    }
-
-    fn faults(self, row: Case) -> Made<Faults> {
-        let env = self.alone(b'M', VERSION, row.module)?;
-        self.both_faults(&env, 0, row.import)
-    }
-}
-
-const KIND: Option<LinkFault> = Some(LinkFault::Kind);
-
-const EXTERNAL: Option<LinkFault> = Some(LinkFault::External);
-
+// The version comes before the signature.
 #[test]
-fn only_modules(rt: HostRuntime) -> Result<(), Fail> {
-    let m = Make(rt.alloc());
-    let mark = m.mark()?;
-    assert_eq!(rt; m.both_faults(&mark, 0, EMPTY)?, (KIND, KIND));
-    Ok(())
-}
-
-#[test]
-fn no_import(rt: HostRuntime) -> Result<(), Fail> {
-    let m = Make(rt.alloc());
-    let import = m.import_alone()?;
-    assert_eq!(rt; m.both_faults(&import, 0, EMPTY)?, (KIND, KIND));
-    Ok(())
-}
-
-#[test]
-fn no_entry(rt: HostRuntime) -> Result<(), Fail> {
-    let m = Make(rt.alloc());
-    let env = m.alone(b'M', VERSION, EMPTY)?;
-    assert_eq!(rt; m.both_faults(&env, 0, EMPTY)?, (None, None));
-    assert_eq!(rt; m.both_faults(&env, 1, EMPTY)?, (KIND, KIND));
-    Ok(())
-}
-
-// The external name comes before the version, the signature and the name.
-#[test]
-fn external_names(rt: HostRuntime) -> Result<(), Fail> {
-    let m = Make(rt.alloc());
-    let env = m.alone(b'N', VERSION, EMPTY)?;
-    assert_eq!(rt; m.both_faults(&env, 0, EMPTY)?, (EXTERNAL, EXTERNAL));
-    assert_eq!(rt; m.by_version(&env, 0, HAS_X, TWO)?, EXTERNAL);
-    assert_eq!(rt; m.by_name(&env, 0, HAS_X, b'8')?, EXTERNAL);
-    Ok(())
-}
-
-// By exact name the signature comes before the name.
-#[test]
-fn exact_names(rt: HostRuntime) -> Result<(), Fail> {
-    let m = Make(rt.alloc());
-    let env = m.alone(b'M', VERSION, EMPTY)?;
-    assert_eq!(rt; m.by_name(&env, 0, EMPTY, NAME)?, None);
-    assert_eq!(rt; m.by_name(&env, 0, EMPTY, b'8')?, Some(LinkFault::Name));
-    assert_eq!(rt; m.by_name(&env, 0, HAS_X, b'8')?, lacks(0));
-    Ok(())
-}
-
-// What the module of version 1.4 meets; the version comes before the signature.
-#[test]
-fn versions(rt: HostRuntime) -> Result<(), Fail> {
-    let m = Make(rt.alloc());
-    let env = m.alone(b'M', VERSION, EMPTY)?;
+fn versions(rt: HostRuntime) {
     for (ranges, star, met) in MEETINGS {
-        let unmet = Some(LinkFault::Version);
-        let (at_best, behind) = if met {
-            (None, lacks(0))
-        } else {
-            (unmet, unmet)
-        };
-        assert_eq!(rt; m.by_version(&env, 0, EMPTY, (ranges, star))?, at_best);
-        assert_eq!(rt; m.by_version(&env, 0, HAS_X, (ranges, star))?, behind);
+        let asked = Asked::Ranges(ranges, star);
+        let (at_best, behind) = if met { (None, LACKS_0) } else { (UNMET, UNMET) };
+        check(&rt, rt.alloc(), (b'M', EMPTY), 0, (EMPTY, asked), at_best);
+        check(&rt, rt.alloc(), (b'M', EMPTY), 0, (HAS_X, asked), behind);
     }
-    Ok(())
 }
 
-#[test]
-fn the_version_myname(rt: HostRuntime) -> Result<(), Fail> {
-    let m = Make(rt.alloc());
-    let env = m.alone(b'M', [Atom::MyName].as_slice(), EMPTY)?;
-    assert_eq!(rt; m.by_version(&env, 0, EMPTY, ANY)?, None);
-    assert_eq!(rt;
-        m.by_version(&env, 0, EMPTY, FROM_0)?,
-        Some(LinkFault::Version)
-    );
-    Ok(())
+// A module's shape and an import's, and the faults between them by version and by exact name.
+type Pair = (Shape, Shape, Fault, Fault);
+
+fn check_all(rt: &impl Abort, alloc: Global, pairs: &[Pair]) {
+    for (module, import, by_version, by_name) in pairs {
+        let own = (b'M', *module);
+        check(rt, alloc, own, 0, (*import, ANY), *by_version);
+        check(rt, alloc, own, 0, (*import, ITS_NAME), *by_name);
+    }
 }
 
-#[test]
-fn values(rt: HostRuntime) -> Result<(), Fail> {
-    let m = Make(rt.alloc());
-    let rows = [
-        row([b"", b"xiyb", b""], [b"", b"ybxi", b""], None, None),
-        row([b"", b"xiyb", b""], [b"", b"xi", b""], None, None),
-        row([b"", b"xi", b""], [b"", b"xizi", b""], lacks(1), lacks(1)),
-        row([b"", b"xi", b""], [b"", b"xb", b""], lacks(0), lacks(0)),
-        row([b"", b"xi", b""], [b"", b"xiybzb", b""], lacks(1), lacks(1)),
-        row(
-            [b"ui", b"xi", b""],
-            [b"ui", b"xiyb", b""],
-            lacks(2),
-            lacks(2),
-        ),
-        row(
-            [b"t.ui", b"xi", b"tb"],
-            [b"t.ui", b"xb", b"tb"],
-            lacks(2),
-            lacks(2),
-        ),
-        row([b"", b"x8", b""], [b"", b"x8", b""], None, None),
-        row([b"", b"x8", b""], [b"", b"x9", b""], lacks(0), lacks(0)),
-    ];
-    for row in rows {
-        assert_eq!(rt; m.faults(row)?, (row.by_version, row.by_name));
-    }
-    Ok(())
-}
+const VALUES: [Pair; 9] = [
+    (b":xi :yb", b":yb :xi", None, None),
+    (b":xi :yb", b":xi", None, None),
+    (b":xi", b":xi :zi", LACKS_1, LACKS_1),
+    (b":xi", b":xb", LACKS_0, LACKS_0),
+    (b":xi", b":xi :yb :zb", LACKS_1, LACKS_1),
+    (b"=ui :xi", b"=ui :xi :yb", LACKS_2, LACKS_2),
+    (b"=t. =ui :xi ~tb", b"=t. =ui :xb ~tb", LACKS_2, LACKS_2),
+    (b":x8", b":x8", None, None),
+    (b":x8", b":x9", LACKS_0, LACKS_0),
+];
 
 #[test]
-fn types(rt: HostRuntime) -> Result<(), Fail> {
-    let m = Make(rt.alloc());
-    let rows = [
-        row([b"", b"", b""], [b"t.", b"", b"tb"], lacks(0), lacks(0)),
-        row([b"", b"", b""], [b"ui", b"", b""], lacks(0), lacks(0)),
-        row([b"ui", b"", b""], [b"uit.", b"", b"tb"], lacks(1), lacks(1)),
-        row([b"", b"", b""], [b"ui", b"xi", b""], lacks(0), lacks(0)),
-        row([b"t.", b"", b"tb"], [b"t.", b"", b"tb"], None, None),
-        row([b"tb", b"", b"tb"], [b"t.", b"", b"tb"], None, lacks(0)),
-        row([b"t.", b"", b"tb"], [b"tb", b"", b""], lacks(0), lacks(0)),
-        row([b"t.ui", b"", b"tb"], [b"ui", b"", b""], None, None),
-        row([b"ui", b"", b""], [b"ub", b"", b""], lacks(0), lacks(0)),
-    ];
-    for row in rows {
-        assert_eq!(rt; m.faults(row)?, (row.by_version, row.by_name));
-    }
-    Ok(())
+fn values(rt: HostRuntime) {
+    check_all(&rt, rt.alloc(), &VALUES);
+}
+
+const TYPES: [Pair; 9] = [
+    (b"", b"=t. ~tb", LACKS_0, LACKS_0),
+    (b"", b"=ui", LACKS_0, LACKS_0),
+    (b"=ui", b"=ui =t. ~tb", LACKS_1, LACKS_1),
+    (b"", b"=ui :xi", LACKS_0, LACKS_0),
+    (b"=t. ~tb", b"=t. ~tb", None, None),
+    (b"=tb ~tb", b"=t. ~tb", None, LACKS_0),
+    (b"=t. ~tb", b"=tb", LACKS_0, LACKS_0),
+    (b"=t. =ui ~tb", b"=ui", None, None),
+    (b"=ui", b"=ub", LACKS_0, LACKS_0),
+];
+
+#[test]
+fn types(rt: HostRuntime) {
+    check_all(&rt, rt.alloc(), &TYPES);
 }
 
 // An own type of the import stands for the module's own type, by version also for its manifest
 // type, and never for the type of the module's name.
+const OWN_TYPES: [Pair; 7] = [
+    (b"=t. :xt :yL :zF ~tb", b"=t. :xt :yL :zF ~tb", None, None),
+    (
+        b"=tb :xb :yl :zf ~tb",
+        b"=t. :xt :yL :zF ~tb",
+        None,
+        LACKS_0,
+    ),
+    (
+        b"=tb :xb :yl :zi ~tb",
+        b"=t. :xt :yL :zF ~tb",
+        LACKS_3,
+        LACKS_0,
+    ),
+    (b"=t. :xt :yl ~tb", b"=t. :xt :yL ~tb", LACKS_2, LACKS_2),
+    (b"=t. :xt ~tb", b"=t. :xb ~tb", LACKS_1, LACKS_1),
+    (
+        b"=t. =u. :xt ~tb ~ub",
+        b"=t. =u. :xu ~tb ~ub",
+        LACKS_2,
+        LACKS_2,
+    ),
+    (b"=t. :xt ~tb", b"=t. :x7 ~tb", LACKS_1, LACKS_1),
+];
+
 #[test]
-fn own_types(rt: HostRuntime) -> Result<(), Fail> {
-    let m = Make(rt.alloc());
-    let rows = [
-        row(
-            [b"t.", b"xtyLzF", b"tb"],
-            [b"t.", b"xtyLzF", b"tb"],
-            None,
-            None,
-        ),
-        row(
-            [b"tb", b"xbylzf", b"tb"],
-            [b"t.", b"xtyLzF", b"tb"],
-            None,
-            lacks(0),
-        ),
-        row(
-            [b"tb", b"xbylzi", b"tb"],
-            [b"t.", b"xtyLzF", b"tb"],
-            lacks(3),
-            lacks(0),
-        ),
-        row(
-            [b"t.", b"xtyl", b"tb"],
-            [b"t.", b"xtyL", b"tb"],
-            lacks(2),
-            lacks(2),
-        ),
-        row(
-            [b"t.", b"xt", b"tb"],
-            [b"t.", b"xb", b"tb"],
-            lacks(1),
-            lacks(1),
-        ),
-        row(
-            [b"t.u.", b"xt", b"tbub"],
-            [b"t.u.", b"xu", b"tbub"],
-            lacks(2),
-            lacks(2),
-        ),
-        row(
-            [b"t.", b"xt", b"tb"],
-            [b"t.", b"x7", b"tb"],
-            lacks(1),
-            lacks(1),
-        ),
-    ];
-    for row in rows {
-        assert_eq!(rt; m.faults(row)?, (row.by_version, row.by_name));
-    }
-    Ok(())
+fn own_types(rt: HostRuntime) {
+    check_all(&rt, rt.alloc(), &OWN_TYPES);
 }
 
 // Manifest types in which own types stand.
+const MANIFEST_TYPES: [Pair; 5] = [
+    (b"=t. =uL ~tb", b"=t. =uL ~tb", None, None),
+    (b"=tb =ul ~tb", b"=t. =uL ~tb", None, LACKS_0),
+    (b"=tb =ul ~tb", b"=tb =ul", None, None),
+    (b"=t. =ul ~tb", b"=t. =uL ~tb", LACKS_1, LACKS_1),
+    (b"=t. =ut ~tb", b"=t. =u7 ~tb", LACKS_1, LACKS_1),
+];
+
 #[test]
-fn manifest_types(rt: HostRuntime) -> Result<(), Fail> {
-    let m = Make(rt.alloc());
-    let rows = [
-        row([b"t.uL", b"", b"tb"], [b"t.uL", b"", b"tb"], None, None),
-        row([b"tbul", b"", b"tb"], [b"t.uL", b"", b"tb"], None, lacks(0)),
-        row([b"tbul", b"", b"tb"], [b"tbul", b"", b""], None, None),
-        row(
-            [b"t.ul", b"", b"tb"],
-            [b"t.uL", b"", b"tb"],
-            lacks(1),
-            lacks(1),
-        ),
-        row(
-            [b"t.ut", b"", b"tb"],
-            [b"t.u7", b"", b"tb"],
-            lacks(1),
-            lacks(1),
-        ),
-    ];
-    for row in rows {
-        assert_eq!(rt; m.faults(row)?, (row.by_version, row.by_name));
-    }
-    Ok(())
+fn manifest_types(rt: HostRuntime) {
+    check_all(&rt, rt.alloc(), &MANIFEST_TYPES);
 }
 
 // The signature comes before the likespec, of which an import by exact name has none.
+const LIKESPECS: [Pair; 8] = [
+    (b"=t. ~tb", b"=t. ~ui ~tb", None, None),
+    (b"=t. ~tb", b"=t. ~ti", UNLIKE_0, None),
+    (b"=tb ~tb", b"=t. ~ti", UNLIKE_0, LACKS_0),
+    (b"=ui =t. ~tb", b"=ui =t. ~ti", UNLIKE_1, None),
+    (b"=t. =u. ~tb ~ub", b"=t. =u. ~tb ~ui", UNLIKE_1, None),
+    (b"=t. =u. ~tb ~ub", b"=t. =u. ~ti ~ui", UNLIKE_0, None),
+    (b"=t. ~t8", b"=t. ~t9", UNLIKE_0, None),
+    (b"=t. ~tb", b"=t. :xi ~ti", LACKS_1, LACKS_1),
+];
+
 #[test]
-fn likespecs(rt: HostRuntime) -> Result<(), Fail> {
-    let m = Make(rt.alloc());
-    let rows = [
-        row([b"t.", b"", b"tb"], [b"t.", b"", b"uitb"], None, None),
-        row([b"t.", b"", b"tb"], [b"t.", b"", b"ti"], unlike(0), None),
-        row(
-            [b"tb", b"", b"tb"],
-            [b"t.", b"", b"ti"],
-            unlike(0),
-            lacks(0),
-        ),
-        row(
-            [b"uit.", b"", b"tb"],
-            [b"uit.", b"", b"ti"],
-            unlike(1),
-            None,
-        ),
-        row(
-            [b"t.u.", b"", b"tbub"],
-            [b"t.u.", b"", b"tbui"],
-            unlike(1),
-            None,
-        ),
-        row(
-            [b"t.u.", b"", b"tbub"],
-            [b"t.u.", b"", b"tiui"],
-            unlike(0),
-            None,
-        ),
-        row([b"t.", b"", b"t8"], [b"t.", b"", b"t9"], unlike(0), None),
-        row(
-            [b"t.", b"", b"tb"],
-            [b"t.", b"xi", b"ti"],
-            lacks(1),
-            lacks(1),
-        ),
-    ];
-    for row in rows {
-        assert_eq!(rt; m.faults(row)?, (row.by_version, row.by_name));
-    }
-    Ok(())
+fn likespecs(rt: HostRuntime) {
+    check_all(&rt, rt.alloc(), &LIKESPECS);
 }

@@ -2,34 +2,31 @@
 
 use ac_bytes::{Cursor, Out};
 use ac_types::Name;
-use std::test::Fail;
 
 #[test]
-fn puts_the_highest_byte_first(rt: HostRuntime) -> Result<(), Fail> {
+fn puts_the_highest_byte_first(rt: HostRuntime) {
     let mut out = Out::new(rt.alloc());
-    out.put_u8(9)?;
-    out.put_u16(0x0102)?;
-    out.put_u32(0x0102_0304)?;
-    out.put_bytes(b"ab")?;
+    out.put_u8(9).expect(&rt, "memory");
+    out.put_u16(0x0102).expect(&rt, "memory");
+    out.put_u32(0x0102_0304).expect(&rt, "memory");
+    out.put_bytes(b"ab").expect(&rt, "memory");
     let text = out.into_text();
     assert_eq!(rt;
         text.as_slice(),
         [9, 1, 2, 1, 2, 3, 4, b'a', b'b'].as_slice()
     );
-    Ok(())
 }
 
 #[test]
-fn puts_twos_complement(rt: HostRuntime) -> Result<(), Fail> {
+fn puts_twos_complement(rt: HostRuntime) {
     let mut out = Out::new(rt.alloc());
-    out.put_i64(-1)?;
-    out.put_i64(i64::MIN)?;
+    out.put_i64(-1).expect(&rt, "memory");
+    out.put_i64(i64::MIN).expect(&rt, "memory");
     let text = out.into_text();
     let bytes = [
         255, 255, 255, 255, 255, 255, 255, 255, 128, 0, 0, 0, 0, 0, 0, 0,
     ];
     assert_eq!(rt; text.as_slice(), bytes.as_slice());
-    Ok(())
 }
 
 #[test]

@@ -1,27 +1,32 @@
 // A table of blocks, where memory suffices.
 
+use crate::words::one;
 use ac_code::{Block, CodeId, CodeTable};
 use ac_terms::Home;
 use ac_types::Many;
-use std::test::Fail;
+use std::alloc::Global;
+use std::process::Abort;
 
-#[test]
-fn blocks_and_fields_are_found(rt: HostRuntime) -> Result<(), Fail> {
-    let mut table = CodeTable::new(rt.alloc());
+// A table with one block, which is the first field of entry 2.
+fn table(rt: &impl Abort, alloc: Global) -> CodeTable {
+    let mut table = CodeTable::new(alloc);
     let block = Block {
         home: Home::Main,
         lambda: None,
-        context: Many::new(rt.alloc()),
-        instrs: Many::new(rt.alloc()),
+        context: Many::new(alloc),
+        instrs: Many::new(alloc),
     };
-    let id = table.push(block)?;
+    let id = table.push(block).expect(rt, "memory");
     assert_eq!(rt; id, CodeId(0));
+    table.set_fields(2, one(rt, alloc, id)).expect(rt, "memory");
+    table
+}
+
+#[test]
+fn blocks_and_fields_are_found(rt: HostRuntime) {
+    let table = table(&rt, rt.alloc());
     assert_eq!(rt; table.len(), 1);
-    let mut fields = Many::new(rt.alloc());
-    fields.push(id)?;
-    table.set_fields(2, fields)?;
-    assert_eq!(rt; table.field(2, 0), Some(id));
+    assert_eq!(rt; table.field(2, 0), Some(CodeId(0)));
     assert_eq!(rt; table.field(1, 0), None);
     assert_eq!(rt; table.field(2, 1), None);
-    Ok(())
 }

@@ -1,39 +1,43 @@
 // Calls that can answer want of memory, where memory suffices.
 
-use crate::words::{Made, boxed, one, two, word};
+use crate::words::{boxed, one, text, two, word};
 use ac_terms::{
     Arm, Def, Entry, Env, Exn, Field, Home, Import, Module, PDef, PVal, Packet, Pat, Seen, Term,
 };
 use ac_types::exceptions::FAILURE;
-use ac_types::{Atom, Box, Constraint, Many, Name, Resolve, Sig, Text, Ty, TyField, Version, both};
+use ac_types::{Atom, Constraint, Many, Name, Resolve, Sig, Ty, TyField, Version};
 use std::alloc::Global;
+use std::process::Abort;
 
-fn int_y(alloc: Global) -> Made<TyField> {
-    word(alloc, b"y").map(|name| TyField { name, ty: Ty::Int })
+fn int_y(rt: &impl Abort, alloc: Global) -> TyField {
+    TyField {
+        name: word(rt, alloc, b"y"),
+        ty: Ty::Int,
+    }
 }
 
-fn six_y(alloc: Global) -> Made<Field> {
-    word(alloc, b"y").map(|name| Field {
-        name,
+fn six_y(rt: &impl Abort, alloc: Global) -> Field {
+    Field {
+        name: word(rt, alloc, b"y"),
         ty: Ty::Int,
         term: Term::Int(6),
-    })
+    }
 }
 
 // `module C : sig val y : int end = struct val y : int = 6 end`.
-fn six(alloc: Global) -> Made<Module> {
-    let head = both(word(alloc, b"C"), one(alloc, Ok(Atom::MyName)));
-    let inner = both(one(alloc, int_y(alloc)), one(alloc, six_y(alloc)));
-    both(head, inner).map(|((name, atoms), (vals, fields))| Module {
-        name,
-        version: Version { atoms },
+fn six(rt: &impl Abort, alloc: Global) -> Module {
+    Module {
+        name: word(rt, alloc, b"C"),
+        version: Version {
+            atoms: one(rt, alloc, Atom::MyName),
+        },
         sig: Sig {
             types: Many::new(alloc),
-            vals,
+            vals: one(rt, alloc, int_y(rt, alloc)),
         },
         types: Many::new(alloc),
-        fields,
-    })
+        fields: one(rt, alloc, six_y(rt, alloc)),
+    }
 }
 
 fn entry(def: Def, name: Option<Name>) -> Entry {
@@ -46,20 +50,18 @@ fn entry(def: Def, name: Option<Name>) -> Entry {
 }
 
 // A mark and then the module, under a name.
-fn sample(alloc: Global) -> Made<Env> {
-    let mark = Text::from_slice(alloc, b"MK").map(|text| entry(Def::Mark(text), None));
-    let module = six(alloc).map(|module| entry(Def::Module(module), Some(Name([7; 32]))));
-    two(alloc, mark, module).map(|entries| Env { entries })
-}
-
-fn copied(alloc: Global) -> Made<Env> {
-    let env = sample(alloc)?;
-    env.copy(alloc)
+fn sample(rt: &impl Abort, alloc: Global) -> Env {
+    let mark = entry(Def::Mark(text(rt, alloc, b"MK")), None);
+    let module = entry(Def::Module(six(rt, alloc)), Some(Name([7; 32])));
+    Env {
+        entries: two(rt, alloc, mark, module),
+    }
 }
 
 #[test]
 fn copies_an_environment(rt: HostRuntime) {
-    let copy = copied(rt.alloc()).expect(&rt, "memory");
+    let env = sample(&rt, rt.alloc());
+    let copy = env.copy(rt.alloc()).expect(&rt, "memory");
     assert!(rt; copy.entries.len() == 2);
     assert_eq!(rt; copy.find(&Name([7; 32])), Some(1));
     assert_eq!(rt; copy.find(&Name([8; 32])), None);
@@ -68,9 +70,9 @@ fn copies_an_environment(rt: HostRuntime) {
 }
 
 // `import C : sig end version * by Here_Already`.
-fn any_c(alloc: Global) -> Made<Import> {
-    both(word(alloc, b"C"), one(alloc, Ok(Resolve::HereAlready))).map(|(name, by)| Import {
-        name,
+fn any_c(rt: &impl Abort, alloc: Global) -> Import {
+    Import {
+        name: word(rt, alloc, b"C"),
         sig: Sig {
             types: Many::new(alloc),
             vals: Many::new(alloc),
@@ -80,36 +82,29 @@ fn any_c(alloc: Global) -> Made<Import> {
             star: true,
         },
         like: Many::new(alloc),
-        by,
-    })
+        by: one(rt, alloc, Resolve::HereAlready),
+    }
 }
 
-fn failure(alloc: Global) -> Made<PVal> {
-    Text::from_slice(alloc, b"s").map(|text| PVal::Exn(Exn {
-        number: FAILURE,
-        text: Some(text),
-    }))
-}
-
-fn packet(alloc: Global) -> Made<Packet> {
-    let defs = one(alloc, any_c(alloc).map(PDef::Import));
-    both(defs, failure(alloc)).map(|(defs, value)| Packet {
-        defs,
+fn packet(rt: &impl Abort, alloc: Global) -> Packet {
+    Packet {
+        defs: one(rt, alloc, PDef::Import(any_c(rt, alloc))),
         ty: Ty::Exn,
-        value,
-    })
-}
-
-fn copied_packet(alloc: Global) -> Made<Packet> {
-    let packet = packet(alloc)?;
-    packet.copy(alloc)
+        value: PVal::Exn(Exn {
+            number: FAILURE,
+            text: Some(text(rt, alloc, b"s")),
+        }),
+    }
 }
 
 #[test]
 fn copies_a_packet(rt: HostRuntime) {
-    let packet = copied_packet(rt.alloc()).expect(&rt, "memory");
-    assert_eq!(rt; packet.defs.len(), 1);
-    assert!(rt; matches!(packet.value, PVal::Exn(_)));
+    let packet = packet(&rt, rt.alloc());
+    let copy = packet.copy(rt.alloc()).expect(&rt, "memory");
+    assert_eq!(rt; copy.defs.len(), 1);
+    assert!(rt; matches!(&copy.value, PVal::Exn(_)));
+    drop(packet);
+    drop(copy);
 }
 
 fn arm() -> Arm {
@@ -120,20 +115,18 @@ fn arm() -> Arm {
 }
 
 // `fun (x : int) -> match x with _ -> x`, of the main program.
-fn arms(alloc: Global) -> Made<PVal> {
-    let parts = both(Box::new(alloc, Term::Var(0)), one(alloc, Ok(arm())));
-    let body = parts.map(|(of, cases)| Term::Match(of, cases));
-    let lambda = boxed(alloc, body).map(|body| Term::Lam(Ty::Int, body));
-    boxed(alloc, lambda).map(|lambda| PVal::Fun(Home::Main, lambda))
-}
-
-fn copied_function(alloc: Global) -> Made<PVal> {
-    let value = arms(alloc)?;
-    value.copy(alloc)
+fn arms(rt: &impl Abort, alloc: Global) -> PVal {
+    let of = boxed(rt, alloc, Term::Var(0));
+    let body = Term::Match(of, one(rt, alloc, arm()));
+    let lambda = Term::Lam(Ty::Int, boxed(rt, alloc, body));
+    PVal::Fun(Home::Main, boxed(rt, alloc, lambda))
 }
 
 #[test]
 fn copies_a_function(rt: HostRuntime) {
-    let copy = copied_function(rt.alloc()).expect(&rt, "memory");
-    assert!(rt; matches!(copy, PVal::Fun(Home::Main, _)));
+    let value = arms(&rt, rt.alloc());
+    let copy = value.copy(rt.alloc()).expect(&rt, "memory");
+    assert!(rt; matches!(&copy, PVal::Fun(Home::Main, _)));
+    drop(value);
+    drop(copy);
 }

@@ -1,78 +1,76 @@
-// Tokens as a text, `m` for `myname`, and what they are: numbers, `n..m` for a range, a last `*`;
-// `!` where they are nothing.
+// Tokens as a text, `m` for `myname`, and behind `=` what they are: numbers, `n..m` for a range, a
+// last `*`; `!` where they are nothing.
 
 use ac_page::Page;
-use ac_types::{Atom, Constraint, Name, Range, Text, Version};
+use ac_types::{Atom, Constraint, Many, Name, Range, Text, Version};
 use ac_version::{
     VToken, VersionFault, constraint_text, meets, read_constraint, read_version, version_text,
 };
-use std::alloc::{AllocError, Global};
-use std::test::Fail;
+use std::alloc::Global;
+use std::process::Abort;
 
-const VERSIONS: [(&[u8], &[u8]); 17] = [
-    (b"1", b"1 "),
-    (b"1.2.3.4.5.6.7.8", b"1 2 3 4 5 6 7 8 "),
-    (b"1.2.3.4.5.6.7.8.9", b"!"),
-    (b"m", b"m "),
-    (b"1.m.3", b"1 m 3 "),
-    (b"m.m.m.m.m.m.m.m.m", b"!"),
-    (b"4294967295", b"4294967295 "),
-    (b"4294967296", b"!"),
-    (b"1.4294967296", b"!"),
-    (b"", b"!"),
-    (b".1", b"!"),
-    (b"1.", b"!"),
-    (b"1..2", b"!"),
-    (b"1 2", b"!"),
-    (b"1-2", b"!"),
-    (b"*", b"!"),
-    (b"1.*", b"!"),
-];
+const VERSIONS: &str = "\
+1 = 1
+1.2.3.4.5.6.7.8 = 1 2 3 4 5 6 7 8
+1.2.3.4.5.6.7.8.9 = !
+m = m
+1.m.3 = 1 m 3
+m.m.m.m.m.m.m.m.m = !
+4294967295 = 4294967295
+4294967296 = !
+1.4294967296 = !
+= !
+.1 = !
+1. = !
+1..2 = !
+1 2 = !
+1-2 = !
+* = !
+1.* = !";
 
-const CONSTRAINTS: [(&[u8], &[u8]); 42] = [
-    (b"1", b"1 "),
-    (b"1.2", b"1 2 "),
-    (b"1.--2", b"!"),
-    (b"1.2-", b"1 2.. "),
-    (b"1.-3", b"1 ..3 "),
-    (b"-3", b"..3 "),
-    (b"2-", b"2.. "),
-    (b"2-4", b"2..4 "),
-    (b"4-2", b"4..2 "),
-    (b"2-4.*", b"2..4 *"),
-    (b"-3.*", b"..3 *"),
-    (b"2-.*", b"2.. *"),
-    (b"1.*", b"1 *"),
-    (b"*", b"*"),
-    (b"1.*.2", b"!"),
-    (b"1-.2", b"1.. 2 "),
-    (b"1-.-2", b"1.. ..2 "),
-    (b"1-2.3-4.-5.6-", b"1..2 3..4 ..5 6.. "),
-    (b"1.2.3.4.5.6.7.8", b"1 2 3 4 5 6 7 8 "),
-    (b"1.2.3.4.5.6.7.8.*", b"1 2 3 4 5 6 7 8 *"),
-    (b"1.2.3.4.5.6.7.8.9", b"!"),
-    (b"1.2.3.4.5.6.7.8.9.*", b"!"),
-    (b"4294967295-4294967295", b"4294967295..4294967295 "),
-    (b"4294967296", b"!"),
-    (b"1-4294967296", b"!"),
-    (b"-4294967296", b"!"),
-    (b"4294967296-", b"!"),
-    (b"", b"!"),
-    (b"-", b"!"),
-    (b"--2", b"!"),
-    (b"1--", b"!"),
-    (b"1--2", b"!"),
-    (b"1-2-3", b"!"),
-    (b"1-2 3", b"!"),
-    (b"1-2-", b"!"),
-    (b".1", b"!"),
-    (b"1.", b"!"),
-    (b"1..2", b"!"),
-    (b"1*", b"!"),
-    (b"1.**", b"!"),
-    (b"*.1", b"!"),
-    (b"m", b"!"),
-];
+const CONSTRAINTS: &str = "\
+1 = 1
+1.2 = 1 2
+1.--2 = !
+1.2- = 1 2..
+1.-3 = 1 ..3
+-3 = ..3
+2- = 2..
+2-4 = 2..4
+4-2 = 4..2
+2-4.* = 2..4 *
+-3.* = ..3 *
+2-.* = 2.. *
+1.* = 1 *
+* = *
+1.*.2 = !
+1-.2 = 1.. 2
+1-.-2 = 1.. ..2
+1-2.3-4.-5.6- = 1..2 3..4 ..5 6..
+1.2.3.4.5.6.7.8 = 1 2 3 4 5 6 7 8
+1.2.3.4.5.6.7.8.* = 1 2 3 4 5 6 7 8 *
+1.2.3.4.5.6.7.8.9 = !
+1.2.3.4.5.6.7.8.9.* = !
+4294967295-4294967295 = 4294967295..4294967295
+4294967296 = !
+1-4294967296 = !
+-4294967296 = !
+4294967296- = !
+= !
+- = !
+--2 = !
+1-- = !
+1--2 = !
+1-2-3 = !
+1-2 3 = !
+1-2- = !
+.1 = !
+1. = !
+1..2 = !
+1* = !
+1.** = !
+*.1 = !
+m = !";
 
 fn symbol(c: u8) -> Option<VToken> {
     match c {
@@ -84,8 +82,8 @@ fn symbol(c: u8) -> Option<VToken> {
     }
 }
 
-fn tokens(alloc: Global, text: &[u8]) -> Result<Vec<VToken>, AllocError> {
-    let mut found = Vec::new(alloc);
+fn tokens(rt: &impl Abort, alloc: Global, text: &[u8]) -> Many<VToken> {
+    let mut found = Many::new(alloc);
     let mut number = None;
     for c in text {
         if c.is_ascii_digit() {
@@ -95,32 +93,32 @@ fn tokens(alloc: Global, text: &[u8]) -> Result<Vec<VToken>, AllocError> {
             continue;
         }
         if let Some(n) = number {
-            found.push(VToken::Number(n))?;
+            found.push(VToken::Number(n)).expect(rt, "memory");
             number = None;
         }
         if let Some(token) = symbol(*c) {
-            found.push(token)?;
+            found.push(token).expect(rt, "memory");
         }
     }
     if let Some(n) = number {
-        found.push(VToken::Number(n))?;
+        found.push(VToken::Number(n)).expect(rt, "memory");
     }
-    Ok(found)
+    found
 }
 
 fn write_fault(page: &mut Page, fault: VersionFault) {
     match fault {
-        VersionFault::Bad => page.put(b"!"),
+        VersionFault::Bad => page.put(b" !"),
         VersionFault::Memory => page.lose(),
     }
 }
 
 fn write_atom(page: &mut Page, atom: Atom) {
+    page.put(b" ");
     match atom {
         Atom::Number(n) => page.number(u64::from(n)),
         Atom::MyName => page.put(b"m"),
     }
-    page.put(b" ");
 }
 
 fn write_version(page: &mut Page, version: &Version) {
@@ -139,6 +137,7 @@ fn version(alloc: Global, tokens: &[VToken]) -> Page {
 }
 
 fn write_range(page: &mut Page, range: Range) {
+    page.put(b" ");
     match range {
         Range::One(n) => page.number(u64::from(n)),
         Range::Between(n, m) => {
@@ -155,7 +154,6 @@ fn write_range(page: &mut Page, range: Range) {
             page.put(b"..");
         }
     }
-    page.put(b" ");
 }
 
 fn write_constraint(page: &mut Page, constraint: &Constraint) {
@@ -165,7 +163,7 @@ fn write_constraint(page: &mut Page, constraint: &Constraint) {
                 write_range(page, *atom);
             }
             if *star {
-                page.put(b"*");
+                page.put(b" *");
             }
         }
         Constraint::Exact(_) => page.put(b"by name"),
@@ -181,24 +179,32 @@ fn constraint(alloc: Global, tokens: &[VToken]) -> Page {
     page
 }
 
-#[test]
-fn versions(rt: HostRuntime) -> Result<(), Fail> {
-    for (text, want) in VERSIONS {
-        let tokens = tokens(rt.alloc(), text)?;
-        let page = version(rt.alloc(), tokens.as_slice());
-        assert_eq!(rt; page.bytes(), Some(want));
-    }
-    Ok(())
+fn check_version(rt: &impl Abort, alloc: Global, line: &str) {
+    let (text, want) = line.split_once('=').expect(rt, "a row");
+    let tokens = tokens(rt, alloc, text.as_bytes());
+    let page = version(alloc, tokens.as_slice());
+    assert_eq!(rt; page.bytes(), Some(want.as_bytes()));
 }
 
 #[test]
-fn constraints(rt: HostRuntime) -> Result<(), Fail> {
-    for (text, want) in CONSTRAINTS {
-        let tokens = tokens(rt.alloc(), text)?;
-        let page = constraint(rt.alloc(), tokens.as_slice());
-        assert_eq!(rt; page.bytes(), Some(want));
+fn versions(rt: HostRuntime) {
+    for line in VERSIONS.lines() {
+        check_version(&rt, rt.alloc(), line);
     }
-    Ok(())
+}
+
+fn check_constraint(rt: &impl Abort, alloc: Global, line: &str) {
+    let (text, want) = line.split_once('=').expect(rt, "a row");
+    let tokens = tokens(rt, alloc, text.as_bytes());
+    let page = constraint(alloc, tokens.as_slice());
+    assert_eq!(rt; page.bytes(), Some(want.as_bytes()));
+}
+
+#[test]
+fn constraints(rt: HostRuntime) {
+    for line in CONSTRAINTS.lines() {
+        check_constraint(&rt, rt.alloc(), line);
+    }
 }
 
 // A constraint, a version, and whether the version meets it.
@@ -215,50 +221,47 @@ const MEETINGS: [(&[u8], &[u8], bool); 7] = [
 // A constraint or a version, and how it is printed.
 const PRINTED: [(&[u8], &[u8]); 3] = [(b"1.2-4.*", b"1.2-4.*"), (b"-3.4-", b"-3.4-"), (b"*", b"*")];
 
-fn is_met(alloc: Global, wanted: &[VToken], had: &[VToken]) -> Option<bool> {
-    let wanted = read_constraint(alloc, wanted);
-    let had = read_version(alloc, had);
-    match (wanted, had) {
-        (Ok(wanted), Ok(had)) => Some(meets(&had, &wanted, &Name([0; 32]))),
-        _ => None,
-    }
+fn read(rt: &impl Abort, alloc: Global, text: &[u8]) -> Constraint {
+    read_constraint(alloc, tokens(rt, alloc, text).as_slice()).expect(rt, "a constraint")
 }
 
-fn printed(alloc: Global, tokens: &[VToken]) -> Option<Text> {
-    let constraint = read_constraint(alloc, tokens).ok()?;
-    constraint_text(alloc, &constraint).ok()
+fn read_had(rt: &impl Abort, alloc: Global, text: &[u8]) -> Version {
+    read_version(alloc, tokens(rt, alloc, text).as_slice()).expect(rt, "a version")
 }
 
-fn printed_version(alloc: Global, tokens: &[VToken]) -> Option<Text> {
-    let version = read_version(alloc, tokens).ok()?;
-    version_text(alloc, &version).ok()
+fn is_met(rt: &impl Abort, alloc: Global, wanted: &[u8], had: &[u8]) -> bool {
+    let had = read_had(rt, alloc, had);
+    let wanted = read(rt, alloc, wanted);
+    let met = meets(&had, &wanted, &Name([0; 32]));
+    drop(wanted);
+    met
+}
+
+fn printed(rt: &impl Abort, alloc: Global, text: &[u8]) -> Text {
+    let constraint = read(rt, alloc, text);
+    let printed = constraint_text(alloc, &constraint).expect(rt, "memory");
+    drop(constraint);
+    printed
 }
 
 #[test]
-fn versions_meet_constraints(rt: HostRuntime) -> Result<(), Fail> {
+fn versions_meet_constraints(rt: HostRuntime) {
     for (wanted, had, holds) in MEETINGS {
-        let wanted = tokens(rt.alloc(), wanted)?;
-        let had = tokens(rt.alloc(), had)?;
-        let found = is_met(rt.alloc(), wanted.as_slice(), had.as_slice());
-        assert_eq!(rt; found, Some(holds));
+        assert_eq!(rt; is_met(&rt, rt.alloc(), wanted, had), holds);
     }
-    Ok(())
 }
 
 #[test]
-fn prints_constraints(rt: HostRuntime) -> Result<(), Fail> {
+fn prints_constraints(rt: HostRuntime) {
     for (text, want) in PRINTED {
-        let tokens = tokens(rt.alloc(), text)?;
-        let found = printed(rt.alloc(), tokens.as_slice()).expect(&rt, "a constraint");
+        let found = printed(&rt, rt.alloc(), text);
         assert_eq!(rt; found.as_slice(), want);
     }
-    Ok(())
 }
 
 #[test]
-fn prints_a_version(rt: HostRuntime) -> Result<(), Fail> {
-    let tokens = tokens(rt.alloc(), b"1.m.20")?;
-    let found = printed_version(rt.alloc(), tokens.as_slice()).expect(&rt, "a version");
+fn prints_a_version(rt: HostRuntime) {
+    let version = read_had(&rt, rt.alloc(), b"1.m.20");
+    let found = version_text(rt.alloc(), &version).expect(&rt, "memory");
     assert_eq!(rt; found.as_slice(), b"1.myname.20".as_slice());
-    Ok(())
 }

@@ -1,36 +1,34 @@
-// Parts of trees.
+// Parts of trees. Want of memory ends the test.
 
-use ac_types::{Box, Many, Memory, Text, Word, both};
+use ac_types::{Box, Many, Text, Word};
 use std::alloc::Global;
+use std::process::Abort;
 
-pub type Made<T> = Result<T, Memory>;
+/// The text of these bytes.
+pub fn text(rt: &impl Abort, alloc: Global, bytes: &[u8]) -> Text {
+    Text::from_slice(alloc, bytes).expect(rt, "memory")
+}
 
-/// The word of these bytes; an error also where they are no word.
-pub fn word(alloc: Global, bytes: &[u8]) -> Made<Word> {
-    match Word::new(Text::from_slice(alloc, bytes)?) {
-        None => Err(Memory),
-        Some(word) => Ok(word),
-    }
+/// The word of these bytes.
+pub fn word(rt: &impl Abort, alloc: Global, bytes: &[u8]) -> Word {
+    Word::new(text(rt, alloc, bytes)).expect(rt, "a word")
 }
 
 /// The item in a box.
-pub fn boxed<T: Drop>(alloc: Global, item: Made<T>) -> Made<Box<T>> {
-    Box::new(alloc, item?)
+pub fn boxed<T: Drop>(rt: &impl Abort, alloc: Global, item: T) -> Box<T> {
+    Box::new(alloc, item).expect(rt, "memory")
 }
 
 /// A list of one item.
-pub fn one<T: Drop>(alloc: Global, item: Made<T>) -> Made<Many<T>> {
-    let item = item?;
+pub fn one<T: Drop>(rt: &impl Abort, alloc: Global, item: T) -> Many<T> {
     let mut items = Many::new(alloc);
-    items.push(item)?;
-    Ok(items)
+    items.push(item).expect(rt, "memory");
+    items
 }
 
 /// A list of two items.
-pub fn two<T: Drop>(alloc: Global, first: Made<T>, second: Made<T>) -> Made<Many<T>> {
-    let mut items = Many::new(alloc);
-    let (first, second) = both(first, second)?;
-    items.push(first)?;
-    items.push(second)?;
-    Ok(items)
+pub fn two<T: Drop>(rt: &impl Abort, alloc: Global, first: T, second: T) -> Many<T> {
+    let mut items = one(rt, alloc, first);
+    items.push(second).expect(rt, "memory");
+    items
 }
