@@ -1,248 +1,192 @@
-// Which signatures are covered, and which likespecs are missing.
+// Which signatures are covered, and which likespecs are missing. Want of memory ends the test.
 
 use ac_modules::{covers, like_missing};
 use ac_terms::{Field, Import, Module, Term};
-use ac_types::{
-    Box, Constraint, Many, Memory, Name, Sig, SigType, Text, Ty, TyField, Version, Word, both,
-};
+use ac_types::{Box, Constraint, Many, Name, Sig, SigType, Text, Ty, TyField, Version, Word};
 use std::alloc::Global;
-use std::test::Fail;
+use std::process::Abort;
 
-type Made<T> = Result<T, Memory>;
+// The identifier of that letter.
+fn word(rt: &impl Abort, alloc: Global, letter: u8) -> Word {
+    let text = Text::from_slice(alloc, &[letter]).expect(rt, "memory");
+    Word::new(text).expect(rt, "a word")
+}
 
-// What makes modules and types.
-#[derive(Clone, Copy)]
-struct Make(Global);
+fn boxed(rt: &impl Abort, alloc: Global, ty: Ty) -> Box<Ty> {
+    Box::new(alloc, ty).expect(rt, "memory")
+}
 
-impl Make {
-    fn boxed<T: Drop>(self, x: Made<T>) -> Made<Box<T>> {
-        Box::new(self.0, x?)
+fn function_of(rt: &impl Abort, alloc: Global, from: Ty, to: Ty) -> Ty {
+    let from = boxed(rt, alloc, from);
+    Ty::Fun(from, boxed(rt, alloc, to))
+}
+
+fn pair_of(rt: &impl Abort, alloc: Global, first: Ty, second: Ty) -> Ty {
+    let mut parts = Many::new(alloc);
+    parts.push(first).expect(rt, "memory");
+    parts.push(second).expect(rt, "memory");
+    Ty::Tuple(parts)
+}
+
+fn mine(rt: &impl Abort, alloc: Global, letter: u8) -> Ty {
+    Ty::Mine(word(rt, alloc, letter))
+}
+
+// The type of that letter: a capital has the own types `t` and `u` where its small letter has bool
+// and int.
+fn ty(rt: &impl Abort, alloc: Global, letter: u8) -> Ty {
+    match letter {
+        b'i' => Ty::Int,
+        b'b' => Ty::Bool,
+        b't' | b'u' => mine(rt, alloc, letter),
+        b'l' => Ty::List(boxed(rt, alloc, Ty::Bool)),
+        b'L' => Ty::List(boxed(rt, alloc, mine(rt, alloc, b't'))),
+        b'o' => Ty::Opt(boxed(rt, alloc, Ty::Bool)),
+        b'O' => Ty::Opt(boxed(rt, alloc, mine(rt, alloc, b't'))),
+        b'f' => function_of(rt, alloc, Ty::Bool, Ty::Int),
+        b'F' => function_of(rt, alloc, mine(rt, alloc, b't'), mine(rt, alloc, b'u')),
+        b'p' => pair_of(rt, alloc, Ty::Bool, Ty::Int),
+        b'P' => pair_of(rt, alloc, mine(rt, alloc, b't'), mine(rt, alloc, b'u')),
+        b'a' => Ty::Abs(Name([7; 32]), word(rt, alloc, b't')),
+        _ => Ty::Unit,
     }
+}
 
-    fn list<T: Drop>(self, a: Made<T>, b: Made<T>) -> Made<Many<T>> {
-        let mut parts = Many::new(self.0);
-        let (a, b) = both(a, b)?;
-        parts.push(a)?;
-        parts.push(b)?;
-        Ok(parts)
+// `.` stands for an abstract type.
+fn manifest(rt: &impl Abort, alloc: Global, letter: u8) -> Option<Ty> {
+    if letter == b'.' {
+        None
+    } else {
+        Some(ty(rt, alloc, letter))
     }
+}
 
-    // The identifier of that letter.
-    fn word(self, letter: u8) -> Made<Word> {
-        let bytes = [letter];
-        match Word::new(Text::from_slice(self.0, bytes.as_slice())?) {
-            None => Err(Memory),
-            Some(word) => Ok(word),
-        }
+// The types of a signature, of pairs of letters, as all lists here.
+fn sig_types(rt: &impl Abort, alloc: Global, pairs: &[u8]) -> Many<SigType> {
+    let mut all = Many::new(alloc);
+    for i in 0..pairs.len() / 2 {
+        let item = SigType {
+            name: word(rt, alloc, pairs[2 * i]),
+            manifest: manifest(rt, alloc, pairs[2 * i + 1]),
+        };
+        all.push(item).expect(rt, "memory");
     }
+    all
+}
 
-    fn list_of(self, ty: Made<Ty>) -> Made<Ty> {
-        self.boxed(ty).map(Ty::List)
+fn typed(rt: &impl Abort, alloc: Global, pairs: &[u8]) -> Many<TyField> {
+    let mut all = Many::new(alloc);
+    for i in 0..pairs.len() / 2 {
+        let item = TyField {
+            name: word(rt, alloc, pairs[2 * i]),
+            ty: ty(rt, alloc, pairs[2 * i + 1]),
+        };
+        all.push(item).expect(rt, "memory");
     }
+    all
+}
 
-    fn option_of(self, ty: Made<Ty>) -> Made<Ty> {
-        self.boxed(ty).map(Ty::Opt)
-    }
-
-    fn function_of(self, from: Made<Ty>, to: Made<Ty>) -> Made<Ty> {
-        both(self.boxed(from), self.boxed(to)).map(|(from, to)| Ty::Fun(from, to))
-    }
-
-    fn pair_of(self, a: Made<Ty>, b: Made<Ty>) -> Made<Ty> {
-        self.list(a, b).map(Ty::Tuple)
-    }
-
-    fn mine(self, letter: u8) -> Made<Ty> {
-        self.word(letter).map(Ty::Mine)
-    }
-
-    // The type of that letter: a capital has the own types `t` and `u` where its small letter has
-    // bool and int.
-    fn ty(self, letter: u8) -> Made<Ty> {
-        match letter {
-            b'i' => Ok(Ty::Int),
-            b'b' => Ok(Ty::Bool),
-            b't' => self.mine(b't'),
-            b'u' => self.mine(b'u'),
-            b'l' => self.list_of(Ok(Ty::Bool)),
-            b'L' => self.list_of(self.mine(b't')),
-            b'o' => self.option_of(Ok(Ty::Bool)),
-            b'O' => self.option_of(self.mine(b't')),
-            b'f' => self.function_of(Ok(Ty::Bool), Ok(Ty::Int)),
-            b'F' => self.function_of(self.mine(b't'), self.mine(b'u')),
-            b'p' => self.pair_of(Ok(Ty::Bool), Ok(Ty::Int)),
-            b'P' => self.pair_of(self.mine(b't'), self.mine(b'u')),
-            b'a' => self.word(b't').map(|word| Ty::Abs(Name([7; 32]), word)),
-            _ => Ok(Ty::Unit),
-        }
-    }
-
-    // `.` stands for an abstract type.
-    fn manifest(self, letter: u8) -> Made<Option<Ty>> {
-        if letter == b'.' {
-            Ok(None)
-        } else {
-            self.ty(letter).map(Some)
-        }
-    }
-
-    fn sig_type(self, name: u8, ty: u8) -> Made<SigType> {
-        both(self.word(name), self.manifest(ty)).map(|(name, manifest)| SigType { name, manifest })
-    }
-
-    fn typed(self, name: u8, ty: u8) -> Made<TyField> {
-        both(self.word(name), self.ty(ty)).map(|(name, ty)| TyField { name, ty })
-    }
-
-    fn field(self, name: u8, ty: u8) -> Made<Field> {
-        both(self.word(name), self.ty(ty)).map(|(name, ty)| Field {
-            name,
-            ty,
+fn fields(rt: &impl Abort, alloc: Global, pairs: &[u8]) -> Many<Field> {
+    let mut all = Many::new(alloc);
+    for i in 0..pairs.len() / 2 {
+        let item = Field {
+            name: word(rt, alloc, pairs[2 * i]),
+            ty: ty(rt, alloc, pairs[2 * i + 1]),
             term: Term::Unit,
-        })
+        };
+        all.push(item).expect(rt, "memory");
     }
+    all
+}
 
-    fn sig_types(self, pairs: &[u8]) -> Made<Many<SigType>> {
-        let mut all = Many::new(self.0);
-        for i in 0..pairs.len() / 2 {
-            all.push(self.sig_type(pairs[2 * i], pairs[2 * i + 1])?)?;
-        }
-        Ok(all)
-    }
-
-    fn all_typed(self, pairs: &[u8]) -> Made<Many<TyField>> {
-        let mut all = Many::new(self.0);
-        for i in 0..pairs.len() / 2 {
-            all.push(self.typed(pairs[2 * i], pairs[2 * i + 1])?)?;
-        }
-        Ok(all)
-    }
-
-    fn fields(self, pairs: &[u8]) -> Made<Many<Field>> {
-        let mut all = Many::new(self.0);
-        for i in 0..pairs.len() / 2 {
-            all.push(self.field(pairs[2 * i], pairs[2 * i + 1])?)?;
-        }
-        Ok(all)
-    }
-
-    fn sig(self, types: &[u8], vals: &[u8]) -> Made<Sig> {
-        both(self.sig_types(types), self.all_typed(vals)).map(|(types, vals)| Sig { types, vals })
-    }
-
-    fn module(self, sig: Made<Sig>, types: &[u8], fields: &[u8]) -> Made<Module> {
-        let head = both(self.word(b'M'), sig);
-        let inner = both(self.all_typed(types), self.fields(fields));
-        both(head, inner).map(|((name, sig), (types, fields))| Module {
-            name,
-            version: Version {
-                atoms: Many::new(self.0),
-            },
-            sig,
-            types,
-            fields,
-        })
-    }
-
-    fn import(self, types: &[u8], like: &[u8]) -> Made<Import> {
-        let head = both(self.word(b'I'), self.sig(types, b"xt"));
-        both(head, self.all_typed(like)).map(|((name, sig), like)| Import {
-            name,
-            sig,
-            constraint: Constraint::Ranges {
-                atoms: Many::new(self.0),
-                star: true,
-            },
-            like,
-            by: Many::new(self.0),
-        })
+// A signature as its types, `:` and its values.
+fn sig(rt: &impl Abort, alloc: Global, text: &str) -> Sig {
+    let (types, vals) = text.split_once(':').expect(rt, "a signature");
+    Sig {
+        types: sig_types(rt, alloc, types.as_bytes()),
+        vals: typed(rt, alloc, vals.as_bytes()),
     }
 }
 
-// A module: the types and the values of its signature, the types and the fields of its struct,
-// each as pairs of letters; and the spec that isn't covered.
-#[derive(Clone, Copy)]
-struct Shape {
-    types: &'static [u8],
-    vals: &'static [u8],
-    own: &'static [u8],
-    fields: &'static [u8],
-    want: Option<u32>,
-}
-
-fn of_pairs(
-    types: &'static [u8],
-    vals: &'static [u8],
-    own: &'static [u8],
-    fields: &'static [u8],
-    want: Option<u32>,
-) -> Shape {
-    Shape {
-        types,
-        vals,
-        own,
-        fields,
-        want,
+// A module as its signature, `=`, the types of its struct, `:` and the fields.
+fn module(rt: &impl Abort, alloc: Global, text: &str) -> Module {
+    let (wanted, inner) = text.split_once('=').expect(rt, "a module");
+    let (own, inner) = inner.split_once(':').expect(rt, "a struct");
+    Module {
+        name: word(rt, alloc, b'M'),
+        version: Version {
+            atoms: Many::new(alloc),
+        },
+        sig: sig(rt, alloc, wanted),
+        types: typed(rt, alloc, own.as_bytes()),
+        fields: fields(rt, alloc, inner.as_bytes()),
     }
 }
 
-// The first spec that isn't covered. The signatures here are short.
-fn uncovered(module: &Module) -> Option<u32> {
-    if module.sig.types.len() < 10 && module.sig.vals.len() < 10 {
-        covers(module).err()
-    } else {
-        Some(99)
+// An import as its signature, `=` and the types of its likespec.
+fn import(rt: &impl Abort, alloc: Global, text: &str) -> Import {
+    let (wanted, like) = text.split_once('=').expect(rt, "an import");
+    Import {
+        name: word(rt, alloc, b'I'),
+        sig: sig(rt, alloc, wanted),
+        constraint: Constraint::Ranges {
+            atoms: Many::new(alloc),
+            star: true,
+        },
+        like: typed(rt, alloc, like.as_bytes()),
+        by: Many::new(alloc),
     }
+}
+
+// Modules, and behind `~` the first spec that isn't covered, or nothing.
+const MODULES: &str = "\
+t.ui:xtyF=uitb:yfxb~
+t.ui:xtyF=ui:yfxb~0
+t.ui:xtyF=tb:yfxb~1
+t.ui:xtyF=tbub:yfxb~1
+t.ui:xtyF=tbui:xb~3
+t.ui:xtyF=tbui:xiyf~2
+t.ui:xtyF=tbui:xtyf~2
+t.ui:xtyF=tb:~1
+t.uL:=tbul:~
+t.uL:=tbuL:~1
+t.ui:xLyOzP=tbui:xlyozp~
+t.ui:xLyOzP=tbui:xlyozf~4
+:xaytzL=:xaytzL~
+:xayt=:xtyt~0";
+
+fn check_module(rt: &impl Abort, alloc: Global, line: &str) {
+    let (text, want) = line.split_once('~').expect(rt, "a row");
+    let module = module(rt, alloc, text);
+    assert!(rt; module.sig.types.len() < 10 && module.sig.vals.len() < 10);
+    assert_eq!(rt; covers(&module).err(), want.parse::<u32>().ok());
 }
 
 #[test]
-fn signatures(rt: HostRuntime) -> Result<(), Fail> {
-    let m = Make(rt.alloc());
-    let shapes = [
-        of_pairs(b"t.ui", b"xtyF", b"uitb", b"yfxb", None),
-        of_pairs(b"t.ui", b"xtyF", b"ui", b"yfxb", Some(0)),
-        of_pairs(b"t.ui", b"xtyF", b"tb", b"yfxb", Some(1)),
-        of_pairs(b"t.ui", b"xtyF", b"tbub", b"yfxb", Some(1)),
-        of_pairs(b"t.ui", b"xtyF", b"tbui", b"xb", Some(3)),
-        of_pairs(b"t.ui", b"xtyF", b"tbui", b"xiyf", Some(2)),
-        of_pairs(b"t.ui", b"xtyF", b"tbui", b"xtyf", Some(2)),
-        of_pairs(b"t.ui", b"xtyF", b"tb", b"", Some(1)),
-        of_pairs(b"t.uL", b"", b"tbul", b"", None),
-        of_pairs(b"t.uL", b"", b"tbuL", b"", Some(1)),
-        of_pairs(b"t.ui", b"xLyOzP", b"tbui", b"xlyozp", None),
-        of_pairs(b"t.ui", b"xLyOzP", b"tbui", b"xlyozf", Some(4)),
-        of_pairs(b"", b"xaytzL", b"", b"xaytzL", None),
-        of_pairs(b"", b"xayt", b"", b"xtyt", Some(0)),
-    ];
-    for shape in shapes {
-        let module = m.module(m.sig(shape.types, shape.vals), shape.own, shape.fields)?;
-        assert_eq!(rt; uncovered(&module), shape.want);
+fn signatures(rt: HostRuntime) {
+    for line in MODULES.lines() {
+        check_module(&rt, rt.alloc(), line);
     }
-    Ok(())
 }
 
-// The first type without a likespec. The signatures here are short.
-fn missing(import: &Import) -> Option<u32> {
-    if import.sig.types.len() < 10 {
-        like_missing(import)
-    } else {
-        Some(99)
-    }
+// Imports, and behind `~` the first type without a likespec, or nothing.
+const IMPORTS: &str = "\
+t.u.:xt=uitb~
+t.u.:xt=ti~1
+t.:xt=ui~0
+uit.:xt=~1
+ui:xt=~";
+
+fn check_import(rt: &impl Abort, alloc: Global, line: &str) {
+    let (text, want) = line.split_once('~').expect(rt, "a row");
+    let import = import(rt, alloc, text);
+    assert!(rt; import.sig.types.len() < 10);
+    assert_eq!(rt; like_missing(&import), want.parse::<u32>().ok());
 }
 
 #[test]
-fn likespecs(rt: HostRuntime) -> Result<(), Fail> {
-    let m = Make(rt.alloc());
-    let rows = [
-        of_pairs(b"t.u.", b"", b"uitb", b"", None),
-        of_pairs(b"t.u.", b"", b"ti", b"", Some(1)),
-        of_pairs(b"t.", b"", b"ui", b"", Some(0)),
-        of_pairs(b"uit.", b"", b"", b"", Some(1)),
-        of_pairs(b"ui", b"", b"", b"", None),
-    ];
-    for row in rows {
-        let import = m.import(row.types, row.own)?;
-        assert_eq!(rt; missing(&import), row.want);
+fn likespecs(rt: HostRuntime) {
+    for line in IMPORTS.lines() {
+        check_import(&rt, rt.alloc(), line);
     }
-    Ok(())
 }

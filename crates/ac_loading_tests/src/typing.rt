@@ -1,31 +1,28 @@
-// Types of 4,096 parts, and of more.
+// Types of 4,096 parts, and of more. Want of memory ends the test.
 
 use ac_check::{CheckFault, type_of};
 use ac_terms::{Env, Home, Term};
-use ac_types::{Box, Many, Memory, Ty, both, ty_eq};
+use ac_types::{Box, Many, Ty, ty_eq};
 use std::alloc::Global;
+use std::process::Abort;
 
-fn boxed(alloc: Global, ty: Result<Ty, Memory>) -> Result<Box<Ty>, Memory> {
-    Box::new(alloc, ty?)
+fn boxed(rt: &impl Abort, alloc: Global, ty: Ty) -> Box<Ty> {
+    Box::new(alloc, ty).expect(rt, "memory")
 }
 
 // The type of functions from a type to itself.
-fn doubled(alloc: Global, ty: Ty) -> Result<Ty, Memory> {
-    let from = boxed(alloc, ty.copy(alloc));
-    both(from, boxed(alloc, Ok(ty))).map(|(from, to)| Ty::Fun(from, to))
+fn doubled(rt: &impl Abort, alloc: Global, ty: Ty) -> Ty {
+    let from = boxed(rt, alloc, ty.copy(alloc).expect(rt, "memory"));
+    Ty::Fun(from, boxed(rt, alloc, ty))
 }
 
 // A list of functions: a type of 4,096 parts.
-fn wide(alloc: Global) -> Result<Ty, Memory> {
+fn wide(rt: &impl Abort, alloc: Global) -> Ty {
     let mut ty = Ty::Int;
     for _ in 0..11u8 {
-        ty = doubled(alloc, ty)?;
+        ty = doubled(rt, alloc, ty);
     }
-    boxed(alloc, Ok(ty)).map(Ty::List)
-}
-
-fn present(alloc: Global, item: Result<Term, Memory>) -> Result<Term, Memory> {
-    Box::new(alloc, item?).map(Term::Present)
+    Ty::List(boxed(rt, alloc, ty))
 }
 
 // The type of a term without variables, behind no definitions.
@@ -36,31 +33,24 @@ fn type_alone(alloc: Global, term: &Term) -> Result<Ty, CheckFault> {
     type_of(alloc, &env, Home::Main, 0, 0, &Many::new(alloc), term)
 }
 
-fn typed(alloc: Global, term: Result<Term, Memory>) -> Result<Ty, CheckFault> {
-    match term {
-        Ok(term) => type_alone(alloc, &term),
-        Err(Memory) => Err(CheckFault::Memory),
-    }
-}
-
-fn is_wide(alloc: Global, found: Result<Ty, CheckFault>) -> bool {
-    match (found, wide(alloc)) {
-        (Ok(found), Ok(ty)) => ty_eq(&found, &ty),
-        _ => false,
-    }
-}
-
-fn is_ill_typed(found: Result<Ty, CheckFault>) -> bool {
-    matches!(found, Err(CheckFault::IllTyped))
+fn check_ill_typed(rt: &impl Abort, alloc: Global, term: Term) {
+    assert!(rt; matches!(type_alone(alloc, &term), Err(CheckFault::IllTyped)));
 }
 
 #[test]
 fn as_many_parts_as_a_type_may_have(rt: HostRuntime) {
-    let alloc = rt.alloc();
-    let nil = typed(alloc, wide(alloc).map(Term::Nil));
-    assert!(rt; is_wide(alloc, nil));
-    let listed = boxed(alloc, wide(alloc)).map(|item| Term::Nil(Ty::List(item)));
-    assert!(rt; is_ill_typed(typed(alloc, listed)));
-    let present = present(alloc, wide(alloc).map(Term::Nil));
-    assert!(rt; is_ill_typed(typed(alloc, present)));
+    let nil = Term::Nil(wide(&rt, rt.alloc()));
+    let found = type_alone(rt.alloc(), &nil).expect(&rt, "a type");
+    drop(nil);
+    let ty = wide(&rt, rt.alloc());
+    assert!(rt; ty_eq(&found, &ty));
+}
+
+#[test]
+fn more_parts_than_a_type_may_have(rt: HostRuntime) {
+    let listed = boxed(&rt, rt.alloc(), wide(&rt, rt.alloc()));
+    check_ill_typed(&rt, rt.alloc(), Term::Nil(Ty::List(listed)));
+    let nil = Term::Nil(wide(&rt, rt.alloc()));
+    let item = Box::new(rt.alloc(), nil).expect(&rt, "memory");
+    check_ill_typed(&rt, rt.alloc(), Term::Present(item));
 }

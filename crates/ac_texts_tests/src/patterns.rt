@@ -1,5 +1,5 @@
-// Texts with the form of their pattern and how many signs are left behind it; `!` with the signs
-// left where there is none.
+// Texts, and behind `~` the form of their pattern and how many signs are left behind it; `!` with
+// the signs left where there is none.
 
 use ac_expressions::pattern;
 use ac_lexer::{Token, lex};
@@ -7,55 +7,62 @@ use ac_page::Page;
 use ac_syntax::{SPatKind, Sign, Stop, signs};
 use ac_types::exceptions::{FAILURE, NOT_FOUND};
 use std::alloc::Global;
+use std::process::Abort;
 
-const PATTERNS: [(&[u8], &[u8]); 22] = [
-    (b"_", b"wild 0"),
-    (b"(x : int)", b"var 0"),
-    (b"12 13", b"int 1"),
-    (b"-12", b"int 0"),
-    (b"- x", b"!1"),
-    (b"\"abc\"", b"str 0"),
-    (b"true", b"bool 0"),
-    (b"()", b"unit 0"),
-    (b"[]", b"nil 0"),
-    (b"[ 1", b"!1"),
-    (b"None", b"none 0"),
-    (b"Not_found", b"exn2 0"),
-    (b"Failure _", b"exn0 of 0"),
-    (b"Some (_)", b"some 0"),
-    (b"Some Some _", b"!2"),
-    (b"_ :: _ :: []", b"cons 0"),
-    (b"Some _ :: []", b"cons 0"),
-    (b"(_)", b"wild 0"),
-    (b"(_, 1, \"a\")", b"tuple 0"),
-    (b"(_, )", b"!1"),
-    (b"(_ _)", b"!2"),
-    (b"x", b"!1"),
-];
+const PATTERNS: &str = r#"_~wild 0
+(x : int)~var 0
+12 13~int 1
+-12~int 0
+- x~!1
+"abc"~str 0
+true~bool 0
+()~unit 0
+[]~nil 0
+[ 1~!1
+None~none 0
+Not_found~exn2 0
+Failure _~exn0 of 0
+Some (_)~some 0
+Some Some _~!2
+_ :: _ :: []~cons 0
+Some _ :: []~cons 0
+(_)~wild 0
+(_, 1, "a")~tuple 0
+(_, )~!1
+(_ _)~!2
+x~!1"#;
 
-fn form(kind: &SPatKind) -> &'static [u8] {
+fn exception(code: u8, of: bool) -> &'static str {
+    if code == FAILURE && of {
+        "exn0 of"
+    } else if code == NOT_FOUND && !of {
+        "exn2"
+    } else {
+        "exn"
+    }
+}
+
+fn form(kind: &SPatKind) -> &'static str {
     match kind {
-        SPatKind::Wild => b"wild",
-        SPatKind::Var(_, _) => b"var",
-        SPatKind::Int(_) => b"int",
-        SPatKind::Bool(_) => b"bool",
-        SPatKind::Str(_) => b"str",
-        SPatKind::Unit => b"unit",
-        SPatKind::Tuple(_) => b"tuple",
-        SPatKind::Nil => b"nil",
-        SPatKind::Cons(_, _) => b"cons",
-        SPatKind::Absent => b"none",
-        SPatKind::Present(_) => b"some",
-        SPatKind::Exn(FAILURE, Some(_)) => b"exn0 of",
-        SPatKind::Exn(NOT_FOUND, None) => b"exn2",
-        SPatKind::Exn(_, _) => b"exn",
+        SPatKind::Wild => "wild",
+        SPatKind::Var(_, _) => "var",
+        SPatKind::Int(_) => "int",
+        SPatKind::Bool(_) => "bool",
+        SPatKind::Str(_) => "str",
+        SPatKind::Unit => "unit",
+        SPatKind::Tuple(_) => "tuple",
+        SPatKind::Nil => "nil",
+        SPatKind::Cons(_, _) => "cons",
+        SPatKind::Absent => "none",
+        SPatKind::Present(_) => "some",
+        SPatKind::Exn(code, of) => exception(*code, of.is_some()),
     }
 }
 
 fn write_pattern(alloc: Global, page: &mut Page, signs: &[Sign<'_>]) {
     match pattern(alloc, signs) {
         Ok((p, rest)) => {
-            page.put(form(&p.kind));
+            page.put(form(&p.kind).as_bytes());
             page.put(b" ");
             page.number(rest.len() as u64);
         }
@@ -83,10 +90,15 @@ fn answer(alloc: Global, text: &[u8]) -> Page {
     page
 }
 
+fn check(rt: &impl Abort, alloc: Global, line: &str) {
+    let (text, want) = line.split_once('~').expect(rt, "a row");
+    let page = answer(alloc, text.as_bytes());
+    assert_eq!(rt; page.bytes(), Some(want.as_bytes()));
+}
+
 #[test]
 fn texts_and_their_patterns(rt: HostRuntime) {
-    for (text, want) in PATTERNS {
-        let page = answer(rt.alloc(), text);
-        assert_eq!(rt; page.bytes(), Some(want));
+    for line in PATTERNS.lines() {
+        check(&rt, rt.alloc(), line);
     }
 }

@@ -1,190 +1,154 @@
 // Types and signatures as texts: each node in parentheses with its place behind `@`, then the
-// number of the token after it;
-// `!` with a place where the text begins with none.
+// number of the token after it; `!` with a place where the text begins with none.
 
 use ac_lexer::{Token, lex};
 use ac_page::Page;
 use ac_syntax::{ParseFault, SName, SSig, SSpec, SType, STypeKind, deep, parse_sig, parse_type};
 use ac_types::Many;
 use std::alloc::Global;
-use std::test::Fail;
+use std::process::Abort;
+
+// Texts, and behind `~` what stands there.
+const TYPES: &str = "\
+int * t list -> M.u~(->@0 (*@0 int@0 (list@6 t@6)) (.@16 M@16 u@18)) 8
+int~int@0 1
+bool~bool@0 1
+string~string@0 1
+unit~unit@0 1
+exn~exn@0 1
+  t'~t'@2 1
+M . t~(.@0 M@0 t@4) 3
+int list~(list@0 int@0) 2
+int option~(option@0 int@0) 2
+t list option list~(list@0 (option@0 (list@0 t@0))) 4
+M.t list~(list@0 (.@0 M@0 t@2)) 4
+int * int~(*@0 int@0 int@6) 3
+a * b * c~(*@0 a@0 b@4 c@8) 5
+(a * b) * c~(*@0 (*@1 a@1 b@5) c@10) 7
+a * (b * c)~(*@0 a@0 (*@5 b@5 c@9)) 7
+a list * b option~(*@0 (list@0 a@0) (option@9 b@9)) 5
+a * b list~(*@0 a@0 (list@4 b@4)) 4
+(a * b) list~(list@0 (*@1 a@1 b@5)) 6
+a -> b~(->@0 a@0 b@5) 3
+a -> b -> c~(->@0 a@0 (->@5 b@5 c@10)) 5
+(a -> b) -> c~(->@0 (->@1 a@1 b@6) c@12) 7
+a -> (b -> c)~(->@0 a@0 (->@6 b@6 c@11)) 7
+a * b -> c~(->@0 (*@0 a@0 b@4) c@9) 5
+a -> b * c~(->@0 a@0 (*@5 b@5 c@9)) 5
+a * (b -> c)~(*@0 a@0 (->@5 b@5 c@10)) 7
+a -> b list~(->@0 a@0 (list@5 b@5)) 4
+(a -> b) list~(list@0 (->@1 a@1 b@6)) 6
+(int)~int@1 3
+((int)) list~(list@0 int@2) 6
+int, int~int@0 1
+int -> t)~(->@0 int@0 t@7) 3
+int t~int@0 1
+t.u~t@0 1
+~!0
+int *~!4
+* int~!0
+int * * int~!6
+int ->~!4
+-> int~!0
+int -> -> int~!7
+int -> * int~!7
+int * -> int~!6
+list~!0
+list int~!0
+int * list~!6
+()~!1
+(int~!1
+(int]~!4
+(int, int)~!4
+)~!0
+[int]~!0
+M~!0
+M.~!0
+M.N.t~!0
+M.int~!0";
 
 // Texts, the token at which to begin, and what stands there.
-const TYPES: [(&[u8], u32, &[u8]); 60] = [
-    (
-        b"int * t list -> M.u",
-        0,
-        b"(->@0 (*@0 int@0 (list@6 t@6)) (.@16 M@16 u@18)) 8",
-    ),
-    (b"int", 0, b"int@0 1"),
-    (b"bool", 0, b"bool@0 1"),
-    (b"string", 0, b"string@0 1"),
-    (b"unit", 0, b"unit@0 1"),
-    (b"exn", 0, b"exn@0 1"),
-    (b"  t'", 0, b"t'@2 1"),
-    (b"M . t", 0, b"(.@0 M@0 t@4) 3"),
-    (b"int list", 0, b"(list@0 int@0) 2"),
-    (b"int option", 0, b"(option@0 int@0) 2"),
-    (
-        b"t list option list",
-        0,
-        b"(list@0 (option@0 (list@0 t@0))) 4",
-    ),
-    (b"M.t list", 0, b"(list@0 (.@0 M@0 t@2)) 4"),
-    (b"int * int", 0, b"(*@0 int@0 int@6) 3"),
-    (b"a * b * c", 0, b"(*@0 a@0 b@4 c@8) 5"),
-    (b"(a * b) * c", 0, b"(*@0 (*@1 a@1 b@5) c@10) 7"),
-    (b"a * (b * c)", 0, b"(*@0 a@0 (*@5 b@5 c@9)) 7"),
-    (
-        b"a list * b option",
-        0,
-        b"(*@0 (list@0 a@0) (option@9 b@9)) 5",
-    ),
-    (b"a * b list", 0, b"(*@0 a@0 (list@4 b@4)) 4"),
-    (b"(a * b) list", 0, b"(list@0 (*@1 a@1 b@5)) 6"),
-    (b"a -> b", 0, b"(->@0 a@0 b@5) 3"),
-    (b"a -> b -> c", 0, b"(->@0 a@0 (->@5 b@5 c@10)) 5"),
-    (b"(a -> b) -> c", 0, b"(->@0 (->@1 a@1 b@6) c@12) 7"),
-    (b"a -> (b -> c)", 0, b"(->@0 a@0 (->@6 b@6 c@11)) 7"),
-    (b"a * b -> c", 0, b"(->@0 (*@0 a@0 b@4) c@9) 5"),
-    (b"a -> b * c", 0, b"(->@0 a@0 (*@5 b@5 c@9)) 5"),
-    (b"a * (b -> c)", 0, b"(*@0 a@0 (->@5 b@5 c@10)) 7"),
-    (b"a -> b list", 0, b"(->@0 a@0 (list@5 b@5)) 4"),
-    (b"(a -> b) list", 0, b"(list@0 (->@1 a@1 b@6)) 6"),
-    (b"(int)", 0, b"int@1 3"),
-    (b"((int)) list", 0, b"(list@0 int@2) 6"),
+const TYPES_BEHIND: [(&[u8], u32, &[u8]); 4] = [
     (b"x : int * t = 5", 2, b"(*@4 int@4 t@10) 5"),
-    (b"int, int", 0, b"int@0 1"),
-    (b"int -> t)", 0, b"(->@0 int@0 t@7) 3"),
-    (b"int t", 0, b"int@0 1"),
-    (b"t.u", 0, b"t@0 1"),
     (b"int", 1, b"!0"),
     (b"int", 4294967295, b"!0"),
-    (b"", 0, b"!0"),
-    (b"int *", 0, b"!4"),
-    (b"* int", 0, b"!0"),
-    (b"int * * int", 0, b"!6"),
-    (b"int ->", 0, b"!4"),
-    (b"-> int", 0, b"!0"),
-    (b"int -> -> int", 0, b"!7"),
-    (b"int -> * int", 0, b"!7"),
-    (b"int * -> int", 0, b"!6"),
-    (b"list", 0, b"!0"),
-    (b"list int", 0, b"!0"),
-    (b"int * list", 0, b"!6"),
-    (b"()", 0, b"!1"),
-    (b"(int", 0, b"!1"),
-    (b"(int]", 0, b"!4"),
-    (b"(int, int)", 0, b"!4"),
-    (b")", 0, b"!0"),
-    (b"[int]", 0, b"!0"),
-    (b"M", 0, b"!0"),
-    (b"M.", 0, b"!0"),
-    (b"M.N.t", 0, b"!0"),
-    (b"M.int", 0, b"!0"),
     (b"5 \"a\" _ rec", 3, b"!8"),
 ];
 
-const SIGNATURES: [(&[u8], u32, &[u8]); 26] = [
-    (b"sig end", 0, b"(sig@0) 2"),
-    (b"sig type t end", 0, b"(sig@0 type t@9) 4"),
-    (
-        b"sig type t = int list end",
-        0,
-        b"(sig@0 type t@9 = (list@13 int@13)) 7",
-    ),
-    (b"sig val x : int end", 0, b"(sig@0 val x@8 : int@12) 6"),
-    (
-        b"sig val f : t -> M.u type t type u = t * t val y : u end",
-        0,
-        b"(sig@0 val f@8 : (->@12 t@12 (.@17 M@17 u@19)) type t@26 type u@33 = (*@37 t@37 t@41) val y@47 : u@51) 22",
-    ),
-    (
-        b"sig val x : int val x : bool end",
-        0,
-        b"(sig@0 val x@8 : int@12 val x@20 : bool@24) 10",
-    ),
+const SIGNATURES: &str = "\
+sig end~(sig@0) 2
+sig type t end~(sig@0 type t@9) 4
+sig type t = int list end~(sig@0 type t@9 = (list@13 int@13)) 7
+sig val x : int end~(sig@0 val x@8 : int@12) 6
+sig val f : t -> M.u type t type u = t * t val y : u end~(sig@0 val f@8 : (->@12 t@12 (.@17 M@17 u@19)) type t@26 type u@33 = (*@37 t@37 t@41) val y@47 : u@51) 22
+sig val x : int val x : bool end~(sig@0 val x@8 : int@12 val x@20 : bool@24) 10
+sig end end~(sig@0) 2
+~!0
+sig~!0
+end~!0
+struct end~!0
+sig type end~!9
+sig type T end~!9
+sig type t = end~!13
+sig type t : int end~!11
+sig type t~!9
+sig x : int end~!4
+sig val x int end~!10
+sig val x = int end~!10
+sig val : int end~!8
+sig val x : end~!12
+sig val x : int, val y : int end~!15
+sig sig end end~!4";
+
+const SIGNATURES_BEHIND: [(&[u8], u32, &[u8]); 3] = [
     (b"module M : sig end = struct end", 3, b"(sig@11) 5"),
-    (b"sig end end", 0, b"(sig@0) 2"),
     (b"sig end", 1, b"!4"),
     (b"sig end", 2, b"!4"),
-    (b"", 0, b"!0"),
-    (b"sig", 0, b"!0"),
-    (b"end", 0, b"!0"),
-    (b"struct end", 0, b"!0"),
-    (b"sig type end", 0, b"!9"),
-    (b"sig type T end", 0, b"!9"),
-    (b"sig type t = end", 0, b"!13"),
-    (b"sig type t : int end", 0, b"!11"),
-    (b"sig type t", 0, b"!9"),
-    (b"sig x : int end", 0, b"!4"),
-    (b"sig val x int end", 0, b"!10"),
-    (b"sig val x = int end", 0, b"!10"),
-    (b"sig val : int end", 0, b"!8"),
-    (b"sig val x : end", 0, b"!12"),
-    (b"sig val x : int, val y : int end", 0, b"!15"),
-    (b"sig sig end end", 0, b"!4"),
 ];
 
-// Texts of pieces, each so many times, with the number of the token after the type that begins
-// there.
-const HEIGHTS: [(&[(&[u8], u32)], Option<u32>); 14] = [
-    (&[(b"int -> ", 99), (b"int", 1)], Some(199)),
-    (&[(b"int -> ", 100), (b"int", 1)], None),
-    (&[(b"int", 1), (b" list", 99)], Some(100)),
-    (&[(b"int", 1), (b" option", 100)], None),
-    (&[(b"(", 99), (b"int", 1), (b" * int)", 99)], Some(397)),
-    (&[(b"(", 100), (b"int", 1), (b" * int)", 100)], None),
-    (&[(b"(int * ", 99), (b"int", 1), (b")", 99)], Some(397)),
-    (&[(b"(int * ", 100), (b"int", 1), (b")", 100)], None),
-    (&[(b"(", 99), (b"int", 1), (b" -> int)", 99)], Some(397)),
-    (&[(b"(", 100), (b"int", 1), (b" -> int)", 100)], None),
-    (&[(b"(", 200), (b"int", 1), (b")", 200)], Some(401)),
-    (&[(b"int", 1), (b" * int", 15)], Some(31)),
-    (&[(b"int", 1), (b" * int", 16)], Some(33)),
-    (&[(b"int", 1), (b" * int", 200)], Some(401)),
-];
+// Texts of pieces, each behind how many times it stands there, and behind `~` the number of the
+// token after the type, or nothing.
+const HEIGHTS: &str = "\
+99%int -> |1%int~199
+100%int -> |1%int~
+1%int|99% list~100
+1%int|100% option~
+99%(|1%int|99% * int)~397
+100%(|1%int|100% * int)~
+99%(int * |1%int|99%)~397
+100%(int * |1%int|100%)~
+99%(|1%int|99% -> int)~397
+100%(|1%int|100% -> int)~
+200%(|1%int|200%)~401
+1%int|15% * int~31
+1%int|16% * int~33
+1%int|200% * int~401";
 
-const SIGNATURE_HEIGHTS: [(&[(&[u8], u32)], Option<u32>); 4] = [
-    (
-        &[(b"sig type t = ", 1), (b"int -> ", 99), (b"int end", 1)],
-        Some(204),
-    ),
-    (
-        &[(b"sig type t = ", 1), (b"int -> ", 100), (b"int end", 1)],
-        None,
-    ),
-    (
-        &[(b"sig val x : int", 1), (b" list", 99), (b" end", 1)],
-        Some(105),
-    ),
-    (
-        &[(b"sig val x : int", 1), (b" list", 100), (b" end", 1)],
-        None,
-    ),
-];
+const SIGNATURE_HEIGHTS: &str = "\
+1%sig type t = |99%int -> |1%int end~204
+1%sig type t = |100%int -> |1%int end~
+1%sig val x : int|99% list|1% end~105
+1%sig val x : int|100% list|1% end~";
 
-// Texts of pieces, with the place at which too many are unclosed.
-const OPENERS: [(&[(&[u8], u32)], Option<u32>); 18] = [
-    (&[], None),
-    (&[(b"(", 200)], None),
-    (&[(b"(", 201)], Some(200)),
-    (&[(b"(", 300)], Some(200)),
-    (&[(b"[", 201)], Some(200)),
-    (&[(b"sig ", 200)], None),
-    (&[(b"sig ", 201)], Some(800)),
-    (&[(b"struct ", 201)], Some(1400)),
-    (&[(b"match ", 201)], Some(1200)),
-    (&[(b"try ", 201)], Some(800)),
-    (&[(b"let fun if type list ", 201)], None),
-    (&[(b")", 3), (b"(", 200)], None),
-    (&[(b")]", 3), (b" end ", 1), (b"(", 201)], Some(211)),
-    (&[(b"(", 200), (b")", 1), (b"(", 1)], None),
-    (&[(b"(", 200), (b")", 1), (b"(", 2)], Some(202)),
-    (&[(b"(]", 300)], None),
-    (&[(b"match end ", 300)], None),
-    (&[(b"(", 199), (b"x \"(((\"", 1), (b"(", 1)], None),
-];
+// Texts of pieces, and behind `~` the place at which too many are unclosed, or nothing.
+const OPENERS: &str = r#"0%~
+200%(~
+201%(~200
+300%(~200
+201%[~200
+200%sig ~
+201%sig ~800
+201%struct ~1400
+201%match ~1200
+201%try ~800
+201%let fun if type list ~
+3%)|200%(~
+3%)]|1% end |201%(~211
+200%(|1%)|1%(~
+200%(|1%)|2%(~202
+300%(]~
+300%match end ~
+199%(|1%x "((("|1%(~"#;
 
 fn write_leaf(page: &mut Page, text: &[u8], at: u32) {
     page.put(text);
@@ -337,14 +301,17 @@ fn sig_page(alloc: Global, tokens: &[Token], from: u32) -> Page {
     page
 }
 
-fn built(alloc: Global, pieces: &[(&[u8], u32)]) -> Result<Many<Token>, Fail> {
+// The tokens of a text of pieces. Want of memory ends the test.
+fn built(rt: &impl Abort, alloc: Global, pieces: &str) -> Many<Token> {
     let mut text = Vec::new(alloc);
-    for (piece, times) in pieces {
-        for _ in 0..*times {
-            text.extend_from_slice(piece)?;
+    for piece in pieces.split('|') {
+        let (times, piece) = piece.split_once('%').expect(rt, "a piece");
+        for _ in 0..times.parse::<u32>().expect(rt, "a number") {
+            text.extend_from_slice(piece.as_bytes())
+                .expect(rt, "memory");
         }
     }
-    Ok(lex(alloc, text.as_slice())?)
+    lex(alloc, text.as_slice()).expect(rt, "tokens")
 }
 
 fn type_end(alloc: Global, tokens: &[Token]) -> Option<u32> {
@@ -355,49 +322,73 @@ fn sig_end(alloc: Global, tokens: &[Token]) -> Option<u32> {
     sig_at(alloc, tokens, 0).ok().map(|(_, number)| number)
 }
 
-#[test]
-fn types(rt: HostRuntime) -> Result<(), Fail> {
-    for (text, from, want) in TYPES {
-        let tokens = lex(rt.alloc(), text)?;
-        let page = type_page(rt.alloc(), tokens.as_slice(), from);
-        assert_eq!(rt; page.bytes(), Some(want));
-    }
-    Ok(())
+fn check_type(rt: &impl Abort, alloc: Global, text: &[u8], from: u32, want: &[u8]) {
+    let tokens = lex(alloc, text).expect(rt, "tokens");
+    let page = type_page(alloc, tokens.as_slice(), from);
+    assert_eq!(rt; page.bytes(), Some(want));
 }
 
 #[test]
-fn signatures(rt: HostRuntime) -> Result<(), Fail> {
-    for (text, from, want) in SIGNATURES {
-        let tokens = lex(rt.alloc(), text)?;
-        let page = sig_page(rt.alloc(), tokens.as_slice(), from);
-        assert_eq!(rt; page.bytes(), Some(want));
+fn types(rt: HostRuntime) {
+    for line in TYPES.lines() {
+        let (text, want) = line.split_once('~').expect(&rt, "a row");
+        check_type(&rt, rt.alloc(), text.as_bytes(), 0, want.as_bytes());
     }
-    Ok(())
 }
 
 #[test]
-fn heights(rt: HostRuntime) -> Result<(), Fail> {
-    for (pieces, want) in HEIGHTS {
-        let tokens = built(rt.alloc(), pieces)?;
-        assert_eq!(rt; type_end(rt.alloc(), tokens.as_slice()), want);
+fn types_behind_other_tokens(rt: HostRuntime) {
+    for (text, from, want) in TYPES_BEHIND {
+        check_type(&rt, rt.alloc(), text, from, want);
     }
-    Ok(())
+}
+
+fn check_sig(rt: &impl Abort, alloc: Global, text: &[u8], from: u32, want: &[u8]) {
+    let tokens = lex(alloc, text).expect(rt, "tokens");
+    let page = sig_page(alloc, tokens.as_slice(), from);
+    assert_eq!(rt; page.bytes(), Some(want));
 }
 
 #[test]
-fn heights_in_signatures(rt: HostRuntime) -> Result<(), Fail> {
-    for (pieces, want) in SIGNATURE_HEIGHTS {
-        let tokens = built(rt.alloc(), pieces)?;
-        assert_eq!(rt; sig_end(rt.alloc(), tokens.as_slice()), want);
+fn signatures(rt: HostRuntime) {
+    for line in SIGNATURES.lines() {
+        let (text, want) = line.split_once('~').expect(&rt, "a row");
+        check_sig(&rt, rt.alloc(), text.as_bytes(), 0, want.as_bytes());
     }
-    Ok(())
 }
 
 #[test]
-fn openers(rt: HostRuntime) -> Result<(), Fail> {
-    for (pieces, want) in OPENERS {
-        let tokens = built(rt.alloc(), pieces)?;
-        assert_eq!(rt; deep(tokens.as_slice()), want);
+fn signatures_behind_other_tokens(rt: HostRuntime) {
+    for (text, from, want) in SIGNATURES_BEHIND {
+        check_sig(&rt, rt.alloc(), text, from, want);
     }
-    Ok(())
+}
+
+#[test]
+fn heights(rt: HostRuntime) {
+    for line in HEIGHTS.lines() {
+        let (pieces, want) = line.split_once('~').expect(&rt, "a row");
+        let tokens = built(&rt, rt.alloc(), pieces);
+        let end = type_end(rt.alloc(), tokens.as_slice());
+        assert_eq!(rt; end, want.parse::<u32>().ok());
+    }
+}
+
+#[test]
+fn heights_in_signatures(rt: HostRuntime) {
+    for line in SIGNATURE_HEIGHTS.lines() {
+        let (pieces, want) = line.split_once('~').expect(&rt, "a row");
+        let tokens = built(&rt, rt.alloc(), pieces);
+        let end = sig_end(rt.alloc(), tokens.as_slice());
+        assert_eq!(rt; end, want.parse::<u32>().ok());
+    }
+}
+
+#[test]
+fn openers(rt: HostRuntime) {
+    for line in OPENERS.lines() {
+        let (pieces, want) = line.split_once('~').expect(&rt, "a row");
+        let tokens = built(&rt, rt.alloc(), pieces);
+        assert_eq!(rt; deep(tokens.as_slice()), want.parse::<u32>().ok());
+    }
 }
