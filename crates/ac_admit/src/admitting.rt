@@ -51,8 +51,14 @@ fn take_in(alloc: Global, env: &mut Env, p: &Packet, expected: &Ty) -> Result<Ad
     let value = value_renumbered(alloc, &p.value, entries.as_slice())?;
     match commit(alloc, env, more, expected, &value) {
         Ok(()) => Ok(Admitted { entries, value }),
-        Err(CheckFault::IllTyped) => Err(AdmitFault::Value),
-        Err(CheckFault::Memory) => Err(AdmitFault::Memory),
+        Err(CheckFault::IllTyped) => {
+            drop(value);
+            Err(AdmitFault::Value)
+        }
+        Err(CheckFault::Memory) => {
+            drop(value);
+            Err(AdmitFault::Memory)
+        }
     }
 }
 

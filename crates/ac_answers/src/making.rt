@@ -58,7 +58,11 @@ fn run_loaded(
         modules bytes steps (answer_of a)) }
 {
     match Session::new(alloc, loaded, steps, false) {
-        Ok(mut session) => run_session(alloc, modules, bytes, &mut session),
+        Ok(mut session) => {
+            let answer = run_session(alloc, modules, bytes, &mut session);
+            drop(session);
+            answer
+        }
         Err(_) => Err(Memory),
     }
 }

@@ -33,15 +33,15 @@ fn name_at(alloc: Global, env: &Env, i: u32) -> Result<Option<Name>, Memory> {
 // The definition comes last, under its name. Its number is answered.
 fn enter(alloc: Global, env: &mut Env, def: Def) -> Result<u32, Memory> {
     let number = env.entries.len();
-    let Ok(i) = u32::try_from(number) else {
-        return Err(Memory);
-    };
     env.entries.push(Entry {
         def,
         name: None,
         seen: Seen::Own,
         link: None,
     })?;
+    let Ok(i) = u32::try_from(number) else {
+        return Err(Memory);
+    };
     let name = name_at(alloc, env, i)?;
     let mut entries = mem::replace(&mut env.entries, Many::new(alloc)).into_vec();
     if let Some(entry) = entries.last_mut() {

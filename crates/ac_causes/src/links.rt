@@ -60,8 +60,16 @@ fn linked_entry(alloc: Global, env: &Env, entry: Entry, seen: &Seen) -> Result<E
 {
     let mut entry = entry;
     entry.link = link_of(env, &entry.def);
-    entry.seen = seen.copy(alloc)?;
-    Ok(entry)
+    match seen.copy(alloc) {
+        Ok(seen) => {
+            entry.seen = seen;
+            Ok(entry)
+        }
+        Err(memory) => {
+            drop(entry);
+            Err(memory)
+        }
+    }
 }
 
 // The link of a definition behind these entries.

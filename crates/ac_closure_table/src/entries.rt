@@ -89,12 +89,14 @@ impl Make {
     fn fields(self, letters: &[u8]) -> Made<Many<Field>> {
         let mut all = Many::new(self.0);
         for letter in letters {
-            if let Some(term) = self.term(*letter)? {
-                all.push(Field {
-                    name: self.word(b'f')?,
+            let name = self.word(b'f')?;
+            match self.term(*letter)? {
+                Some(term) => all.push(Field {
+                    name,
                     ty: Ty::Unit,
                     term,
-                })?;
+                })?,
+                None => drop(name),
             }
         }
         Ok(all)

@@ -17,8 +17,10 @@ pub fn lambda(alloc: Global, at: usize, term: Term) -> Result<Box<Term>, Fault>
     ensures { (left : Bytes) → ReadsAs expr_of result
         (given (is_lambda (expr_of term)) (Some (expr_of term, left))) left }
 {
-    if !term.is_lambda() {
-        return Err(Fault::Misfit { at });
+    if term.is_lambda() {
+        Ok(Box::new(alloc, term)?)
+    } else {
+        drop(term);
+        Err(Fault::Misfit { at })
     }
-    Ok(Box::new(alloc, term)?)
 }

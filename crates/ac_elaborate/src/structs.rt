@@ -89,14 +89,23 @@ impl<'a> Items<'a> {
     {
         let Items { abbrevs, fields } = self;
         let Abbrevs { outer, types } = abbrevs;
-        let mut fields = fields;
-        fields.push(field(alloc, name, ty, body, &outer)?)?;
-        let outer = outer.with_field(alloc, name)?;
+        let field = field(alloc, name, ty, body, &outer)?;
+        let fields = field_more(fields, field);
+        let (fields, outer) = both(fields, outer.with_field(alloc, name))?;
         Ok(Items {
             abbrevs: Abbrevs { outer, types },
             fields,
         })
     }
+}
+
+// These fields, and behind them this one.
+fn field_more(fields: Many<Field>, field: Field) -> Result<Many<Field>, Memory>
+    ensures { IfOk result (λ r. r ≡ fields ++ field ∷ []) }
+{
+    let mut fields = fields;
+    fields.push(field)?;
+    Ok(fields)
 }
 
 // A field of a struct.

@@ -1,17 +1,18 @@
 // Types with names: abbreviations, and the specs of signatures.
 
-ghost use Rattle.std.specs.Prelude.{◌≡◌, ◌++◌, [], map, IfOk};
+ghost use Rattle.std.specs.Prelude.{◌≡◌, ◌∷◌, ◌++◌, [], map, None, Some, IfOk};
+ghost use Rattle.ac_types.specs.Types.{TMine};
 ghost use Rattle.ac_types.specs.ReadTypes.{typ_of, typed_of, sig_type_of, sig_of};
 ghost use Rattle.ac_syntax.specs.ReadTrees.{name_of, type_of, abbrev_of, abbrevs_of, spec_of, sig_tree_of};
 ghost use Rattle.ac_syntax.specs.Trees.{AbstractSpec, ManifestSpec, ValSpec};
-ghost use Rattle.ac_scopes.specs.Scopes.{each_in};
+ghost use Rattle.ac_scopes.specs.Scopes.{with_type, each_in};
 ghost use Rattle.ac_scopes.specs.Written.{type_in};
 ghost use Rattle.ac_scopes.specs.Definitions.{after_abbrev, after_spec, abbrev_type, spec_type, spec_value, signature_in};
 ghost use Rattle.ac_outer.specs.Fronts.{front_of, outer_of};
 
 use ac_outer::{Front, Outer, Scope, ty};
 use ac_syntax::{SAbbrev, SName, SSig, SSpec, SType};
-use ac_types::{Many, Memory, Sig, SigType, Ty, TyField};
+use ac_types::{Many, Memory, Sig, SigType, Ty, TyField, Word, both};
 use std::alloc::Global;
 
 /// A type where no variables are in scope.
@@ -53,16 +54,27 @@ impl<'a> Abbrevs<'a> {
             (abbrev_of a.now)) }
     {
         let Abbrevs { outer, types } = self;
-        let mut types = types;
         let ty = outer_ty(alloc, &a.ty, &outer)?;
-        let name = a.name.word.copy(alloc)?;
-        types.push(TyField {
-            name,
-            ty: ty.copy(alloc)?,
-        })?;
-        let outer = outer.with_type(alloc, &a.name, ty)?;
+        let types = typed_more(alloc, types, &a.name.word, &ty);
+        let (types, outer) = both(types, outer.with_type(alloc, &a.name, ty))?;
         Ok(Abbrevs { outer, types })
     }
+}
+
+// These types, and behind them a copy of this one with its name.
+fn typed_more(
+    alloc: Global,
+    types: Many<TyField>,
+    name: &Word,
+    ty: &Ty,
+) -> Result<Many<TyField>, Memory>
+    ensures { IfOk result (λ r. map typed_of r ≡ map typed_of types
+        ++ record { name = name.now; ty = typ_of ty.now } ∷ []) }
+{
+    let mut types = types;
+    let typed = both(name.copy(alloc), ty.copy(alloc)).map(|(name, ty)| TyField { name, ty })?;
+    types.push(typed)?;
+    Ok(types)
 }
 
 /// The types of a likespec.
@@ -107,7 +119,6 @@ impl<'a> Specs<'a> {
         }
     }
 
-    #[tactic(auto, using(ac_types::proofs::SizeLaws::type_laws))]
     fn with_abstract(self, alloc: Global, name: &SName) -> Result<Specs<'a>, Memory>
         ensures outer { IfOk result (λ r. outer_of r.outer ≡
             after_spec (outer_of self.entry.outer) (AbstractSpec (name_of name.now))) }
@@ -116,14 +127,8 @@ impl<'a> Specs<'a> {
         ensures vals { IfOk result (λ r. r.vals ≡ self.entry.vals) }
     {
         let Specs { outer, types, vals } = self;
-        let mut types = types;
-        let word = name.word.copy(alloc)?;
-        types.push(SigType {
-            name: word,
-            manifest: None,
-        })?;
-        let own = Ty::Mine(name.word.copy(alloc)?);
-        let outer = outer.with_type(alloc, name, own)?;
+        let types = abstract_more(alloc, types, &name.word);
+        let (types, outer) = both(types, with_own(alloc, outer, name))?;
         Ok(Specs { outer, types, vals })
     }
 
@@ -135,12 +140,9 @@ impl<'a> Specs<'a> {
         ensures vals { IfOk result (λ r. r.vals ≡ self.entry.vals) }
     {
         let Specs { outer, types, vals } = self;
-        let mut types = types;
         let ty = outer_ty(alloc, &a.ty, &outer)?;
-        let name = a.name.word.copy(alloc)?;
-        let manifest = Some(ty.copy(alloc)?);
-        types.push(SigType { name, manifest })?;
-        let outer = outer.with_type(alloc, &a.name, ty)?;
+        let types = manifest_more(alloc, types, &a.name.word, &ty);
+        let (types, outer) = both(types, outer.with_type(alloc, &a.name, ty))?;
         Ok(Specs { outer, types, vals })
     }
 
@@ -153,11 +155,53 @@ impl<'a> Specs<'a> {
     {
         let Specs { outer, types, vals } = self;
         let mut vals = vals;
-        let ty = outer_ty(alloc, tree, &outer)?;
-        let name = name.word.copy(alloc)?;
-        vals.push(TyField { name, ty })?;
+        let typed = both(name.word.copy(alloc), outer_ty(alloc, tree, &outer));
+        vals.push(typed.map(|(name, ty)| TyField { name, ty })?)?;
         Ok(Specs { outer, types, vals })
     }
+}
+
+// These types, and behind them an abstract one.
+fn abstract_more(alloc: Global, types: Many<SigType>, name: &Word) -> Result<Many<SigType>, Memory>
+    ensures { IfOk result (λ r. map sig_type_of r ≡ map sig_type_of types
+        ++ record { name = name.now; manifest = None } ∷ []) }
+{
+    let mut types = types;
+    let name = name.copy(alloc)?;
+    types.push(SigType {
+        name,
+        manifest: None,
+    })?;
+    Ok(types)
+}
+
+// These types, and behind them one that is known to be a copy of this.
+fn manifest_more(
+    alloc: Global,
+    types: Many<SigType>,
+    name: &Word,
+    ty: &Ty,
+) -> Result<Many<SigType>, Memory>
+    ensures { IfOk result (λ r. map sig_type_of r ≡ map sig_type_of types
+        ++ record { name = name.now; manifest = Some (typ_of ty.now) } ∷ []) }
+{
+    let mut types = types;
+    let known = both(name.copy(alloc), ty.copy(alloc)).map(|(name, ty)| SigType {
+        name,
+        manifest: Some(ty),
+    })?;
+    types.push(known)?;
+    Ok(types)
+}
+
+// The scope behind an abstract type of a signature.
+#[tactic(auto, using(ac_types::proofs::SizeLaws::type_laws))]
+fn with_own<'a>(alloc: Global, outer: Outer<'a>, name: &SName) -> Result<Outer<'a>, Memory>
+    ensures { IfOk result (λ o. outer_of o ≡ with_type (name_of name.now)
+        (TMine (name_of name.now).word) (outer_of outer.entry)) }
+{
+    let own = name.word.copy(alloc).map(Ty::Mine)?;
+    outer.with_type(alloc, name, own)
 }
 
 /// The signature that a tree writes.

@@ -80,8 +80,13 @@ fn type_before<'s, 't>(
         (Nothing (Before symbol IsType) (read_signs signs.now))) }
 {
     let (ty, behind) = whole_type(alloc, HIGHEST_TYPE, signs)?;
-    let rest = expect(symbol, behind)?;
-    Ok((ty.tree, rest))
+    match expect(symbol, behind) {
+        Ok(rest) => Ok((ty.tree, rest)),
+        Err(stop) => {
+            drop(ty);
+            Err(stop)
+        }
+    }
 }
 
 /// `: type`, with this symbol behind it.
@@ -163,6 +168,7 @@ fn last_type<'s, 't>(alloc: Global, signs: &'s [Sign<'t>]) -> Result<(SType, &'s
     if ends_part(rest) {
         Ok((ty.tree, rest))
     } else {
+        drop(ty);
         Err(refused_at(rest))
     }
 }

@@ -75,37 +75,14 @@ pub fn join(
     ensures height { IfOk result (λ x. measured x) }
 {
     let height = left.height.max(right.height) + 1;
-    match operator {
-        Operator::Prim(number) => {
-            let mut parts = Many::new(alloc);
-            parts.push(left.tree.into_inner())?;
-            parts.push(right.tree.into_inner())?;
-            let kind = SExprKind::Op(number, parts);
-            let tree = Box::new(alloc, SExpr { at, kind })?;
-            Ok(Parsed { tree, height })
-        }
-        Operator::Consing => {
-            let head = left.tree;
-            let tail = right.tree;
-            let kind = SExprKind::Cons(head, tail);
-            let tree = Box::new(alloc, SExpr { at, kind })?;
-            Ok(Parsed { tree, height })
-        }
-        Operator::Both => {
-            let left = left.tree;
-            let right = right.tree;
-            let kind = SExprKind::And(left, right);
-            let tree = Box::new(alloc, SExpr { at, kind })?;
-            Ok(Parsed { tree, height })
-        }
-        Operator::Either => {
-            let left = left.tree;
-            let right = right.tree;
-            let kind = SExprKind::Or(left, right);
-            let tree = Box::new(alloc, SExpr { at, kind })?;
-            Ok(Parsed { tree, height })
-        }
-    }
+    let kind = match operator {
+        Operator::Prim(number) => SExprKind::Op(number, two(alloc, left, right)?),
+        Operator::Consing => SExprKind::Cons(left.tree, right.tree),
+        Operator::Both => SExprKind::And(left.tree, right.tree),
+        Operator::Either => SExprKind::Or(left.tree, right.tree),
+    };
+    let tree = Box::new(alloc, SExpr { at, kind })?;
+    Ok(Parsed { tree, height })
 }
 
 /// A function applied to an argument.

@@ -107,9 +107,6 @@ module _ (old new : List code.Entry) (d : code_def.Def) (n : Option Name) (is : 
       ap₂ (λ E zs. list_all (is_called E) zs) entries_are (counted k xs ys l y)
       ∙ calls_more (map entry_of old) (own_entry (map entry_of old) (def_of_code d)) xs (own_named (map entry_of old) (def_of_code d)) h
 
-  pub front_more : (k : ℕ) (xs ys : List (Bytes × ℕ)) → k ≡ length old → ys ≡ external_names (def_of_code d) k xs → front_at (map entry_of new) ys ≡ with_entry (front_at (map entry_of old) xs) (own_entry (map entry_of old) (def_of_code d))
-  front_more k xs ys l y = same_front _ _ _ _ entries_are (counted k xs ys l y)
-
 -- entries that are there, gone through from the front
 module _ (es : List code.Entry) (i : ℕ) (xs ys : List (Bytes × ℕ)) (e : code.Entry) (at : i < length es) (is : e ≡ get_or es i e) (y : ys ≡ external_names (entry_of e).def i xs) where
   take_length : length (map entry_of (take i es)) ≡ i

@@ -2,7 +2,9 @@
 
 ghost use Rattle.std.specs.Prelude.{◌≡◌, ◌<◌, ◌^◌, [], length, option_and_then, option_map, is_some, IfOk, IsTrue};
 ghost use Rattle.std.specs.List.{list_all};
+ghost use Rattle.sha2.specs.Sha256.{sha256};
 ghost use Rattle.ac_terms.specs.Defs.{name_at};
+ghost use Rattle.ac_terms.specs.Names.{name_by};
 ghost use Rattle.ac_terms.specs.Read.{environment_of, def_of_code, name_of_code};
 ghost use Rattle.ac_scopes.specs.Scopes.{scope_behind, definition, external_names, with_entry, after_all};
 ghost use Rattle.ac_outer.specs.Entries.{keeps_name, is_called, own_entry};
@@ -66,21 +68,27 @@ impl Front {
     {
         let Front { env, externals } = self;
         let number = env.entries.len() as u32;
-        let externals = calling(alloc, externals, &def, number)?;
-        let name = name_of_def(alloc, &env, &def)?;
-        let Env { entries } = env;
-        let mut entries = entries;
-        let seen = Seen::Own;
-        entries.push(Entry {
-            def,
-            name,
-            seen,
-            link: None,
-        })?;
-        Ok(Front {
-            env: Env { entries },
-            externals,
-        })
+        match known(alloc, &env, externals, &def, number) {
+            Ok((externals, name)) => {
+                let Env { entries } = env;
+                let mut entries = entries;
+                let seen = Seen::Own;
+                entries.push(Entry {
+                    def,
+                    name,
+                    seen,
+                    link: None,
+                })?;
+                Ok(Front {
+                    env: Env { entries },
+                    externals,
+                })
+            }
+            Err(memory) => {
+                drop(def);
+                Err(memory)
+            }
+        }
     }
 
     /// The entries.
@@ -109,6 +117,23 @@ impl Front {
     {
         Outer::new(alloc, &self.env, &self.externals)
     }
+}
+
+// The names that call entries, with that of one more definition behind them, and its name.
+fn known(
+    alloc: Global,
+    env: &Env,
+    names: Latest<u32>,
+    def: &Def,
+    number: u32,
+) -> Result<(Latest<u32>, Option<Name>), Memory>
+    ensures names { IfOk result (λ p. p.0 ≡ external_names (def_of_code def.now) number names) }
+    ensures name { IfOk result (λ p. option_map name_of_code p.1 ≡
+        name_by sha256 (environment_of env.now) (def_of_code def.now)) }
+{
+    let names = calling(alloc, names, def, number)?;
+    let name = name_of_def(alloc, env, def)?;
+    Ok((names, name))
 }
 
 // The names that call entries, with that of one more, but for a mark's.

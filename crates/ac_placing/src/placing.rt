@@ -1,16 +1,20 @@
 // The entries that the definitions of a packet take.
 
-ghost use Rattle.std.specs.Prelude.{◌≡◌, ◌<◌, ◌≤◌, ◌+◌, ◌^◌, ◌++◌, ◌∷◌, [], true, length, map, unwrap_or, IfOk, OnOk, IsTrue};
+ghost use Rattle.std.specs.Prelude.{◌≡◌, ◌<◌, ◌≤◌, ◌+◌, ◌^◌, ◌++◌, ◌∷◌, [], true, Some, length, map, option_map, unwrap_or, IfOk, OnOk, IsTrue};
 ghost use Rattle.std.specs.List.{list_all};
 ghost use Rattle.sha2.specs.Sha256.{sha256};
+ghost use Rattle.ac_types.specs.Types.{same_bytes};
+ghost use Rattle.ac_types.specs.First.{or_else, given};
 ghost use Rattle.ac_terms.specs.Bounds.{fits_def};
 ghost use Rattle.ac_terms.specs.Defs.{AModule, AnImport};
-ghost use Rattle.ac_terms.specs.Read.{environment_of, def_of_code, pdef_of, module_of_code, import_of_code};
+ghost use Rattle.ac_terms.specs.Names.{name_by};
+ghost use Rattle.ac_terms.specs.Read.{environment_of, entry_of, def_of_code, name_of_code, pdef_of, module_of_code, import_of_code};
 ghost use Rattle.ac_rules.specs.Coherent.{IsCoherent};
 ghost use Rattle.ac_rules.specs.Links.{linked, InPacket};
 ghost use Rattle.ac_rules.specs.Packets.{put, found_or_put, place_exact, place_ranges, place, places};
 ghost use Rattle.ac_placing.specs.Placed.{state_of, place_number};
-ghost use Rattle.ac_placing.specs.inner.Keys.{is_short};
+ghost use Rattle.ac_placing.specs.inner.Keys.{is_short, key_bytes};
+ghost use Rattle.ac_placing.specs.inner.Maps.{Key, key_found};
 ghost use Rattle.ac_placing.specs.inner.State.{IsSound};
 
 use crate::finding::{Keys, found, keys_of, note};
@@ -20,7 +24,7 @@ use crate::places::{Place, is_resolved};
 use ac_link::{When, resolve};
 use ac_parts::module_renumbered;
 use ac_terms::{Def, Entry, Env, Import, Module, PDef, Seen};
-use ac_types::{Constraint, Many, Memory, Text};
+use ac_types::{Constraint, Many, Memory, Name, Text};
 use std::alloc::Global;
 
 /// The places of definitions, and the entries that come with them.
@@ -83,17 +87,51 @@ fn put(
         (state_of (environment_of env.now) p.old) (def_of_code def) link unresolved) }
 {
     let number = (env.entries.len() + p.more.len()) as u32;
-    let name = name_behind(alloc, env, p.more.as_slice(), &def)?;
-    let key = key_of(alloc, &def, link)?;
-    note(&mut p.keys, key, number)?;
-    p.more.push(Entry {
-        def,
-        name,
-        seen: Seen::Arrived,
+    match noted(
+        alloc,
+        env,
+        p.more.as_slice(),
+        &mut p.keys,
+        &def,
         link,
-    })?;
-    stands(p, Some(number), unresolved)?;
-    Ok(())
+        number,
+    ) {
+        Ok(name) => {
+            p.more.push(Entry {
+                def,
+                name,
+                seen: Seen::Arrived,
+                link,
+            })?;
+            stands(p, Some(number), unresolved)?;
+            Ok(())
+        }
+        Err(memory) => {
+            drop(def);
+            Err(memory)
+        }
+    }
+}
+
+// The name of a definition behind these entries. From now on its key leads to that number.
+fn noted(
+    alloc: Global,
+    env: &Env,
+    more: &[Entry],
+    keys: &mut Keys,
+    def: &Def,
+    link: Option<u32>,
+    number: u32,
+) -> Result<Option<Name>, Memory>
+    ensures name { IfOk result (λ o. option_map name_of_code o ≡ name_by sha256
+        (environment_of env.now ++ map entry_of more.now) (def_of_code def.now)) }
+    ensures keys { OnOk result ((k : Key) → key_found keys.new k ≡ or_else (key_found keys.old k)
+        (given (same_bytes (key_bytes (def_of_code def.now) link) k.items) (Some number))) }
+{
+    let name = name_behind(alloc, env, more, def)?;
+    let key = key_of(alloc, def, link)?;
+    note(keys, key, number)?;
+    Ok(name)
 }
 
 // The least entry that equals a definition, or a new one.
@@ -112,18 +150,30 @@ fn find_or_put(
     ensures placed { OnOk result (state_of (environment_of env.now) p.new ≡ found_or_put sha256
         (state_of (environment_of env.now) p.old) (def_of_code def) link) }
 {
-    let key = key_of(alloc, &def, link)?;
-    match found(&p.keys, &key) {
-        Some(j) => {
+    match standing(alloc, &p.keys, &def, link) {
+        Ok(Some(j)) => {
             drop(def);
             stands(p, Some(j), false)?;
             Ok(())
         }
-        None => {
+        Ok(None) => {
             put(alloc, env, p, def, link, false)?;
             Ok(())
         }
+        Err(memory) => {
+            drop(def);
+            Err(memory)
+        }
     }
+}
+
+// The number that the key of a definition leads to.
+fn standing(alloc: Global, keys: &Keys, def: &Def, link: Option<u32>) -> Result<Option<u32>, Memory>
+    ensures { IfOk result (λ o. (k : Key) × (k.items ≡ key_bytes (def_of_code def.now) link) ×
+        (o ≡ key_found keys.now k)) }
+{
+    let key = key_of(alloc, def, link)?;
+    Ok(found(keys, &key))
 }
 
 // An import by version.

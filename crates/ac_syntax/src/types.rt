@@ -13,7 +13,7 @@ use crate::front::{after, here, next, next_name, next_symbol};
 use crate::sign::{Sign, SignKind, Symbol};
 use crate::stop::{Stop, refused_at};
 use crate::surface::{SName, SType, STypeKind};
-use ac_types::{Box, Many, Memory, Word};
+use ac_types::{Box, Many, Memory, Word, both};
 use std::alloc::Global;
 
 /// How high a type by itself may be.
@@ -79,8 +79,7 @@ fn function(alloc: Global, at: u32, from: ParsedType, to: ParsedType) -> Result<
     ensures memory { IfErr result (λ e. e ≡ Stop.Memory) }
 {
     let height = from.height.max(to.height) + 1;
-    let from = Box::new(alloc, from.tree)?;
-    let to = Box::new(alloc, to.tree)?;
+    let (from, to) = both(Box::new(alloc, from.tree), Box::new(alloc, to.tree))?;
     Ok(ParsedType {
         tree: SType {
             at,
@@ -180,6 +179,7 @@ fn single<'s, 't>(
     };
     let (tree, behind) = whole_type(alloc, depth, inner)?;
     let Some(rest) = after(Symbol::Close, behind) else {
+        drop(tree);
         return Err(refused_at(behind));
     };
     Ok((tree, rest))
@@ -202,6 +202,7 @@ fn suffixed<'s, 't>(
     let (mut item, mut rest) = single(alloc, depth, signs)?;
     while let Some((suffix, behind)) = next_suffix(rest) {
         if item.height >= depth {
+            drop(item);
             return Err(refused_at(rest));
         }
         item = with_suffix(alloc, suffix, at, item)?;
@@ -228,6 +229,7 @@ fn product<'s, 't>(
         return Ok((first, rest));
     };
     if first.height >= depth {
+        drop(first);
         return Err(refused_at(rest));
     }
     tuple(alloc, depth, here(signs), first, behind)
@@ -250,10 +252,10 @@ fn tuple<'s, 't>(
     ensures shorter { IfOk result (λ x. length x.1.now < length signs.now) }
     ensures none { IfErr result (λ e. OnSyntax e (NoFactors (depth - 1) (read_signs signs.now))) }
 {
-    let (second, mut rest) = suffixed(alloc, depth - 1, signs)?;
-    let mut height = first.height.max(second.height);
     let mut parts = Many::new(alloc);
     parts.push(first.tree)?;
+    let (second, mut rest) = suffixed(alloc, depth - 1, signs)?;
+    let mut height = first.height.max(second.height);
     parts.push(second.tree)?;
     while let Some(behind) = after(Symbol::Star, rest) {
         let (part, later) = suffixed(alloc, depth - 1, behind)?;
@@ -290,8 +292,14 @@ pub fn whole_type<'s, 't>(
         return Ok((from, rest));
     };
     if from.height >= depth {
+        drop(from);
         return Err(refused_at(rest));
     }
-    let (to, end) = whole_type(alloc, depth - 1, behind)?;
-    Ok((function(alloc, here(signs), from, to)?, end))
+    match whole_type(alloc, depth - 1, behind) {
+        Ok((to, end)) => Ok((function(alloc, here(signs), from, to)?, end)),
+        Err(stop) => {
+            drop(from);
+            Err(stop)
+        }
+    }
 }

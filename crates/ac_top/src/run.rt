@@ -135,7 +135,11 @@ fn run_program<F: Files, I: Source, O: Sink, E: Sink>(
         NoFile (option_map channel_of run.entry.output) → files.new ≡ files.old }
 {
     match Session::new(alloc, loaded, run.steps, run.output.is_some()) {
-        Ok(mut session) => { make_and_run(alloc, &mut session, run, files, input, output, errors) }
+        Ok(mut session) => {
+            let end = make_and_run(alloc, &mut session, run, files, input, output, errors);
+            drop(session);
+            end
+        }
         Err(_) => no_memory(errors),
     }
 }

@@ -27,6 +27,15 @@ pub fn function_type(alloc: Global, from: Ty, to: Option<Ty>) -> Result<Option<T
     Ok(kept(Ty::Fun(from, to)))
 }
 
+/// The type of a function from one of these types to the other.
+pub fn own_type(alloc: Global, from: &Ty, to: &Ty) -> Result<Option<Ty>, Memory>
+    ensures { IfOk result (λ o. option_map typ_of o ≡ kept_in Coloured
+        (Some (TFun (typ_of from.now) (typ_of to.now)))) }
+{
+    let (from, to) = both(from.copy(alloc), to.copy(alloc))?;
+    function_type(alloc, from, Some(to))
+}
+
 /// The type of an application, where the function and its argument have these types.
 #[tactic(auto, using(ac_types::proofs::SizeLaws::type_laws))]
 pub fn applied(function: Option<Ty>, argument: Option<Ty>) -> Option<Ty>

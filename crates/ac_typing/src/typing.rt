@@ -15,7 +15,7 @@ ghost use Rattle.ac_typing.specs.inner.Parts.{types_in, arm_type};
 use crate::arms::{both_same, go_on, if_type, is_test, sequence_type};
 use crate::data::{cons_type, empty_type, nil_type, present_type, tuple_type};
 use crate::exceptions::{exception_type, text_exception_type};
-use crate::functions::{applied, function_type, recursive_type};
+use crate::functions::{applied, function_type, own_type, recursive_type};
 use crate::patterns::variables;
 use crate::primitives::result_type;
 use crate::scope::{Variables, variable_type};
@@ -171,8 +171,14 @@ fn function<'a>(
     let Some(from) = seen_type(alloc, ty, site)? else {
         return Ok(None);
     };
-    let to = typed(alloc, &*body, &*site, &Variables::One(&*vars, &from))?;
-    function_type(alloc, from, to)
+    let found = typed(alloc, &*body, &*site, &Variables::One(&*vars, &from));
+    match found {
+        Ok(to) => function_type(alloc, from, to),
+        Err(memory) => {
+            drop(from);
+            Err(memory)
+        }
+    }
 }
 
 // The type of a recursive function, which sees itself.
@@ -193,23 +199,45 @@ fn recursive<'a>(
     let Some(from) = seen_type(alloc, from, site)? else {
         return Ok(None);
     };
-    let Some(to) = seen_type(alloc, to, site)? else {
-        drop(from);
-        return Ok(None);
-    };
-    let first = from.copy(alloc)?;
-    let second = to.copy(alloc)?;
-    let Some(own) = function_type(alloc, first, Some(second))? else {
-        drop(from);
-        drop(to);
-        return Ok(None);
-    };
-    let outer = Variables::One(&*vars, &own);
-    let found = typed(alloc, &*body, &*site, &Variables::One(&outer, &from))?;
-    drop(from);
-    let end = recursive_type(own, &to, found);
-    drop(to);
-    Ok(end)
+    match seen_type(alloc, to, site) {
+        Err(memory) => {
+            drop(from);
+            Err(memory)
+        }
+        Ok(None) => {
+            drop(from);
+            Ok(None)
+        }
+        Ok(Some(to)) => match own_type(alloc, &from, &to) {
+            Err(memory) => {
+                drop(from);
+                drop(to);
+                Err(memory)
+            }
+            Ok(None) => {
+                drop(from);
+                drop(to);
+                Ok(None)
+            }
+            Ok(Some(own)) => {
+                let outer = Variables::One(&*vars, &own);
+                let found = typed(alloc, &*body, &*site, &Variables::One(&outer, &from));
+                drop(from);
+                match found {
+                    Err(memory) => {
+                        drop(own);
+                        drop(to);
+                        Err(memory)
+                    }
+                    Ok(found) => {
+                        let end = recursive_type(own, &to, found);
+                        drop(to);
+                        Ok(end)
+                    }
+                }
+            }
+        },
+    }
 }
 
 // The types of some terms, where each has one.

@@ -48,8 +48,13 @@ fn write_refusal(page: &mut Page, refusal: Refusal) {
 
 /// Adds the type of a program, or why it is refused.
 pub fn write_program(alloc: Global, page: &mut Page, text: &[u8]) {
-    match load(alloc, text, &Shelf::empty(alloc)) {
-        Ok(loaded) => write_type(page, &loaded.ty),
+    let shelf = Shelf::empty(alloc);
+    match load(alloc, text, &shelf) {
+        Ok(loaded) => {
+            write_type(page, &loaded.ty);
+            drop(loaded);
+        }
         Err(refusal) => write_refusal(page, refusal),
     }
+    drop(shelf);
 }

@@ -1,9 +1,11 @@
 -- Types as a home sees them: what is known, compared and built part by part.
-use Rattle.std.proofs.Common.{ℕ, ◌≡◌, ◌+◌, ◌<◌, refl, sym, ap, ap₂, ◌∙◌, Bool, true, false, ◌&&◌, List, [], ◌∷◌, ◌++◌, length, map, get_or, take, Option, Some, None}
+use Rattle.std.proofs.Common.{ℕ, ◌≡◌, ◌+◌, ◌<◌, refl, sym, ap, ap₂, ◌∙◌, subst, Bool, true, false, ◌&&◌, List, [], ◌∷◌, ◌++◌, length, map, get_or, take, Option, Some, None}
+use Rattle.std.specs.Prelude.{Result, Ok, IfOk}
 use Rattle.std.proofs.lemmas.List.{map-append, take_more}
 use Rattle.std.proofs.lemmas.List.Folds.{list_all-append}
 use Rattle.ac_types.specs.Types.{Bytes, Typ, TTuple, TList, TOpt, TFun, TAbs, Typs, typ, typs, same, same_all, agree, with_each, all_with_each, with_mine, all_with_mine, mentions}
 use Rattle.ac_types.specs.ReadTypes.{typ_of}
+use Rattle.ac_types.specs.declared.memory.Memory.{Memory}
 use Rattle.ac_types.specs.declared.ty.Ty.{Ty}
 use Rattle.ac_types.proofs.SizeLaws.{type_laws}
 use Rattle.ac_terms.specs.Defs.{Environment}
@@ -76,3 +78,11 @@ module _ (f : Typ → Typ) where
 pub agree_has : (T : Typ) (o : Option Typ) → agree (Some T) o ≡ has o T
 agree_has T None = refl
 agree_has T (Some U) = same_either_way T U
+
+-- the same answer, of an equal type
+pub carry : (r : Result Ty Memory) (x y : Typ) → x ≡ y → IfOk r (λ t. typ_of t ≡ x) → IfOk r (λ t. typ_of t ≡ y)
+carry r x y e h = subst (λ (z : Typ). IfOk r (λ t. typ_of t ≡ z)) e h
+
+-- what is known of an answer, where it is this type
+pub from_ok : (r : Result Ty Memory) (t : Ty) (X : Typ) → r ≡ Ok t → IfOk r (λ u. typ_of u ≡ X) → typ_of t ≡ X
+from_ok r t X e h = subst (λ (s : Result Ty Memory). IfOk s (λ u. typ_of u ≡ X)) e h

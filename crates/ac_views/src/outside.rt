@@ -5,7 +5,8 @@ ghost use Rattle.ac_types.specs.Types.{TAbs, with_mine, all_with_mine};
 ghost use Rattle.ac_types.specs.ReadTypes.{typ_of};
 ghost use Rattle.ac_views.specs.Sites.{typs_of};
 
-use ac_types::{Box, Many, Memory, Name, Ty};
+use crate::types::{function_type, list_type, option_type};
+use ac_types::{Many, Memory, Name, Ty, both};
 use std::alloc::Global;
 
 /// A type of a signature, whose own types are from outside types of this name.
@@ -21,16 +22,15 @@ pub fn outside(alloc: Global, ty: &Ty, name: &Name) -> Result<Ty, Memory>
         }
         Ty::List(item) => {
             let item = outside(alloc, item, name)?;
-            Ok(Ty::List(Box::new(alloc, item)?))
+            list_type(alloc, item)
         }
         Ty::Opt(item) => {
             let item = outside(alloc, item, name)?;
-            Ok(Ty::Opt(Box::new(alloc, item)?))
+            option_type(alloc, item)
         }
         Ty::Fun(from, to) => {
-            let from = Box::new(alloc, outside(alloc, from, name)?)?;
-            let to = Box::new(alloc, outside(alloc, to, name)?)?;
-            Ok(Ty::Fun(from, to))
+            let (from, to) = both(outside(alloc, from, name), outside(alloc, to, name))?;
+            function_type(alloc, from, to)
         }
         Ty::Mine(word) => Ok(Ty::Abs(*name, word.copy(alloc)?)),
         Ty::Int => Ok(Ty::Int),

@@ -14,8 +14,11 @@ use crate::known::are_known;
 use crate::opened::opened;
 use crate::site::Site;
 use crate::sizes::is_small_here;
-use crate::types::{Base, ends, is_base, list_item, option_item, same_types, tuple_parts};
-use ac_types::{Box, Many, Memory, Ty};
+use crate::types::{
+    Base, ends, function_type, is_base, list_item, list_type, option_item, option_type, same_types,
+    tuple_parts,
+};
+use ac_types::{Many, Memory, Ty, both};
 use std::alloc::Global;
 
 // Whether a type as the site's home sees it is another.
@@ -107,16 +110,15 @@ fn written_out<'a>(alloc: Global, ty: &'a Ty, site: &'a Site<'a>) -> Result<Ty, 
         }
         Ty::List(item) => {
             let item = written_out(alloc, item, site)?;
-            Ok(Ty::List(Box::new(alloc, item)?))
+            list_type(alloc, item)
         }
         Ty::Opt(item) => {
             let item = written_out(alloc, item, site)?;
-            Ok(Ty::Opt(Box::new(alloc, item)?))
+            option_type(alloc, item)
         }
         Ty::Fun(from, to) => {
-            let from = Box::new(alloc, written_out(alloc, from, site)?)?;
-            let to = Box::new(alloc, written_out(alloc, to, site)?)?;
-            Ok(Ty::Fun(from, to))
+            let (from, to) = both(written_out(alloc, from, site), written_out(alloc, to, site))?;
+            function_type(alloc, from, to)
         }
         Ty::Abs(name, word) => match opened(site, name, word) {
             None => ty.copy(alloc),

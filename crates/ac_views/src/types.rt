@@ -2,13 +2,13 @@
 
 ghost use Rattle.std.specs.Prelude.{◌≡◌, IfOk, option_map, Some};
 ghost use Rattle.std.specs.Option.{option_copied};
-ghost use Rattle.ac_types.specs.Types.{same};
+ghost use Rattle.ac_types.specs.Types.{TList, TOpt, TFun, same};
 ghost use Rattle.ac_types.specs.ReadTypes.{typ_of};
 ghost use Rattle.ac_rules.specs.Views.{Coloured};
 ghost use Rattle.ac_rules.specs.Typing.{kept_in, list_item, option_item, tuple_parts};
 ghost use Rattle.ac_views.specs.Sites.{base_typ, typs_of, ends_of, read_ends};
 
-use ac_types::{Many, Memory, Ty, small, ty_eq};
+use ac_types::{Box, Many, Memory, Ty, both, small, ty_eq};
 use std::alloc::Global;
 
 /// A type without parts and without a name.
@@ -33,6 +33,31 @@ fn base_type(base: Base) -> Ty
         Base::Unit => Ty::Unit,
         Base::Exn => Ty::Exn,
     }
+}
+
+/// The type of lists of such items.
+#[tactic(auto, using(ac_types::proofs::SizeLaws::type_laws))]
+pub fn list_type(alloc: Global, item: Ty) -> Result<Ty, Memory>
+    ensures { IfOk result (λ t. typ_of t ≡ TList (typ_of item)) }
+{
+    Ok(Ty::List(Box::new(alloc, item)?))
+}
+
+/// The type of options of such an item.
+#[tactic(auto, using(ac_types::proofs::SizeLaws::type_laws))]
+pub fn option_type(alloc: Global, item: Ty) -> Result<Ty, Memory>
+    ensures { IfOk result (λ t. typ_of t ≡ TOpt (typ_of item)) }
+{
+    Ok(Ty::Opt(Box::new(alloc, item)?))
+}
+
+/// The type of functions from the one type to the other.
+#[tactic(auto, using(ac_types::proofs::SizeLaws::type_laws))]
+pub fn function_type(alloc: Global, from: Ty, to: Ty) -> Result<Ty, Memory>
+    ensures { IfOk result (λ t. typ_of t ≡ TFun (typ_of from) (typ_of to)) }
+{
+    let (from, to) = both(Box::new(alloc, from), Box::new(alloc, to))?;
+    Ok(Ty::Fun(from, to))
 }
 
 /// Whether a type is this one.

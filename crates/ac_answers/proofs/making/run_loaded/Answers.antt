@@ -19,4 +19,4 @@ run_session-requires-clause-sends c = ap (λ (s : Session). s.sends) c.in-Ok.ens
 
 pub returns-in-Ok : goal.returns-in-Ok
 returns-in-Ok c =
-    subst (λ (s : Session). IfOk c.run_session.result (λ a. GivesInEach (environment s) (main s) c.args.modules c.args.bytes s.steps (answer_of a))) c.in-Ok.ensures c.run_session.ensures
+    subst (λ (s : Session). IfOk c.run_session-answer.result (λ a. GivesInEach (environment s) (main s) c.args.modules c.args.bytes s.steps (answer_of a))) c.in-Ok.ensures c.run_session-answer.ensures

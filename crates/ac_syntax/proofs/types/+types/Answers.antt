@@ -93,7 +93,7 @@ suffixed-returns-clause-tree t c =
 
 pub tuple-returns-in_err-second-clause-none : goal.tuple-returns-in_err-second-clause-none
 tuple-returns-in_err-second-clause-none t c =
-    let p = err_from_is_err_and c.from_residual.result c.from_residual.ensures.1 in
+    let p = err_from_is_err_and c.from_residual-in_err-second.result c.from_residual-in_err-second.ensures.1 in
     rw (p.1, p.2) (on_syntax_more _ (second_none _ (type_of c.args.first.tree) _) c.in_err-second.ensures.none)
 
 pub tuple-returns-in_err-part-clause-none : goal.tuple-returns-in_err-part-clause-none
@@ -136,14 +136,14 @@ pub whole_type-returns-then-from-depth-clause-none :
 whole_type-returns-then-from-depth-clause-none t c =
     refused _ _ c.refused_at.ensures (arrow_high _ _ _ _ _ c.in_ok-from.ensures.tree c.in-Some.ensures.found (subst (λ (n : ℕ). c.args.depth ≤ n) c.in_ok-from.ensures.height c.if-from-depth.true))
 
-pub whole_type-returns-in_err-to-clause-none : goal.whole_type-returns-in_err-to-clause-none
-whole_type-returns-in_err-to-clause-none t c =
-    let p = err_from_is_err_and c.from_residual-in_err-to.result c.from_residual-in_err-to.ensures.1 in
-    rw (p.1, p.2) (on_syntax_more _ (arrow_none _ _ _ _ _ c.in_ok-from.ensures.tree c.in-Some.ensures.found) c.in_err-to.ensures.none)
+pub whole_type-returns-in-Err-clause-none : goal.whole_type-returns-in-Err-clause-none
+whole_type-returns-in-Err-clause-none t c =
+    on_syntax_more _ (arrow_none _ _ _ _ _ c.in_ok-from.ensures.tree c.in-Some.ensures.found) c.in-Err.ensures.none
 
-pub whole_type-returns-clause-tree : goal.whole_type-returns-clause-tree
-whole_type-returns-clause-tree t c =
-    let made = c.in_ok-function.ensures.tree ∙ ap (λ (at : ℕ). TyFun at (type_of c.in_ok-from.from.tree) (type_of c.in_ok-to.to.tree)) c.here.ensures in
+pub whole_type-returns-in_ok-function-in-Ok-clause-tree :
+    goal.whole_type-returns-in_ok-function-in-Ok-clause-tree
+whole_type-returns-in_ok-function-in-Ok-clause-tree t c =
+    let made = c.in_ok-function-in-Ok.ensures.tree ∙ ap (λ (at : ℕ). TyFun at (type_of c.in_ok-from.from.tree) (type_of c.in-Ok.to.tree)) c.here.ensures in
     let low : type_height (type_of c.in_ok-from.from.tree) < c.args.depth = omega (arith, c.in_ok-from.ensures.height, c.if-from-depth.false) in
-    subst (λ (u : TypeTree). IsTypeTree c.args.depth Whole (read_signs c.args.signs.now) u (read_signs c.in_ok-to.end.now)) (sym made)
-    (whole_arrow _ _ _ _ _ c.in_ok-from.ensures.tree c.in-Some.ensures.found _ _ c.in_ok-to.ensures.tree low)
+    subst (λ (u : TypeTree). IsTypeTree c.args.depth Whole (read_signs c.args.signs.now) u (read_signs c.in-Ok.end.now)) (sym made)
+    (whole_arrow _ _ _ _ _ c.in_ok-from.ensures.tree c.in-Some.ensures.found _ _ c.in-Ok.ensures.tree low)

@@ -17,7 +17,7 @@ same_some f (Some x) = refl
 
 pub returns-in-Ok-clause-ends : goal.returns-in-Ok-clause-ends
 returns-in-Ok-clause-ends g c =
-    let run = c.make_and_run.ensures.ends in (
+    let run = c.make_and_run-end.ensures.ends in (
       run.0,
       run.1,
       λ start since shelf is_shelf text is_text accepted.

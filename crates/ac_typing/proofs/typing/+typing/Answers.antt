@@ -106,11 +106,11 @@ function-returns-in_default t c =
     function_none (entries_of c.args.site.now) c.args.site.now (types_in c.args.vars.now) (typ_of c.args.ty.now) (expr_of c.args.body.now)
     (ap (option_map typ_of) (sym c.in_default.is) ∙ c.in_ok-from.ensures)
 
-pub function-returns : goal.function-returns
-function-returns t c =
+pub function-returns-in-Ok : goal.function-returns-in-Ok
+function-returns-in-Ok t c =
     carry c.function_type.result _ _
-    (function_some (entries_of c.args.site.now) c.args.site.now (types_in c.args.vars.now) (typ_of c.args.ty.now) (typ_of c.in-Some.from) (expr_of c.args.body.now) (option_map typ_of c.in_ok-to.to) _
-    (ap (option_map typ_of) (sym c.in-Some.is) ∙ c.in_ok-from.ensures) c.in_ok-to.ensures (types_in-One c.args.vars _))
+    (function_some (entries_of c.args.site.now) c.args.site.now (types_in c.args.vars.now) (typ_of c.args.ty.now) (typ_of c.in-Some.from) (expr_of c.args.body.now) (option_map typ_of c.in-Ok.to) _
+    (ap (option_map typ_of) (sym c.in-Some.is) ∙ c.in_ok-from.ensures) c.in-Ok.ensures (types_in-One c.args.vars _))
     c.function_type.ensures
 
 pub recursive-returns-in_default : goal.recursive-returns-in_default
@@ -118,25 +118,25 @@ recursive-returns-in_default t c =
     recursive_none (entries_of c.args.site.now) c.args.site.now (types_in c.args.vars.now) (typ_of c.args.from.now) (typ_of c.args.to.now) (expr_of c.args.body.now)
     (ap (option_map typ_of) (sym c.in_default.is) ∙ c.in_ok-from.ensures)
 
-pub recursive-returns-in_default-2 : goal.recursive-returns-in_default-2
-recursive-returns-in_default-2 t c =
+pub recursive-returns-in-Ok-None : goal.recursive-returns-in-Ok-None
+recursive-returns-in-Ok-None t c =
     recursive_no_result (entries_of c.args.site.now) c.args.site.now (types_in c.args.vars.now) (typ_of c.args.from.now) (typ_of c.args.to.now) (expr_of c.args.body.now)
-    (ap (option_map typ_of) (sym c.in_default-2.is) ∙ c.in_ok-to.ensures)
+    (ap (option_map typ_of) (sym c.in-Ok-None.field-0-is) ∙ c.in-Ok-None.ensures)
 
-pub recursive-returns-in_default-3 : goal.recursive-returns-in_default-3
-recursive-returns-in_default-3 t c =
-    recursive_big (entries_of c.args.site.now) c.args.site.now (types_in c.args.vars.now) (typ_of c.args.from.now) (typ_of c.args.to.now) (typ_of c.in-Some.from) (typ_of c.in-Some-2.to) (expr_of c.args.body.now)
-    (ap (option_map typ_of) (sym c.in-Some.is) ∙ c.in_ok-from.ensures) (ap (option_map typ_of) (sym c.in-Some-2.is) ∙ c.in_ok-to.ensures)
-    (ap (option_map typ_of) (sym c.in_default-3.is) ∙ c.in_ok-own.ensures ∙ ap₂ (λ (a b : Ty). K (Some (TFun (typ_of a) (typ_of b)))) c.in_ok-first.ensures c.in_ok-second.ensures)
+pub recursive-returns-in-Ok-None-own_type : goal.recursive-returns-in-Ok-None-own_type
+recursive-returns-in-Ok-None-own_type t c =
+    recursive_big (entries_of c.args.site.now) c.args.site.now (types_in c.args.vars.now) (typ_of c.args.from.now) (typ_of c.args.to.now) (typ_of c.in-Some.from) (typ_of c.in-Ok-Some.to) (expr_of c.args.body.now)
+    (ap (option_map typ_of) (sym c.in-Some.is) ∙ c.in_ok-from.ensures) (ap (option_map typ_of) (sym c.in-Ok-Some.field-0-is) ∙ c.in-Ok-Some.ensures)
+    (ap (option_map typ_of) (sym c.in-Ok-None-own_type.field-0-is) ∙ c.in-Ok-None-own_type.ensures)
 
-pub recursive-returns : goal.recursive-returns
-recursive-returns t c =
+pub recursive-returns-in-Ok : goal.recursive-returns-in-Ok
+recursive-returns-in-Ok t c =
     c.recursive_type-end.ensures
-    ∙ recursive_some (entries_of c.args.site.now) c.args.site.now (types_in c.args.vars.now) (typ_of c.args.from.now) (typ_of c.args.to.now) (typ_of c.in-Some.from) (typ_of c.in-Some-2.to) (typ_of c.in-Some-3.own) (expr_of c.args.body.now)
-    (option_map typ_of c.in_ok-found.found) _
-    (ap (option_map typ_of) (sym c.in-Some.is) ∙ c.in_ok-from.ensures) (ap (option_map typ_of) (sym c.in-Some-2.is) ∙ c.in_ok-to.ensures)
-    (ap (option_map typ_of) (sym c.in-Some-3.is) ∙ c.in_ok-own.ensures ∙ ap₂ (λ (a b : Ty). K (Some (TFun (typ_of a) (typ_of b)))) c.in_ok-first.ensures c.in_ok-second.ensures)
-    c.in_ok-found.ensures (types_in-One _ _ ∙ ap (λ (G : List Typ). typ_of c.in-Some.from ∷ G) (types_in-One c.args.vars _))
+    ∙ recursive_some (entries_of c.args.site.now) c.args.site.now (types_in c.args.vars.now) (typ_of c.args.from.now) (typ_of c.args.to.now) (typ_of c.in-Some.from) (typ_of c.in-Ok-Some.to) (typ_of c.in-Ok-Some-own_type.own) (expr_of c.args.body.now)
+    (option_map typ_of c.in-Ok.found) _
+    (ap (option_map typ_of) (sym c.in-Some.is) ∙ c.in_ok-from.ensures) (ap (option_map typ_of) (sym c.in-Ok-Some.field-0-is) ∙ c.in-Ok-Some.ensures)
+    (ap (option_map typ_of) (sym c.in-Ok-Some-own_type.field-0-is) ∙ c.in-Ok-Some-own_type.ensures)
+    c.in-Ok.ensures (types_in-One _ _ ∙ ap (λ (G : List Typ). typ_of c.in-Some.from ∷ G) (types_in-One c.args.vars _))
 
 -- the type of each form, from those of its parts
 

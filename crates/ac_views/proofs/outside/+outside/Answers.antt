@@ -1,10 +1,9 @@
 use Rattle.std.proofs.Common.{◌≡◌, sym, ap, ap₂, ◌∙◌, arith, length}
-use Rattle.ac_types.specs.Types.{TTuple, TFun, TAbs, typs, with_mine}
+use Rattle.ac_types.specs.Types.{TTuple, TList, TOpt, TFun, TAbs, typs, with_mine}
 use Rattle.ac_types.specs.ReadTypes.{typ_of}
 use Rattle.ac_types.proofs.SizeLaws.{type_laws, typ_of-Tuple}
-use Rattle.ac_types.specs.declared.ty.Ty.TheVariants as ty
 use Rattle.ac_views.specs.Sites.{typs_of}
-use Rattle.ac_views.proofs.SeenLaws.{outsides, one_more, all_of_them}
+use Rattle.ac_views.proofs.SeenLaws.{outsides, one_more, all_of_them, carry, from_ok}
 use Rattle.ac_views.proofs.outside.+outside.Goals as goal
 
 pub all_outside-loop-ty-preserved : goal.all_outside-loop-ty-preserved
@@ -24,9 +23,23 @@ outside-returns-in_ok-parts-in-Tuple t c =
     let is : typ_of c.args.ty.now ≡ TTuple (typs_of c.as_slice.result.now) = grind (arith, type_laws) in
     typ_of-Tuple c.in_ok-parts-in-Tuple.parts ∙ ap TTuple c.in_ok-parts-in-Tuple.ensures ∙ ap f (sym is)
 
-pub outside-returns-in_ok-to-in-Fun : goal.outside-returns-in_ok-to-in-Fun
-outside-returns-in_ok-to-in-Fun t c =
+pub outside-returns-in_ok-item-in-List : goal.outside-returns-in_ok-item-in-List
+outside-returns-in_ok-item-in-List t c =
+    let f = with_mine (TAbs c.args.name.now.0) in
+    let is : typ_of c.args.ty.now ≡ TList (typ_of c.deref.result.now) = grind (arith, type_laws) in
+    carry c.list_type.result _ _ (ap TList c.in_ok-item-in-List.ensures ∙ ap f (sym is)) c.list_type.ensures
+
+pub outside-returns-in_ok-item-in-Opt : goal.outside-returns-in_ok-item-in-Opt
+outside-returns-in_ok-item-in-Opt t c =
+    let f = with_mine (TAbs c.args.name.now.0) in
+    let is : typ_of c.args.ty.now ≡ TOpt (typ_of c.deref-in-Opt.result.now) = grind (arith, type_laws) in
+    carry c.option_type.result _ _ (ap TOpt c.in_ok-item-in-Opt.ensures ∙ ap f (sym is)) c.option_type.ensures
+
+pub outside-returns-in_ok-from-in-Fun : goal.outside-returns-in_ok-from-in-Fun
+outside-returns-in_ok-from-in-Fun t c =
     let f = with_mine (TAbs c.args.name.now.0) in
     let is : typ_of c.args.ty.now ≡ TFun (typ_of c.deref-in-Fun.result.now) (typ_of c.deref-in-Fun-2.result.now) = grind (arith, type_laws) in
-    let made : typ_of (ty.Fun c.in_ok-from-in-Fun.from c.in_ok-to-in-Fun.to) ≡ TFun (typ_of c.in_ok-outside-in-Fun.field-0) (typ_of c.in_ok-outside-in-Fun-2.field-0) = grind (arith, type_laws) in
-    made ∙ ap₂ TFun c.in_ok-outside-in-Fun.ensures c.in_ok-outside-in-Fun-2.ensures ∙ ap f (sym is)
+    carry c.function_type.result _ _
+    (ap₂ TFun (from_ok c.outside-in-Fun.result _ _ c.in_ok-from-in-Fun.ensures.0 c.outside-in-Fun.ensures) (from_ok c.outside-in-Fun-2.result _ _ c.in_ok-from-in-Fun.ensures.1 c.outside-in-Fun-2.ensures)
+    ∙ ap f (sym is))
+    c.function_type.ensures
