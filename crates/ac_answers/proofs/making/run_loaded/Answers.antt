@@ -11,11 +11,11 @@ new-requires-clause-typed c = c.requires.program
 pub new-requires-clause-bounds : goal.new-requires-clause-bounds
 new-requires-clause-bounds c = c.requires.fits
 
-pub run_session-requires-clause-fresh : goal.run_session-requires-clause-fresh
-run_session-requires-clause-fresh c = ap (λ (s : Session). s.end) c.in-Ok.ensures
+pub run_session-answer-requires-clause-fresh : goal.run_session-answer-requires-clause-fresh
+run_session-answer-requires-clause-fresh c = ap (λ (s : Session). s.end) c.in-Ok.ensures
 
-pub run_session-requires-clause-sends : goal.run_session-requires-clause-sends
-run_session-requires-clause-sends c = ap (λ (s : Session). s.sends) c.in-Ok.ensures
+pub run_session-answer-requires-clause-sends : goal.run_session-answer-requires-clause-sends
+run_session-answer-requires-clause-sends c = ap (λ (s : Session). s.sends) c.in-Ok.ensures
 
 pub returns-in-Ok : goal.returns-in-Ok
 returns-in-Ok c =
