@@ -51,10 +51,7 @@ pub fn own(rt: &impl Abort, alloc: Global, text: &[u8]) -> Env
 
 /// The type of the packet that the bytes spell.
 pub fn type_of(rt: &impl Abort, alloc: Global, bytes: &[u8]) -> Ty {
-    let Packet { defs, ty, value } = packet(rt, alloc, bytes);
-    drop(defs);
-    drop(value);
-    ty
+    packet(rt, alloc, bytes).ty.copy(alloc).expect(rt, "memory")
 }
 
 fn admitted(

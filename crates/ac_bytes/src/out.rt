@@ -9,9 +9,15 @@ use std::alloc::Global;
 use std::marker::Model;
 
 /// A byte string that grows, which contracts see as its bytes. An `Err` leaves it as it was.
-#[derive(Debug, Drop)]
+#[derive(Debug)]
 pub struct Out {
     text: Text,
+}
+
+impl Drop for Out {
+    fn drop(self) {
+        let Out { text: _ } = self;
+    }
 }
 
 impl Model for Out {

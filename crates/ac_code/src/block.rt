@@ -5,7 +5,6 @@ use ac_terms::{Home, Term};
 use ac_types::{Many, Ty};
 
 /// A block of code.
-#[derive(Drop)]
 pub struct Block {
     pub home: Home,
     /// The lambda that the block was made from.
@@ -13,4 +12,15 @@ pub struct Block {
     /// The types of the variables around that lambda, the newest first.
     pub context: Many<Ty>,
     pub instrs: Many<Instr>,
+}
+
+impl Drop for Block {
+    fn drop(self) {
+        let Block {
+            home: _,
+            lambda: _,
+            context: _,
+            instrs: _,
+        } = self;
+    }
 }

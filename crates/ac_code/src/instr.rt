@@ -8,7 +8,6 @@ use ac_types::{Text, Ty, Word};
 pub struct CodeId(pub usize);
 
 /// An instruction. An address is the place of an instruction in its block, from 0.
-#[derive(Drop)]
 pub enum Instr {
     PushInt(i64),
     PushBool(bool),
@@ -43,4 +42,44 @@ pub enum Instr {
     Marshal(Ty),
     Unmarshal(Ty),
     Stop,
+}
+
+impl Drop for Instr {
+    fn drop(self) {
+        match self {
+            Instr::PushInt(_)
+            | Instr::PushBool(_)
+            | Instr::PushStr(_)
+            | Instr::PushUnit
+            | Instr::PushNil
+            | Instr::PushNone
+            | Instr::MakeExn(_)
+            | Instr::MakeSome
+            | Instr::MakeCons
+            | Instr::MakeTuple(_)
+            | Instr::Var(_)
+            | Instr::Own(_)
+            | Instr::Ref(_, _)
+            | Instr::Closure(_)
+            | Instr::RecClosure(_)
+            | Instr::Constant(_)
+            | Instr::RecConstant(_)
+            | Instr::Apply
+            | Instr::Return
+            | Instr::Bind
+            | Instr::Unbind(_)
+            | Instr::Drop
+            | Instr::Jump(_)
+            | Instr::JumpIfNot(_)
+            | Instr::Test(_, _)
+            | Instr::NoMatch
+            | Instr::Prim(_)
+            | Instr::Try(_)
+            | Instr::EndTry
+            | Instr::Raise
+            | Instr::Marshal(_)
+            | Instr::Unmarshal(_)
+            | Instr::Stop => {}
+        }
+    }
 }

@@ -9,11 +9,20 @@ use std::alloc::Global;
 use std::thread::Threads;
 
 /// How a call ended, and what it wrote.
-#[derive(Drop)]
 pub struct Left {
     pub status: u8,
     pub output: Text,
     pub errors: Text,
+}
+
+impl Drop for Left {
+    fn drop(self) {
+        let Left {
+            status: _,
+            output: _,
+            errors: _,
+        } = self;
+    }
 }
 
 /// Calls `acute` with these words over these files, with this on standard input and these faults,

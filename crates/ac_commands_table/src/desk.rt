@@ -23,6 +23,18 @@ pub struct Desk {
     faults: Vec<Fault>,
 }
 
+// What a call left, and the files behind it.
+struct Outcome {
+    left: Left,
+    files: MemoryFiles,
+}
+
+impl Drop for Outcome {
+    fn drop(self) {
+        let Outcome { left: _, files: _ } = self;
+    }
+}
+
 fn no_files(alloc: Global) -> MemoryFiles {
     MemoryFiles::new(alloc, Many::new(alloc), Many::new(alloc), Many::new(alloc))
 }
@@ -152,26 +164,44 @@ impl Desk {
         line: &str,
     ) -> Result<(), Memory> {
         let words = words_in(alloc, line)?;
-        let input = self.input.as_slice();
-        let mut after = self.copy(alloc, &[])?;
-        let whole = call(rt, alloc, &words, &mut after, input, &self.faults)?;
-        let mut last: Option<Left> = None;
+        let whole = self.outcome(rt, alloc, &words, &self.faults)?;
+        let mut last: Option<Outcome> = None;
         for number in 0..MOST {
             let faults = self.with_fault(alloc, Fault { place, number })?;
-            let mut files = self.copy(alloc, &faults)?;
-            let left = call(rt, alloc, &words, &mut files, input, &faults)?;
-            if are_alike(&left, &whole) && self.are_same(&files, &after) {
+            let one = self.outcome(rt, alloc, &words, &faults)?;
+            if self.is_same(&one, &whole) {
                 return Ok(());
             }
-            if !has_fronts(&left, &whole) || !self.are_fronts(&files, &after) {
+            if !self.is_front(&one, &whole) {
                 page.put(b"no front\n");
             }
-            if is_new(&last, &left) {
-                put_end(page, &left);
+            if is_new(&last, &one) {
+                put_end(page, &one.left);
             }
-            last = Some(left);
+            last = Some(one);
         }
         Ok(())
+    }
+
+    // A call over copies of the files, with these faults.
+    fn outcome<R: Threads + Sync>(
+        &self,
+        rt: &R,
+        alloc: Global,
+        words: &[String],
+        faults: &[Fault],
+    ) -> Result<Outcome, Memory> {
+        let mut files = self.copy(alloc, faults)?;
+        let left = call(rt, alloc, words, &mut files, self.input.as_slice(), faults)?;
+        Ok(Outcome { left, files })
+    }
+
+    fn is_same(&self, one: &Outcome, whole: &Outcome) -> bool {
+        are_alike(&one.left, &whole.left) && self.are_same(&one.files, &whole.files)
+    }
+
+    fn is_front(&self, one: &Outcome, whole: &Outcome) -> bool {
+        has_fronts(&one.left, &whole.left) && self.are_fronts(&one.files, &whole.files)
     }
 
     fn are_same(&self, files: &MemoryFiles, after: &MemoryFiles) -> bool {
@@ -215,9 +245,9 @@ impl Desk {
 }
 
 // Whether a call ended otherwise than the one before it.
-fn is_new(last: &Option<Left>, left: &Left) -> bool {
+fn is_new(last: &Option<Outcome>, one: &Outcome) -> bool {
     match last {
-        Some(last) => !end_alike(last, left),
+        Some(last) => !end_alike(&last.left, &one.left),
         None => true,
     }
 }

@@ -3,7 +3,7 @@
 use ac_types::{Memory, Text, Word};
 
 /// What a token is. `Fixed` holds the bytes of a symbol, of a reserved word or of `_`.
-#[derive(Debug, Drop)]
+#[derive(Debug)]
 pub enum TokenKind {
     Lower(Word),
     Upper(Word),
@@ -12,11 +12,29 @@ pub enum TokenKind {
     Fixed(Text),
 }
 
+impl Drop for TokenKind {
+    fn drop(self) {
+        match self {
+            TokenKind::Lower(_)
+            | TokenKind::Upper(_)
+            | TokenKind::Int(_)
+            | TokenKind::Str(_)
+            | TokenKind::Fixed(_) => {}
+        }
+    }
+}
+
 /// A token, and the place of its first byte.
-#[derive(Debug, Drop)]
+#[derive(Debug)]
 pub struct Token {
     pub kind: TokenKind,
     pub at: u32,
+}
+
+impl Drop for Token {
+    fn drop(self) {
+        let Token { kind: _, at: _ } = self;
+    }
 }
 
 /// Why a text gives no tokens.

@@ -69,6 +69,5 @@ pub fn key_of(alloc: Global, def: &Def, link: Option<u32>) -> Result<Vec<u8>, Me
     let mut out = Out::new(alloc);
     put_link(&mut out, link)?;
     put_def(&mut out, def)?;
-    let Text(bytes) = out.into_text();
-    Ok(bytes.into_vec())
+    Ok(out.into_text().into_bytes().into_vec())
 }

@@ -4,28 +4,43 @@
 use ac_types::{Box, Constraint, Many, Resolve, Text, Version, Word};
 
 /// A program, or a module alone: then there is no expression.
-#[derive(Drop)]
 pub struct Surface {
     pub defs: Many<SDef>,
     pub expr: Option<SExpr>,
 }
 
+impl Drop for Surface {
+    fn drop(self) {
+        let Surface { defs: _, expr: _ } = self;
+    }
+}
+
 /// A name where it is written.
-#[derive(Debug, Drop)]
+#[derive(Debug)]
 pub struct SName {
     pub at: u32,
     pub word: Word,
 }
 
+impl Drop for SName {
+    fn drop(self) {
+        let SName { at: _, word: _ } = self;
+    }
+}
+
 /// A definition.
-#[derive(Drop)]
 pub struct SDef {
     pub at: u32,
     pub kind: SDefKind,
 }
 
+impl Drop for SDef {
+    fn drop(self) {
+        let SDef { at: _, kind: _ } = self;
+    }
+}
+
 /// What a definition is.
-#[derive(Drop)]
 pub enum SDefKind {
     Module {
         name: SName,
@@ -46,53 +61,113 @@ pub enum SDefKind {
     },
 }
 
+impl Drop for SDefKind {
+    fn drop(self) {
+        match self {
+            SDefKind::Module {
+                name: _,
+                sig: _,
+                version: _,
+                fields: _,
+            }
+            | SDefKind::Import {
+                name: _,
+                sig: _,
+                wants: _,
+                like: _,
+                by: _,
+            }
+            | SDefKind::Mark {
+                text_at: _,
+                text: _,
+            } => {}
+        }
+    }
+}
+
 /// What an import asks of its module: a version, or the name of a definition.
-#[derive(Drop)]
 pub enum SWants {
     Ranges(Constraint),
     NameOf(SName),
 }
 
+impl Drop for SWants {
+    fn drop(self) {
+        match self {
+            SWants::Ranges(_) | SWants::NameOf(_) => {}
+        }
+    }
+}
+
 /// A type with a name of its own.
-#[derive(Drop)]
 pub struct SAbbrev {
     pub name: SName,
     pub ty: SType,
 }
 
+impl Drop for SAbbrev {
+    fn drop(self) {
+        let SAbbrev { name: _, ty: _ } = self;
+    }
+}
+
 /// A signature.
-#[derive(Drop)]
 pub struct SSig {
     pub at: u32,
     pub specs: Many<SSpec>,
 }
 
+impl Drop for SSig {
+    fn drop(self) {
+        let SSig { at: _, specs: _ } = self;
+    }
+}
+
 /// A part of a signature.
-#[derive(Drop)]
 pub enum SSpec {
     Abstract(SName),
     Manifest(SAbbrev),
     Val(SName, SType),
 }
 
+impl Drop for SSpec {
+    fn drop(self) {
+        match self {
+            SSpec::Abstract(_) | SSpec::Manifest(_) | SSpec::Val(_, _) => {}
+        }
+    }
+}
+
 /// A part of a struct.
-#[derive(Drop)]
 pub enum SField {
     Abbrev(SAbbrev),
     Val(SName, SType, SExpr),
 }
 
+impl Drop for SField {
+    fn drop(self) {
+        match self {
+            SField::Abbrev(_) | SField::Val(_, _, _) => {}
+        }
+    }
+}
+
 /// A type.
 #[cycle(types)]
-#[derive(Drop)]
 pub struct SType {
     pub at: u32,
     pub kind: STypeKind,
 }
 
+impl Drop for SType {
+    #[cycle(drop_type)]
+    fn drop(self) {
+        let SType { at: _, kind: _ } = self;
+    }
+}
+
 /// What a type is.
 #[cycle(types)]
-#[derive(Drop)]
 pub enum STypeKind {
     Int,
     Bool,
@@ -107,17 +182,41 @@ pub enum STypeKind {
     Fun(Box<SType>, Box<SType>),
 }
 
+impl Drop for STypeKind {
+    #[cycle(drop_type)]
+    fn drop(self) {
+        match self {
+            STypeKind::Int
+            | STypeKind::Bool
+            | STypeKind::Str
+            | STypeKind::Unit
+            | STypeKind::Exn
+            | STypeKind::Local(_)
+            | STypeKind::Of(_, _)
+            | STypeKind::Tuple(_)
+            | STypeKind::List(_)
+            | STypeKind::Opt(_)
+            | STypeKind::Fun(_, _) => {}
+        }
+    }
+}
+
 /// An expression.
 #[cycle(expressions)]
-#[derive(Drop)]
 pub struct SExpr {
     pub at: u32,
     pub kind: SExprKind,
 }
 
+impl Drop for SExpr {
+    #[cycle(drop_expression)]
+    fn drop(self) {
+        let SExpr { at: _, kind: _ } = self;
+    }
+}
+
 /// A function with a name, which its body may call.
 #[cycle(expressions)]
-#[derive(Drop)]
 pub struct SFun {
     pub name: SName,
     pub arg: SName,
@@ -126,10 +225,22 @@ pub struct SFun {
     pub body: Box<SExpr>,
 }
 
+impl Drop for SFun {
+    #[cycle(drop_expression)]
+    fn drop(self) {
+        let SFun {
+            name: _,
+            arg: _,
+            ty: _,
+            result: _,
+            body: _,
+        } = self;
+    }
+}
+
 /// What an expression is. `Exn` has an exception's number, `Op` that of a primitive from 0 to 9.
 /// A constant with its `-` is one `Int`.
 #[cycle(expressions)]
-#[derive(Drop)]
 pub enum SExprKind {
     Int(i64),
     Bool(bool),
@@ -160,25 +271,71 @@ pub enum SExprKind {
     Unmarshal(Box<SExpr>, SType),
 }
 
+impl Drop for SExprKind {
+    #[cycle(drop_expression)]
+    fn drop(self) {
+        match self {
+            SExprKind::Int(_)
+            | SExprKind::Bool(_)
+            | SExprKind::Str(_)
+            | SExprKind::Unit
+            | SExprKind::Exn(_, _)
+            | SExprKind::Tuple(_)
+            | SExprKind::Nil(_)
+            | SExprKind::Absent(_)
+            | SExprKind::Present(_)
+            | SExprKind::Cons(_, _)
+            | SExprKind::Var(_)
+            | SExprKind::Of(_, _)
+            | SExprKind::Fun(_, _, _)
+            | SExprKind::Rec(_)
+            | SExprKind::App(_, _)
+            | SExprKind::Let(_, _, _, _)
+            | SExprKind::LetRec(_, _)
+            | SExprKind::If(_, _, _)
+            | SExprKind::Seq(_)
+            | SExprKind::Match(_, _)
+            | SExprKind::Try(_, _)
+            | SExprKind::Raise(_, _)
+            | SExprKind::And(_, _)
+            | SExprKind::Or(_, _)
+            | SExprKind::Op(_, _)
+            | SExprKind::Marshal(_, _, _)
+            | SExprKind::Unmarshal(_, _) => {}
+        }
+    }
+}
+
 /// A pattern with what it leads to.
 #[cycle(expressions)]
-#[derive(Drop)]
 pub struct SArm {
     pub pat: SPat,
     pub body: SExpr,
 }
 
+impl Drop for SArm {
+    #[cycle(drop_expression)]
+    fn drop(self) {
+        let SArm { pat: _, body: _ } = self;
+    }
+}
+
 /// A pattern.
 #[cycle(patterns)]
-#[derive(Drop)]
 pub struct SPat {
     pub at: u32,
     pub kind: SPatKind,
 }
 
+impl Drop for SPat {
+    #[cycle(drop_pattern)]
+    fn drop(self) {
+        let SPat { at: _, kind: _ } = self;
+    }
+}
+
 /// What a pattern is. A constant with its `-` is one `Int`.
 #[cycle(patterns)]
-#[derive(Drop)]
 pub enum SPatKind {
     Wild,
     Var(SName, SType),
@@ -192,4 +349,24 @@ pub enum SPatKind {
     Absent,
     Present(Box<SPat>),
     Exn(u8, Option<Box<SPat>>),
+}
+
+impl Drop for SPatKind {
+    #[cycle(drop_pattern)]
+    fn drop(self) {
+        match self {
+            SPatKind::Wild
+            | SPatKind::Var(_, _)
+            | SPatKind::Int(_)
+            | SPatKind::Bool(_)
+            | SPatKind::Str(_)
+            | SPatKind::Unit
+            | SPatKind::Tuple(_)
+            | SPatKind::Nil
+            | SPatKind::Cons(_, _)
+            | SPatKind::Absent
+            | SPatKind::Present(_)
+            | SPatKind::Exn(_, _) => {}
+        }
+    }
 }

@@ -3,7 +3,7 @@ use Rattle.std.proofs.Common.{◌≡◌, refl, sym, ap, ◌∙◌, subst, true, 
 use Rattle.std.specs.Prelude.{option_map, option_and_then, Result, IfOk}
 use Rattle.std.proofs.lemmas.List.{append-nil}
 use Rattle.ac_types.specs.First.{given}
-use Rattle.ac_types.specs.Types.{Typ, TFun}
+use Rattle.ac_types.specs.Types.{Typ, TInt, TBool, TStr, TUnit, TExn, TTuple, TList, TOpt, TFun, TAbs, TMine, function_parts}
 use Rattle.ac_types.specs.ReadTypes.{typ_of}
 use Rattle.ac_types.specs.declared.memory.Memory.{Memory}
 use Rattle.ac_types.specs.declared.ty.Ty.{Ty}
@@ -12,11 +12,25 @@ use Rattle.ac_terms.specs.Defs.{Environment}
 use Rattle.ac_terms.specs.Read.{home_of}
 use Rattle.ac_terms.specs.TermTyping.{has}
 use Rattle.ac_rules.specs.Views.{Coloured}
-use Rattle.ac_rules.specs.Typing.{type_of, variables, variables_joined, type_seen}
+use Rattle.ac_rules.specs.Typing.{type_of, type_applied, variables, variables_joined, type_seen}
 use Rattle.ac_views.specs.Sites.{scope_at}
 use Rattle.ac_typing.specs.inner.Parts.{arm_type, newest_first}
 use Rattle.ac_views.specs.declared.site.Site.{Site}
 use Rattle.ac_typing.proofs.KeptLaws.{K, kept_is, lam_some, lam_none, rec_none, rec_no_result, rec_some, rec_big, rec_small, let_other, let_same}
+
+-- an application by the parts of the function's type
+pub applied_by_parts : (T : Typ) (a : Option Typ) → type_applied (Some T) a ≡ option_and_then (λ p. given (has a p.0) (Some p.1)) (function_parts T)
+applied_by_parts TInt a = refl
+applied_by_parts TBool a = refl
+applied_by_parts TStr a = refl
+applied_by_parts TUnit a = refl
+applied_by_parts TExn a = refl
+applied_by_parts (TTuple Ts) a = refl
+applied_by_parts (TList T) a = refl
+applied_by_parts (TOpt T) a = refl
+applied_by_parts (TFun T U) a = refl
+applied_by_parts (TAbs n t) a = refl
+applied_by_parts (TMine t) a = refl
 
 -- the same answer, of an equal type
 pub carry : (r : Result (Option Ty) Memory) (x y : Option Typ) → x ≡ y → IfOk r (λ o. option_map typ_of o ≡ x) → IfOk r (λ o. option_map typ_of o ≡ y)

@@ -37,7 +37,7 @@ pub fn own_type(alloc: Global, from: &Ty, to: &Ty) -> Result<Option<Ty>, Memory>
 }
 
 /// The type of an application, where the function and its argument have these types.
-#[tactic(auto, using(ac_types::proofs::SizeLaws::type_laws))]
+#[tactic(auto, using(ac_types::proofs::SizeLaws::type_laws, crate::proofs::FormLaws::applied_by_parts))]
 pub fn applied(function: Option<Ty>, argument: Option<Ty>) -> Option<Ty>
     ensures { option_map typ_of result ≡ type_applied (option_map typ_of function)
         (option_map typ_of argument) }
@@ -50,20 +50,19 @@ pub fn applied(function: Option<Ty>, argument: Option<Ty>) -> Option<Ty>
         drop(function);
         return None;
     };
-    match function {
-        Ty::Fun(from, to) => {
+    match function.into_function() {
+        Some((from, to)) => {
             let same = same_types(&argument, &from);
             drop(argument);
             drop(from);
             if same {
-                Some(to.into_inner())
+                Some(to)
             } else {
                 drop(to);
                 None
             }
         }
-        other => {
-            drop(other);
+        None => {
             drop(argument);
             None
         }

@@ -15,9 +15,14 @@ struct Cell<T> {
 }
 
 /// Lists that share their tails, each with a number. List 0 is empty.
-#[derive(Drop)]
 pub struct Chain<T> {
     cells: Vec<Cell<T>>,
+}
+
+impl<T: Drop> Drop for Chain<T> {
+    fn drop(self) {
+        let Chain { cells: _ } = self;
+    }
 }
 
 impl<T> Model for Chain<T> {

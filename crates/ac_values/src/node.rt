@@ -8,7 +8,6 @@ use ac_types::{Many, Text};
 pub struct Value(pub usize);
 
 /// A value, or a list of values, whose parts are numbers of earlier nodes.
-#[derive(Drop)]
 pub enum Node {
     Int(i64),
     Bool(bool),
@@ -27,4 +26,28 @@ pub enum Node {
     },
     EnvEnd,
     EnvCons(Value, Value),
+}
+
+impl Drop for Node {
+    fn drop(self) {
+        match self {
+            Node::Int(_)
+            | Node::Bool(_)
+            | Node::Str(_)
+            | Node::Unit
+            | Node::Exn(_, _)
+            | Node::Tuple(_)
+            | Node::Nil
+            | Node::Cons(_, _)
+            | Node::Absent
+            | Node::Present(_)
+            | Node::Closure {
+                block: _,
+                recursive: _,
+                env: _,
+            }
+            | Node::EnvEnd
+            | Node::EnvCons(_, _) => {}
+        }
+    }
 }

@@ -11,9 +11,14 @@ use std::alloc::Global;
 use std::marker::Model;
 
 /// An append-only list of nodes. The parts of a node have smaller numbers than it.
-#[derive(Drop)]
 pub struct Store {
     nodes: Many<Node>,
+}
+
+impl Drop for Store {
+    fn drop(self) {
+        let Store { nodes: _ } = self;
+    }
 }
 
 impl Model for Store {

@@ -12,16 +12,16 @@ loop-ty-init c =
 pub loop-ty-preserved : goal.loop-ty-preserved
 loop-ty-preserved c =
     c.loop-ty.invariant
-    ∙ last_next c.deref-ty-items.result.now c.loop-ty.last-1 c.loop-ty.ty-index c.ty-item.result c.loop-ty-test.true c.ty-item.is
-    ∙ ap (λ (b : Bool). given b (last_from (drop (c.loop-ty.ty-index + 1) c.deref-ty-items.result.now) c.loop-ty.last-1)) (sym c.if-not-is_base.ensures.found)
+    ∙ last_next c.deref-ty-items.result.now c.in_ok-last.last c.loop-ty.ty-index c.ty-item.result c.loop-ty-test.true c.ty-item.is
+    ∙ ap (λ (b : Bool). given b (last_from (drop (c.loop-ty.ty-index + 1) c.deref-ty-items.result.now) c.in_ok-last.last)) (sym c.if-not-is_base.ensures.found)
 
 pub returns-then-not-is_base : goal.returns-then-not-is_base
 returns-then-not-is_base c =
     sym (c.loop-ty.invariant
-    ∙ last_next c.deref-ty-items.result.now c.loop-ty.last-1 c.loop-ty.ty-index c.ty-item.result c.loop-ty-test.true c.ty-item.is
-    ∙ ap (λ (b : Bool). given b (last_from (drop (c.loop-ty.ty-index + 1) c.deref-ty-items.result.now) c.loop-ty.last-1)) (sym c.if-not-is_base.ensures.found))
+    ∙ last_next c.deref-ty-items.result.now c.in_ok-last.last c.loop-ty.ty-index c.ty-item.result c.loop-ty-test.true c.ty-item.is
+    ∙ ap (λ (b : Bool). given b (last_from (drop (c.loop-ty.ty-index + 1) c.deref-ty-items.result.now) c.in_ok-last.last)) (sym c.if-not-is_base.ensures.found))
 
 pub returns : goal.returns
 returns c =
     let e : c.loop-ty.ty-index ≡ length c.deref-ty-items.result.now = omega arith in
-    sym (c.loop-ty.invariant ∙ last_end c.deref-ty-items.result.now c.loop-ty.last-1 c.loop-ty.ty-index e)
+    sym (c.loop-ty.invariant ∙ last_end c.deref-ty-items.result.now c.in_ok-last.last c.loop-ty.ty-index e)
