@@ -48,12 +48,7 @@ fn is_under(target: &Sig, a: &Ty, b: &Ty) -> bool
             Ty::Fun(start, end) => is_under(target, start, from) && is_under(target, end, to),
             _ => false,
         },
-        Ty::Int => same_types(a, b),
-        Ty::Bool => same_types(a, b),
-        Ty::Str => same_types(a, b),
-        Ty::Unit => same_types(a, b),
-        Ty::Exn => same_types(a, b),
-        Ty::Abs(_, _) => same_types(a, b),
+        _ => same_types(a, b),
     }
 }
 
