@@ -1,5 +1,5 @@
 -- The reading of each form of terms.
-use Rattle.std.proofs.Common.{◌≡◌, ◌∙◌, ap, ap₂, refl, ℕ, ℤ, Bool, true, false, ◌||◌, List, [], ◌∷◌, map, None, Some}
+use Rattle.std.proofs.Common.{◌≡◌, ◌∙◌, sym, ap, ap₂, refl, ℕ, ℤ, Bool, true, false, ◌||◌, List, [], ◌∷◌, map, None, Some}
 use Rattle.ac_types.specs.ReadTypes.{typ_of}
 use Rattle.ac_types.specs.declared.text.Text.{Text}
 use Rattle.ac_types.specs.declared.ty.Ty.{Ty}
@@ -7,7 +7,9 @@ use Rattle.ac_terms.specs.declared.term.Term.{Term}
 use Rattle.ac_terms.specs.declared.term.Term.TheVariants as term
 use Rattle.ac_terms.specs.declared.term.PVal.{PVal}
 use Rattle.ac_terms.specs.declared.term.Arm.{Arm}
+use Rattle.ac_terms.specs.declared.term.PVal.TheOpen as code
 use Rattle.ac_terms.specs.declared.term.PVal.TheOpen.{Term-F}
+use Rattle.ac_terms.specs.declared.term.PVal.TheViews.{out-Term, roll-Term, roll-out-Term}
 use Rattle.ac_terms.specs.declared.term.PVal.TheFolds.{fold_out-Arm}
 use Rattle.ac_terms.specs.Terms.{Pattern, Expr, Int, Boolean, Str, Unit', Exn, ExnOf, Nil, Empty, Present, Cons, Var, Own, Ref, Lam, Rec, App, Let, If, Match, Try, Raise, Marshal, Unmarshal, Val, arms, PValue}
 use Rattle.ac_terms.specs.Bounds.{is_lambda, is_wanted}
@@ -107,3 +109,19 @@ pub either_wanted : (e : Expr) → (is_wanted e false || is_wanted e true) ≡ i
 either_wanted (Lam T e) = refl
 either_wanted (Rec T U e) = refl
 either_wanted e = refl
+
+pub ruleset lambda_forms = (expr_of-Lam, expr_of-Rec)
+
+-- a term that is no lambda is not wanted
+pub no_lambda : (t : Term) (r : Bool) → ((T : Ty) (e : Term) → t ≡ term.Lam T e → ⊥) → ((T U : Ty) (e : Term) → t ≡ term.Rec T U e → ⊥) → false ≡ is_wanted (expr_of t) r
+no_lambda t r lambda recursive = sym (ap (λ e. is_wanted e r) (expr_out t) ∙ unwanted (out-Term t) refl)
+  where
+    rolled : (y : Term-F PVal Term Arm) → out-Term t ≡ y → t ≡ roll-Term y
+    rolled y q = sym (roll-out-Term t) ∙ ap roll-Term q
+
+    unwanted : (y : Term-F PVal Term Arm) → out-Term t ≡ y → is_wanted (layer y) r ≡ false
+    unwanted (code.Lam T e) q = absurd (lambda T e (rolled (code.Lam T e) q ∙ term.rolls-Lam T e))
+    unwanted (code.Rec T U e) q = absurd (recursive T U e (rolled (code.Rec T U e) q ∙ term.rolls-Rec T U e))
+    unwanted (code.ExnVal k None) q = refl
+    unwanted (code.ExnVal k (Some e)) q = refl
+    unwanted y q = refl
