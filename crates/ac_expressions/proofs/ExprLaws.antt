@@ -34,5 +34,5 @@ pub arm_tree_of-made : (p : SPat) (e : SExpr) → arm_tree_of (roll-SArm (record
 unfolding tree_of expr_kind_of arm_tree_of fun_of
 arm_tree_of-made p e = fold-roll-SArm (ℕ → Tree) (PatTree × Tree) Tree FunTree expr_kind_layer arm_tree_layer expr_tree_layer fun_layer (record { pat = p; body = e })
 
-pub tree_of-ExnOf : (at n : ℕ) (e : SExpr) → tree_of (roll-SExpr (record { at = at; kind = Exn n (Some e) })) ≡ ExExnOf at n (tree_of e)
-tree_of-ExnOf at n e = tree_of-kind at (Exn n (Some e)) ∙ ap (λ f. f at) (expr_kind_out (Exn n (Some e))) ∙ ap (kind_at at) (variants.outs-Exn n (Some e))
+pub expr_kind_of-ExnOf : (at n : ℕ) (e : SExpr) → expr_kind_of (Exn n (Some e)) at ≡ ExExnOf at n (tree_of e)
+expr_kind_of-ExnOf at n e = ap (λ f. f at) (expr_kind_out (Exn n (Some e))) ∙ ap (kind_at at) (variants.outs-Exn n (Some e))

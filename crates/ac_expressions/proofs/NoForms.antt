@@ -9,7 +9,7 @@ use Rattle.ac_syntax.specs.declared.sign.Symbol.{Symbol}
 use Rattle.ac_syntax.specs.declared.sign.Symbol.TheVariants.{Arrow, As, Colon, Else, Equals, In, Then, With}
 use Rattle.ac_expressions.specs.inner.Pieces.{Nothing, Before, Behind, IsTypedBinder, IsArgument, IsHead, IsLastType}
 use Rattle.ac_expressions.specs.inner.Forms.{NoTree, IsArm, IsArms, IsChoice, IsLet, IsLetRec, IsFun, IsRec, IsIf, IsMarshal, IsUnmarshal, IsRaise}
-use Rattle.ac_expressions.proofs.Readers.{first_none, later_none, no_symbol, behind_none, before, before_none, symbol_none, one_before, one_typed, one_argument, one_head}
+use Rattle.ac_expressions.proofs.Readers.{first_none, later_none, no_symbol, behind_none, symbol_none, one_before, one_typed, one_argument, one_head}
 use Rattle.ac_expressions.proofs.Levels.{one_tree}
 use Rattle.ac_expressions.proofs.Atoms.{one_pattern}
 
@@ -17,15 +17,8 @@ pub unbefore : (D : ℕ) (t : Symbol) (e : Tree) (ts m : List Sign) → IsTree D
 unbefore D t e ts m p none = symbol_none (one_tree D Expr) p none
 
 module _ (D : ℕ) (ts : List Sign) where
-  pub arm_no_pattern : Nothing IsPattern ts → Nothing (IsArm D) ts
-  arm_no_pattern none = first_none (before_none none)
-
-  module _ (p : PatTree) (m : List Sign) (at : IsPattern ts p m) where
-    pub arm_no_arrow : NoSymbol Arrow m → Nothing (IsArm D) ts
-    arm_no_arrow none = first_none (symbol_none one_pattern at none)
-
-    pub arm_no_body : (r : List Sign) → SymbolAt Arrow m r → NoTree D Expr r → Nothing (IsArm D) ts
-    arm_no_body r arrow none = later_none (one_before Arrow one_pattern) (before at arrow) none
+  pub arm_no_body : (p : PatTree) (m : List Sign) → Before Arrow IsPattern ts p m → NoTree D Expr m → Nothing (IsArm D) ts
+  arm_no_body p m at none = later_none (one_before Arrow one_pattern) at none
 
   pub choice_no_arms : (e : Tree) (m us : List Sign) → Before With (IsTree D Expr) ts e m → us ≡ after_bar m → Nothing (IsArms D) us → Nothing (IsChoice D) ts
   choice_no_arms e m us p is none = later_none (one_before With (one_tree D Expr)) p (λ arms rest w. none arms rest (subst (λ (l : List Sign). IsArms D l arms rest) (sym is) w))

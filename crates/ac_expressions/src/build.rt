@@ -1,15 +1,17 @@
-// Trees of expressions, and their heights.
+// Trees of expressions with their heights, and what is left behind them.
 
-ghost use Rattle.std.specs.Prelude.{◌≡◌, ◌<◌, ◌-◌, ◌^◌, ◌∷◌, [], max, length, map, IfOk, MatchOption, option_map};
+ghost use Rattle.std.specs.Prelude.{◌≡◌, ◌<◌, ◌-◌, ◌^◌, ◌∷◌, [], ◌++◌, true, false, max, length, map, neg_ℤ, pos, IfOk, IfErr, option_map};
 ghost use Rattle.ac_syntax.specs.Trees.{ExInt, ExUnit, ExNil, ExAbsent, ExApp, ExOp, ExSeq, ExTuple, ExMatch, ExTry, tree, no_trees, trees, arm_trees, height, highest, highest_arm};
-ghost use Rattle.ac_syntax.specs.Expressions.{operator_of, operator_tree};
-ghost use Rattle.ac_syntax.specs.ReadTrees.{type_of, tree_of, arm_tree_of};
+ghost use Rattle.ac_syntax.specs.Expressions.{begins_atom, operator_of, operator_tree};
+ghost use Rattle.ac_syntax.specs.ReadSigns.{read_signs};
+ghost use Rattle.ac_syntax.specs.ReadTrees.{type_of, tree_of, expr_kind_of, arm_tree_of};
+ghost use Rattle.ac_syntax.specs.PartParsing.{OnSyntax, SymbolAt, NoSymbol};
 ghost use Rattle.ac_expressions.specs.inner.Pieces.{binder_of, head_of};
 ghost use Rattle.ac_expressions.specs.inner.Forms.{measured, prefixed, operator_read, let_tree, let_rec_tree, fun_tree, rec_tree, if_tree, marshal_tree, unmarshal_tree, raise_tree};
 
 use crate::binders::{Binder, Head};
-use crate::front::Prefix;
-use ac_syntax::{SArm, SExpr, SExprKind, SFun, SType, Symbol};
+use crate::front::{Prefix, begins_atom, expect, negated};
+use ac_syntax::{SArm, SExpr, SExprKind, SFun, SType, Sign, Stop, Symbol, refused_at};
 use ac_types::primitives::{ADD, CONCAT, DIV, EQ, LT, MUL, REM, SUB};
 use ac_types::{Box, Many, Memory};
 use std::alloc::Global;
@@ -30,7 +32,7 @@ pub struct Choice {
 }
 
 /// An operator between two sides: a primitive by its number, or one that is a form of its own.
-#[derive(Clone, Copy, Debug, PartialEq, Eq)]
+#[derive(Clone, Copy)]
 pub enum Operator {
     Prim(u8),
     Consing,
@@ -58,21 +60,43 @@ pub fn operator_of(symbol: Symbol) -> Option<(u32, Operator)>
     }
 }
 
+// An expression of this kind and height.
+fn made<'s, 't>(
+    alloc: Global,
+    at: u32,
+    kind: SExprKind,
+    high: u32,
+    rest: &'s [Sign<'t>],
+) -> Result<(Parsed, &'s [Sign<'t>]), Stop>
+    requires { high ≡ height (expr_kind_of kind at) }
+    ensures tree { IfOk result (λ x. (tree_of x.0.tree ≡ expr_kind_of kind at) ×
+        (x.1.now ≡ rest.now)) }
+    ensures height { IfOk result (λ x. measured x.0) }
+    ensures memory { IfErr result (λ e. e ≡ Stop.Memory) }
+{
+    let tree = Box::new(alloc, SExpr { at, kind })?;
+    let height = high;
+    Ok((Parsed { tree, height }, rest))
+}
+
 /// Two sides and the operator between them.
 #[tactic(auto, using(ac_syntax::proofs::ReadLaws::expr_laws))]
-pub fn join(
+pub fn join<'s, 't>(
     alloc: Global,
     at: u32,
     operator: Operator,
     left: Parsed,
     right: Parsed,
-) -> Result<Parsed, Memory>
+    rest: &'s [Sign<'t>],
+) -> Result<(Parsed, &'s [Sign<'t>]), Stop>
     requires low { max left.height right.height < 2 ^ 32 - 1 }
     requires left { measured left }
     requires right { measured right }
-    ensures tree { IfOk result (λ x. tree_of x.tree ≡ operator_tree at (operator_read operator)
-        (tree_of left.tree) (tree_of right.tree)) }
-    ensures height { IfOk result (λ x. measured x) }
+    ensures tree { IfOk result (λ x. (tree_of x.0.tree ≡ operator_tree at (operator_read operator)
+        (tree_of left.tree) (tree_of right.tree)) ×
+        (x.1.now ≡ rest.now)) }
+    ensures height { IfOk result (λ x. measured x.0) }
+    ensures memory { IfErr result (λ e. e ≡ Stop.Memory) }
 {
     let height = left.height.max(right.height) + 1;
     let kind = match operator {
@@ -81,101 +105,107 @@ pub fn join(
         Operator::Both => SExprKind::And(left.tree, right.tree),
         Operator::Either => SExprKind::Or(left.tree, right.tree),
     };
-    let tree = Box::new(alloc, SExpr { at, kind })?;
-    Ok(Parsed { tree, height })
+    made(alloc, at, kind, height, rest)
 }
 
 /// A function applied to an argument.
 #[tactic(auto, using(ac_syntax::proofs::ReadLaws::expr_laws))]
-pub fn application(
+pub fn application<'s, 't>(
     alloc: Global,
     at: u32,
     function: Parsed,
     argument: Parsed,
-) -> Result<Parsed, Memory>
+    rest: &'s [Sign<'t>],
+) -> Result<(Parsed, &'s [Sign<'t>]), Stop>
     requires low { max function.height argument.height < 2 ^ 32 - 1 }
     requires function { measured function }
     requires argument { measured argument }
-    ensures tree { IfOk result (λ x. tree_of x.tree ≡ ExApp at (tree_of function.tree)
-        (tree_of argument.tree)) }
-    ensures height { IfOk result (λ x. measured x) }
+    ensures tree { IfOk result (λ x. (tree_of x.0.tree ≡ ExApp at (tree_of function.tree)
+        (tree_of argument.tree)) ×
+        (x.1.now ≡ rest.now)) }
+    ensures height { IfOk result (λ x. measured x.0) }
+    ensures memory { IfErr result (λ e. e ≡ Stop.Memory) }
 {
     let height = function.height.max(argument.height) + 1;
-    let function = function.tree;
-    let argument = argument.tree;
-    let kind = SExprKind::App(function, argument);
-    let tree = Box::new(alloc, SExpr { at, kind })?;
-    Ok(Parsed { tree, height })
+    let kind = SExprKind::App(function.tree, argument.tree);
+    made(alloc, at, kind, height, rest)
 }
 
-/// An expression with the word that takes it.
+/// An expression with the word that takes it, behind which no further atom may begin.
 #[tactic(auto, using(ac_syntax::proofs::ReadLaws::expr_laws))]
-pub fn prefixed_by(alloc: Global, at: u32, prefix: Prefix, item: Parsed) -> Result<Parsed, Memory>
+pub fn prefixed_by<'s, 't>(
+    alloc: Global,
+    at: u32,
+    prefix: Prefix,
+    item: Parsed,
+    rest: &'s [Sign<'t>],
+) -> Result<(Parsed, &'s [Sign<'t>]), Stop>
     requires low { item.height < 2 ^ 32 - 1 }
     requires item { measured item }
-    ensures tree { IfOk result (λ x. tree_of x.tree ≡ prefixed prefix at (tree_of item.tree)) }
-    ensures height { IfOk result (λ x. measured x) }
+    ensures tree { IfOk result (λ x. (tree_of x.0.tree ≡ prefixed prefix at (tree_of item.tree)) ×
+        ((begins_atom (read_signs rest.now) ≡ false) × (x.1.now ≡ rest.now))) }
+    ensures height { IfOk result (λ x. measured x.0) }
+    ensures none { IfErr result (λ e. OnSyntax e (begins_atom (read_signs rest.now) ≡ true)) }
 {
+    if begins_atom(rest) {
+        return Err(refused_at(rest));
+    }
     let height = item.height + 1;
     let item = item.tree;
     match prefix {
-        Prefix::Present => {
-            let kind = SExprKind::Present(item);
-            let tree = Box::new(alloc, SExpr { at, kind })?;
-            Ok(Parsed { tree, height })
-        }
+        Prefix::Present => made(alloc, at, SExprKind::Present(item), height, rest),
         Prefix::Exn(number) => {
             let kind = SExprKind::Exn(number, Some(item));
-            let tree = Box::new(alloc, SExpr { at, kind })?;
-            Ok(Parsed { tree, height })
+            made(alloc, at, kind, height, rest)
         }
     }
 }
 
 /// A `let`.
 #[tactic(auto, using(ac_syntax::proofs::ReadLaws::expr_laws))]
-pub fn let_in(
+pub fn let_in<'s, 't>(
     alloc: Global,
     at: u32,
     binder: Binder,
     bound: Parsed,
     body: Parsed,
-) -> Result<Parsed, Memory>
+    rest: &'s [Sign<'t>],
+) -> Result<(Parsed, &'s [Sign<'t>]), Stop>
     requires low { max bound.height body.height < 2 ^ 32 - 1 }
     requires bound { measured bound }
     requires body { measured body }
-    ensures tree { IfOk result (λ x. tree_of x.tree ≡ let_tree at
-        (binder_of binder, (tree_of bound.tree, tree_of body.tree))) }
-    ensures height { IfOk result (λ x. measured x) }
+    ensures tree { IfOk result (λ x. (tree_of x.0.tree ≡ let_tree at
+        (binder_of binder, (tree_of bound.tree, tree_of body.tree))) ×
+        (x.1.now ≡ rest.now)) }
+    ensures height { IfOk result (λ x. measured x.0) }
+    ensures memory { IfErr result (λ e. e ≡ Stop.Memory) }
 {
     let height = bound.height.max(body.height) + 1;
-    let bound = bound.tree;
-    let body = body.tree;
     let (name, ty) = binder.into_parts();
-    let kind = SExprKind::Let(name, ty, bound, body);
-    let tree = Box::new(alloc, SExpr { at, kind })?;
-    Ok(Parsed { tree, height })
+    let kind = SExprKind::Let(name, ty, bound.tree, body.tree);
+    made(alloc, at, kind, height, rest)
 }
 
 /// A `let rec`.
 #[tactic(auto, using(ac_syntax::proofs::ReadLaws::expr_laws))]
-pub fn let_rec(
+pub fn let_rec<'s, 't>(
     alloc: Global,
     at: u32,
     head: Head,
     bound: Parsed,
     body: Parsed,
-) -> Result<Parsed, Memory>
+    rest: &'s [Sign<'t>],
+) -> Result<(Parsed, &'s [Sign<'t>]), Stop>
     requires low { max bound.height body.height < 2 ^ 32 - 1 }
     requires bound { measured bound }
     requires body { measured body }
-    ensures tree { IfOk result (λ x. tree_of x.tree ≡ let_rec_tree at
-        (head_of head, (tree_of bound.tree, tree_of body.tree))) }
-    ensures height { IfOk result (λ x. measured x) }
+    ensures tree { IfOk result (λ x. (tree_of x.0.tree ≡ let_rec_tree at
+        (head_of head, (tree_of bound.tree, tree_of body.tree))) ×
+        (x.1.now ≡ rest.now)) }
+    ensures height { IfOk result (λ x. measured x.0) }
+    ensures memory { IfErr result (λ e. e ≡ Stop.Memory) }
 {
     let height = bound.height.max(body.height) + 1;
-    let bound = bound.tree;
-    let body = body.tree;
     let (name, argument, result) = head.into_parts();
     let (arg, ty) = argument.into_parts();
     let function = SFun {
@@ -183,41 +213,53 @@ pub fn let_rec(
         arg,
         ty,
         result,
-        body: bound,
+        body: bound.tree,
     };
-    let kind = SExprKind::LetRec(function, body);
-    let tree = Box::new(alloc, SExpr { at, kind })?;
-    Ok(Parsed { tree, height })
+    let kind = SExprKind::LetRec(function, body.tree);
+    made(alloc, at, kind, height, rest)
 }
 
 /// A `fun`.
 #[tactic(auto, using(ac_syntax::proofs::ReadLaws::expr_laws))]
-pub fn fun(alloc: Global, at: u32, binder: Binder, body: Parsed) -> Result<Parsed, Memory>
+pub fn fun<'s, 't>(
+    alloc: Global,
+    at: u32,
+    binder: Binder,
+    body: Parsed,
+    rest: &'s [Sign<'t>],
+) -> Result<(Parsed, &'s [Sign<'t>]), Stop>
     requires low { body.height < 2 ^ 32 - 1 }
     requires body { measured body }
-    ensures tree { IfOk result (λ x. tree_of x.tree ≡ fun_tree at
-        (binder_of binder, tree_of body.tree)) }
-    ensures height { IfOk result (λ x. measured x) }
+    ensures tree { IfOk result (λ x. (tree_of x.0.tree ≡ fun_tree at
+        (binder_of binder, tree_of body.tree)) ×
+        (x.1.now ≡ rest.now)) }
+    ensures height { IfOk result (λ x. measured x.0) }
+    ensures memory { IfErr result (λ e. e ≡ Stop.Memory) }
 {
     let height = body.height + 1;
-    let body = body.tree;
     let (name, ty) = binder.into_parts();
-    let kind = SExprKind::Fun(name, ty, body);
-    let tree = Box::new(alloc, SExpr { at, kind })?;
-    Ok(Parsed { tree, height })
+    let kind = SExprKind::Fun(name, ty, body.tree);
+    made(alloc, at, kind, height, rest)
 }
 
 /// A `rec`.
 #[tactic(auto, using(ac_syntax::proofs::ReadLaws::expr_laws))]
-pub fn rec(alloc: Global, at: u32, head: Head, body: Parsed) -> Result<Parsed, Memory>
+pub fn rec<'s, 't>(
+    alloc: Global,
+    at: u32,
+    head: Head,
+    body: Parsed,
+    rest: &'s [Sign<'t>],
+) -> Result<(Parsed, &'s [Sign<'t>]), Stop>
     requires low { body.height < 2 ^ 32 - 1 }
     requires body { measured body }
-    ensures tree { IfOk result (λ x. tree_of x.tree ≡ rec_tree at
-        (head_of head, tree_of body.tree)) }
-    ensures height { IfOk result (λ x. measured x) }
+    ensures tree { IfOk result (λ x. (tree_of x.0.tree ≡ rec_tree at
+        (head_of head, tree_of body.tree)) ×
+        (x.1.now ≡ rest.now)) }
+    ensures height { IfOk result (λ x. measured x.0) }
+    ensures memory { IfErr result (λ e. e ≡ Stop.Memory) }
 {
     let height = body.height + 1;
-    let body = body.tree;
     let (name, argument, result) = head.into_parts();
     let (arg, ty) = argument.into_parts();
     let function = SFun {
@@ -225,224 +267,308 @@ pub fn rec(alloc: Global, at: u32, head: Head, body: Parsed) -> Result<Parsed, M
         arg,
         ty,
         result,
-        body,
+        body: body.tree,
     };
     let kind = SExprKind::Rec(function);
-    let tree = Box::new(alloc, SExpr { at, kind })?;
-    Ok(Parsed { tree, height })
+    made(alloc, at, kind, height, rest)
 }
 
 /// An `if`.
 #[tactic(auto, using(ac_syntax::proofs::ReadLaws::expr_laws))]
-pub fn if_else(
+pub fn if_else<'s, 't>(
     alloc: Global,
     at: u32,
     test: Parsed,
     so: Parsed,
     otherwise: Parsed,
-) -> Result<Parsed, Memory>
+    rest: &'s [Sign<'t>],
+) -> Result<(Parsed, &'s [Sign<'t>]), Stop>
     requires low { max test.height (max so.height otherwise.height) < 2 ^ 32 - 1 }
     requires test { measured test }
     requires so { measured so }
     requires otherwise { measured otherwise }
-    ensures tree { IfOk result (λ x. tree_of x.tree ≡ if_tree at
-        (tree_of test.tree, (tree_of so.tree, tree_of otherwise.tree))) }
-    ensures height { IfOk result (λ x. measured x) }
+    ensures tree { IfOk result (λ x. (tree_of x.0.tree ≡ if_tree at
+        (tree_of test.tree, (tree_of so.tree, tree_of otherwise.tree))) ×
+        (x.1.now ≡ rest.now)) }
+    ensures height { IfOk result (λ x. measured x.0) }
+    ensures memory { IfErr result (λ e. e ≡ Stop.Memory) }
 {
     let height = test.height.max(so.height.max(otherwise.height)) + 1;
-    let test = test.tree;
-    let so = so.tree;
-    let otherwise = otherwise.tree;
-    let kind = SExprKind::If(test, so, otherwise);
-    let tree = Box::new(alloc, SExpr { at, kind })?;
-    Ok(Parsed { tree, height })
+    let kind = SExprKind::If(test.tree, so.tree, otherwise.tree);
+    made(alloc, at, kind, height, rest)
 }
 
 /// A `marshal`.
 #[tactic(auto, using(ac_syntax::proofs::ReadLaws::expr_laws))]
-pub fn marshal(
+pub fn marshal<'s, 't>(
     alloc: Global,
     at: u32,
     mark: Parsed,
     value: Parsed,
     ty: SType,
-) -> Result<Parsed, Memory>
+    rest: &'s [Sign<'t>],
+) -> Result<(Parsed, &'s [Sign<'t>]), Stop>
     requires low { max mark.height value.height < 2 ^ 32 - 1 }
     requires mark { measured mark }
     requires value { measured value }
-    ensures tree { IfOk result (λ x. tree_of x.tree ≡ marshal_tree at
-        (tree_of mark.tree, (tree_of value.tree, type_of ty))) }
-    ensures height { IfOk result (λ x. measured x) }
+    ensures tree { IfOk result (λ x. (tree_of x.0.tree ≡ marshal_tree at
+        (tree_of mark.tree, (tree_of value.tree, type_of ty))) ×
+        (x.1.now ≡ rest.now)) }
+    ensures height { IfOk result (λ x. measured x.0) }
+    ensures memory { IfErr result (λ e. e ≡ Stop.Memory) }
 {
     let height = mark.height.max(value.height) + 1;
-    let mark = mark.tree;
-    let value = value.tree;
-    let kind = SExprKind::Marshal(mark, value, ty);
-    let tree = Box::new(alloc, SExpr { at, kind })?;
-    Ok(Parsed { tree, height })
+    let kind = SExprKind::Marshal(mark.tree, value.tree, ty);
+    made(alloc, at, kind, height, rest)
 }
 
 /// An `unmarshal`.
 #[tactic(auto, using(ac_syntax::proofs::ReadLaws::expr_laws))]
-pub fn unmarshal(alloc: Global, at: u32, text: Parsed, ty: SType) -> Result<Parsed, Memory>
+pub fn unmarshal<'s, 't>(
+    alloc: Global,
+    at: u32,
+    text: Parsed,
+    ty: SType,
+    rest: &'s [Sign<'t>],
+) -> Result<(Parsed, &'s [Sign<'t>]), Stop>
     requires low { text.height < 2 ^ 32 - 1 }
     requires text { measured text }
-    ensures tree { IfOk result (λ x. tree_of x.tree ≡ unmarshal_tree at
-        (tree_of text.tree, type_of ty)) }
-    ensures height { IfOk result (λ x. measured x) }
+    ensures tree { IfOk result (λ x. (tree_of x.0.tree ≡ unmarshal_tree at
+        (tree_of text.tree, type_of ty)) ×
+        (x.1.now ≡ rest.now)) }
+    ensures height { IfOk result (λ x. measured x.0) }
+    ensures memory { IfErr result (λ e. e ≡ Stop.Memory) }
 {
     let height = text.height + 1;
-    let text = text.tree;
-    let kind = SExprKind::Unmarshal(text, ty);
-    let tree = Box::new(alloc, SExpr { at, kind })?;
-    Ok(Parsed { tree, height })
+    made(alloc, at, SExprKind::Unmarshal(text.tree, ty), height, rest)
 }
 
 /// A `raise`.
 #[tactic(auto, using(ac_syntax::proofs::ReadLaws::expr_laws))]
-pub fn raise(alloc: Global, at: u32, exception: Parsed, ty: SType) -> Result<Parsed, Memory>
+pub fn raise<'s, 't>(
+    alloc: Global,
+    at: u32,
+    exception: Parsed,
+    ty: SType,
+    rest: &'s [Sign<'t>],
+) -> Result<(Parsed, &'s [Sign<'t>]), Stop>
     requires low { exception.height < 2 ^ 32 - 1 }
     requires exception { measured exception }
-    ensures tree { IfOk result (λ x. tree_of x.tree ≡ raise_tree at
-        (tree_of exception.tree, type_of ty)) }
-    ensures height { IfOk result (λ x. measured x) }
+    ensures tree { IfOk result (λ x. (tree_of x.0.tree ≡ raise_tree at
+        (tree_of exception.tree, type_of ty)) ×
+        (x.1.now ≡ rest.now)) }
+    ensures height { IfOk result (λ x. measured x.0) }
+    ensures memory { IfErr result (λ e. e ≡ Stop.Memory) }
 {
     let height = exception.height + 1;
-    let exception = exception.tree;
-    let kind = SExprKind::Raise(exception, ty);
-    let tree = Box::new(alloc, SExpr { at, kind })?;
-    Ok(Parsed { tree, height })
+    made(
+        alloc,
+        at,
+        SExprKind::Raise(exception.tree, ty),
+        height,
+        rest,
+    )
 }
 
 /// The primitive of this number on one operand.
 #[tactic(auto, using(ac_syntax::proofs::ReadLaws::expr_laws))]
-pub fn operation(alloc: Global, at: u32, number: u8, operand: Parsed) -> Result<Parsed, Memory>
+pub fn operation<'s, 't>(
+    alloc: Global,
+    at: u32,
+    number: u8,
+    operand: Parsed,
+    rest: &'s [Sign<'t>],
+) -> Result<(Parsed, &'s [Sign<'t>]), Stop>
     requires low { operand.height < 2 ^ 32 - 1 }
     requires operand { measured operand }
-    ensures tree { IfOk result (λ x. tree_of x.tree ≡ ExOp at number
-        (tree (tree_of operand.tree) no_trees)) }
-    ensures height { IfOk result (λ x. measured x) }
+    ensures tree { IfOk result (λ x. (tree_of x.0.tree ≡ ExOp at number (tree
+        (tree_of operand.tree) no_trees)) ×
+        (x.1.now ≡ rest.now)) }
+    ensures height { IfOk result (λ x. measured x.0) }
+    ensures memory { IfErr result (λ e. e ≡ Stop.Memory) }
 {
     let height = operand.height + 1;
-    let mut parts = Many::new(alloc);
-    parts.push(operand.tree.into_inner())?;
-    let kind = SExprKind::Op(number, parts);
-    let tree = Box::new(alloc, SExpr { at, kind })?;
-    Ok(Parsed { tree, height })
+    let parts = with_part(Many::new(alloc), operand)?;
+    made(alloc, at, SExprKind::Op(number, parts), height, rest)
+}
+
+/// A sequence of parts, of which the highest has this height.
+#[tactic(auto, using(ac_syntax::proofs::ReadLaws::expr_laws))]
+pub fn sequence<'s, 't>(
+    alloc: Global,
+    at: u32,
+    parts: Many<SExpr>,
+    most: u32,
+    rest: &'s [Sign<'t>],
+) -> Result<(Parsed, &'s [Sign<'t>]), Stop>
+    requires low { most < 2 ^ 32 - 1 }
+    requires highest { most ≡ highest (trees (map tree_of parts)) }
+    ensures tree { IfOk result (λ x. (tree_of x.0.tree ≡ ExSeq at (trees (map tree_of parts))) ×
+        (x.1.now ≡ rest.now)) }
+    ensures height { IfOk result (λ x. measured x.0) }
+    ensures memory { IfErr result (λ e. e ≡ Stop.Memory) }
+{
+    made(alloc, at, SExprKind::Seq(parts), most + 1, rest)
+}
+
+/// A tuple of parts, of which the highest has this height, with its `)`.
+#[tactic(auto, using(ac_syntax::proofs::ReadLaws::expr_laws))]
+pub fn tuple<'s, 't>(
+    alloc: Global,
+    at: u32,
+    parts: Many<SExpr>,
+    most: u32,
+    rest: &'s [Sign<'t>],
+) -> Result<(Parsed, &'s [Sign<'t>]), Stop>
+    requires low { most < 2 ^ 32 - 1 }
+    requires highest { most ≡ highest (trees (map tree_of parts)) }
+    ensures tree { IfOk result (λ x. (tree_of x.0.tree ≡ ExTuple at (trees (map tree_of parts))) ×
+        SymbolAt Symbol.Close (read_signs rest.now) (read_signs x.1.now)) }
+    ensures height { IfOk result (λ x. measured x.0) }
+    ensures shorter { IfOk result (λ x. length x.1.now < length rest.now) }
+    ensures none { IfErr result (λ e. OnSyntax e (NoSymbol Symbol.Close (read_signs rest.now))) }
+{
+    let end = expect(Symbol::Close, rest)?;
+    made(alloc, at, SExprKind::Tuple(parts), most + 1, end)
+}
+
+/// A `match`.
+#[tactic(auto, using(ac_syntax::proofs::ReadLaws::expr_laws))]
+pub fn match_with<'s, 't>(
+    alloc: Global,
+    at: u32,
+    choice: Choice,
+    rest: &'s [Sign<'t>],
+) -> Result<(Parsed, &'s [Sign<'t>]), Stop>
+    requires low { max choice.of.height choice.height < 2 ^ 32 - 1 }
+    requires of_tree { measured choice.of }
+    requires arms { choice.height ≡ highest_arm (arm_trees (map arm_tree_of choice.arms)) }
+    ensures tree { IfOk result (λ x. (tree_of x.0.tree ≡ ExMatch at (tree_of choice.of.tree)
+        (arm_trees (map arm_tree_of choice.arms))) ×
+        (x.1.now ≡ rest.now)) }
+    ensures height { IfOk result (λ x. measured x.0) }
+    ensures memory { IfErr result (λ e. e ≡ Stop.Memory) }
+{
+    let height = choice.of.height.max(choice.height) + 1;
+    made(
+        alloc,
+        at,
+        SExprKind::Match(choice.of.tree, choice.arms),
+        height,
+        rest,
+    )
+}
+
+/// A `try`.
+#[tactic(auto, using(ac_syntax::proofs::ReadLaws::expr_laws))]
+pub fn try_with<'s, 't>(
+    alloc: Global,
+    at: u32,
+    choice: Choice,
+    rest: &'s [Sign<'t>],
+) -> Result<(Parsed, &'s [Sign<'t>]), Stop>
+    requires low { max choice.of.height choice.height < 2 ^ 32 - 1 }
+    requires of_tree { measured choice.of }
+    requires arms { choice.height ≡ highest_arm (arm_trees (map arm_tree_of choice.arms)) }
+    ensures tree { IfOk result (λ x. (tree_of x.0.tree ≡ ExTry at (tree_of choice.of.tree)
+        (arm_trees (map arm_tree_of choice.arms))) ×
+        (x.1.now ≡ rest.now)) }
+    ensures height { IfOk result (λ x. measured x.0) }
+    ensures memory { IfErr result (λ e. e ≡ Stop.Memory) }
+{
+    let height = choice.of.height.max(choice.height) + 1;
+    made(
+        alloc,
+        at,
+        SExprKind::Try(choice.of.tree, choice.arms),
+        height,
+        rest,
+    )
+}
+
+/// A number behind its `-`.
+#[tactic(auto, using(ac_syntax::proofs::ReadLaws::expr_laws))]
+pub fn negative<'s, 't>(
+    alloc: Global,
+    at: u32,
+    n: u64,
+    rest: &'s [Sign<'t>],
+) -> Result<(Parsed, &'s [Sign<'t>]), Stop>
+    ensures tree { IfOk result (λ x. (tree_of x.0.tree ≡ ExInt at (neg_ℤ (pos n))) ×
+        (x.1.now ≡ rest.now)) }
+    ensures height { IfOk result (λ x. measured x.0) }
+    ensures memory { IfErr result (λ e. e ≡ Stop.Memory) }
+{
+    let n = negated(n)?;
+    made(alloc, at, SExprKind::Int(n), 1, rest)
+}
+
+/// The empty tuple.
+#[tactic(auto, using(ac_syntax::proofs::ReadLaws::expr_laws))]
+pub fn unit<'s, 't>(
+    alloc: Global,
+    at: u32,
+    rest: &'s [Sign<'t>],
+) -> Result<(Parsed, &'s [Sign<'t>]), Stop>
+    ensures tree { IfOk result (λ x. (tree_of x.0.tree ≡ ExUnit at) × (x.1.now ≡ rest.now)) }
+    ensures height { IfOk result (λ x. measured x.0) }
+    ensures memory { IfErr result (λ e. e ≡ Stop.Memory) }
+{
+    made(alloc, at, SExprKind::Unit, 1, rest)
+}
+
+/// The empty list of a type.
+#[tactic(auto, using(ac_syntax::proofs::ReadLaws::expr_laws))]
+pub fn nil<'s, 't>(
+    alloc: Global,
+    at: u32,
+    ty: SType,
+    rest: &'s [Sign<'t>],
+) -> Result<(Parsed, &'s [Sign<'t>]), Stop>
+    ensures tree { IfOk result (λ x. (tree_of x.0.tree ≡ ExNil at (type_of ty)) ×
+        (x.1.now ≡ rest.now)) }
+    ensures height { IfOk result (λ x. measured x.0) }
+    ensures memory { IfErr result (λ e. e ≡ Stop.Memory) }
+{
+    made(alloc, at, SExprKind::Nil(ty), 1, rest)
+}
+
+/// `None` of a type.
+#[tactic(auto, using(ac_syntax::proofs::ReadLaws::expr_laws))]
+pub fn absent<'s, 't>(
+    alloc: Global,
+    at: u32,
+    ty: SType,
+    rest: &'s [Sign<'t>],
+) -> Result<(Parsed, &'s [Sign<'t>]), Stop>
+    ensures tree { IfOk result (λ x. (tree_of x.0.tree ≡ ExAbsent at (type_of ty)) ×
+        (x.1.now ≡ rest.now)) }
+    ensures height { IfOk result (λ x. measured x.0) }
+    ensures memory { IfErr result (λ e. e ≡ Stop.Memory) }
+{
+    made(alloc, at, SExprKind::Absent(ty), 1, rest)
+}
+
+/// The parts, and one more behind them.
+pub fn with_part(mut parts: Many<SExpr>, part: Parsed) -> Result<Many<SExpr>, Memory>
+    ensures { IfOk result (λ all. all ≡ parts ++ part.tree ∷ []) }
+{
+    parts.push(part.tree.into_inner())?;
+    Ok(parts)
 }
 
 /// The trees of two expressions.
 pub fn two(alloc: Global, first: Parsed, second: Parsed) -> Result<Many<SExpr>, Memory>
     ensures { IfOk result (λ parts. parts ≡ first.tree ∷ second.tree ∷ []) }
 {
-    let mut parts = Many::new(alloc);
-    parts.push(first.tree.into_inner())?;
-    parts.push(second.tree.into_inner())?;
-    Ok(parts)
+    let parts = with_part(Many::new(alloc), first)?;
+    with_part(parts, second)
 }
 
-/// A sequence of parts, of which the highest has this height.
-#[tactic(auto, using(ac_syntax::proofs::ReadLaws::expr_laws))]
-pub fn sequence(alloc: Global, at: u32, parts: Many<SExpr>, most: u32) -> Result<Parsed, Memory>
-    requires low { most < 2 ^ 32 - 1 }
-    requires highest { most ≡ highest (trees (map tree_of parts)) }
-    ensures tree { IfOk result (λ x. tree_of x.tree ≡ ExSeq at (trees (map tree_of parts))) }
-    ensures height { IfOk result (λ x. measured x) }
+/// The arms, and one more behind them.
+pub fn with_arm(mut arms: Many<SArm>, arm: SArm) -> Result<Many<SArm>, Memory>
+    ensures { IfOk result (λ all. all ≡ arms ++ arm ∷ []) }
 {
-    let kind = SExprKind::Seq(parts);
-    let tree = Box::new(alloc, SExpr { at, kind })?;
-    let height = most + 1;
-    Ok(Parsed { tree, height })
-}
-
-/// A tuple of parts, of which the highest has this height.
-#[tactic(auto, using(ac_syntax::proofs::ReadLaws::expr_laws))]
-pub fn tuple(alloc: Global, at: u32, parts: Many<SExpr>, most: u32) -> Result<Parsed, Memory>
-    requires low { most < 2 ^ 32 - 1 }
-    requires highest { most ≡ highest (trees (map tree_of parts)) }
-    ensures tree { IfOk result (λ x. tree_of x.tree ≡ ExTuple at (trees (map tree_of parts))) }
-    ensures height { IfOk result (λ x. measured x) }
-{
-    let kind = SExprKind::Tuple(parts);
-    let tree = Box::new(alloc, SExpr { at, kind })?;
-    let height = most + 1;
-    Ok(Parsed { tree, height })
-}
-
-/// A `match`.
-#[tactic(auto, using(ac_syntax::proofs::ReadLaws::expr_laws))]
-pub fn match_with(alloc: Global, at: u32, choice: Choice) -> Result<Parsed, Memory>
-    requires low { max choice.of.height choice.height < 2 ^ 32 - 1 }
-    requires of_tree { measured choice.of }
-    requires arms { choice.height ≡ highest_arm (arm_trees (map arm_tree_of choice.arms)) }
-    ensures tree { IfOk result (λ x. tree_of x.tree ≡ ExMatch at (tree_of choice.of.tree)
-        (arm_trees (map arm_tree_of choice.arms))) }
-    ensures height { IfOk result (λ x. measured x) }
-{
-    let height = choice.of.height.max(choice.height) + 1;
-    let of = choice.of.tree;
-    let kind = SExprKind::Match(of, choice.arms);
-    let tree = Box::new(alloc, SExpr { at, kind })?;
-    Ok(Parsed { tree, height })
-}
-
-/// A `try`.
-#[tactic(auto, using(ac_syntax::proofs::ReadLaws::expr_laws))]
-pub fn try_with(alloc: Global, at: u32, choice: Choice) -> Result<Parsed, Memory>
-    requires low { max choice.of.height choice.height < 2 ^ 32 - 1 }
-    requires of_tree { measured choice.of }
-    requires arms { choice.height ≡ highest_arm (arm_trees (map arm_tree_of choice.arms)) }
-    ensures tree { IfOk result (λ x. tree_of x.tree ≡ ExTry at (tree_of choice.of.tree)
-        (arm_trees (map arm_tree_of choice.arms))) }
-    ensures height { IfOk result (λ x. measured x) }
-{
-    let height = choice.of.height.max(choice.height) + 1;
-    let of = choice.of.tree;
-    let kind = SExprKind::Try(of, choice.arms);
-    let tree = Box::new(alloc, SExpr { at, kind })?;
-    Ok(Parsed { tree, height })
-}
-
-/// A constant.
-#[tactic(auto, using(ac_syntax::proofs::ReadLaws::expr_laws))]
-pub fn number(alloc: Global, at: u32, n: i64) -> Result<Parsed, Memory>
-    ensures tree { IfOk result (λ x. tree_of x.tree ≡ ExInt at n) }
-    ensures height { IfOk result (λ x. measured x) }
-{
-    let kind = SExprKind::Int(n);
-    let tree = Box::new(alloc, SExpr { at, kind })?;
-    Ok(Parsed { tree, height: 1 })
-}
-
-/// The empty tuple.
-#[tactic(auto, using(ac_syntax::proofs::ReadLaws::expr_laws))]
-pub fn unit(alloc: Global, at: u32) -> Result<Parsed, Memory>
-    ensures tree { IfOk result (λ x. tree_of x.tree ≡ ExUnit at) }
-    ensures height { IfOk result (λ x. measured x) }
-{
-    let kind = SExprKind::Unit;
-    let tree = Box::new(alloc, SExpr { at, kind })?;
-    Ok(Parsed { tree, height: 1 })
-}
-
-/// The empty list of a type.
-#[tactic(auto, using(ac_syntax::proofs::ReadLaws::expr_laws))]
-pub fn nil(alloc: Global, at: u32, ty: SType) -> Result<Parsed, Memory>
-    ensures tree { IfOk result (λ x. tree_of x.tree ≡ ExNil at (type_of ty)) }
-    ensures height { IfOk result (λ x. measured x) }
-{
-    let kind = SExprKind::Nil(ty);
-    let tree = Box::new(alloc, SExpr { at, kind })?;
-    Ok(Parsed { tree, height: 1 })
-}
-
-/// `None` of a type.
-#[tactic(auto, using(ac_syntax::proofs::ReadLaws::expr_laws))]
-pub fn absent(alloc: Global, at: u32, ty: SType) -> Result<Parsed, Memory>
-    ensures tree { IfOk result (λ x. tree_of x.tree ≡ ExAbsent at (type_of ty)) }
-    ensures height { IfOk result (λ x. measured x) }
-{
-    let kind = SExprKind::Absent(ty);
-    let tree = Box::new(alloc, SExpr { at, kind })?;
-    Ok(Parsed { tree, height: 1 })
+    arms.push(arm)?;
+    Ok(arms)
 }

@@ -2,22 +2,22 @@
 
 ghost use Rattle.std.specs.Prelude.{◌≡◌, ◌<◌, ◌≤◌, ◌-◌, ◌^◌, ◌∷◌, true, suc, length, map, IfOk, IfErr};
 ghost use Rattle.ac_syntax.specs.Signs.{Fixed};
-ghost use Rattle.ac_syntax.specs.Trees.{ExApp, arm_trees, height, highest_arm};
+ghost use Rattle.ac_syntax.specs.Trees.{ExApp, ExNil, ExAbsent, arm_trees, height, highest_arm};
 ghost use Rattle.ac_syntax.specs.Expressions.{Expr, Part, Binary, After, Unary, App, Atom, front, ToLeft, ToRight, Once, operator_tree, side_of, IsTree};
 ghost use Rattle.ac_syntax.specs.ReadSigns.{read_signs};
 ghost use Rattle.ac_syntax.specs.ReadTrees.{tree_of, arm_tree_of};
-ghost use Rattle.ac_syntax.specs.PartParsing.{OnSyntax};
-ghost use Rattle.ac_expressions.specs.inner.Pieces.{Nothing, Before, Made, NoPrefix};
+ghost use Rattle.ac_syntax.specs.PartParsing.{OnSyntax, NoSymbol};
+ghost use Rattle.ac_expressions.specs.inner.Pieces.{Nothing, Before, Behind, IsAscribed, Made, NoPrefix};
 ghost use Rattle.ac_expressions.specs.inner.Forms.{keyword_symbol, NoTree, measured, operator_read, IsLastOperand, IsLet, let_tree, IsLetRec, let_rec_tree, IsFun, fun_tree, IsRec, rec_tree, IsIf, if_tree, IsMarshal, marshal_tree, IsUnmarshal, unmarshal_tree, IsRaise, raise_tree, IsParts, sequence_tree, IsItems, tuple_tree, IsArm, IsArms, IsChoice};
 
 use crate::binders::{argument, ascribed, function_head, type_behind, typed};
 use crate::build::{self, Choice, Operator, Parsed};
-use crate::front::{begins_atom, expect, lone_number, negated, next_prefix};
+use crate::front::{begins_atom, expect, followed, lone_number, next_prefix};
 use crate::keywords::{Keyword, after_bar, next_keyword, operator};
-use crate::leaves::leaf;
-use crate::patterns::parsed_pattern;
+use crate::leaves::parsed_leaf;
+use crate::patterns::arm_pattern;
 use ac_syntax::{SArm, Sign, Stop, Symbol, after, here, refused_at};
-use ac_types::{Box, Many, primitives};
+use ac_types::{Many, primitives};
 use std::alloc::Global;
 
 // An expression with this symbol behind it.
@@ -37,8 +37,7 @@ fn before<'s, 't>(
         (Nothing (Before symbol (IsTree depth Expr)) (read_signs signs.now))) }
 {
     let (tree, behind) = expr(alloc, depth, signs)?;
-    let rest = expect(symbol, behind)?;
-    Ok((tree, rest))
+    followed(symbol, tree, behind)
 }
 
 // An arm, and the height of its expression.
@@ -54,11 +53,9 @@ fn arm<'s, 't>(
     ensures shorter { IfOk result (λ x. length x.1.now < length signs.now) }
     ensures none { IfErr result (λ e. OnSyntax e (Nothing (IsArm depth) (read_signs signs.now))) }
 {
-    let (parsed, behind) = parsed_pattern(alloc, signs)?;
-    let later = expect(Symbol::Arrow, behind)?;
-    let (body, rest) = expr(alloc, depth, later)?;
+    let (pat, behind) = arm_pattern(alloc, signs)?;
+    let (body, rest) = expr(alloc, depth, behind)?;
     let height = body.height;
-    let pat = parsed.into_tree();
     let body = body.tree.into_inner();
     Ok(((SArm { pat, body }, height), rest))
 }
@@ -78,16 +75,14 @@ fn arms<'s, 't>(
     ensures none { IfErr result (λ e. OnSyntax e (Nothing (IsArms depth) (read_signs signs.now))) }
 {
     let ((first, mut height), mut rest) = arm(alloc, depth, signs)?;
-    let mut arms = Many::new(alloc);
-    arms.push(first)?;
+    let mut arms = build::with_arm(Many::new(alloc), first)?;
     while let Some(behind) = after(Symbol::Bar, rest) {
         let ((next, own), later) = arm(alloc, depth, behind)?;
         height = height.max(own);
-        arms.push(next)?;
+        arms = build::with_arm(arms, next)?;
         rest = later;
     }
-    let end = expect(Symbol::End, rest)?;
-    Ok(((arms, height), end))
+    followed(Symbol::End, (arms, height), rest)
 }
 
 // What stands behind a `match` or a `try`.
@@ -135,11 +130,74 @@ fn tuple<'s, 't>(
     while let Some(behind) = after(Symbol::Comma, rest) {
         let (part, later) = expr(alloc, depth, behind)?;
         height = height.max(part.height);
-        parts.push(part.tree.into_inner())?;
+        parts = build::with_part(parts, part)?;
         rest = later;
     }
-    let end = expect(Symbol::Close, rest)?;
-    Ok((build::tuple(alloc, at, parts, height)?, end))
+    build::tuple(alloc, at, parts, height, rest)
+}
+
+// What stands behind a `([`.
+fn nil<'s, 't>(
+    alloc: Global,
+    at: u32,
+    signs: &'s [Sign<'t>],
+) -> Result<(Parsed, &'s [Sign<'t>]), Stop>
+    ensures tree { IfOk result (λ x. Made (Behind Symbol.CloseSquare (IsAscribed Symbol.Close))
+        (ExNil at) (read_signs signs.now) (tree_of x.0.tree) (read_signs x.1.now)) }
+    ensures height { IfOk result (λ x. measured x.0) }
+    ensures shorter { IfOk result (λ x. length x.1.now < length signs.now) }
+    ensures none { IfErr result (λ e. OnSyntax e
+        (Nothing (Behind Symbol.CloseSquare (IsAscribed Symbol.Close)) (read_signs signs.now))) }
+{
+    let behind = expect(Symbol::CloseSquare, signs)?;
+    let (ty, rest) = ascribed(alloc, Symbol::Close, behind)?;
+    build::nil(alloc, at, ty, rest)
+}
+
+// What stands behind a `(None`.
+fn absent<'s, 't>(
+    alloc: Global,
+    at: u32,
+    signs: &'s [Sign<'t>],
+) -> Result<(Parsed, &'s [Sign<'t>]), Stop>
+    ensures tree { IfOk result (λ x. Made (IsAscribed Symbol.Close) (ExAbsent at)
+        (read_signs signs.now) (tree_of x.0.tree) (read_signs x.1.now)) }
+    ensures height { IfOk result (λ x. measured x.0) }
+    ensures shorter { IfOk result (λ x. length x.1.now < length signs.now) }
+    ensures none { IfErr result (λ e. OnSyntax e
+        (Nothing (IsAscribed Symbol.Close) (read_signs signs.now))) }
+{
+    let (ty, rest) = ascribed(alloc, Symbol::Close, signs)?;
+    build::absent(alloc, at, ty, rest)
+}
+
+// What stands behind a `(` and begins with an expression.
+#[cycle(expressions)]
+fn enclosed<'s, 't>(
+    alloc: Global,
+    depth: u32,
+    at: u32,
+    signs: &'s [Sign<'t>],
+) -> Result<(Parsed, &'s [Sign<'t>]), Stop>
+    requires unclosed { NoSymbol Symbol.Close (read_signs signs.now) }
+    requires no_nil { NoSymbol Symbol.OpenSquare (read_signs signs.now) }
+    requires no_absent { NoSymbol Symbol.NoneWord (read_signs signs.now) }
+    ensures tree { IfOk result (λ x. IsTree depth Atom (Fixed at Symbol.Open ∷ read_signs signs.now)
+        (tree_of x.0.tree) (read_signs x.1.now)) }
+    ensures height { IfOk result (λ x. measured x.0) }
+    ensures shorter { IfOk result (λ x. length x.1.now < length signs.now) }
+    ensures none { IfErr result (λ e. OnSyntax e
+        (NoTree depth Atom (Fixed at Symbol.Open ∷ read_signs signs.now))) }
+{
+    let (first, rest) = expr(alloc, depth, signs)?;
+    if let Some(end) = after(Symbol::Close, rest) {
+        return Ok((first, end));
+    }
+    let behind = expect(Symbol::Comma, rest)?;
+    if first.height >= depth {
+        return Err(refused_at(rest));
+    }
+    tuple(alloc, depth - 1, at, first, behind)
 }
 
 // What stands behind a `(`.
@@ -159,26 +217,15 @@ fn opened<'s, 't>(
         (NoTree depth Atom (Fixed at Symbol.Open ∷ read_signs signs.now))) }
 {
     if let Some(rest) = after(Symbol::Close, signs) {
-        return Ok((build::unit(alloc, at)?, rest));
+        return build::unit(alloc, at, rest);
     }
     if let Some(behind) = after(Symbol::OpenSquare, signs) {
-        let behind = expect(Symbol::CloseSquare, behind)?;
-        let (ty, rest) = ascribed(alloc, Symbol::Close, behind)?;
-        return Ok((build::nil(alloc, at, ty)?, rest));
+        return nil(alloc, at, behind);
     }
     if let Some(behind) = after(Symbol::NoneWord, signs) {
-        let (ty, rest) = ascribed(alloc, Symbol::Close, behind)?;
-        return Ok((build::absent(alloc, at, ty)?, rest));
+        return absent(alloc, at, behind);
     }
-    let (first, rest) = expr(alloc, depth, signs)?;
-    if let Some(end) = after(Symbol::Close, rest) {
-        return Ok((first, end));
-    }
-    let behind = expect(Symbol::Comma, rest)?;
-    if first.height >= depth {
-        return Err(refused_at(rest));
-    }
-    tuple(alloc, depth - 1, at, first, behind)
+    enclosed(alloc, depth, at, signs)
 }
 
 // A leaf, what stands in parentheses, a `match` or a `try`.
@@ -203,15 +250,13 @@ fn atom<'s, 't>(
     }
     if let Some(behind) = after(Symbol::Match, signs) {
         let (choice, rest) = choice(alloc, depth - 1, behind)?;
-        return Ok((build::match_with(alloc, at, choice)?, rest));
+        return build::match_with(alloc, at, choice, rest);
     }
     if let Some(behind) = after(Symbol::Try, signs) {
         let (choice, rest) = choice(alloc, depth - 1, behind)?;
-        return Ok((build::try_with(alloc, at, choice)?, rest));
+        return build::try_with(alloc, at, choice, rest);
     }
-    let (tree, rest) = leaf(alloc, signs)?;
-    let tree = Box::new(alloc, tree)?;
-    Ok((Parsed { tree, height: 1 }, rest))
+    parsed_leaf(alloc, signs)
 }
 
 // An atom behind a word that takes it, or an atom with its arguments.
@@ -234,10 +279,7 @@ fn app<'s, 't>(
         return Err(refused_at(signs));
     }
     let (item, rest) = atom(alloc, depth - 1, behind)?;
-    if begins_atom(rest) {
-        return Err(refused_at(rest));
-    }
-    Ok((build::prefixed_by(alloc, at, prefix, item)?, rest))
+    build::prefixed_by(alloc, at, prefix, item, rest)
 }
 
 // An atom with its arguments; no word that takes one stands here.
@@ -286,7 +328,7 @@ fn next_argument<'s, 't>(
     ensures none { IfErr result (λ e. OnSyntax e (NoTree depth Atom (read_signs signs.now))) }
 {
     let (argument, rest) = atom(alloc, depth, signs)?;
-    Ok((build::application(alloc, at, function, argument)?, rest))
+    build::application(alloc, at, function, argument, rest)
 }
 
 // What stands behind a `-`.
@@ -306,10 +348,10 @@ fn minus<'s, 't>(
         (NoTree depth Unary (Fixed at Symbol.Minus ∷ read_signs signs.now))) }
 {
     if let Some((n, rest)) = lone_number(signs) {
-        return Ok((build::number(alloc, at, negated(n)?)?, rest));
+        return build::negative(alloc, at, n, rest);
     }
     let (operand, rest) = unary(alloc, depth - 1, signs)?;
-    Ok((build::operation(alloc, at, primitives::NEG, operand)?, rest))
+    build::operation(alloc, at, primitives::NEG, operand, rest)
 }
 
 // A `-` or a `not` with its operand, or an application.
@@ -337,7 +379,7 @@ fn unary<'s, 't>(
             return Err(refused_at(signs));
         }
         let (operand, rest) = unary(alloc, depth - 1, behind)?;
-        return Ok((build::operation(alloc, at, primitives::NOT, operand)?, rest));
+        return build::operation(alloc, at, primitives::NOT, operand, rest);
     }
     app(alloc, depth, signs)
 }
@@ -366,7 +408,7 @@ fn right_side<'s, 't>(
         (NoTree depth (Binary level) (read_signs signs.now))) }
 {
     let (right, rest) = binary(alloc, level, depth, signs)?;
-    Ok((build::join(alloc, at, operator, left, right)?, rest))
+    build::join(alloc, at, operator, left, right, rest)
 }
 
 // Operands with the operators of a level that group to the left.
@@ -540,7 +582,7 @@ fn let_in<'s, 't>(
     let (binder, behind) = typed(alloc, Symbol::Equals, signs)?;
     let (bound, later) = before(alloc, Symbol::In, depth, behind)?;
     let (body, rest) = expr(alloc, depth, later)?;
-    Ok((build::let_in(alloc, at, binder, bound, body)?, rest))
+    build::let_in(alloc, at, binder, bound, body, rest)
 }
 
 // What stands behind a `let rec`.
@@ -562,7 +604,7 @@ fn let_rec<'s, 't>(
     let (head, behind) = function_head(alloc, signs)?;
     let (bound, later) = before(alloc, Symbol::In, depth, behind)?;
     let (body, rest) = expr(alloc, depth, later)?;
-    Ok((build::let_rec(alloc, at, head, bound, body)?, rest))
+    build::let_rec(alloc, at, head, bound, body, rest)
 }
 
 // What stands behind a `fun`.
@@ -583,7 +625,7 @@ fn fun<'s, 't>(
     let (binder, behind) = argument(alloc, signs)?;
     let later = expect(Symbol::Arrow, behind)?;
     let (body, rest) = expr(alloc, depth, later)?;
-    Ok((build::fun(alloc, at, binder, body)?, rest))
+    build::fun(alloc, at, binder, body, rest)
 }
 
 // What stands behind a `rec`.
@@ -603,7 +645,7 @@ fn rec<'s, 't>(
 {
     let (head, behind) = function_head(alloc, signs)?;
     let (body, rest) = expr(alloc, depth, behind)?;
-    Ok((build::rec(alloc, at, head, body)?, rest))
+    build::rec(alloc, at, head, body, rest)
 }
 
 // What stands behind an `if`.
@@ -624,7 +666,7 @@ fn if_else<'s, 't>(
     let (test, behind) = before(alloc, Symbol::Then, depth, signs)?;
     let (so, later) = before(alloc, Symbol::Else, depth, behind)?;
     let (otherwise, rest) = part(alloc, depth, later)?;
-    Ok((build::if_else(alloc, at, test, so, otherwise)?, rest))
+    build::if_else(alloc, at, test, so, otherwise, rest)
 }
 
 // What stands behind a `marshal`.
@@ -646,7 +688,7 @@ fn marshal<'s, 't>(
     let (mark, behind) = atom(alloc, depth, signs)?;
     let (value, later) = atom(alloc, depth, behind)?;
     let (ty, rest) = type_behind(alloc, Symbol::Colon, later)?;
-    Ok((build::marshal(alloc, at, mark, value, ty)?, rest))
+    build::marshal(alloc, at, mark, value, ty, rest)
 }
 
 // What stands behind an `unmarshal`.
@@ -667,7 +709,7 @@ fn unmarshal<'s, 't>(
 {
     let (text, behind) = atom(alloc, depth, signs)?;
     let (ty, rest) = type_behind(alloc, Symbol::As, behind)?;
-    Ok((build::unmarshal(alloc, at, text, ty)?, rest))
+    build::unmarshal(alloc, at, text, ty, rest)
 }
 
 // What stands behind a `raise`.
@@ -687,7 +729,7 @@ fn raise<'s, 't>(
 {
     let (exception, behind) = atom(alloc, depth, signs)?;
     let (ty, rest) = type_behind(alloc, Symbol::Colon, behind)?;
-    Ok((build::raise(alloc, at, exception, ty)?, rest))
+    build::raise(alloc, at, exception, ty, rest)
 }
 
 // What stands behind the first word of a part.
@@ -769,10 +811,10 @@ fn sequence<'s, 't>(
     while let Some(behind) = after(Symbol::Semicolon, rest) {
         let (next, later) = part(alloc, depth, behind)?;
         height = height.max(next.height);
-        parts.push(next.tree.into_inner())?;
+        parts = build::with_part(parts, next)?;
         rest = later;
     }
-    Ok((build::sequence(alloc, at, parts, height)?, rest))
+    build::sequence(alloc, at, parts, height, rest)
 }
 
 /// A part, or a sequence of several.

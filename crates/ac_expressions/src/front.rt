@@ -15,7 +15,7 @@ use ac_types::exceptions::{
 use std::alloc::Global;
 
 /// A word that takes one argument: `Some`, or an exception with a string, by its number.
-#[derive(Clone, Copy, Debug, PartialEq, Eq)]
+#[derive(Clone, Copy)]
 pub enum Prefix {
     Present,
     Exn(u8),
@@ -32,6 +32,21 @@ pub fn expect<'s, 't>(symbol: Symbol, signs: &'s [Sign<'t>]) -> Result<&'s [Sign
         Some(rest) => Ok(rest),
         None => Err(refused_at(signs)),
     }
+}
+
+/// An item and what stands behind this symbol, which must stand behind the item.
+pub fn followed<'s, 't, T: Drop>(
+    symbol: Symbol,
+    item: T,
+    signs: &'s [Sign<'t>],
+) -> Result<(T, &'s [Sign<'t>]), Stop>
+    ensures item { IfOk result (λ x. (x.0 ≡ item) × SymbolAt symbol (read_signs signs.now)
+        (read_signs x.1.now)) }
+    ensures shorter { IfOk result (λ x. length x.1.now < length signs.now) }
+    ensures none { IfErr result (λ e. OnSyntax e (NoSymbol symbol (read_signs signs.now))) }
+{
+    let rest = expect(symbol, signs)?;
+    Ok((item, rest))
 }
 
 /// A lower name, which must stand here.

@@ -10,7 +10,7 @@ use crate::build::{Operator, operator_of};
 use ac_syntax::{Sign, SignKind, Symbol, after, next};
 
 /// A word that begins a part.
-#[derive(Clone, Copy, Debug, PartialEq, Eq)]
+#[derive(Clone, Copy)]
 pub enum Keyword {
     Let,
     Fun,

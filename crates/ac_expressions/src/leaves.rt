@@ -5,12 +5,13 @@ ghost use Rattle.ac_syntax.specs.Signs.{Upper};
 ghost use Rattle.ac_syntax.specs.ReadSigns.{read_signs};
 ghost use Rattle.ac_syntax.specs.ReadTrees.{tree_of, expr_kind_of};
 ghost use Rattle.ac_syntax.specs.PartParsing.{OnSyntax, NoSymbol};
-ghost use Rattle.ac_expressions.specs.inner.Forms.{base_expr, FormLeafAt, NoFormLeaf};
+ghost use Rattle.ac_expressions.specs.inner.Forms.{base_expr, measured, FormLeafAt, NoFormLeaf};
 
+use crate::build::Parsed;
 use crate::front::{constant, expect, name};
 use ac_syntax::{SExpr, SExprKind, SName, Sign, SignKind, Stop, Symbol, next, refused_at};
-use ac_types::Word;
 use ac_types::exceptions::{DIVISION_BY_ZERO, END_OF_FILE, MATCH_FAILURE, NOT_FOUND};
+use ac_types::{Box, Word};
 use std::alloc::Global;
 
 #[tactic(auto, using(ac_syntax::proofs::ReadLaws::expr_laws))]
@@ -49,8 +50,8 @@ fn field<'s, 't>(
     Ok((SExpr { at, kind }, rest))
 }
 
-/// An atom that is a leaf and begins with no `(`, `match` or `try`.
-pub fn leaf<'s, 't>(alloc: Global, signs: &'s [Sign<'t>]) -> Result<(SExpr, &'s [Sign<'t>]), Stop>
+// An atom that is a leaf and begins with no `(`, `match` or `try`.
+fn leaf<'s, 't>(alloc: Global, signs: &'s [Sign<'t>]) -> Result<(SExpr, &'s [Sign<'t>]), Stop>
     ensures found { IfOk result (λ x. FormLeafAt (read_signs signs.now) (tree_of x.0)
         (read_signs x.1.now)) }
     ensures shorter { IfOk result (λ x. length x.1.now < length signs.now) }
@@ -82,4 +83,22 @@ pub fn leaf<'s, 't>(alloc: Global, signs: &'s [Sign<'t>]) -> Result<(SExpr, &'s 
         },
         SignKind::Other => Err(refused_at(signs)),
     }
+}
+
+/// An atom that is a leaf and begins with no `(`, `match` or `try`, with its height.
+pub fn parsed_leaf<'s, 't>(
+    alloc: Global,
+    signs: &'s [Sign<'t>],
+) -> Result<(Parsed, &'s [Sign<'t>]), Stop>
+    ensures found { IfOk result (λ x. FormLeafAt (read_signs signs.now) (tree_of x.0.tree)
+        (read_signs x.1.now)) }
+    ensures height { IfOk result (λ x. measured x.0) }
+    ensures shorter { IfOk result (λ x. length x.1.now < length signs.now) }
+    ensures none { IfErr result (λ e. OnSyntax e (NoSymbol Symbol.Open (read_signs signs.now) →
+        NoSymbol Symbol.Match (read_signs signs.now) → NoSymbol Symbol.Try (read_signs signs.now) →
+        NoFormLeaf (read_signs signs.now))) }
+{
+    let (tree, rest) = leaf(alloc, signs)?;
+    let tree = Box::new(alloc, tree)?;
+    Ok((Parsed { tree, height: 1 }, rest))
 }

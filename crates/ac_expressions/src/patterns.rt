@@ -1,22 +1,24 @@
 // Patterns, by recursive descent. Each parser takes the front of the signs and gives what is left.
 // A pattern may have the height `depth` at most: what would be higher is refused on the way down.
 
-ghost use Rattle.std.specs.Prelude.{◌≡◌, ◌<◌, ◌≤◌, ◌-◌, ◌^◌, ◌∷◌, ℕ, max, length, map, IfOk, IfErr, MatchOption, Some, None, pos, neg_ℤ};
+ghost use Rattle.std.specs.Prelude.{◌≡◌, ◌<◌, ◌≤◌, ◌-◌, ◌^◌, ◌∷◌, [], ◌++◌, ℕ, false, max, length, map, IfOk, IfErr, MatchOption, Some, None, pos, neg_ℤ};
 ghost use Rattle.ac_syntax.specs.Signs.{Fixed};
-ghost use Rattle.ac_syntax.specs.Trees.{PatVar, PatInt, PatNil, PatCons, PatTuple, pat_trees, pat_height};
+ghost use Rattle.ac_syntax.specs.Trees.{PatCons, PatTuple, pat_trees, highest_pat};
 ghost use Rattle.ac_syntax.specs.Patterns.{Pattern, Prefixed, Single, IsPatTree, IsPattern};
 ghost use Rattle.ac_syntax.specs.ReadSigns.{read_signs};
 ghost use Rattle.ac_syntax.specs.ReadTrees.{pat_of, pat_kind_of};
-ghost use Rattle.ac_syntax.specs.PartParsing.{OnSyntax, NoSymbol};
+ghost use Rattle.ac_syntax.specs.PartParsing.{OnSyntax, SymbolAt, NoSymbol};
 ghost use Rattle.ac_expressions.specs.ExpressionParsing.{NoPattern};
-ghost use Rattle.ac_expressions.specs.inner.PatternPieces.{NoPat, prefixed_pat, base_pat, PatLeafAt, NoPatLeaf, IsPats, PatTupleOf, pat_measured};
-ghost use Rattle.ac_expressions.specs.inner.Pieces.{Nothing, IsTypedBinder, binder_of};
+ghost use Rattle.ac_expressions.specs.inner.PatternPieces.{NoPat, prefixed_pat, base_pat, PatLeafAt, NoPatLeaf, IsPats, PatTupleOf, PatVarAt, pat_measured};
+ghost use Rattle.ac_expressions.specs.inner.Pieces.{Nothing, Before, IsTypedBinder, begins_lower};
 
-use crate::binders::{Binder, typed};
-use crate::front::{Prefix, begins_name, constant, expect, negated, next_number, next_prefix};
+use crate::binders::typed;
+use crate::front::{
+    Prefix, begins_name, constant, expect, followed, negated, next_number, next_prefix,
+};
 use ac_syntax::{SPat, SPatKind, Sign, SignKind, Stop, Symbol, after, here, next, refused_at};
 use ac_types::exceptions::{DIVISION_BY_ZERO, END_OF_FILE, MATCH_FAILURE, NOT_FOUND};
-use ac_types::{Box, Many, Memory};
+use ac_types::{Box, Many, Memory, both};
 use std::alloc::Global;
 
 // How high a pattern by itself may be.
@@ -47,31 +49,45 @@ impl ParsedPat {
 
 // A list's head and tail.
 #[tactic(auto, using(crate::proofs::PatLaws::pat_laws))]
-fn cons(alloc: Global, at: u32, head: ParsedPat, tail: ParsedPat) -> Result<ParsedPat, Memory>
+fn cons<'s, 't>(
+    alloc: Global,
+    at: u32,
+    head: ParsedPat,
+    tail: ParsedPat,
+    rest: &'s [Sign<'t>],
+) -> Result<(ParsedPat, &'s [Sign<'t>]), Stop>
     requires low { max head.height tail.height < 2 ^ 32 - 1 }
     requires head { pat_measured head }
     requires tail { pat_measured tail }
-    ensures tree { IfOk result (λ x. pat_of x.tree ≡ PatCons at (pat_of head.tree)
-        (pat_of tail.tree)) }
-    ensures height { IfOk result (λ x. pat_measured x) }
+    ensures tree { IfOk result (λ x. (pat_of x.0.tree ≡ PatCons at (pat_of head.tree)
+        (pat_of tail.tree)) × (x.1.now ≡ rest.now)) }
+    ensures height { IfOk result (λ x. pat_measured x.0) }
+    ensures memory { IfErr result (λ e. e ≡ Stop.Memory) }
 {
     let height = head.height.max(tail.height) + 1;
-    let head = Box::new(alloc, head.into_tree())?;
-    let tail = Box::new(alloc, tail.into_tree())?;
+    let head = Box::new(alloc, head.into_tree());
+    let tail = Box::new(alloc, tail.into_tree());
+    let (head, tail) = both(head, tail)?;
     let kind = SPatKind::Cons(head, tail);
-    Ok(ParsedPat {
-        tree: SPat { at, kind },
-        height,
-    })
+    let tree = SPat { at, kind };
+    Ok((ParsedPat { tree, height }, rest))
 }
 
 // A pattern with the word that takes it.
 #[tactic(auto, using(crate::proofs::PatLaws::pat_laws))]
-fn prefixed_by(alloc: Global, at: u32, prefix: Prefix, item: ParsedPat) -> Result<ParsedPat, Memory>
+fn prefixed_by<'s, 't>(
+    alloc: Global,
+    at: u32,
+    prefix: Prefix,
+    item: ParsedPat,
+    rest: &'s [Sign<'t>],
+) -> Result<(ParsedPat, &'s [Sign<'t>]), Stop>
     requires low { item.height < 2 ^ 32 - 1 }
     requires item { pat_measured item }
-    ensures tree { IfOk result (λ x. pat_of x.tree ≡ prefixed_pat prefix at (pat_of item.tree)) }
-    ensures height { IfOk result (λ x. pat_measured x) }
+    ensures tree { IfOk result (λ x. (pat_of x.0.tree ≡ prefixed_pat prefix at (pat_of item.tree)) ×
+        (x.1.now ≡ rest.now)) }
+    ensures height { IfOk result (λ x. pat_measured x.0) }
+    ensures memory { IfErr result (λ e. e ≡ Stop.Memory) }
 {
     let height = item.height + 1;
     let item = Box::new(alloc, item.into_tree())?;
@@ -79,28 +95,74 @@ fn prefixed_by(alloc: Global, at: u32, prefix: Prefix, item: ParsedPat) -> Resul
         Prefix::Present => {
             let kind = SPatKind::Present(item);
             let tree = SPat { at, kind };
-            Ok(ParsedPat { tree, height })
+            Ok((ParsedPat { tree, height }, rest))
         }
         Prefix::Exn(number) => {
             let kind = SPatKind::Exn(number, Some(item));
             let tree = SPat { at, kind };
-            Ok(ParsedPat { tree, height })
+            Ok((ParsedPat { tree, height }, rest))
         }
     }
 }
 
-// A variable with its type.
+// A variable with its type and a `)`.
 #[tactic(auto, using(crate::proofs::PatLaws::pat_laws))]
-fn variable(at: u32, binder: Binder) -> ParsedPat
-    ensures tree { pat_of result.tree ≡ PatVar at (binder_of binder).0 (binder_of binder).1 }
-    ensures height { pat_measured result }
+fn variable<'s, 't>(
+    alloc: Global,
+    at: u32,
+    signs: &'s [Sign<'t>],
+) -> Result<(ParsedPat, &'s [Sign<'t>]), Stop>
+    ensures tree { IfOk result (λ x. PatVarAt at (read_signs signs.now) (pat_of x.0.tree)
+        (read_signs x.1.now)) }
+    ensures height { IfOk result (λ x. pat_measured x.0) }
+    ensures shorter { IfOk result (λ x. length x.1.now < length signs.now) }
+    ensures none { IfErr result (λ e. OnSyntax e
+        (Nothing (IsTypedBinder Symbol.Close) (read_signs signs.now))) }
 {
+    let (binder, rest) = typed(alloc, Symbol::Close, signs)?;
     let (name, ty) = binder.into_parts();
     let kind = SPatKind::Var(name, ty);
-    ParsedPat {
-        tree: SPat { at, kind },
-        height: 1,
-    }
+    let tree = SPat { at, kind };
+    Ok((ParsedPat { tree, height: 1 }, rest))
+}
+
+// The parts, and one more behind them.
+fn with_part(mut parts: Many<SPat>, part: ParsedPat) -> Result<Many<SPat>, Memory>
+    ensures { IfOk result (λ all. all ≡ parts ++ part.tree ∷ []) }
+{
+    parts.push(part.into_tree())?;
+    Ok(parts)
+}
+
+// The trees of two patterns.
+fn two(alloc: Global, first: ParsedPat, second: ParsedPat) -> Result<Many<SPat>, Memory>
+    ensures { IfOk result (λ parts. parts ≡ first.tree ∷ second.tree ∷ []) }
+{
+    let parts = with_part(Many::new(alloc), first)?;
+    with_part(parts, second)
+}
+
+// A tuple of parts, of which the highest has this height, with its `)`.
+#[tactic(auto, using(crate::proofs::PatLaws::pat_laws))]
+fn closed<'s, 't>(
+    at: u32,
+    parts: Many<SPat>,
+    most: u32,
+    signs: &'s [Sign<'t>],
+) -> Result<(ParsedPat, &'s [Sign<'t>]), Stop>
+    requires low { most < 2 ^ 32 - 1 }
+    requires highest { most ≡ highest_pat (pat_trees (map pat_of parts)) }
+    ensures tree { IfOk result (λ x. (pat_of x.0.tree ≡ PatTuple at (pat_trees (map pat_of parts))) ×
+        SymbolAt Symbol.Close (read_signs signs.now) (read_signs x.1.now)) }
+    ensures height { IfOk result (λ x. pat_measured x.0) }
+    ensures shorter { IfOk result (λ x. length x.1.now < length signs.now) }
+    ensures none { IfErr result (λ e. OnSyntax e (NoSymbol Symbol.Close (read_signs signs.now))) }
+{
+    let rest = expect(Symbol::Close, signs)?;
+    let kind = SPatKind::Tuple(parts);
+    let tree = SPat { at, kind };
+    let height = most + 1;
+    Ok((ParsedPat { tree, height }, rest))
 }
 
 #[tactic(auto, using(crate::proofs::PatLaws::pat_laws))]
@@ -217,20 +279,42 @@ fn tuple<'s, 't>(
 {
     let (second, mut rest) = whole(alloc, depth - 1, signs)?;
     let mut height = first.height.max(second.height);
-    let mut parts = Many::new(alloc);
-    parts.push(first.into_tree())?;
-    parts.push(second.into_tree())?;
+    let mut parts = two(alloc, first, second)?;
     while let Some(behind) = after(Symbol::Comma, rest) {
         let (part, later) = whole(alloc, depth - 1, behind)?;
         height = height.max(part.height);
-        parts.push(part.into_tree())?;
+        parts = with_part(parts, part)?;
         rest = later;
     }
-    let end = expect(Symbol::Close, rest)?;
-    let kind = SPatKind::Tuple(parts);
-    let tree = SPat { at, kind };
-    let height = height + 1;
-    Ok((ParsedPat { tree, height }, end))
+    closed(at, parts, height, rest)
+}
+
+// What stands behind a `(` and begins with a pattern that has no name in front.
+#[cycle(patterns)]
+fn enclosed<'s, 't>(
+    alloc: Global,
+    depth: u32,
+    at: u32,
+    signs: &'s [Sign<'t>],
+) -> Result<(ParsedPat, &'s [Sign<'t>]), Stop>
+    requires unclosed { NoSymbol Symbol.Close (read_signs signs.now) }
+    requires no_name { begins_lower (read_signs signs.now) ≡ false }
+    ensures tree { IfOk result (λ x. IsPatTree depth Single
+        (Fixed at Symbol.Open ∷ read_signs signs.now) (pat_of x.0.tree) (read_signs x.1.now)) }
+    ensures height { IfOk result (λ x. pat_measured x.0) }
+    ensures shorter { IfOk result (λ x. length x.1.now < length signs.now) }
+    ensures none { IfErr result (λ e. OnSyntax e
+        (NoPat depth Single (Fixed at Symbol.Open ∷ read_signs signs.now))) }
+{
+    let (first, rest) = whole(alloc, depth, signs)?;
+    if let Some(end) = after(Symbol::Close, rest) {
+        return Ok((first, end));
+    }
+    let behind = expect(Symbol::Comma, rest)?;
+    if first.height >= depth {
+        return Err(refused_at(rest));
+    }
+    tuple(alloc, depth, at, first, behind)
 }
 
 // What stands behind a `(`.
@@ -255,18 +339,9 @@ fn opened<'s, 't>(
         return Ok((ParsedPat { tree, height: 1 }, rest));
     }
     if begins_name(signs) {
-        let (binder, rest) = typed(alloc, Symbol::Close, signs)?;
-        return Ok((variable(at, binder), rest));
+        return variable(alloc, at, signs);
     }
-    let (first, rest) = whole(alloc, depth, signs)?;
-    if let Some(end) = after(Symbol::Close, rest) {
-        return Ok((first, end));
-    }
-    let behind = expect(Symbol::Comma, rest)?;
-    if first.height >= depth {
-        return Err(refused_at(rest));
-    }
-    tuple(alloc, depth, at, first, behind)
+    enclosed(alloc, depth, at, signs)
 }
 
 // A leaf, or a pattern in parentheses.
@@ -312,7 +387,7 @@ fn prefixed<'s, 't>(
         return Err(refused_at(signs));
     }
     let (item, rest) = single(alloc, depth - 1, behind)?;
-    Ok((prefixed_by(alloc, at, prefix, item)?, rest))
+    prefixed_by(alloc, at, prefix, item, rest)
 }
 
 // A pattern of at most this height.
@@ -336,20 +411,7 @@ fn whole<'s, 't>(
         return Err(refused_at(rest));
     }
     let (tail, end) = whole(alloc, depth - 1, behind)?;
-    Ok((cons(alloc, here(signs), head, tail)?, end))
-}
-
-/// The pattern at the front, with its height; see `pattern`.
-pub fn parsed_pattern<'s, 't>(
-    alloc: Global,
-    signs: &'s [Sign<'t>],
-) -> Result<(ParsedPat, &'s [Sign<'t>]), Stop>
-    ensures tree { IfOk result (λ x. IsPattern (read_signs signs.now) (pat_of x.0.tree)
-        (read_signs x.1.now)) }
-    ensures shorter { IfOk result (λ x. length x.1.now < length signs.now) }
-    ensures none { IfErr result (λ e. OnSyntax e (NoPattern (read_signs signs.now))) }
-{
-    whole(alloc, HIGHEST_PATTERN, signs)
+    cons(alloc, here(signs), head, tail, end)
 }
 
 /// The pattern at the front, taken as long as it can be, and what is left. It has a height of at
@@ -361,6 +423,21 @@ pub fn pattern<'s, 't>(alloc: Global, signs: &'s [Sign<'t>]) -> Result<(SPat, &'
     ensures shorter { IfOk result (λ x. length x.1.now < length signs.now) }
     ensures none { IfErr result (λ e. OnSyntax e (NoPattern (read_signs signs.now))) }
 {
-    let (parsed, rest) = parsed_pattern(alloc, signs)?;
+    let (parsed, rest) = whole(alloc, HIGHEST_PATTERN, signs)?;
     Ok((parsed.into_tree(), rest))
+}
+
+/// A pattern, with the `->` behind it.
+pub fn arm_pattern<'s, 't>(
+    alloc: Global,
+    signs: &'s [Sign<'t>],
+) -> Result<(SPat, &'s [Sign<'t>]), Stop>
+    ensures tree { IfOk result (λ x. Before Symbol.Arrow IsPattern (read_signs signs.now)
+        (pat_of x.0) (read_signs x.1.now)) }
+    ensures shorter { IfOk result (λ x. length x.1.now < length signs.now) }
+    ensures none { IfErr result (λ e. OnSyntax e
+        (Nothing (Before Symbol.Arrow IsPattern) (read_signs signs.now))) }
+{
+    let (pat, behind) = pattern(alloc, signs)?;
+    followed(Symbol::Arrow, pat, behind)
 }

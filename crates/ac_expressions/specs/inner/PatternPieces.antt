@@ -2,7 +2,7 @@
 use Rattle.std.specs.Prelude.{◌≡◌, ℕ, true, false, List, Option, Some, None}
 use Rattle.ac_types.specs.Exceptions as exceptions
 use Rattle.ac_syntax.specs.Signs.{Sign}
-use Rattle.ac_syntax.specs.Trees.{PatTree, PatWild, PatBool, PatAbsent, PatExn, PatTuple, PatPresent, PatExnOf, pat_tree, pat_trees, pat_height}
+use Rattle.ac_syntax.specs.Trees.{NameAt, TypeTree, PatTree, PatVar, PatWild, PatBool, PatAbsent, PatExn, PatTuple, PatPresent, PatExnOf, pat_tree, pat_trees, pat_height}
 use Rattle.ac_syntax.specs.Patterns.{PatLevel, Pattern, Single, ParsesPat, IsPatTree}
 use Rattle.ac_syntax.specs.ReadTrees.{pat_of}
 use Rattle.ac_syntax.specs.declared.sign.Symbol.{Symbol}
@@ -10,7 +10,7 @@ use Rattle.ac_syntax.specs.declared.sign.Symbol.TheVariants as symbol
 use Rattle.ac_expressions.specs.declared.front.Prefix.{Prefix}
 use Rattle.ac_expressions.specs.declared.front.Prefix.TheVariants as prefix
 use Rattle.ac_expressions.specs.declared.patterns.ParsedPat.{ParsedPat}
-use Rattle.ac_expressions.specs.inner.Pieces.{Before, Chain}
+use Rattle.ac_expressions.specs.inner.Pieces.{Before, Chain, IsTypedBinder}
 
 abbrev pub NoPat : ℕ → PatLevel → List Sign → Type 0
 NoPat depth level ts = (p : PatTree) (rest : List Sign) → IsPatTree depth level ts p rest → ⊥
@@ -50,3 +50,9 @@ pub record PatTupleOf (depth at : ℕ) (first : PatTree) (ts : List Sign) (p : P
 
 abbrev pub pat_measured : ParsedPat → Type 0
 pat_measured p = p.height ≡ pat_height (pat_of p.tree)
+
+-- a variable with its type and a `)`
+pub record PatVarAt (at : ℕ) (ts : List Sign) (p : PatTree) (rest : List Sign) : Type 0 where
+  pub binder : NameAt × TypeTree
+  pub is : p ≡ PatVar at binder.0 binder.1
+  pub read : IsTypedBinder symbol.Close ts binder rest

@@ -1,27 +1,24 @@
-use Rattle.std.proofs.Common.{rules, ◌≡◌, ◌<◌, ◌≤◌, ◌-◌, ◌+◌, ℕ, suc, List, [], ◌∷◌, map, refl, sym, ap, subst, ◌∙◌, arith, ◌++◌}
+use Rattle.std.proofs.Common.{◌≡◌, ◌<◌, ◌≤◌, ◌-◌, ◌+◌, ℕ, suc, List, [], ◌∷◌, map, sym, ap, subst, ◌∙◌, arith, ◌++◌}
 use Rattle.std.proofs.lemmas.List.{map-append}
 use Rattle.std.proofs.lemmas.Result.{IfOk-weaker, IfErr-weaker, err_from_is_err_and}
-use Rattle.std.proofs.Common.{rules, ◌∷◌, ◌∙◌, ap, sym, subst, w64, FitsSigned}
-use Rattle.std.proofs.lemmas.Int.{to_z-of_z}
 use Rattle.ac_syntax.specs.Signs.{Sign}
-use Rattle.ac_syntax.specs.Trees.{PatTree, Tree, ExInt, trees, arm_trees, height, highest, highest_arm}
+use Rattle.ac_syntax.specs.Trees.{PatTree, Tree, trees, arm_trees, height, highest, highest_arm}
 use Rattle.ac_syntax.specs.Expressions.{Expr, Part, Binary, After, Unary, App, Args, Atom, front, IsTree}
 use Rattle.ac_syntax.specs.ReadSigns.{read_signs}
 use Rattle.ac_syntax.specs.ReadTrees.{pat_of, tree_of, arm_tree_of}
 use Rattle.ac_syntax.specs.declared.surface.SExpr.{SExpr}
 use Rattle.ac_syntax.specs.declared.surface.SArm.{SArm}
-use Rattle.ac_syntax.specs.declared.surface.SPat.{SPat}
-use Rattle.ac_syntax.specs.declared.sign.Symbol.TheVariants.{Close, Comma, Semicolon, In}
+use Rattle.ac_syntax.specs.declared.sign.Symbol.TheVariants.{Close, Comma, Semicolon}
 use Rattle.ac_syntax.proofs.OnStop.{on_syntax_more, refused}
 use Rattle.ac_expressions.specs.inner.Pieces.{Before, Made}
 use Rattle.ac_expressions.specs.inner.Forms.{Same, NoTree, IsLastPart, operator_read, IsArm, IsArms, IsParts, sequence_tree}
 use Rattle.ac_expressions.proofs.ExprLaws.{arm_tree_of-made}
-use Rattle.ac_expressions.proofs.Readers.{word_at, second_read, then, first_none, behind, no_symbol, behind_none, before, before_none}
+use Rattle.ac_expressions.proofs.Readers.{word_at, second_read, then, first_none, behind, before, before_none}
 use Rattle.ac_expressions.proofs.Levels.{flat_none, same_then, same_none, args_ended, argument_none, argument_high, next_argument, applied_none, same_applied, same_operand, prefixed_none, prefixed_tree, second_none, lone_tree, minus_none, minus_tree, not_none, not_tree, app_tree, app_none, unary_tree, unary_none, joined_height, operand_none, binary_tree, after_none, after_ended, left_step, right_step, once_step, goes_on, past_operator}
 use Rattle.ac_expressions.proofs.Words.{operators_tree, operators_none, let_back, let_none, let_rec_back, let_rec_none, fun_back, fun_none, rec_back, rec_none, if_back, if_none, marshal_back, marshal_none, unmarshal_back, unmarshal_none, raise_back, raise_none}
 use Rattle.ac_expressions.proofs.Atoms.{first_arm, next_arm, highest_next_arm, item_read, next_part, highest_next, unit_tree, nil_tree, absent_tree, parens_tree, tuple_high, tuple_none, tuple_made, second_item_none, second_part_none, arms_none, next_arm_none, unended_arms, all_arms, item_none, unended_items, all_items, next_part_none, all_parts, part_none, alone_tree, sequence_high, sequence_none, sequence_made, match_none, match_tree, try_none, try_tree, nil_none, absent_none, opened_none, unclosed_none, leaf_tree, leaf_none}
 use Rattle.ac_expressions.proofs.LastOperands.{no_operand, not_last}
-use Rattle.ac_expressions.proofs.NoForms.{unbefore, arm_no_pattern, arm_no_arrow, arm_no_body, choice_no_arms, let_no_bound, let_no_body, let_rec_no_bound, let_rec_no_body, rec_no_body, fun_no_arrow, fun_no_body, if_no_so, if_no_otherwise, marshal_no_value, marshal_no_type, unmarshal_no_type, raise_no_type}
+use Rattle.ac_expressions.proofs.NoForms.{unbefore, arm_no_body, choice_no_arms, let_no_bound, let_no_body, let_rec_no_bound, let_rec_no_body, rec_no_body, fun_no_arrow, fun_no_body, if_no_so, if_no_otherwise, marshal_no_value, marshal_no_type, unmarshal_no_type, raise_no_type}
 use Rattle.ac_expressions.proofs.expressions.+expressions.Goals as goal
 
 pub before-returns-in_err-tree-clause-none : goal.before-returns-in_err-tree-clause-none
@@ -29,36 +26,38 @@ before-returns-in_err-tree-clause-none t c =
     let p = err_from_is_err_and c.from_residual.result c.from_residual.ensures.1 in
     rw (p.1, p.2) (on_syntax_more _ before_none c.in_err-tree.ensures.none)
 
-pub before-returns-in_err-rest-clause-none : goal.before-returns-in_err-rest-clause-none
-before-returns-in_err-rest-clause-none t c =
-    let p = err_from_is_err_and c.from_residual-in_err-rest.result c.from_residual-in_err-rest.ensures.1 in
-    rw (p.1, p.2) (on_syntax_more _ (unbefore _ _ _ _ _ c.in_ok-tree.ensures.tree) c.in_err-rest.ensures.none)
+pub before-returns-clause-tree : goal.before-returns-clause-tree
+before-returns-clause-tree t c = IfOk-weaker c.followed.result _ _ (λ x o. rw o.0 (before c.in_ok-tree.ensures.tree o.1)) c.followed.ensures.item
 
-pub arm-returns-in_err-parsed-clause-none : goal.arm-returns-in_err-parsed-clause-none
-arm-returns-in_err-parsed-clause-none t c =
+pub before-returns-clause-height : goal.before-returns-clause-height
+before-returns-clause-height t c = IfOk-weaker c.followed.result _ _ (λ x o. rw o.0 c.in_ok-tree.ensures.height) c.followed.ensures.item
+
+pub before-returns-clause-low : goal.before-returns-clause-low
+before-returns-clause-low t c =
+    let low : height (tree_of c.in_ok-tree.tree.tree) ≤ c.args.depth = c.in_ok-tree.ensures.tree.low in
+    IfOk-weaker c.followed.result _ _ (λ x o. rw (o.0, c.in_ok-tree.ensures.height) low) c.followed.ensures.item
+
+pub before-returns-clause-none : goal.before-returns-clause-none
+before-returns-clause-none t c = IfErr-weaker c.followed.result _ _ (λ e o. on_syntax_more e (unbefore _ _ _ _ _ c.in_ok-tree.ensures.tree) o) c.followed.ensures.none
+
+pub arm-returns-in_err-pat-clause-none : goal.arm-returns-in_err-pat-clause-none
+arm-returns-in_err-pat-clause-none t c =
     let p = err_from_is_err_and c.from_residual.result c.from_residual.ensures.1 in
-    rw (p.1, p.2) (on_syntax_more _ (arm_no_pattern _ _) c.in_err-parsed.ensures.none)
-
-pub arm-returns-in_err-later-clause-none : goal.arm-returns-in_err-later-clause-none
-arm-returns-in_err-later-clause-none t c =
-    let p = err_from_is_err_and c.from_residual-in_err-later.result c.from_residual-in_err-later.ensures.1 in
-    rw (p.1, p.2) (on_syntax_more _ (arm_no_arrow _ _ _ _ c.in_ok-parsed.ensures.tree) c.in_err-later.ensures.none)
+    rw (p.1, p.2) (on_syntax_more _ first_none c.in_err-pat.ensures.none)
 
 pub arm-returns-in_err-body-clause-none : goal.arm-returns-in_err-body-clause-none
 arm-returns-in_err-body-clause-none t c =
     let p = err_from_is_err_and c.from_residual-in_err-body.result c.from_residual-in_err-body.ensures.1 in
-    rw (p.1, p.2) (on_syntax_more _ (arm_no_body _ _ _ _ c.in_ok-parsed.ensures.tree _ c.in_ok-later.ensures.found) c.in_err-body.ensures.none)
+    rw (p.1, p.2) (on_syntax_more _ (arm_no_body _ _ _ _ c.in_ok-pat.ensures.tree) c.in_err-body.ensures.none)
 
 pub arm-returns-clause-tree : goal.arm-returns-clause-tree
 arm-returns-clause-tree t c =
-    let made = arm_tree_of-made c.into_tree-pat.result c.into_inner-body.result ∙ ap (λ (e : SExpr). (pat_of c.into_tree-pat.result, tree_of e)) c.into_inner-body.ensures
-    ∙ ap (λ (p : SPat). (pat_of p, tree_of c.in_ok-body.body.tree)) c.into_tree-pat.ensures in
-    subst (λ (x : PatTree × Tree). IsArm c.args.depth (read_signs c.args.signs.now) x (read_signs c.in_ok-body.rest.now)) (sym made) (then _ (before c.in_ok-parsed.ensures.tree c.in_ok-later.ensures.found) c.in_ok-body.ensures.tree)
+    let made = arm_tree_of-made c.in_ok-pat.pat c.into_inner-body.result ∙ ap (λ (e : SExpr). (pat_of c.in_ok-pat.pat, tree_of e)) c.into_inner-body.ensures in
+    subst (λ (x : PatTree × Tree). IsArm c.args.depth (read_signs c.args.signs.now) x (read_signs c.in_ok-body.rest.now)) (sym made) (then _ c.in_ok-pat.ensures.tree c.in_ok-body.ensures.tree)
 
 pub arm-returns-clause-height : goal.arm-returns-clause-height
 arm-returns-clause-height t c =
-    let made = arm_tree_of-made c.into_tree-pat.result c.into_inner-body.result ∙ ap (λ (e : SExpr). (pat_of c.into_tree-pat.result, tree_of e)) c.into_inner-body.ensures
-    ∙ ap (λ (p : SPat). (pat_of p, tree_of c.in_ok-body.body.tree)) c.into_tree-pat.ensures in
+    let made = arm_tree_of-made c.in_ok-pat.pat c.into_inner-body.result ∙ ap (λ (e : SExpr). (pat_of c.in_ok-pat.pat, tree_of e)) c.into_inner-body.ensures in
     c.in_ok-body.ensures.height ∙ sym (ap (λ (x : PatTree × Tree). height x.1) made)
 
 pub arms-returns-in_err-first-clause-none : goal.arms-returns-in_err-first-clause-none
@@ -71,13 +70,17 @@ arms-returns-in_err-next-clause-none t c =
     let p = err_from_is_err_and c.from_residual-in_err-next.result c.from_residual-in_err-next.ensures.1 in
     rw (p.1, p.2) (on_syntax_more _ (next_arm_none _ _ _ _ c.loop-behind.invariant.read _ c.in-Some.ensures.found) c.in_err-next.ensures.none)
 
-pub arms-returns-in_err-end-clause-none : goal.arms-returns-in_err-end-clause-none
-arms-returns-in_err-end-clause-none t c =
-    let p = err_from_is_err_and c.from_residual-in_err-end.result c.from_residual-in_err-end.ensures.1 in
-    rw (p.1, p.2) (on_syntax_more _ (unended_arms _ _ _ _ c.loop-behind.invariant.read c.in_default.ensures.found) c.in_err-end.ensures.none)
-
 pub arms-returns-clause-tree : goal.arms-returns-clause-tree
-arms-returns-clause-tree t c = all_arms _ _ _ _ c.loop-behind.invariant.read _ c.in_ok-end.ensures.found
+arms-returns-clause-tree t c = IfOk-weaker c.followed.result _ _ (λ x o. rw o.0 (all_arms _ _ _ _ c.loop-behind.invariant.read _ o.1)) c.followed.ensures.item
+
+pub arms-returns-clause-height : goal.arms-returns-clause-height
+arms-returns-clause-height t c = IfOk-weaker c.followed.result _ _ (λ x o. rw o.0 c.loop-behind.invariant.height) c.followed.ensures.item
+
+pub arms-returns-clause-low : goal.arms-returns-clause-low
+arms-returns-clause-low t c = IfOk-weaker c.followed.result _ _ (λ x o. rw o.0 c.loop-behind.invariant.low) c.followed.ensures.item
+
+pub arms-returns-clause-none : goal.arms-returns-clause-none
+arms-returns-clause-none t c = IfErr-weaker c.followed.result _ _ (λ e o. on_syntax_more e (unended_arms _ _ _ _ c.loop-behind.invariant.read c.in_default.ensures.found) o) c.followed.ensures.none
 
 pub choice-returns-in_err-of-clause-none : goal.choice-returns-in_err-of-clause-none
 choice-returns-in_err-of-clause-none t c =
@@ -102,38 +105,11 @@ tuple-returns-in_err-part-clause-none t c =
     let p = err_from_is_err_and c.from_residual-in_err-part.result c.from_residual-in_err-part.ensures.1 in
     rw (p.1, p.2) (on_syntax_more _ (item_none _ _ _ _ _ c.loop-behind.invariant.read _ c.in-Some.ensures.found) c.in_err-part.ensures.none)
 
-pub tuple-returns-in_err-end-clause-none : goal.tuple-returns-in_err-end-clause-none
-tuple-returns-in_err-end-clause-none t c =
-    let p = err_from_is_err_and c.from_residual-in_err-end.result c.from_residual-in_err-end.ensures.1 in
-    rw (p.1, p.2) (on_syntax_more _ (unended_items _ _ _ _ _ c.loop-behind.invariant.read c.in_default.ensures.found) c.in_err-end.ensures.none)
-
 pub tuple-returns-clause-tree : goal.tuple-returns-clause-tree
-tuple-returns-clause-tree t c = all_items _ _ _ _ _ c.loop-behind.invariant.read _ _ _ c.in_ok-end.ensures.found c.in_ok-tuple.ensures.tree
+tuple-returns-clause-tree t c = IfOk-weaker c.tuple.result _ _ (λ x o. all_items _ _ _ _ _ c.loop-behind.invariant.read _ _ _ o.1 o.0) c.tuple.ensures.tree
 
-pub opened-returns-in_err-behind-clause-none : goal.opened-returns-in_err-behind-clause-none
-opened-returns-in_err-behind-clause-none t c =
-    let p = err_from_is_err_and c.from_residual-in_err-behind.result c.from_residual-in_err-behind.ensures.1 in
-    rw (p.1, p.2) (on_syntax_more _ (λ n. nil_none _ _ _ _ c.in-Some-after.ensures.found (no_symbol n)) c.in_err-behind.ensures.none)
-
-pub opened-returns-in_err-ty-clause-none : goal.opened-returns-in_err-ty-clause-none
-opened-returns-in_err-ty-clause-none t c =
-    let p = err_from_is_err_and c.from_residual-in_err-ty.result c.from_residual-in_err-ty.ensures.1 in
-    rw (p.1, p.2) (on_syntax_more _ (λ n. nil_none _ _ _ _ c.in-Some-after.ensures.found (behind_none c.in_ok-behind.ensures.found n)) c.in_err-ty.ensures.none)
-
-pub opened-returns-in_err-ty-2-clause-none : goal.opened-returns-in_err-ty-2-clause-none
-opened-returns-in_err-ty-2-clause-none t c =
-    let p = err_from_is_err_and c.from_residual-in_err-ty-2.result c.from_residual-in_err-ty-2.ensures.1 in
-    rw (p.1, p.2) (on_syntax_more _ (absent_none _ _ _ _ c.in-Some-after-2.ensures.found) c.in_err-ty-2.ensures.none)
-
-pub opened-returns-in_err-first-clause-none : goal.opened-returns-in_err-first-clause-none
-opened-returns-in_err-first-clause-none t c =
-    let p = err_from_is_err_and c.from_residual-in_err-first.result c.from_residual-in_err-first.ensures.1 in
-    rw (p.1, p.2) (on_syntax_more _ (opened_none _ _ _ c.in_default.ensures.found c.in_default-after.ensures.found c.in_default-after-2.ensures.found) c.in_err-first.ensures.none)
-
-pub opened-returns-in_err-behind-2-clause-none : goal.opened-returns-in_err-behind-2-clause-none
-opened-returns-in_err-behind-2-clause-none t c =
-    let p = err_from_is_err_and c.from_residual-in_err-behind-2.result c.from_residual-in_err-behind-2.ensures.1 in
-    rw (p.1, p.2) (on_syntax_more _ (unclosed_none _ _ _ c.in_default.ensures.found c.in_default-after.ensures.found c.in_default-after-2.ensures.found _ _ c.in_ok-first.ensures.tree c.in_default-after-3.ensures.found) c.in_err-behind-2.ensures.none)
+pub tuple-returns-clause-none : goal.tuple-returns-clause-none
+tuple-returns-clause-none t c = IfErr-weaker c.tuple.result _ _ (λ e o. on_syntax_more e (unended_items _ _ _ _ _ c.loop-behind.invariant.read c.in_default.ensures.found) o) c.tuple.ensures.none
 
 pub let_in-returns-in_err-binder-clause-none : goal.let_in-returns-in_err-binder-clause-none
 let_in-returns-in_err-binder-clause-none t c =
@@ -151,7 +127,7 @@ let_in-returns-in_err-body-clause-none t c =
     rw (p.1, p.2) (on_syntax_more _ (let_no_body _ _ _ _ c.in_ok-binder.ensures.found _ _ c.in_ok-bound.ensures.tree) c.in_err-body.ensures.none)
 
 pub let_in-returns-clause-tree : goal.let_in-returns-clause-tree
-let_in-returns-clause-tree t c = record { parts = _; is = c.in_ok-let_in.ensures.tree; read = then _ c.in_ok-binder.ensures.found (then _ c.in_ok-bound.ensures.tree c.in_ok-body.ensures.tree) }
+let_in-returns-clause-tree t c = IfOk-weaker c.let_in.result _ _ (λ x o. rw o.1 (record { parts = _; is = o.0; read = then _ c.in_ok-binder.ensures.found (then _ c.in_ok-bound.ensures.tree c.in_ok-body.ensures.tree) })) c.let_in.ensures.tree
 
 pub let_rec-returns-in_err-head-clause-none : goal.let_rec-returns-in_err-head-clause-none
 let_rec-returns-in_err-head-clause-none t c =
@@ -169,7 +145,7 @@ let_rec-returns-in_err-body-clause-none t c =
     rw (p.1, p.2) (on_syntax_more _ (let_rec_no_body _ _ _ _ c.in_ok-head.ensures.found _ _ c.in_ok-bound.ensures.tree) c.in_err-body.ensures.none)
 
 pub let_rec-returns-clause-tree : goal.let_rec-returns-clause-tree
-let_rec-returns-clause-tree t c = record { parts = _; is = c.in_ok-let_rec.ensures.tree; read = then _ c.in_ok-head.ensures.found (then _ c.in_ok-bound.ensures.tree c.in_ok-body.ensures.tree) }
+let_rec-returns-clause-tree t c = IfOk-weaker c.let_rec.result _ _ (λ x o. rw o.1 (record { parts = _; is = o.0; read = then _ c.in_ok-head.ensures.found (then _ c.in_ok-bound.ensures.tree c.in_ok-body.ensures.tree) })) c.let_rec.ensures.tree
 
 pub fun-returns-in_err-binder-clause-none : goal.fun-returns-in_err-binder-clause-none
 fun-returns-in_err-binder-clause-none t c =
@@ -187,7 +163,7 @@ fun-returns-in_err-body-clause-none t c =
     rw (p.1, p.2) (on_syntax_more _ (fun_no_body _ _ _ _ c.in_ok-binder.ensures.found _ c.in_ok-later.ensures.found) c.in_err-body.ensures.none)
 
 pub fun-returns-clause-tree : goal.fun-returns-clause-tree
-fun-returns-clause-tree t c = record { parts = _; is = c.in_ok-fun.ensures.tree; read = then _ c.in_ok-binder.ensures.found (behind c.in_ok-later.ensures.found c.in_ok-body.ensures.tree) }
+fun-returns-clause-tree t c = IfOk-weaker c.fun.result _ _ (λ x o. rw o.1 (record { parts = _; is = o.0; read = then _ c.in_ok-binder.ensures.found (behind c.in_ok-later.ensures.found c.in_ok-body.ensures.tree) })) c.fun.ensures.tree
 
 pub rec-returns-in_err-head-clause-none : goal.rec-returns-in_err-head-clause-none
 rec-returns-in_err-head-clause-none t c =
@@ -200,7 +176,7 @@ rec-returns-in_err-body-clause-none t c =
     rw (p.1, p.2) (on_syntax_more _ (rec_no_body _ _ _ _ c.in_ok-head.ensures.found) c.in_err-body.ensures.none)
 
 pub rec-returns-clause-tree : goal.rec-returns-clause-tree
-rec-returns-clause-tree t c = record { parts = _; is = c.in_ok-rec.ensures.tree; read = then _ c.in_ok-head.ensures.found c.in_ok-body.ensures.tree }
+rec-returns-clause-tree t c = IfOk-weaker c.rec.result _ _ (λ x o. rw o.1 (record { parts = _; is = o.0; read = then _ c.in_ok-head.ensures.found c.in_ok-body.ensures.tree })) c.rec.ensures.tree
 
 pub if_else-returns-in_err-test-clause-none : goal.if_else-returns-in_err-test-clause-none
 if_else-returns-in_err-test-clause-none t c =
@@ -218,7 +194,7 @@ if_else-returns-in_err-otherwise-clause-none t c =
     rw (p.1, p.2) (on_syntax_more _ (if_no_otherwise _ _ _ _ c.in_ok-test.ensures.tree _ _ c.in_ok-so.ensures.tree) c.in_err-otherwise.ensures.none)
 
 pub if_else-returns-clause-tree : goal.if_else-returns-clause-tree
-if_else-returns-clause-tree t c = record { parts = _; is = c.in_ok-if_else.ensures.tree; read = then _ c.in_ok-test.ensures.tree (then _ c.in_ok-so.ensures.tree c.in_ok-otherwise.ensures.tree) }
+if_else-returns-clause-tree t c = IfOk-weaker c.if_else.result _ _ (λ x o. rw o.1 (record { parts = _; is = o.0; read = then _ c.in_ok-test.ensures.tree (then _ c.in_ok-so.ensures.tree c.in_ok-otherwise.ensures.tree) })) c.if_else.ensures.tree
 
 pub marshal-returns-in_err-mark-clause-none : goal.marshal-returns-in_err-mark-clause-none
 marshal-returns-in_err-mark-clause-none t c =
@@ -236,7 +212,7 @@ marshal-returns-in_err-ty-clause-none t c =
     rw (p.1, p.2) (on_syntax_more _ (marshal_no_type _ _ _ _ c.in_ok-mark.ensures.tree _ _ c.in_ok-value.ensures.tree) c.in_err-ty.ensures.none)
 
 pub marshal-returns-clause-tree : goal.marshal-returns-clause-tree
-marshal-returns-clause-tree t c = record { parts = _; is = c.in_ok-marshal.ensures.tree; read = then _ c.in_ok-mark.ensures.tree (then _ c.in_ok-value.ensures.tree c.in_ok-ty.ensures.found) }
+marshal-returns-clause-tree t c = IfOk-weaker c.marshal.result _ _ (λ x o. rw o.1 (record { parts = _; is = o.0; read = then _ c.in_ok-mark.ensures.tree (then _ c.in_ok-value.ensures.tree c.in_ok-ty.ensures.found) })) c.marshal.ensures.tree
 
 pub unmarshal-returns-in_err-text-clause-none : goal.unmarshal-returns-in_err-text-clause-none
 unmarshal-returns-in_err-text-clause-none t c =
@@ -249,7 +225,7 @@ unmarshal-returns-in_err-ty-clause-none t c =
     rw (p.1, p.2) (on_syntax_more _ (unmarshal_no_type _ _ _ _ c.in_ok-text.ensures.tree) c.in_err-ty.ensures.none)
 
 pub unmarshal-returns-clause-tree : goal.unmarshal-returns-clause-tree
-unmarshal-returns-clause-tree t c = record { parts = _; is = c.in_ok-unmarshal.ensures.tree; read = then _ c.in_ok-text.ensures.tree c.in_ok-ty.ensures.found }
+unmarshal-returns-clause-tree t c = IfOk-weaker c.unmarshal.result _ _ (λ x o. rw o.1 (record { parts = _; is = o.0; read = then _ c.in_ok-text.ensures.tree c.in_ok-ty.ensures.found })) c.unmarshal.ensures.tree
 
 pub raise-returns-in_err-exception-clause-none : goal.raise-returns-in_err-exception-clause-none
 raise-returns-in_err-exception-clause-none t c =
@@ -262,7 +238,7 @@ raise-returns-in_err-ty-clause-none t c =
     rw (p.1, p.2) (on_syntax_more _ (raise_no_type _ _ _ _ c.in_ok-exception.ensures.tree) c.in_err-ty.ensures.none)
 
 pub raise-returns-clause-tree : goal.raise-returns-clause-tree
-raise-returns-clause-tree t c = record { parts = _; is = c.in_ok-raise.ensures.tree; read = then _ c.in_ok-exception.ensures.tree c.in_ok-ty.ensures.found }
+raise-returns-clause-tree t c = IfOk-weaker c.raise.result _ _ (λ x o. rw o.1 (record { parts = _; is = o.0; read = then _ c.in_ok-exception.ensures.tree c.in_ok-ty.ensures.found })) c.raise.ensures.tree
 
 pub part-returns-in_default-clause-tree : goal.part-returns-in_default-clause-tree
 part-returns-in_default-clause-tree t c = IfOk-weaker c.binary.result _ _ (λ x o. operators_tree _ _ _ _ o) c.binary.ensures.tree
@@ -311,7 +287,7 @@ sequence-returns-in_err-next-clause-none t c =
     rw (p.1, p.2) (on_syntax_more _ (next_part_none _ _ _ _ _ c.loop-behind.invariant.read _ c.in-Some.ensures.found) c.in_err-next.ensures.none)
 
 pub sequence-returns-clause-tree : goal.sequence-returns-clause-tree
-sequence-returns-clause-tree t c = all_parts _ _ _ _ _ c.loop-behind.invariant.read _ _ c.in_default.ensures.found c.in_ok-sequence.ensures.tree
+sequence-returns-clause-tree t c = IfOk-weaker c.sequence.result _ _ (λ x o. rw o.1 (all_parts _ _ _ _ _ c.loop-behind.invariant.read _ _ c.in_default.ensures.found o.0)) c.sequence.ensures.tree
 
 pub atom-returns-then-depth-eq0-clause-none : goal.atom-returns-then-depth-eq0-clause-none
 atom-returns-then-depth-eq0-clause-none t c = refused _ _ c.refused_at.ensures (flat_none _ _ _ c.if-depth-eq0.true)
@@ -330,7 +306,8 @@ atom-returns-in_err-choice-clause-none t c =
 
 pub atom-returns-in-Some-after-clause-tree : goal.atom-returns-in-Some-after-clause-tree
 atom-returns-in-Some-after-clause-tree t c =
-    let pos : 0 < c.args.depth = omega (arith, c.if-depth-eq0.false) in match_tree _ _ _ pos _ _ _ _ _ c.here-at.ensures c.in_ok-choice.ensures.tree c.in-Some-after.ensures.found c.in_ok-match_with.ensures.tree
+    let pos : 0 < c.args.depth = omega (arith, c.if-depth-eq0.false) in
+    IfOk-weaker c.match_with.result _ _ (λ x o. rw o.1 (match_tree _ _ _ pos _ _ _ _ _ c.here-at.ensures c.in_ok-choice.ensures.tree c.in-Some-after.ensures.found o.0)) c.match_with.ensures.tree
 
 pub atom-returns-in_err-choice-2-clause-none : goal.atom-returns-in_err-choice-2-clause-none
 atom-returns-in_err-choice-2-clause-none t c =
@@ -340,20 +317,16 @@ atom-returns-in_err-choice-2-clause-none t c =
 
 pub atom-returns-in-Some-after-2-clause-tree : goal.atom-returns-in-Some-after-2-clause-tree
 atom-returns-in-Some-after-2-clause-tree t c =
-    let pos : 0 < c.args.depth = omega (arith, c.if-depth-eq0.false) in try_tree _ _ _ pos _ _ _ _ _ c.here-at.ensures c.in_ok-choice-2.ensures.tree c.in-Some-after-2.ensures.found c.in_ok-try_with.ensures.tree
-
-pub atom-returns-in_err-tree-clause-none : goal.atom-returns-in_err-tree-clause-none
-atom-returns-in_err-tree-clause-none t c =
-    let p = err_from_is_err_and c.from_residual-in_err-tree.result c.from_residual-in_err-tree.ensures.1 in
-    rw (p.1, p.2) (on_syntax_more _ (λ f. leaf_none _ _ (f c.in_default.ensures.found c.in_default-after.ensures.found c.in_default-after-2.ensures.found)) c.in_err-tree.ensures.none)
+    let pos : 0 < c.args.depth = omega (arith, c.if-depth-eq0.false) in
+    IfOk-weaker c.try_with.result _ _ (λ x o. rw o.1 (try_tree _ _ _ pos _ _ _ _ _ c.here-at.ensures c.in_ok-choice-2.ensures.tree c.in-Some-after-2.ensures.found o.0)) c.try_with.ensures.tree
 
 pub atom-returns-clause-tree : goal.atom-returns-clause-tree
 atom-returns-clause-tree t c =
     let pos : 0 < c.args.depth = omega (arith, c.if-depth-eq0.false) in
-    subst (λ (e : SExpr). IsTree c.args.depth Atom (read_signs c.args.signs.now) (tree_of e) (read_signs c.in_ok-tree.rest.now)) (sym c.in_ok-tree-2.ensures) (leaf_tree _ _ _ _ pos c.in_ok-tree.ensures.found)
+    IfOk-weaker c.parsed_leaf.result _ _ (λ x o. leaf_tree _ _ _ _ pos o) c.parsed_leaf.ensures.found
 
-pub atom-returns-clause-height : goal.atom-returns-clause-height
-atom-returns-clause-height t c = sym (ap (λ (e : SExpr). height (tree_of e)) c.in_ok-tree-2.ensures ∙ c.in_ok-tree.ensures.found.leaf)
+pub atom-returns-clause-none : goal.atom-returns-clause-none
+atom-returns-clause-none t c = IfErr-weaker c.parsed_leaf.result _ _ (λ e o. on_syntax_more e (λ f. leaf_none _ _ (f c.in_default.ensures.found c.in_default-after.ensures.found c.in_default-after-2.ensures.found)) o) c.parsed_leaf.ensures.none
 
 pub app-returns-then-depth-eq0-clause-none : goal.app-returns-then-depth-eq0-clause-none
 app-returns-then-depth-eq0-clause-none t c = refused _ _ c.refused_at.ensures (flat_none _ _ _ c.if-depth-eq0.true)
@@ -364,28 +337,26 @@ app-returns-in_err-item-clause-none t c =
     let p = err_from_is_err_and c.from_residual.result c.from_residual.ensures.1 in
     rw (p.1, p.2) (on_syntax_more _ (prefixed_none _ _ _ _ _ c.in-Some.ensures.found pos) c.in_err-item.ensures.none)
 
-pub app-returns-then-begins_atom-clause-none : goal.app-returns-then-begins_atom-clause-none
-app-returns-then-begins_atom-clause-none t c =
-    let pos : 0 < c.args.depth = omega (arith, c.if-depth-eq0.false) in refused _ _ c.refused_at-then-begins_atom.ensures (second_none _ _ _ _ _ c.in-Some.ensures.found pos _ _ c.in_ok-item.ensures.tree (sym c.begins_atom.ensures ∙ c.if-begins_atom.true))
-
 pub app-returns-clause-tree : goal.app-returns-clause-tree
 app-returns-clause-tree t c =
     let pos : 0 < c.args.depth = omega (arith, c.if-depth-eq0.false) in
-    subst (λ (x : Tree). IsTree c.args.depth App (read_signs c.args.signs.now) x (read_signs c.in_ok-item.rest.now)) (sym c.in_ok-prefixed_by.ensures.tree)
-    (prefixed_tree _ _ _ _ _ c.in-Some.ensures.found pos _ _ c.in_ok-item.ensures.tree (sym c.begins_atom.ensures ∙ c.if-begins_atom.false))
+    IfOk-weaker c.prefixed_by.result _ _ (λ x o. rw (o.1.1, o.0) (prefixed_tree _ _ _ _ _ c.in-Some.ensures.found pos _ _ c.in_ok-item.ensures.tree o.1.0)) c.prefixed_by.ensures.tree
+
+pub app-returns-clause-none : goal.app-returns-clause-none
+app-returns-clause-none t c =
+    let pos : 0 < c.args.depth = omega (arith, c.if-depth-eq0.false) in
+    IfErr-weaker c.prefixed_by.result _ _ (λ e o. on_syntax_more e (second_none _ _ _ _ _ c.in-Some.ensures.found pos _ _ c.in_ok-item.ensures.tree) o) c.prefixed_by.ensures.none
 
 pub minus-returns-in-Some-clause-tree : goal.minus-returns-in-Some-clause-tree
-minus-returns-in-Some-clause-tree t c =
-    let f : FitsSigned w64 c.in_ok-negated.field-0 = search rules in
-    lone_tree _ _ _ _ _ _ c.requires c.in-Some.ensures.found (c.in_ok-number.ensures.tree ∙ ap (ExInt c.args.at) (to_z-of_z w64 c.in_ok-negated.field-0 f ∙ c.in_ok-negated.ensures))
+minus-returns-in-Some-clause-tree t c = IfOk-weaker c.negative.result _ _ (λ x o. rw o.1 (lone_tree _ _ _ _ _ _ c.requires c.in-Some.ensures.found o.0)) c.negative.ensures.tree
 
 pub minus-returns-in_err-operand-clause-none : goal.minus-returns-in_err-operand-clause-none
 minus-returns-in_err-operand-clause-none t c =
-    let p = err_from_is_err_and c.from_residual-in_err-operand.result c.from_residual-in_err-operand.ensures.1 in
+    let p = err_from_is_err_and c.from_residual.result c.from_residual.ensures.1 in
     rw (p.1, p.2) (on_syntax_more _ (minus_none _ _ _ c.in_default.ensures.found c.requires) c.in_err-operand.ensures.none)
 
 pub minus-returns-clause-tree : goal.minus-returns-clause-tree
-minus-returns-clause-tree t c = minus_tree _ _ _ c.in_default.ensures.found c.requires _ _ _ c.in_ok-operand.ensures.tree c.in_ok-operation.ensures.tree
+minus-returns-clause-tree t c = IfOk-weaker c.operation.result _ _ (λ x o. rw o.1 (minus_tree _ _ _ c.in_default.ensures.found c.requires _ _ _ c.in_ok-operand.ensures.tree o.0)) c.operation.ensures.tree
 
 pub unary-returns-then-depth-eq0-clause-none : goal.unary-returns-then-depth-eq0-clause-none
 unary-returns-then-depth-eq0-clause-none t c = refused _ _ c.refused_at.ensures (flat_none _ _ _ c.if-depth-eq0.true)
@@ -407,7 +378,8 @@ unary-returns-in_err-operand-clause-none t c =
 
 pub unary-returns-in-Some-after-clause-tree : goal.unary-returns-in-Some-after-clause-tree
 unary-returns-in-Some-after-clause-tree t c =
-    let pos : 0 < c.args.depth = omega (arith, c.if-depth-eq0-2.false) in not_tree _ _ _ c.in-Some-after.ensures.found pos _ _ _ _ c.here-at.ensures c.in_ok-operand.ensures.tree c.in_ok-operation.ensures.tree
+    let pos : 0 < c.args.depth = omega (arith, c.if-depth-eq0-2.false) in
+    IfOk-weaker c.operation.result _ _ (λ x o. rw o.1 (not_tree _ _ _ c.in-Some-after.ensures.found pos _ _ _ _ c.here-at.ensures c.in_ok-operand.ensures.tree o.0)) c.operation.ensures.tree
 
 pub unary-returns-clause-tree : goal.unary-returns-clause-tree
 unary-returns-clause-tree t c = IfOk-weaker c.app.result _ _ (λ x o. app_tree _ _ _ _ o) c.app.ensures.tree
@@ -452,7 +424,7 @@ binary-returns-in_err-first-clause-none t c =
 pub arms-loop-behind-init : goal.arms-loop-behind-init
 arms-loop-behind-init t c =
     let h = c.in_ok-first.ensures in
-    let arms = ap (map arm_tree_of) (c.in_ok-push.ensures.ok ∙ ap (λ (l : List SArm). l ++ c.in_ok-first.first ∷ []) c.new-arms.ensures) in
+    let arms = ap (map arm_tree_of) (c.in_ok-arms.ensures ∙ ap (λ (l : List SArm). l ++ c.in_ok-first.first ∷ []) c.new.ensures) in
     let low : height (arm_tree_of c.in_ok-first.first).1 ≤ c.args.depth = h.tree.second.low in
     record {
       read = first_arm _ _ _ _ _ h.tree arms;
@@ -465,7 +437,7 @@ pub arms-loop-behind-preserved : goal.arms-loop-behind-preserved
 arms-loop-behind-preserved t c =
     let i = c.loop-behind.invariant in
     let h = c.in_ok-next.ensures in
-    let arms = ap (map arm_tree_of) c.in_ok-push-2.ensures.ok ∙ map-append arm_tree_of c.loop-behind.arms (c.in_ok-next.next ∷ []) in
+    let arms = ap (map arm_tree_of) c.in_ok-arms-2.ensures ∙ map-append arm_tree_of c.loop-behind.arms (c.in_ok-next.next ∷ []) in
     let low : height (arm_tree_of c.in_ok-next.next).1 ≤ c.args.depth = h.tree.second.low in
     record {
       read = next_arm _ _ _ _ i.read _ c.in-Some.ensures.found _ _ _ h.tree arms;
@@ -478,7 +450,7 @@ pub tuple-loop-behind-preserved : goal.tuple-loop-behind-preserved
 tuple-loop-behind-preserved t c =
     let i = c.loop-behind.invariant in
     let h = c.in_ok-part.ensures in
-    let parts = ap (map tree_of) (c.in_ok-push.ensures.ok ∙ ap (λ (e : SExpr). c.loop-behind.parts ++ e ∷ []) c.into_inner.ensures) ∙ map-append tree_of c.loop-behind.parts (c.in_ok-part.part.tree ∷ []) in
+    let parts = ap (map tree_of) c.in_ok-parts-2.ensures ∙ map-append tree_of c.loop-behind.parts (c.in_ok-part.part.tree ∷ []) in
     let low : height (tree_of c.in_ok-part.part.tree) ≤ c.args.depth = h.tree.low in
     record {
       read = item_read _ _ _ _ _ i.read _ c.in-Some.ensures.found _ _ _ h.tree parts;
@@ -491,7 +463,7 @@ pub sequence-loop-behind-preserved : goal.sequence-loop-behind-preserved
 sequence-loop-behind-preserved t c =
     let i = c.loop-behind.invariant in
     let h = c.in_ok-next.ensures in
-    let parts = ap (map tree_of) (c.in_ok-push.ensures.ok ∙ ap (λ (e : SExpr). c.loop-behind.parts ++ e ∷ []) c.into_inner.ensures) ∙ map-append tree_of c.loop-behind.parts (c.in_ok-next.next.tree ∷ []) in
+    let parts = ap (map tree_of) c.in_ok-parts-2.ensures ∙ map-append tree_of c.loop-behind.parts (c.in_ok-next.next.tree ∷ []) in
     let low : height (tree_of c.in_ok-next.next.tree) ≤ c.args.depth = h.tree.low in
     record {
       read = next_part _ _ _ _ _ i.read _ c.in-Some.ensures.found _ _ _ h.tree parts;
@@ -506,7 +478,7 @@ next_argument-returns-in_err-argument-clause-none t c =
     rw (p.1, p.2) c.in_err-argument.ensures.none
 
 pub next_argument-returns-clause-tree : goal.next_argument-returns-clause-tree
-next_argument-returns-clause-tree t c = record { parts = _; is = c.in_ok-application.ensures.tree; read = c.in_ok-argument.ensures.tree }
+next_argument-returns-clause-tree t c = IfOk-weaker c.application.result _ _ (λ x o. rw o.1 (record { parts = _; is = o.0; read = c.in_ok-argument.ensures.tree })) c.application.ensures.tree
 
 pub applied-returns-in_err-function-clause-none : goal.applied-returns-in_err-function-clause-none
 applied-returns-in_err-function-clause-none t c =
@@ -559,7 +531,7 @@ right_side-returns-in_err-right-clause-none t c =
     rw (p.1, p.2) c.in_err-right.ensures.none
 
 pub right_side-returns-clause-tree : goal.right_side-returns-clause-tree
-right_side-returns-clause-tree t c = record { parts = _; is = c.in_ok-join.ensures.tree; read = c.in_ok-right.ensures.tree }
+right_side-returns-clause-tree t c = IfOk-weaker c.join.result _ _ (λ x o. rw o.1 (record { parts = _; is = o.0; read = c.in_ok-right.ensures.tree })) c.join.ensures.tree
 
 pub to_left-returns-in_err-left-clause-none : goal.to_left-returns-in_err-left-clause-none
 to_left-returns-in_err-left-clause-none t c =
@@ -660,31 +632,6 @@ binary-returns-else-level-eq4-clause-none t c =
     IfErr-weaker c.to_right.result _ _
     (λ e o. on_syntax_more e (λ n. after_none _ _ _ _ lv _ _ c.in_ok-first.ensures.tree
     (subst (λ (at : ℕ). NoTree c.args.depth (After c.args.level at (tree_of c.in_ok-first.first.tree)) (read_signs c.in_ok-first.rest.now)) c.here-at.ensures n)) o) c.to_right.ensures.none
-
-pub opened-returns-in-Some-clause-tree : goal.opened-returns-in-Some-clause-tree
-opened-returns-in-Some-clause-tree t c = unit_tree _ _ _ _ _ c.requires c.in-Some.ensures.found c.in_ok-unit.ensures.tree
-
-pub opened-returns-in-Some-after-clause-tree : goal.opened-returns-in-Some-after-clause-tree
-opened-returns-in-Some-after-clause-tree t c = nil_tree _ _ _ _ _ _ _ _ c.requires c.in-Some-after.ensures.found c.in_ok-behind.ensures.found c.in_ok-ty.ensures.found c.in_ok-nil.ensures.tree
-
-pub opened-returns-in-Some-after-2-clause-tree : goal.opened-returns-in-Some-after-2-clause-tree
-opened-returns-in-Some-after-2-clause-tree t c = absent_tree _ _ _ _ _ _ _ c.requires c.in-Some-after-2.ensures.found c.in_ok-ty-2.ensures.found c.in_ok-absent.ensures.tree
-
-pub opened-returns-in-Some-after-3-clause-tree : goal.opened-returns-in-Some-after-3-clause-tree
-opened-returns-in-Some-after-3-clause-tree t c = parens_tree _ _ _ c.in_default.ensures.found c.in_default-after.ensures.found c.in_default-after-2.ensures.found _ _ c.in_ok-first.ensures.tree _ c.in-Some-after-3.ensures.found
-
-pub opened-returns-then-first-depth-clause-none : goal.opened-returns-then-first-depth-clause-none
-opened-returns-then-first-depth-clause-none t c =
-    refused _ _ c.refused_at.ensures (tuple_high _ _ _ c.in_default.ensures.found c.in_default-after.ensures.found c.in_default-after-2.ensures.found _ _ c.in_ok-first.ensures.tree _ c.in_default-after-3.ensures.found c.in_ok-behind-2.ensures.found (subst (λ (n : ℕ). c.args.depth ≤ n) c.in_ok-first.ensures.height c.if-first-depth.true))
-
-pub opened-returns-clause-tree : goal.opened-returns-clause-tree
-opened-returns-clause-tree t c =
-    let low : height (tree_of c.in_ok-first.first.tree) < c.args.depth = omega (arith, c.in_ok-first.ensures.height, c.if-first-depth.false) in
-    IfOk-weaker c.tuple.result _ _ (λ x o. tuple_made _ _ _ c.in_default.ensures.found c.in_default-after.ensures.found c.in_default-after-2.ensures.found _ _ c.in_ok-first.ensures.tree _ c.in_default-after-3.ensures.found c.in_ok-behind-2.ensures.found _ _ low o) c.tuple.ensures.tree
-
-pub opened-returns-clause-none : goal.opened-returns-clause-none
-opened-returns-clause-none t c =
-    IfErr-weaker c.tuple.result _ _ (λ e o. on_syntax_more e (tuple_none _ _ _ c.in_default.ensures.found c.in_default-after.ensures.found c.in_default-after-2.ensures.found _ _ c.in_ok-first.ensures.tree _ c.in_default-after-3.ensures.found c.in_ok-behind-2.ensures.found) o) c.tuple.ensures.none
 
 pub keyword_part-returns-in-Fun-clause-tree : goal.keyword_part-returns-in-Fun-clause-tree
 keyword_part-returns-in-Fun-clause-tree t c = rw c.in-Fun.is (IfOk-weaker c.fun.result _ _ (λ x o. fun_back _ _ _ _ _ c.requires o) c.fun.ensures.tree)
@@ -788,3 +735,43 @@ sequence-loop-behind-init t c =
       low = omega (arith, c.max-height.ensures, c.requires.low, c.requires.small, low, h.height);
       shorter = h.shorter;
     }
+
+pub opened-returns-in-Some-clause-tree : goal.opened-returns-in-Some-clause-tree
+opened-returns-in-Some-clause-tree t c = IfOk-weaker c.unit.result _ _ (λ x o. rw o.1 (unit_tree _ _ _ _ _ c.requires c.in-Some.ensures.found o.0)) c.unit.ensures.tree
+
+pub opened-returns-in-Some-after-clause-tree : goal.opened-returns-in-Some-after-clause-tree
+opened-returns-in-Some-after-clause-tree t c = IfOk-weaker c.nil.result _ _ (λ x o. nil_tree _ _ _ _ _ _ _ _ c.requires c.in-Some-after.ensures.found o.read.at o.read.then o.is) c.nil.ensures.tree
+
+pub opened-returns-in-Some-after-clause-none : goal.opened-returns-in-Some-after-clause-none
+opened-returns-in-Some-after-clause-none t c = IfErr-weaker c.nil.result _ _ (λ e o. on_syntax_more e (nil_none _ _ _ _ c.in-Some-after.ensures.found) o) c.nil.ensures.none
+
+pub opened-returns-in-Some-after-2-clause-tree : goal.opened-returns-in-Some-after-2-clause-tree
+opened-returns-in-Some-after-2-clause-tree t c = IfOk-weaker c.absent.result _ _ (λ x o. absent_tree _ _ _ _ _ _ _ c.requires c.in-Some-after-2.ensures.found o.read o.is) c.absent.ensures.tree
+
+pub opened-returns-in-Some-after-2-clause-none : goal.opened-returns-in-Some-after-2-clause-none
+opened-returns-in-Some-after-2-clause-none t c = IfErr-weaker c.absent.result _ _ (λ e o. on_syntax_more e (absent_none _ _ _ _ c.in-Some-after-2.ensures.found) o) c.absent.ensures.none
+
+pub enclosed-returns-in_err-first-clause-none : goal.enclosed-returns-in_err-first-clause-none
+enclosed-returns-in_err-first-clause-none t c =
+    let p = err_from_is_err_and c.from_residual.result c.from_residual.ensures.1 in
+    rw (p.1, p.2) (on_syntax_more _ (opened_none _ _ _ c.requires.unclosed c.requires.no_nil c.requires.no_absent) c.in_err-first.ensures.none)
+
+pub enclosed-returns-in-Some-clause-tree : goal.enclosed-returns-in-Some-clause-tree
+enclosed-returns-in-Some-clause-tree t c = parens_tree _ _ _ c.requires.unclosed c.requires.no_nil c.requires.no_absent _ _ c.in_ok-first.ensures.tree _ c.in-Some.ensures.found
+
+pub enclosed-returns-in_err-behind-clause-none : goal.enclosed-returns-in_err-behind-clause-none
+enclosed-returns-in_err-behind-clause-none t c =
+    let p = err_from_is_err_and c.from_residual-in_err-behind.result c.from_residual-in_err-behind.ensures.1 in
+    rw (p.1, p.2) (on_syntax_more _ (unclosed_none _ _ _ c.requires.unclosed c.requires.no_nil c.requires.no_absent _ _ c.in_ok-first.ensures.tree c.in_default.ensures.found) c.in_err-behind.ensures.none)
+
+pub enclosed-returns-then-first-depth-clause-none : goal.enclosed-returns-then-first-depth-clause-none
+enclosed-returns-then-first-depth-clause-none t c =
+    refused _ _ c.refused_at.ensures (tuple_high _ _ _ c.requires.unclosed c.requires.no_nil c.requires.no_absent _ _ c.in_ok-first.ensures.tree _ c.in_default.ensures.found c.in_ok-behind.ensures.found (subst (λ (n : ℕ). c.args.depth ≤ n) c.in_ok-first.ensures.height c.if-first-depth.true))
+
+pub enclosed-returns-clause-tree : goal.enclosed-returns-clause-tree
+enclosed-returns-clause-tree t c =
+    let low : height (tree_of c.in_ok-first.first.tree) < c.args.depth = omega (arith, c.in_ok-first.ensures.height, c.if-first-depth.false) in
+    IfOk-weaker c.tuple.result _ _ (λ x o. tuple_made _ _ _ c.requires.unclosed c.requires.no_nil c.requires.no_absent _ _ c.in_ok-first.ensures.tree _ c.in_default.ensures.found c.in_ok-behind.ensures.found _ _ low o) c.tuple.ensures.tree
+
+pub enclosed-returns-clause-none : goal.enclosed-returns-clause-none
+enclosed-returns-clause-none t c = IfErr-weaker c.tuple.result _ _ (λ e o. on_syntax_more e (tuple_none _ _ _ c.requires.unclosed c.requires.no_nil c.requires.no_absent _ _ c.in_ok-first.ensures.tree _ c.in_default.ensures.found c.in_ok-behind.ensures.found) o) c.tuple.ensures.none

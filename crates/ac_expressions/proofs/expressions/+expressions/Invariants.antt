@@ -65,8 +65,11 @@ decreases-before l = 30 * length l.signs.now + 21
 abbrev pub decreases-tuple : goal.decreases-tuple
 decreases-tuple l = 30 * length l.signs.now + 21
 
+abbrev pub decreases-enclosed : goal.decreases-enclosed
+decreases-enclosed l = 30 * length l.signs.now + 21
+
 abbrev pub decreases-opened : goal.decreases-opened
-decreases-opened l = 30 * length l.signs.now + 21
+decreases-opened l = 30 * length l.signs.now + 22
 
 abbrev pub decreases-choice : goal.decreases-choice
 decreases-choice l = 30 * length l.signs.now + 22

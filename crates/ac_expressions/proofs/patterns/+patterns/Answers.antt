@@ -1,16 +1,17 @@
-use Rattle.std.proofs.Common.{◌<◌, ◌≤◌, ◌-◌, ◌+◌, ℕ, List, [], ◌∷◌, map, refl, sym, ap, subst, ◌∙◌, arith, ◌++◌}
+use Rattle.std.proofs.Common.{◌<◌, ◌≤◌, ◌-◌, ℕ, List, [], ◌∷◌, map, sym, ap, subst, ◌∙◌, arith}
 use Rattle.std.proofs.lemmas.List.{map-append}
 use Rattle.std.proofs.lemmas.Result.{IfOk-weaker, IfErr-weaker, err_from_is_err_and}
 use Rattle.ac_syntax.specs.Signs.{Sign}
-use Rattle.ac_syntax.specs.Trees.{PatTree, PatCons, pat_height}
-use Rattle.ac_syntax.specs.Patterns.{Pattern, Prefixed, Single, IsPatTree}
+use Rattle.ac_syntax.specs.Trees.{PatTree, pat_trees, pat_height, highest_pat}
+use Rattle.ac_syntax.specs.Patterns.{Pattern, Single, IsPatTree}
 use Rattle.ac_syntax.specs.ReadSigns.{read_signs}
 use Rattle.ac_syntax.specs.ReadTrees.{pat_of}
-use Rattle.ac_syntax.specs.declared.surface.SPat.{SPat}
 use Rattle.ac_syntax.proofs.OnStop.{on_syntax_more, refused}
+use Rattle.ac_syntax.specs.declared.sign.Symbol.TheVariants.{Comma, Close}
+use Rattle.ac_expressions.specs.inner.Pieces.{Before}
 use Rattle.ac_expressions.specs.inner.PatternPieces.{NoPat}
-use Rattle.ac_expressions.proofs.Readers.{word_at}
-use Rattle.ac_expressions.proofs.PatLaws.{pat_of-Tuple, pat_of-Unit}
+use Rattle.ac_expressions.proofs.Readers.{word_at, second_read}
+use Rattle.ac_expressions.proofs.PatLaws.{pat_of-Unit}
 use Rattle.ac_expressions.proofs.PatSteps.{flat_pat, pat_alone, pat_none, pat_cons, cons_none, cons_high, prefixed_tree, prefixed_none, single_tree, single_none, unit_pat, var_pat, var_none, opened_none, unclosed_none, tuple_high, tuple_none, tuple_tree, parens_tree, leaf_tree, leaf_none, tuple_of, second_none, part_none, part_read, unended_none, highest_next}
 use Rattle.ac_expressions.proofs.patterns.+patterns.Goals as goal
 
@@ -33,10 +34,8 @@ whole-returns-in_err-tail-clause-none t c =
 
 pub whole-returns-clause-tree : goal.whole-returns-clause-tree
 whole-returns-clause-tree t c =
-    let made = c.in_ok-cons.ensures.tree ∙ ap (λ (at : ℕ). PatCons at (pat_of c.in_ok-head.head.tree) (pat_of c.in_ok-tail.tail.tree)) c.here.ensures in
     let low : pat_height (pat_of c.in_ok-head.head.tree) < c.args.depth = omega (arith, c.in_ok-head.ensures.height, c.if-head-depth.false) in
-    subst (λ (u : PatTree). IsPatTree c.args.depth Pattern (read_signs c.args.signs.now) u (read_signs c.in_ok-tail.end.now)) (sym made)
-    (pat_cons _ _ _ _ _ c.in_ok-head.ensures.tree c.in-Some.ensures.found _ _ c.in_ok-tail.ensures.tree low)
+    IfOk-weaker c.cons.result _ _ (λ x o. rw (o.1, o.0, c.here.ensures) (pat_cons _ _ _ _ _ c.in_ok-head.ensures.tree c.in-Some.ensures.found _ _ c.in_ok-tail.ensures.tree low)) c.cons.ensures.tree
 
 pub prefixed-returns-in_default-clause-tree : goal.prefixed-returns-in_default-clause-tree
 prefixed-returns-in_default-clause-tree t c = IfOk-weaker c.single.result _ _ (λ x o. single_tree _ _ _ _ o) c.single.ensures.tree
@@ -56,8 +55,7 @@ prefixed-returns-in_err-item-clause-none t c =
 pub prefixed-returns-clause-tree : goal.prefixed-returns-clause-tree
 prefixed-returns-clause-tree t c =
     let pos : 0 < c.args.depth = omega (arith, c.if-depth-eq0.false) in
-    subst (λ (u : PatTree). IsPatTree c.args.depth Prefixed (read_signs c.args.signs.now) u (read_signs c.in_ok-item.rest.now)) (sym c.in_ok-prefixed_by.ensures.tree)
-    (prefixed_tree _ _ _ _ _ c.in-Some.ensures.found pos _ _ c.in_ok-item.ensures.tree)
+    IfOk-weaker c.prefixed_by.result _ _ (λ x o. rw (o.1, o.0) (prefixed_tree _ _ _ _ _ c.in-Some.ensures.found pos _ _ c.in_ok-item.ensures.tree)) c.prefixed_by.ensures.tree
 
 pub single-returns-then-depth-eq0-clause-none : goal.single-returns-then-depth-eq0-clause-none
 single-returns-then-depth-eq0-clause-none t c = refused _ _ c.refused_at.ensures (flat_pat _ _ _ c.if-depth-eq0.true)
@@ -94,9 +92,21 @@ tuple-returns-in_err-part-clause-none t c =
     let p = err_from_is_err_and c.from_residual-in_err-part.result c.from_residual-in_err-part.ensures.1 in
     rw (p.1, p.2) (on_syntax_more _ (part_none _ _ _ _ _ c.loop-behind.invariant.read _ c.in-Some.ensures.found) c.in_err-part.ensures.none)
 
+pub tuple-loop-behind-init : goal.tuple-loop-behind-init
+tuple-loop-behind-init t c =
+    let h = c.in_ok-second.ensures in
+    let parts = ap (map pat_of) c.in_ok-parts.ensures in
+    let low : pat_height (pat_of c.in_ok-second.second.tree) ≤ c.args.depth - 1 = h.tree.low in
+    record {
+      read = second_read (Before Comma (IsPatTree (c.args.depth - 1) Pattern)) (Before Close (IsPatTree (c.args.depth - 1) Pattern)) h.tree parts;
+      height = omega (arith, c.max-height.ensures, c.requires.first, h.height, ap (λ (l : List PatTree). highest_pat (pat_trees l)) parts);
+      low = omega (arith, c.max-height.ensures, c.requires.low, low, h.height);
+      shorter = h.shorter;
+    }
+
 pub tuple-loop-behind-preserved : goal.tuple-loop-behind-preserved
 tuple-loop-behind-preserved t c =
-    let parts = ap (map pat_of) (c.in_ok-push-3.ensures.ok ∙ ap (λ (p : SPat). c.loop-behind.parts ++ p ∷ []) c.into_tree-in-Some.ensures) ∙ map-append pat_of c.loop-behind.parts (c.in_ok-part.part.tree ∷ []) in
+    let parts = ap (map pat_of) c.in_ok-parts-2.ensures ∙ map-append pat_of c.loop-behind.parts (c.in_ok-part.part.tree ∷ []) in
     let low : pat_height (pat_of c.in_ok-part.part.tree) ≤ c.args.depth - 1 = c.in_ok-part.ensures.tree.low in
     record {
       read = part_read _ _ _ _ _ c.loop-behind.invariant.read _ c.in-Some.ensures.found _ _ _ c.in_ok-part.ensures.tree parts;
@@ -105,18 +115,8 @@ tuple-loop-behind-preserved t c =
       shorter = omega (arith, c.loop-behind.invariant.shorter, c.in-Some.ensures.shorter, c.in_ok-part.ensures.shorter);
     }
 
-pub tuple-returns-in_err-end-clause-none : goal.tuple-returns-in_err-end-clause-none
-tuple-returns-in_err-end-clause-none t c =
-    let p = err_from_is_err_and c.from_residual-in_err-end.result c.from_residual-in_err-end.ensures.1 in
-    rw (p.1, p.2) (on_syntax_more _ (unended_none _ _ _ _ _ c.loop-behind.invariant.read c.in_default.ensures.found) c.in_err-end.ensures.none)
-
 pub tuple-returns-clause-tree : goal.tuple-returns-clause-tree
-tuple-returns-clause-tree t c =
-    tuple_of _ _ _ _ _ c.loop-behind.invariant.read _ _ _ c.in_ok-end.ensures.found (pat_of-Tuple c.args.at c.loop-behind.parts)
-
-pub tuple-returns-clause-height : goal.tuple-returns-clause-height
-tuple-returns-clause-height t c =
-    ap (λ (n : ℕ). n + 1) c.loop-behind.invariant.height ∙ sym (ap pat_height (pat_of-Tuple c.args.at c.loop-behind.parts))
+tuple-returns-clause-tree t c = IfOk-weaker c.closed.result _ _ (λ x o. tuple_of _ _ _ _ _ c.loop-behind.invariant.read _ _ _ o.1 o.0) c.closed.ensures.tree
 
 pub opened-returns-in-Some-clause-tree : goal.opened-returns-in-Some-clause-tree
 opened-returns-in-Some-clause-tree t c =
@@ -126,38 +126,36 @@ pub opened-returns-in-Some-clause-height : goal.opened-returns-in-Some-clause-he
 opened-returns-in-Some-clause-height t c =
     sym (ap pat_height (pat_of-Unit c.args.at))
 
-pub opened-returns-in_err-binder-clause-none : goal.opened-returns-in_err-binder-clause-none
-opened-returns-in_err-binder-clause-none t c =
-    let p = err_from_is_err_and c.from_residual.result c.from_residual.ensures.1 in
-    rw (p.1, p.2) (on_syntax_more _ (λ n. var_none _ _ _ n (sym c.begins_name.ensures ∙ c.if-begins_name.true)) c.in_err-binder.ensures.none)
+pub tuple-returns-clause-none : goal.tuple-returns-clause-none
+tuple-returns-clause-none t c = IfErr-weaker c.closed.result _ _ (λ e o. on_syntax_more e (unended_none _ _ _ _ _ c.loop-behind.invariant.read c.in_default.ensures.found) o) c.closed.ensures.none
 
 pub opened-returns-then-begins_name-clause-tree : goal.opened-returns-then-begins_name-clause-tree
-opened-returns-then-begins_name-clause-tree t c =
-    var_pat _ _ _ _ _ _ c.requires c.in_ok-binder.ensures.found c.variable.ensures.tree
+opened-returns-then-begins_name-clause-tree t c = IfOk-weaker c.variable.result _ _ (λ x o. var_pat _ _ _ _ _ _ c.requires o.read o.is) c.variable.ensures.tree
 
-pub opened-returns-in_err-first-clause-none : goal.opened-returns-in_err-first-clause-none
-opened-returns-in_err-first-clause-none t c =
-    let p = err_from_is_err_and c.from_residual-in_err-first.result c.from_residual-in_err-first.ensures.1 in
-    rw (p.1, p.2) (on_syntax_more _ (opened_none _ _ _ c.in_default.ensures.found (sym c.begins_name.ensures ∙ c.if-begins_name.false)) c.in_err-first.ensures.none)
+pub opened-returns-then-begins_name-clause-none : goal.opened-returns-then-begins_name-clause-none
+opened-returns-then-begins_name-clause-none t c = IfErr-weaker c.variable.result _ _ (λ e o. on_syntax_more e (λ n. var_none _ _ _ n (sym c.begins_name.ensures ∙ c.if-begins_name.true)) o) c.variable.ensures.none
 
-pub opened-returns-in-Some-after-clause-tree : goal.opened-returns-in-Some-after-clause-tree
-opened-returns-in-Some-after-clause-tree t c =
-    parens_tree _ _ _ c.in_default.ensures.found (sym c.begins_name.ensures ∙ c.if-begins_name.false) _ _ c.in_ok-first.ensures.tree _ c.in-Some-after.ensures.found
+pub enclosed-returns-in_err-first-clause-none : goal.enclosed-returns-in_err-first-clause-none
+enclosed-returns-in_err-first-clause-none t c =
+    let p = err_from_is_err_and c.from_residual.result c.from_residual.ensures.1 in
+    rw (p.1, p.2) (on_syntax_more _ (opened_none _ _ _ c.requires.unclosed c.requires.no_name) c.in_err-first.ensures.none)
 
-pub opened-returns-in_err-behind-clause-none : goal.opened-returns-in_err-behind-clause-none
-opened-returns-in_err-behind-clause-none t c =
+pub enclosed-returns-in-Some-clause-tree : goal.enclosed-returns-in-Some-clause-tree
+enclosed-returns-in-Some-clause-tree t c = parens_tree _ _ _ c.requires.unclosed c.requires.no_name _ _ c.in_ok-first.ensures.tree _ c.in-Some.ensures.found
+
+pub enclosed-returns-in_err-behind-clause-none : goal.enclosed-returns-in_err-behind-clause-none
+enclosed-returns-in_err-behind-clause-none t c =
     let p = err_from_is_err_and c.from_residual-in_err-behind.result c.from_residual-in_err-behind.ensures.1 in
-    rw (p.1, p.2) (on_syntax_more _ (unclosed_none _ _ _ c.in_default.ensures.found (sym c.begins_name.ensures ∙ c.if-begins_name.false) _ _ c.in_ok-first.ensures.tree c.in_default-after.ensures.found) c.in_err-behind.ensures.none)
+    rw (p.1, p.2) (on_syntax_more _ (unclosed_none _ _ _ c.requires.unclosed c.requires.no_name _ _ c.in_ok-first.ensures.tree c.in_default.ensures.found) c.in_err-behind.ensures.none)
 
-pub opened-returns-then-first-depth-clause-none : goal.opened-returns-then-first-depth-clause-none
-opened-returns-then-first-depth-clause-none t c =
-    refused _ _ c.refused_at.ensures (tuple_high _ _ _ c.in_default.ensures.found (sym c.begins_name.ensures ∙ c.if-begins_name.false) _ _ c.in_ok-first.ensures.tree _ c.in_default-after.ensures.found c.in_ok-behind.ensures.found (subst (λ (n : ℕ). c.args.depth ≤ n) c.in_ok-first.ensures.height c.if-first-depth.true))
+pub enclosed-returns-then-first-depth-clause-none : goal.enclosed-returns-then-first-depth-clause-none
+enclosed-returns-then-first-depth-clause-none t c =
+    refused _ _ c.refused_at.ensures (tuple_high _ _ _ c.requires.unclosed c.requires.no_name _ _ c.in_ok-first.ensures.tree _ c.in_default.ensures.found c.in_ok-behind.ensures.found (subst (λ (n : ℕ). c.args.depth ≤ n) c.in_ok-first.ensures.height c.if-first-depth.true))
 
-pub opened-returns-clause-tree : goal.opened-returns-clause-tree
-opened-returns-clause-tree t c =
+pub enclosed-returns-clause-tree : goal.enclosed-returns-clause-tree
+enclosed-returns-clause-tree t c =
     let low : pat_height (pat_of c.in_ok-first.first.tree) < c.args.depth = omega (arith, c.in_ok-first.ensures.height, c.if-first-depth.false) in
-    IfOk-weaker c.tuple.result _ _ (λ x o. tuple_tree _ _ _ c.in_default.ensures.found (sym c.begins_name.ensures ∙ c.if-begins_name.false) _ _ c.in_ok-first.ensures.tree _ c.in_default-after.ensures.found c.in_ok-behind.ensures.found _ _ low o) c.tuple.ensures.tree
+    IfOk-weaker c.tuple.result _ _ (λ x o. tuple_tree _ _ _ c.requires.unclosed c.requires.no_name _ _ c.in_ok-first.ensures.tree _ c.in_default.ensures.found c.in_ok-behind.ensures.found _ _ low o) c.tuple.ensures.tree
 
-pub opened-returns-clause-none : goal.opened-returns-clause-none
-opened-returns-clause-none t c =
-    IfErr-weaker c.tuple.result _ _ (λ e o. on_syntax_more e (tuple_none _ _ _ c.in_default.ensures.found (sym c.begins_name.ensures ∙ c.if-begins_name.false) _ _ c.in_ok-first.ensures.tree _ c.in_default-after.ensures.found c.in_ok-behind.ensures.found) o) c.tuple.ensures.none
+pub enclosed-returns-clause-none : goal.enclosed-returns-clause-none
+enclosed-returns-clause-none t c = IfErr-weaker c.tuple.result _ _ (λ e o. on_syntax_more e (tuple_none _ _ _ c.requires.unclosed c.requires.no_name _ _ c.in_ok-first.ensures.tree _ c.in_default.ensures.found c.in_ok-behind.ensures.found) o) c.tuple.ensures.none

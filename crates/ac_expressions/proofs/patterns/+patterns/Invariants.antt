@@ -21,8 +21,11 @@ decreases-whole l = 6 * length l.signs.now + 2
 abbrev pub decreases-tuple : goal.decreases-tuple
 decreases-tuple l = 6 * length l.signs.now + 3
 
+abbrev pub decreases-enclosed : goal.decreases-enclosed
+decreases-enclosed l = 6 * length l.signs.now + 4
+
 abbrev pub decreases-opened : goal.decreases-opened
-decreases-opened l = 6 * length l.signs.now + 4
+decreases-opened l = 6 * length l.signs.now + 5
 
 abbrev pub invariant-tuple-loop-behind : goal.invariant-tuple-loop-behind
 invariant-tuple-loop-behind l = record {
