@@ -69,7 +69,6 @@ fn covers_val(m: &Module, x: &TyField) -> bool
 
 // Whether a type of the struct is this one of the signature, as the struct has it.
 #[cycle(inside)]
-#[tactic(auto, using(ac_types::proofs::SizeLaws::type_laws))]
 fn is_inside(ty: &Ty, written: &Ty, m: &Module) -> bool
     ensures { result ≡ same (typ_of ty.now) (inside_struct (module_of_code m.now)
         (typ_of written.now)) }

@@ -9,7 +9,6 @@ use ac_terms::Term;
 
 /// Whether a term computes nothing, so that a field may have it.
 #[cycle(valuable)]
-#[tactic(auto, using(ac_terms::proofs::ReadLaws::term_laws))]
 pub fn valuable(t: &Term) -> bool
     ensures { result ≡ is_valuable (expr_of t.now) }
 {
@@ -18,8 +17,10 @@ pub fn valuable(t: &Term) -> bool
         Term::Bool(_) => true,
         Term::Str(_) => true,
         Term::Unit => true,
-        Term::ExnVal(_, None) => true,
-        Term::ExnVal(_, Some(text)) => valuable(text),
+        Term::ExnVal(_, text) => match text {
+            None => true,
+            Some(text) => valuable(text),
+        },
         Term::Tuple(parts) => are_valuable(parts.as_slice()),
         Term::Nil(_) => true,
         Term::Empty(_) => true,
