@@ -4,3 +4,6 @@ pub mod SeenLaws
 pub mod HeadLaws
 pub mod SmallLaws
 pub mod RefLaws
+pub mod ReadAs
+pub mod TopLaws
+pub mod CompareLaws

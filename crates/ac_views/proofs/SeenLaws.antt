@@ -1,18 +1,21 @@
 -- Types as a home sees them: what is known, compared and built part by part.
 use Rattle.std.proofs.Common.{ℕ, ◌≡◌, ◌+◌, ◌<◌, refl, sym, ap, ap₂, ◌∙◌, subst, Bool, true, false, ◌&&◌, List, [], ◌∷◌, ◌++◌, length, map, get_or, take, Option, Some, None}
-use Rattle.std.specs.Prelude.{Result, Ok, IfOk}
+use Rattle.std.specs.Prelude.{Result, Ok, Err, IfOk}
 use Rattle.std.proofs.lemmas.List.{map-append, take_more}
 use Rattle.std.proofs.lemmas.List.Folds.{list_all-append}
-use Rattle.ac_types.specs.Types.{Bytes, Typ, TTuple, TList, TOpt, TFun, TAbs, Typs, typ, typs, same, same_all, agree, with_each, all_with_each, with_mine, all_with_mine, mentions}
+use Rattle.ac_types.specs.Types.{Bytes, Typ, TFun, TAbs, typ, typs, agree, with_each, all_with_each, with_mine, all_with_mine, mentions}
 use Rattle.ac_types.specs.ReadTypes.{typ_of}
+use Rattle.ac_types.specs.declared.text.Name.{Name}
 use Rattle.ac_types.specs.declared.memory.Memory.{Memory}
-use Rattle.ac_types.specs.declared.ty.Ty.{Ty}
+use Rattle.ac_types.specs.declared.ty.Ty.{Ty, out-Ty}
+use Rattle.ac_types.specs.declared.ty.Ty.TheOpen.{Ty-F}
+use Rattle.ac_types.specs.declared.ty.Ty.TheVariants as ty
 use Rattle.ac_types.proofs.SizeLaws.{type_laws}
 use Rattle.ac_terms.specs.Defs.{Environment}
 use Rattle.ac_terms.specs.TermTyping.{has}
 use Rattle.ac_rules.specs.Views.{is_known, are_known}
-use Rattle.ac_rules.specs.Typing.{list_item, option_item, tuple_parts}
-use Rattle.ac_views.specs.Sites.{typs_of, ends_of}
+use Rattle.ac_views.specs.Sites.{typs_of}
+use Rattle.ac_views.proofs.ReadAs.{layer, read_as}
 use Rattle.ac_views.proofs.Equalities.{same_either_way}
 
 -- known names
@@ -27,27 +30,16 @@ and_true false = refl
 pub known_one : (E : Environment) (n t : Bytes) → are_known E (TAbs n t) ≡ is_known E (n, t)
 known_one E n t = and_true (is_known E (n, t))
 
+pub known_as : (E : Environment) (t u : Ty) (x : Ty-F Ty) → t ≡ u → out-Ty u ≡ x → are_known E (layer x) ≡ are_known E (typ_of t)
+known_as E t u x is e = ap (are_known E) (sym (read_as t u x is e))
+
+pub known_ends : (E : Environment) (t u v : Ty) → t ≡ ty.Fun u v → (are_known E (typ_of u) && are_known E (typ_of v)) ≡ are_known E (typ_of t)
+known_ends E t u v is = sym (known_fun E (typ_of u) (typ_of v)) ∙ known_as E t _ _ is (ty.outs-Fun u v)
+
+pub known_name : (E : Environment) (t : Ty) (n : Name) (w : Bytes) → t ≡ ty.Abs n w → is_known E (n.0, w) ≡ are_known E (typ_of t)
+known_name E t n w is = sym (known_one E n.0 w) ∙ known_as E t _ _ is (ty.outs-Abs n w)
+
 pub ruleset known_laws = (type_laws, known_fun, known_one)
-
--- views compared: what a type of each head is equal to
-
-pub same_tuple : (Ts : Typs) (U : Typ) → same (TTuple Ts) U ≡ elim (tuple_parts U) [ None ↦ false | Some Us ↦ same_all Ts Us ]
-same_tuple Ts (TTuple Us) = refl
-same_tuple Ts U = refl
-
-pub same_list : (T U : Typ) → same (TList T) U ≡ elim (list_item U) [ None ↦ false | Some V ↦ same T V ]
-same_list T (TList V) = refl
-same_list T U = refl
-
-pub same_option : (T U : Typ) → same (TOpt T) U ≡ elim (option_item U) [ None ↦ false | Some V ↦ same T V ]
-same_option T (TOpt V) = refl
-same_option T U = refl
-
-pub same_fun : (T U V : Typ) → same (TFun T U) V ≡ elim (ends_of V) [ None ↦ false | Some p ↦ same T p.0 && same U p.1 ]
-same_fun T U (TFun A B) = refl
-same_fun T U V = refl
-
-pub ruleset compare_laws = (type_laws, same_tuple, same_list, same_option, same_fun)
 
 -- the views of a list's types
 pub views : (f : Bytes → Bytes → Typ) (ts : List Ty) → all_with_each f (typs_of ts) ≡ typs (map (λ t. with_each f (typ_of t)) ts)
@@ -78,6 +70,11 @@ module _ (f : Typ → Typ) where
 pub agree_has : (T : Typ) (o : Option Typ) → agree (Some T) o ≡ has o T
 agree_has T None = refl
 agree_has T (Some U) = same_either_way T U
+
+-- a copy of a type that is this one
+pub copied : (r : Result Ty Memory) (t : Ty) (X : Typ) → typ_of t ≡ X → IfOk r (λ c. c ≡ t) → IfOk r (λ c. typ_of c ≡ X)
+copied (Ok c) t X e h = ap typ_of h ∙ e
+copied (Err m) t X e h = h
 
 -- the same answer, of an equal type
 pub carry : (r : Result Ty Memory) (x y : Typ) → x ≡ y → IfOk r (λ t. typ_of t ≡ x) → IfOk r (λ t. typ_of t ≡ y)

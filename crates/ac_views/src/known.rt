@@ -50,7 +50,6 @@ fn is_known(env: &Env, name: &Name, word: &Word) -> bool
 
 /// Whether each abstract type that a type mentions is known.
 #[cycle(known)]
-#[tactic(auto, using(crate::proofs::SeenLaws::known_laws))]
 pub fn are_known(ty: &Ty, env: &Env) -> bool
     ensures { result ≡ are_known (environment_of env.now) (typ_of ty.now) }
 {

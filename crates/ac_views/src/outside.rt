@@ -11,7 +11,6 @@ use std::alloc::Global;
 
 /// A type of a signature, whose own types are from outside types of this name.
 #[cycle(outside)]
-#[tactic(auto, using(ac_types::proofs::SizeLaws::type_laws))]
 pub fn outside(alloc: Global, ty: &Ty, name: &Name) -> Result<Ty, Memory>
     ensures { IfOk result (λ t. typ_of t ≡ with_mine (TAbs name.now.0) (typ_of ty.now)) }
 {

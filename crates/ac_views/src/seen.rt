@@ -23,7 +23,6 @@ use std::alloc::Global;
 
 // Whether a type as the site's home sees it is another.
 #[cycle(compare)]
-#[tactic(auto, using(crate::proofs::SeenLaws::compare_laws))]
 fn is_viewed_as<'a>(written: &'a Ty, ty: &'a Ty, site: &'a Site<'a>) -> bool
     requires { length site.now.env.now.entries < 2 ^ 32 }
     ensures { result ≡ same (from_home site.now (typ_of written.now)) (typ_of ty.now) }
@@ -59,7 +58,6 @@ fn is_viewed_as<'a>(written: &'a Ty, ty: &'a Ty, site: &'a Site<'a>) -> bool
 }
 
 #[cycle(compare)]
-#[tactic(auto, using(crate::proofs::SeenLaws::compare_laws))]
 fn are_viewed_as<'a>(written: &'a [Ty], tys: &'a [Ty], site: &'a Site<'a>) -> bool
     requires { length site.now.env.now.entries < 2 ^ 32 }
     ensures { result ≡ same_all (all_from_home site.now written.now) (typs_of tys.now) }
@@ -98,7 +96,6 @@ pub fn is_seen_as<'a>(written: &'a Ty, ty: &'a Ty, site: &'a Site<'a>) -> bool
 
 // A type as the site's home sees it.
 #[cycle(view)]
-#[tactic(auto, using(ac_types::proofs::SizeLaws::type_laws))]
 fn written_out<'a>(alloc: Global, ty: &'a Ty, site: &'a Site<'a>) -> Result<Ty, Memory>
     requires { length site.now.env.now.entries < 2 ^ 32 }
     ensures { IfOk result (λ t. typ_of t ≡ from_home site.now (typ_of ty.now)) }
@@ -134,7 +131,6 @@ fn written_out<'a>(alloc: Global, ty: &'a Ty, site: &'a Site<'a>) -> Result<Ty, 
 }
 
 #[cycle(view)]
-#[tactic(auto)]
 fn all_written_out<'a>(alloc: Global, tys: &'a [Ty], site: &'a Site<'a>) -> Result<Many<Ty>, Memory>
     requires { length site.now.env.now.entries < 2 ^ 32 }
     ensures { IfOk result (λ ts. typs_of ts ≡ all_from_home site.now tys.now) }

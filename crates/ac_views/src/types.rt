@@ -80,62 +80,32 @@ pub fn same_types(a: &Ty, b: &Ty) -> bool
 }
 
 /// The item's type of a list type.
-#[tactic(auto, using(ac_types::proofs::SizeLaws::type_laws))]
 pub fn list_item(ty: &Ty) -> Option<&Ty>
     ensures { option_map typ_of (option_copied result) ≡ list_item (typ_of ty.now) }
 {
     match ty {
         Ty::List(item) => Some(item),
-        Ty::Int => None,
-        Ty::Bool => None,
-        Ty::Str => None,
-        Ty::Unit => None,
-        Ty::Exn => None,
-        Ty::Tuple(_) => None,
-        Ty::Opt(_) => None,
-        Ty::Fun(_, _) => None,
-        Ty::Abs(_, _) => None,
-        Ty::Mine(_) => None,
+        _ => None,
     }
 }
 
 /// The item's type of an option type.
-#[tactic(auto, using(ac_types::proofs::SizeLaws::type_laws))]
 pub fn option_item(ty: &Ty) -> Option<&Ty>
     ensures { option_map typ_of (option_copied result) ≡ option_item (typ_of ty.now) }
 {
     match ty {
         Ty::Opt(item) => Some(item),
-        Ty::Int => None,
-        Ty::Bool => None,
-        Ty::Str => None,
-        Ty::Unit => None,
-        Ty::Exn => None,
-        Ty::Tuple(_) => None,
-        Ty::List(_) => None,
-        Ty::Fun(_, _) => None,
-        Ty::Abs(_, _) => None,
-        Ty::Mine(_) => None,
+        _ => None,
     }
 }
 
 /// The parts of a tuple type.
-#[tactic(auto, using(ac_types::proofs::SizeLaws::type_laws))]
 pub fn tuple_parts(ty: &Ty) -> Option<&Many<Ty>>
     ensures { option_map typs_of (option_copied result) ≡ tuple_parts (typ_of ty.now) }
 {
     match ty {
         Ty::Tuple(parts) => Some(parts),
-        Ty::Int => None,
-        Ty::Bool => None,
-        Ty::Str => None,
-        Ty::Unit => None,
-        Ty::Exn => None,
-        Ty::List(_) => None,
-        Ty::Opt(_) => None,
-        Ty::Fun(_, _) => None,
-        Ty::Abs(_, _) => None,
-        Ty::Mine(_) => None,
+        _ => None,
     }
 }
 
@@ -163,21 +133,11 @@ pub fn small_copy(alloc: Global, ty: &Ty) -> Result<Option<Ty>, Memory>
 }
 
 /// The argument's and the result's type of a function type.
-#[tactic(auto, using(ac_types::proofs::SizeLaws::type_laws))]
 pub fn ends(ty: &Ty) -> Option<(&Ty, &Ty)>
     ensures { option_map read_ends result ≡ ends_of (typ_of ty.now) }
 {
     match ty {
         Ty::Fun(from, to) => Some((from, to)),
-        Ty::Int => None,
-        Ty::Bool => None,
-        Ty::Str => None,
-        Ty::Unit => None,
-        Ty::Exn => None,
-        Ty::Tuple(_) => None,
-        Ty::List(_) => None,
-        Ty::Opt(_) => None,
-        Ty::Abs(_, _) => None,
-        Ty::Mine(_) => None,
+        _ => None,
     }
 }
