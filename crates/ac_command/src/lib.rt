@@ -3,103 +3,76 @@
 
 ghost use Rattle.std.specs.Prelude.{◌≡◌, IfOk, drop, false, map, option_and_then, option_map, string_bytes};
 ghost use Rattle.clap.specs.Words.{app_of, rule_of};
-ghost use Rattle.ac_words.specs.Form.{given_of};
+ghost use Rattle.ac_words.specs.Form.{Form, given_of};
 ghost use Rattle.ac_words.specs.Commands.{chain_form, chain_of, check_form, check_of, code_of, command_of, files_of, make_form, make_of, names_of, program_form, program_of, request_of, run_form, run_of, words_of};
-ghost use Rattle.ac_word_clap.specs.Rules.{ReadsForm};
-ghost use Rattle.ac_command.specs.inner.Files.{files_rule};
+ghost use Rattle.ac_word_clap.specs.Rules.{ReadsForm, row, rows_in};
+ghost use Rattle.ac_command.specs.inner.Apps.{app_by, rule_by};
 
 use ac_types::Memory;
 use ac_word_clap::matches_in;
 use ac_words::{Command, Program, chain_from, check_from, make_from, program_from, run_from};
-use clap::{Arg, ArgAction};
+use clap::{Arg, ArgAction, ArgMatches};
 use std::alloc::Global;
 
-// What clap is to know of `run`.
-fn run_command<'a>(alloc: Global) -> Result<clap::Command<'a>, Memory>
-    ensures { IfOk result (λ c. ReadsForm run_form (app_of c)) }
-{
-    let file = Arg::new(alloc, "FILE");
-    let input = Arg::new(alloc, "in").long("in");
-    let output = Arg::new(alloc, "out").long("out");
-    let shelf = Arg::new(alloc, "shelf").long("shelf");
-    let steps = Arg::new(alloc, "steps").long("steps");
-    let command = clap::Command::new(alloc, "run")
-        .disable_help_flag(true)
-        .arg(file)?
-        .arg(input)?
-        .arg(output)?
-        .arg(shelf)?
-        .arg(steps)?;
-    Ok(command)
+// An argument that a command takes.
+#[derive(Clone, Copy)]
+enum Argument<'a> {
+    // One word.
+    Word(&'a str),
+    // FILEs, at most so many. Where they don't stand next to one another, they are used twice.
+    Files(usize),
+    // An option with a value.
+    Value(&'a str),
+    // An option without one.
+    Flag(&'a str),
 }
 
-// What clap is to know of a command of this name that takes a program alone.
-fn program_command<'a>(alloc: Global, name: &'a str) -> Result<clap::Command<'a>, Memory>
-    ensures { IfOk result (λ c. ReadsForm program_form (app_of c)) }
-{
-    let file = Arg::new(alloc, "FILE");
-    let shelf = Arg::new(alloc, "shelf").long("shelf");
-    let command = clap::Command::new(alloc, name)
-        .disable_help_flag(true)
-        .arg(file)?
-        .arg(shelf)?;
-    Ok(command)
-}
-
-// What clap is to know of `make`.
-fn make_command<'a>(alloc: Global) -> Result<clap::Command<'a>, Memory>
-    ensures { IfOk result (λ c. ReadsForm make_form (app_of c)) }
-{
-    let seed = Arg::new(alloc, "SEED");
-    let modules = Arg::new(alloc, "MODULES");
-    let runs = Arg::new(alloc, "run")
-        .long("run")
-        .action(ArgAction::Set)
-        .num_args(0usize);
-    let command = clap::Command::new(alloc, "make")
-        .disable_help_flag(true)
-        .arg(seed)?
-        .arg(modules)?
-        .arg(runs)?;
-    Ok(command)
-}
-
-// FILEs, at most so many. Where they don't stand next to one another, they are used twice.
-fn files_argument<'a>(alloc: Global, most: usize) -> Arg<'a>
-    ensures rule { rule_of result ≡ files_rule most }
+// What clap is to know of an argument.
+fn argument_in<'a>(alloc: Global, argument: Argument<'a>) -> Arg<'a>
+    ensures rule { rule_of result ≡ rule_by argument.entry }
     ensures global { result.global ≡ false }
 {
-    Arg::new(alloc, "FILE")
-        .action(ArgAction::Set)
-        .num_args(1usize..=most)
+    match argument {
+        Argument::Word(name) => Arg::new(alloc, name),
+        Argument::Files(most) => Arg::new(alloc, "FILE")
+            .action(ArgAction::Set)
+            .num_args(1usize..=most),
+        Argument::Value(name) => Arg::new(alloc, name).long(name),
+        Argument::Flag(name) => Arg::new(alloc, name)
+            .long(name)
+            .action(ArgAction::Set)
+            .num_args(0usize),
+    }
 }
 
-// What clap is to know of `check`.
-fn check_command<'a>(alloc: Global) -> Result<clap::Command<'a>, Memory>
-    ensures { IfOk result (λ c. ReadsForm check_form (app_of c)) }
+// What clap is to know of a command of this name that takes these arguments.
+fn command_in<'a>(
+    alloc: Global,
+    name: &'a str,
+    arguments: &[Argument<'a>],
+) -> Result<clap::Command<'a>, Memory>
+    ensures { IfOk result (λ c. app_of c ≡ app_by name.now arguments.now) }
 {
-    let files = files_argument(alloc, 256);
-    let shelf = Arg::new(alloc, "shelf").long("shelf");
-    let command = clap::Command::new(alloc, "check")
-        .disable_help_flag(true)
-        .arg(files)?
-        .arg(shelf)?;
+    let mut command = clap::Command::new(alloc, name).disable_help_flag(true);
+    for argument in arguments {
+        command = command.arg(argument_in(alloc, *argument))?;
+    }
     Ok(command)
 }
 
-// What clap is to know of `chain`.
-fn chain_command<'a>(alloc: Global) -> Result<clap::Command<'a>, Memory>
-    ensures { IfOk result (λ c. ReadsForm chain_form (app_of c)) }
+// The matches of a command of this name that takes these arguments, where it takes the words after
+// the first, which is its name.
+fn matches_by<'a>(
+    alloc: Global,
+    name: &'a str,
+    arguments: &[Argument<'a>],
+    words: &'a [String],
+) -> Result<Option<ArgMatches<'a>>, Memory>
+    ensures { (f : Form) → ReadsForm f (app_by name.now arguments.now) →
+        IfOk result (λ o. option_map rows_in o
+        ≡ option_map (map row) (given_of f (drop 1 (map string_bytes words.now)))) }
 {
-    let files = files_argument(alloc, 16);
-    let shelf = Arg::new(alloc, "shelf").long("shelf");
-    let steps = Arg::new(alloc, "steps").long("steps");
-    let command = clap::Command::new(alloc, "chain")
-        .disable_help_flag(true)
-        .arg(files)?
-        .arg(shelf)?
-        .arg(steps)?;
-    Ok(command)
+    matches_in(command_in(alloc, name, arguments)?, words)
 }
 
 // The `run` that the words give after the first, which is the command's name, or none.
@@ -107,8 +80,14 @@ fn read_run<'a>(alloc: Global, words: &'a [String]) -> Result<Option<Command<'a>
     ensures { IfOk result (λ o. option_map request_of o
         ≡ words_of run_form run_of (drop 1 (map string_bytes words.now))) }
 {
-    let command = run_command(alloc)?;
-    match matches_in(command, words)? {
+    let arguments = [
+        Argument::Word("FILE"),
+        Argument::Value("in"),
+        Argument::Value("out"),
+        Argument::Value("shelf"),
+        Argument::Value("steps"),
+    ];
+    match matches_by(alloc, "run", &arguments, words)? {
         None => Ok(None),
         Some(matches) => Ok(run_from(
             program_from(matches.get_str("FILE"), matches.get_str("shelf")),
@@ -128,8 +107,8 @@ fn read_program<'a>(
     ensures { IfOk result (λ o. option_map files_of o ≡ option_and_then program_of
         (given_of program_form (drop 1 (map string_bytes words.now)))) }
 {
-    let command = program_command(alloc, name)?;
-    match matches_in(command, words)? {
+    let arguments = [Argument::Word("FILE"), Argument::Value("shelf")];
+    match matches_by(alloc, name, &arguments, words)? {
         None => Ok(None),
         Some(matches) => Ok(program_from(matches.get_str("FILE"), matches.get_str("shelf"))),
     }
@@ -161,8 +140,12 @@ fn read_make<'a>(alloc: Global, words: &'a [String]) -> Result<Option<Command<'a
     ensures { IfOk result (λ o. option_map request_of o
         ≡ words_of make_form make_of (drop 1 (map string_bytes words.now))) }
 {
-    let command = make_command(alloc)?;
-    match matches_in(command, words)? {
+    let arguments = [
+        Argument::Word("SEED"),
+        Argument::Word("MODULES"),
+        Argument::Flag("run"),
+    ];
+    match matches_by(alloc, "make", &arguments, words)? {
         None => Ok(None),
         Some(matches) => Ok(make_from(
             matches.get_str("SEED"),
@@ -177,8 +160,8 @@ fn read_check<'a>(alloc: Global, words: &'a [String]) -> Result<Option<Command<'
     ensures { IfOk result (λ o. option_map request_of o
         ≡ words_of check_form check_of (drop 1 (map string_bytes words.now))) }
 {
-    let command = check_command(alloc)?;
-    match matches_in(command, words)? {
+    let arguments = [Argument::Files(256), Argument::Value("shelf")];
+    match matches_by(alloc, "check", &arguments, words)? {
         None => Ok(None),
         Some(matches) => check_from(alloc, matches.get_strs("FILE"), matches.get_str("shelf")),
     }
@@ -189,8 +172,12 @@ fn read_chain<'a>(alloc: Global, words: &'a [String]) -> Result<Option<Command<'
     ensures { IfOk result (λ o. option_map request_of o
         ≡ words_of chain_form chain_of (drop 1 (map string_bytes words.now))) }
 {
-    let command = chain_command(alloc)?;
-    match matches_in(command, words)? {
+    let arguments = [
+        Argument::Files(16),
+        Argument::Value("shelf"),
+        Argument::Value("steps"),
+    ];
+    match matches_by(alloc, "chain", &arguments, words)? {
         None => Ok(None),
         Some(matches) => chain_from(
             alloc,

@@ -5,6 +5,7 @@ use Rattle.ac_words.specs.WordValues.{first_in}
 use Rattle.ac_words.specs.Commands.{program_by, program_form, program_of}
 use Rattle.ac_word_clap.specs.Rules.{row, rows_in}
 use Rattle.ac_word_clap.proofs.Getters.{first_found, some_given}
+use Rattle.ac_command.proofs.Forms.{program_reads}
 use Rattle.ac_command.proofs.read_program.Goals as goal
 
 -- the values that the getters answer are those that were given
@@ -17,7 +18,7 @@ returns-in-Some c =
     let words : List Text = drop 1 (map string_bytes c.args.words.now) in
     let m = c.in-Some.matches in
     let read : Some (rows_in m) ≡ option_map (map row) (given_of program_form words) =
-    ap (option_map rows_in) (sym c.in-Some.is) ∙ c.in_ok-matches_in.ensures program_form c.in_ok-command.ensures in
+    ap (option_map rows_in) (sym c.in-Some.is) ∙ c.in_ok-matches_by.ensures program_form (program_reads c.args.name.now) in
     let got = some_given (given_of program_form words) (rows_in m) read in
     let name = c.get_str.ensures ∙ first_found m got.0 (codes "FILE") got.2 in
     let shelf = c.get_str-in-Some.ensures ∙ first_found m got.0 (codes "shelf") got.2 in

@@ -5,6 +5,7 @@ use Rattle.ac_words.specs.WordValues.{first_in}
 use Rattle.ac_words.specs.Commands.{ProgramFiles, program_by, run_by, run_form, run_of}
 use Rattle.ac_word_clap.specs.Rules.{row, rows_in}
 use Rattle.ac_word_clap.proofs.Getters.{first_found, some_given}
+use Rattle.ac_command.proofs.Forms.{run_reads}
 use Rattle.ac_command.proofs.read_run.Goals as goal
 
 -- the values that the getters answer are those that were given
@@ -18,7 +19,7 @@ returns-in-Some c =
     let words : List Text = drop 1 (map string_bytes c.args.words.now) in
     let m = c.in-Some.matches in
     let read : Some (rows_in m) ≡ option_map (map row) (given_of run_form words) =
-    ap (option_map rows_in) (sym c.in-Some.is) ∙ c.in_ok-matches_in.ensures run_form c.in_ok-command.ensures in
+    ap (option_map rows_in) (sym c.in-Some.is) ∙ c.in_ok-matches_by.ensures run_form run_reads in
     let got = some_given (given_of run_form words) (rows_in m) read in
     let name = c.get_str.ensures ∙ first_found m got.0 (codes "FILE") got.2 in
     let shelf = c.get_str-in-Some.ensures ∙ first_found m got.0 (codes "shelf") got.2 in
