@@ -13,7 +13,6 @@ use std::alloc::Global;
 use std::marker::Model;
 
 /// A file in memory.
-#[derive(Drop)]
 pub struct MemoryFile {
     /// Its name.
     pub name: String,
@@ -21,14 +20,30 @@ pub struct MemoryFile {
     pub bytes: Text,
 }
 
+impl Drop for MemoryFile {
+    fn drop(self) {
+        let MemoryFile { name: _, bytes: _ } = self;
+    }
+}
+
 /// Files in memory, of which the first of a name counts. They have one count of failed reads for
 /// all names, and one of failed creates and appends.
-#[derive(Drop)]
 pub struct MemoryFiles {
     alloc: Global,
     files: Vec<MemoryFile>,
     reads: Calls,
     writes: Calls,
+}
+
+impl Drop for MemoryFiles {
+    fn drop(self) {
+        let MemoryFiles {
+            alloc: _,
+            files: _,
+            reads: _,
+            writes: _,
+        } = self;
+    }
 }
 
 impl Model for MemoryFiles {

@@ -15,7 +15,7 @@ use std::marker::Model;
 use std::mem;
 
 /// What a reader of frames answers.
-#[derive(Debug, Drop)]
+#[derive(Drop)]
 pub enum FrameGot {
     /// The bytes of the next frame, without its length. No byte behind them was taken.
     Frame(Text),
@@ -36,11 +36,20 @@ pub enum FrameGot {
 
 /// A reader of frames. After `Bad` it answers the same `Bad`, after `Memory` `Memory`, and takes
 /// nothing.
-#[derive(Drop)]
 pub struct Frames {
     alloc: Global,
     part: Part,
     stop: Option<Stop>,
+}
+
+impl Drop for Frames {
+    fn drop(self) {
+        let Frames {
+            alloc: _,
+            part: _,
+            stop: _,
+        } = self;
+    }
 }
 
 impl Model for Frames {

@@ -10,10 +10,18 @@ use std::alloc::Global;
 use std::marker::Model;
 
 /// A sink in memory, some of whose writes fail.
-#[derive(Drop)]
 pub struct MemorySink {
     bytes: Text,
     writes: Calls,
+}
+
+impl Drop for MemorySink {
+    fn drop(self) {
+        let MemorySink {
+            bytes: _,
+            writes: _,
+        } = self;
+    }
 }
 
 impl Model for MemorySink {

@@ -65,10 +65,18 @@ impl Source for SureSource {
 }
 
 /// A source in memory, some of whose reads fail.
-#[derive(Drop)]
 pub struct MemorySource {
     source: SureSource,
     reads: Calls,
+}
+
+impl Drop for MemorySource {
+    fn drop(self) {
+        let MemorySource {
+            source: _,
+            reads: _,
+        } = self;
+    }
 }
 
 impl Model for MemorySource {

@@ -4,7 +4,7 @@ ghost use Rattle.ac_outside.specs.Outside.{Rose, Contents, NeverFall, IsWithin, 
 ghost use Rattle.ac_outside.specs.Frames.{IsFrame};
 
 /// What a read answers.
-#[derive(Clone, Copy, Debug, PartialEq, Eq)]
+#[derive(Clone, Copy, PartialEq, Eq)]
 pub enum Got {
     /// So many bytes stand at the front of the buffer, at least one.
     Bytes(usize),
@@ -15,7 +15,7 @@ pub enum Got {
 }
 
 /// What a write answers.
-#[derive(Clone, Copy, Debug, PartialEq, Eq)]
+#[derive(Clone, Copy, PartialEq, Eq)]
 pub enum Put {
     /// All of it was written.
     Done,

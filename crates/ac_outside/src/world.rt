@@ -14,12 +14,22 @@ use std::alloc::Global;
 use std::marker::Model;
 
 /// A world in memory that never fails.
-#[derive(Drop)]
 pub struct SureWorld {
     input: Text,
     taken: u64,
     console: Text,
     channel: Text,
+}
+
+impl Drop for SureWorld {
+    fn drop(self) {
+        let SureWorld {
+            input: _,
+            taken: _,
+            console: _,
+            channel: _,
+        } = self;
+    }
 }
 
 impl Model for SureWorld {
@@ -145,11 +155,20 @@ fn added(text: &mut Text, bytes: &[u8]) -> Put
 }
 
 /// A world in memory, some of whose calls fail.
-#[derive(Drop)]
 pub struct MemoryWorld {
     world: SureWorld,
     reads: Calls,
     writes: Calls,
+}
+
+impl Drop for MemoryWorld {
+    fn drop(self) {
+        let MemoryWorld {
+            world: _,
+            reads: _,
+            writes: _,
+        } = self;
+    }
 }
 
 impl Model for MemoryWorld {
