@@ -15,7 +15,7 @@ use ac_types::{Memory, Text};
 use std::alloc::Global;
 
 /// What is shown of a program.
-#[derive(Clone, Copy, Debug)]
+#[derive(Clone, Copy)]
 pub enum Showing {
     /// The names of its definitions.
     Names,

@@ -11,7 +11,7 @@ use std::marker::Model;
 /// A place in bytes, which contracts see as the bytes that are left and the number of those taken.
 ///
 /// `None` leaves it in place.
-#[derive(Debug, Drop)]
+#[derive(Drop)]
 pub struct Cursor<'a> {
     left: &'a [u8],
     taken: usize,

@@ -9,7 +9,6 @@ use std::alloc::Global;
 use std::marker::Model;
 
 /// A byte string that grows, which contracts see as its bytes. An `Err` leaves it as it was.
-#[derive(Debug)]
 pub struct Out {
     text: Text,
 }

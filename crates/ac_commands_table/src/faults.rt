@@ -31,7 +31,7 @@ pub fn place_of(word: &str) -> Option<Place> {
 }
 
 /// A call that is to fail: the one of this number, from 0, at this place.
-#[derive(Clone, Copy, Debug)]
+#[derive(Clone, Copy)]
 pub struct Fault {
     pub place: Place,
     pub number: u64,

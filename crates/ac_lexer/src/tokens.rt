@@ -3,7 +3,6 @@
 use ac_types::{Memory, Text, Word};
 
 /// What a token is. `Fixed` holds the bytes of a symbol, of a reserved word or of `_`.
-#[derive(Debug)]
 pub enum TokenKind {
     Lower(Word),
     Upper(Word),
@@ -25,7 +24,6 @@ impl Drop for TokenKind {
 }
 
 /// A token, and the place of its first byte.
-#[derive(Debug)]
 pub struct Token {
     pub kind: TokenKind,
     pub at: u32,

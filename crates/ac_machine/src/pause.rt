@@ -38,7 +38,7 @@ pub enum Pause {
 }
 
 /// What the machine waits for.
-#[derive(Clone, Copy, Debug, PartialEq, Eq)]
+#[derive(Clone, Copy, PartialEq, Eq)]
 pub enum Wait {
     Printing,
     Sending,

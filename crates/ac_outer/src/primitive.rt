@@ -14,7 +14,7 @@ use ac_types::{Box, Many, Memory, Ty, Word, both};
 use std::alloc::Global;
 
 /// A primitive that is called by a name.
-#[derive(Clone, Copy, Debug, PartialEq, Eq)]
+#[derive(Clone, Copy, PartialEq, Eq)]
 pub enum Primitive {
     /// `IO.print_int`.
     PrintInt,
@@ -99,7 +99,7 @@ fn text_and_range(alloc: Global) -> Result<Ty, Memory>
 }
 
 /// A standard module.
-#[derive(Clone, Copy, Debug, PartialEq, Eq)]
+#[derive(Clone, Copy, PartialEq, Eq)]
 pub enum Standard {
     /// `IO`.
     Io,

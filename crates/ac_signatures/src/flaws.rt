@@ -7,7 +7,7 @@ ghost use Rattle.ac_signatures.specs.Joined.{flaws_joined, no_flaws, missing, re
 use crate::least::least;
 
 /// What is wrong with a tree, of each kind the first.
-#[derive(Clone, Copy, Debug, PartialEq, Eq)]
+#[derive(Clone, Copy, PartialEq, Eq)]
 pub struct Flaws {
     /// The least place of a name that isn't in scope.
     pub unbound: Option<u32>,

@@ -14,7 +14,7 @@ use std::alloc::Global;
 use std::collections::BTreeSet;
 
 /// A name where it is written.
-#[derive(Clone, Copy, Debug)]
+#[derive(Clone, Copy)]
 pub struct Named<'a> {
     /// Its place.
     pub at: u32,

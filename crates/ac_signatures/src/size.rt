@@ -8,7 +8,7 @@ ghost use Rattle.ac_signatures.specs.inner.TypeSizes.{sizes_after};
 use ac_types::Ty;
 
 /// The size of a type written out, in which each name stands for its type.
-#[derive(Clone, Copy, Debug, PartialEq, Eq)]
+#[derive(Clone, Copy, PartialEq, Eq)]
 pub struct Size {
     /// Its parts, of which at most 4,097 are counted.
     pub parts: usize,

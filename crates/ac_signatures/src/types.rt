@@ -26,7 +26,7 @@ const HEIGHT_LIMIT: u32 = 100;
 const PARTS_LIMIT: u32 = 4096;
 
 /// What is wrong with a type's names and tuples, and its size.
-#[derive(Clone, Copy, Debug)]
+#[derive(Clone, Copy)]
 pub struct Measured {
     /// What is wrong.
     pub flaws: Flaws,

@@ -9,7 +9,7 @@ use ac_types::{Memory, Text, Word};
 use std::alloc::Global;
 
 /// A token that is always spelled the same: a symbol, a reserved word or `_`.
-#[derive(Clone, Copy, Debug, PartialEq, Eq)]
+#[derive(Clone, Copy, PartialEq, Eq)]
 pub enum Symbol {
     /// `(`
     Open,

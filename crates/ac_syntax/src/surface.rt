@@ -16,7 +16,6 @@ impl Drop for Surface {
 }
 
 /// A name where it is written.
-#[derive(Debug)]
 pub struct SName {
     pub at: u32,
     pub word: Word,

@@ -27,7 +27,7 @@ pub struct ParsedType {
 }
 
 /// What may follow a type.
-#[derive(Clone, Copy, Debug, PartialEq, Eq)]
+#[derive(Clone, Copy)]
 pub enum Suffix {
     List,
     Opt,

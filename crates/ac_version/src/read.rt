@@ -11,7 +11,7 @@ use std::alloc::Global;
 const MOST: usize = 8;
 
 /// A token of a version or a constraint.
-#[derive(Clone, Copy, Debug, PartialEq, Eq)]
+#[derive(Clone, Copy, PartialEq, Eq)]
 pub enum VToken {
     Number(u64),
     Dot,

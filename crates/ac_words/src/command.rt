@@ -19,7 +19,7 @@ const MOST_DIGITS: usize = 10;
 const MOST_MODULES: u64 = 1000;
 
 /// Where frames are read from, or written to.
-#[derive(Clone, Copy, Debug)]
+#[derive(Clone, Copy)]
 pub enum Channel<'a> {
     /// Standard input, or standard output.
     Standard,
@@ -28,7 +28,7 @@ pub enum Channel<'a> {
 }
 
 /// The files of a program.
-#[derive(Clone, Copy, Debug)]
+#[derive(Clone, Copy)]
 pub struct Program<'a> {
     /// The program's file.
     pub file: &'a str,
@@ -37,7 +37,7 @@ pub struct Program<'a> {
 }
 
 /// Loads a program and runs it.
-#[derive(Clone, Copy, Debug)]
+#[derive(Clone, Copy)]
 pub struct Run<'a> {
     /// The program.
     pub program: Program<'a>,
@@ -50,7 +50,7 @@ pub struct Run<'a> {
 }
 
 /// Makes a program.
-#[derive(Clone, Copy, Debug)]
+#[derive(Clone, Copy)]
 pub struct Make {
     /// The seed of the numbers that are drawn for it.
     pub seed: u64,
@@ -61,7 +61,7 @@ pub struct Make {
 }
 
 /// Loads programs, each by itself, and says whether they are accepted.
-#[derive(Debug, Drop)]
+#[derive(Drop)]
 pub struct Check<'a> {
     /// The programs' files, of which there is at least one and at most 256.
     pub files: Vec<&'a str>,
@@ -70,7 +70,7 @@ pub struct Check<'a> {
 }
 
 /// Loads programs and runs them one after the other; each reads what the one before it sent.
-#[derive(Debug, Drop)]
+#[derive(Drop)]
 pub struct Chain<'a> {
     /// The programs' files, of which there is at least one and at most 16.
     pub files: Vec<&'a str>,
@@ -81,7 +81,7 @@ pub struct Chain<'a> {
 }
 
 /// What the words of a command line ask for.
-#[derive(Debug, Drop)]
+#[derive(Drop)]
 pub enum Command<'a> {
     /// To run a program.
     Run(Run<'a>),
