@@ -1,12 +1,13 @@
 //! The command that the words of a command line give, read by clap.
 #![tactic(auto)]
 
-ghost use Rattle.std.specs.Prelude.{◌≡◌, IfOk, drop, false, map, option_and_then, option_map, string_bytes};
+ghost use Rattle.std.specs.Prelude.{◌≡◌, IfOk, false, map, option_map, string_bytes};
 ghost use Rattle.clap.specs.Words.{app_of, rule_of};
-ghost use Rattle.ac_words.specs.Form.{Form, given_of};
-ghost use Rattle.ac_words.specs.Commands.{chain_form, chain_of, check_form, check_of, code_of, command_of, files_of, make_form, make_of, names_of, program_form, program_of, request_of, run_form, run_of, words_of};
+ghost use Rattle.ac_words.specs.Form.{Given};
+ghost use Rattle.ac_words.specs.Commands.{command_of, files_of, program_form, program_of, request_of};
 ghost use Rattle.ac_word_clap.specs.Rules.{ReadsForm, row, rows_in};
 ghost use Rattle.ac_command.specs.inner.Apps.{app_by, rule_by};
+ghost use Rattle.ac_command.specs.inner.ByKind.{asked_of, form_of, kind_named};
 
 use ac_types::Memory;
 use ac_word_clap::matches_in;
@@ -46,7 +47,7 @@ fn argument_in<'a>(alloc: Global, argument: Argument<'a>) -> Arg<'a>
 }
 
 // What clap is to know of a command of this name that takes these arguments.
-fn command_in<'a>(
+fn command_with<'a>(
     alloc: Global,
     name: &'a str,
     arguments: &[Argument<'a>],
@@ -60,126 +61,113 @@ fn command_in<'a>(
     Ok(command)
 }
 
-// The matches of a command of this name that takes these arguments, where it takes the words after
-// the first, which is its name.
-fn matches_by<'a>(
-    alloc: Global,
-    name: &'a str,
-    arguments: &[Argument<'a>],
-    words: &'a [String],
-) -> Result<Option<ArgMatches<'a>>, Memory>
-    ensures { (f : Form) → ReadsForm f (app_by name.now arguments.now) →
-        IfOk result (λ o. option_map rows_in o
-        ≡ option_map (map row) (given_of f (drop 1 (map string_bytes words.now)))) }
-{
-    matches_in(command_in(alloc, name, arguments)?, words)
+// What a command does.
+#[derive(Clone, Copy)]
+enum Kind {
+    Run,
+    Names,
+    Code,
+    Make,
+    Check,
+    Chain,
 }
 
-// The `run` that the words give after the first, which is the command's name, or none.
-fn read_run<'a>(alloc: Global, words: &'a [String]) -> Result<Option<Command<'a>>, Memory>
-    ensures { IfOk result (λ o. option_map request_of o
-        ≡ words_of run_form run_of (drop 1 (map string_bytes words.now))) }
+// What the command of this name does, if there is one.
+fn kind_of(name: &str) -> Option<Kind>
+    ensures { result ≡ kind_named name.now }
 {
-    let arguments = [
-        Argument::Word("FILE"),
-        Argument::Value("in"),
-        Argument::Value("out"),
-        Argument::Value("shelf"),
-        Argument::Value("steps"),
-    ];
-    match matches_by(alloc, "run", &arguments, words)? {
-        None => Ok(None),
-        Some(matches) => Ok(run_from(
-            program_from(matches.get_str("FILE"), matches.get_str("shelf")),
+    match name {
+        "run" => Some(Kind::Run),
+        "names" => Some(Kind::Names),
+        "code" => Some(Kind::Code),
+        "make" => Some(Kind::Make),
+        "check" => Some(Kind::Check),
+        "chain" => Some(Kind::Chain),
+        _ => None,
+    }
+}
+
+// What clap is to know of a command.
+fn command_in<'a>(alloc: Global, kind: Kind) -> Result<clap::Command<'a>, Memory>
+    ensures { IfOk result (λ c. ReadsForm (form_of kind) (app_of c)) }
+{
+    match kind {
+        Kind::Run => {
+            let arguments = [
+                Argument::Word("FILE"),
+                Argument::Value("in"),
+                Argument::Value("out"),
+                Argument::Value("shelf"),
+                Argument::Value("steps"),
+            ];
+            command_with(alloc, "run", &arguments)
+        }
+        Kind::Names => program_command(alloc, "names"),
+        Kind::Code => program_command(alloc, "code"),
+        Kind::Make => {
+            let arguments = [
+                Argument::Word("SEED"),
+                Argument::Word("MODULES"),
+                Argument::Flag("run"),
+            ];
+            command_with(alloc, "make", &arguments)
+        }
+        Kind::Check => {
+            let arguments = [Argument::Files(256), Argument::Value("shelf")];
+            command_with(alloc, "check", &arguments)
+        }
+        Kind::Chain => {
+            let arguments = [
+                Argument::Files(16),
+                Argument::Value("shelf"),
+                Argument::Value("steps"),
+            ];
+            command_with(alloc, "chain", &arguments)
+        }
+    }
+}
+
+// What clap is to know of a command of this name that takes a program alone.
+fn program_command<'a>(alloc: Global, name: &'a str) -> Result<clap::Command<'a>, Memory>
+    ensures { IfOk result (λ c. ReadsForm program_form (app_of c)) }
+{
+    let arguments = [Argument::Word("FILE"), Argument::Value("shelf")];
+    command_with(alloc, name, &arguments)
+}
+
+// The program that the matches name.
+fn program_in<'a>(matches: &ArgMatches<'a>) -> Option<Program<'a>>
+    ensures { (g : Given) → rows_in matches.now ≡ map row g →
+        option_map files_of result ≡ program_of g }
+{
+    program_from(matches.get_str("FILE"), matches.get_str("shelf"))
+}
+
+// The command that the matches give, or none.
+fn command_from<'a>(
+    alloc: Global,
+    kind: Kind,
+    matches: &ArgMatches<'a>,
+) -> Result<Option<Command<'a>>, Memory>
+    ensures { (g : Given) → rows_in matches.now ≡ map row g →
+        IfOk result (λ o. option_map request_of o ≡ asked_of kind g) }
+{
+    match kind {
+        Kind::Run => Ok(run_from(
+            program_in(matches),
             matches.get_str("steps"),
             matches.get_str("in"),
             matches.get_str("out"),
         )),
-    }
-}
-
-// The program that the words give after the first, which is the command's name, or none.
-fn read_program<'a>(
-    alloc: Global,
-    name: &'a str,
-    words: &'a [String],
-) -> Result<Option<Program<'a>>, Memory>
-    ensures { IfOk result (λ o. option_map files_of o ≡ option_and_then program_of
-        (given_of program_form (drop 1 (map string_bytes words.now)))) }
-{
-    let arguments = [Argument::Word("FILE"), Argument::Value("shelf")];
-    match matches_by(alloc, name, &arguments, words)? {
-        None => Ok(None),
-        Some(matches) => Ok(program_from(matches.get_str("FILE"), matches.get_str("shelf"))),
-    }
-}
-
-// The `names` that the words give, and the `code`.
-fn read_names<'a>(alloc: Global, words: &'a [String]) -> Result<Option<Command<'a>>, Memory>
-    ensures { IfOk result (λ o. option_map request_of o
-        ≡ words_of program_form names_of (drop 1 (map string_bytes words.now))) }
-{
-    match read_program(alloc, "names", words)? {
-        None => Ok(None),
-        Some(program) => Ok(Some(Command::Names(program))),
-    }
-}
-
-fn read_code<'a>(alloc: Global, words: &'a [String]) -> Result<Option<Command<'a>>, Memory>
-    ensures { IfOk result (λ o. option_map request_of o
-        ≡ words_of program_form code_of (drop 1 (map string_bytes words.now))) }
-{
-    match read_program(alloc, "code", words)? {
-        None => Ok(None),
-        Some(program) => Ok(Some(Command::Code(program))),
-    }
-}
-
-// The `make` that the words give after the first, which is the command's name, or none.
-fn read_make<'a>(alloc: Global, words: &'a [String]) -> Result<Option<Command<'a>>, Memory>
-    ensures { IfOk result (λ o. option_map request_of o
-        ≡ words_of make_form make_of (drop 1 (map string_bytes words.now))) }
-{
-    let arguments = [
-        Argument::Word("SEED"),
-        Argument::Word("MODULES"),
-        Argument::Flag("run"),
-    ];
-    match matches_by(alloc, "make", &arguments, words)? {
-        None => Ok(None),
-        Some(matches) => Ok(make_from(
+        Kind::Names => Ok(program_in(matches).map(Command::Names)),
+        Kind::Code => Ok(program_in(matches).map(Command::Code)),
+        Kind::Make => Ok(make_from(
             matches.get_str("SEED"),
             matches.get_str("MODULES"),
             matches.contains_id("run"),
         )),
-    }
-}
-
-// The `check` that the words give after the first, which is the command's name, or none.
-fn read_check<'a>(alloc: Global, words: &'a [String]) -> Result<Option<Command<'a>>, Memory>
-    ensures { IfOk result (λ o. option_map request_of o
-        ≡ words_of check_form check_of (drop 1 (map string_bytes words.now))) }
-{
-    let arguments = [Argument::Files(256), Argument::Value("shelf")];
-    match matches_by(alloc, "check", &arguments, words)? {
-        None => Ok(None),
-        Some(matches) => check_from(alloc, matches.get_strs("FILE"), matches.get_str("shelf")),
-    }
-}
-
-// The `chain` that the words give after the first, which is the command's name, or none.
-fn read_chain<'a>(alloc: Global, words: &'a [String]) -> Result<Option<Command<'a>>, Memory>
-    ensures { IfOk result (λ o. option_map request_of o
-        ≡ words_of chain_form chain_of (drop 1 (map string_bytes words.now))) }
-{
-    let arguments = [
-        Argument::Files(16),
-        Argument::Value("shelf"),
-        Argument::Value("steps"),
-    ];
-    match matches_by(alloc, "chain", &arguments, words)? {
-        None => Ok(None),
-        Some(matches) => chain_from(
+        Kind::Check => check_from(alloc, matches.get_strs("FILE"), matches.get_str("shelf")),
+        Kind::Chain => chain_from(
             alloc,
             matches.get_strs("FILE"),
             matches.get_str("shelf"),
@@ -195,13 +183,11 @@ pub fn read_words<'a>(alloc: Global, words: &'a [String]) -> Result<Option<Comma
     let Some(name) = words.first() else {
         return Ok(None);
     };
-    match name.as_str() {
-        "run" => read_run(alloc, words),
-        "names" => read_names(alloc, words),
-        "code" => read_code(alloc, words),
-        "make" => read_make(alloc, words),
-        "check" => read_check(alloc, words),
-        "chain" => read_chain(alloc, words),
-        _ => Ok(None),
+    let Some(kind) = kind_of(name.as_str()) else {
+        return Ok(None);
+    };
+    match matches_in(command_in(alloc, kind)?, words)? {
+        None => Ok(None),
+        Some(matches) => command_from(alloc, kind, &matches),
     }
 }

@@ -1,17 +1,10 @@
 use Rattle.std.proofs.Common.{◌∙◌, [], ap, refl, sym}
 use Rattle.std.proofs.lemmas.List.{append-nil}
 use Rattle.ac_outside.specs.Kept.{Sunk}
-use Rattle.ac_outside.specs.Outside.{risen}
 use Rattle.ac_outside.proofs.sink.MemorySinkSink.write.Goals as goal
 
 pub returns-then-next_fails-clause-bytes : goal.returns-then-next_fails-clause-bytes
 returns-then-next_fails-clause-bytes c = record { front = []; rest = c.args.bytes.now; split = refl; new_is = ap (λ (s : Sunk). s.bytes) c.self.view_is ∙ sym (append-nil c.args.self.now.bytes) }
-
-pub returns-then-next_fails-clause-made : goal.returns-then-next_fails-clause-made
-returns-then-next_fails-clause-made c = c.count_failed.ensures.made ∙ c.next_fails.ensures.made ∙ ap (λ (s : Sunk). risen s.writes.made) c.self.view_is
-
-pub returns-then-next_fails-clause-planned : goal.returns-then-next_fails-clause-planned
-returns-then-next_fails-clause-planned c = c.count_failed.ensures.fail ∙ c.next_fails.ensures.fail ∙ ap (λ (s : Sunk). s.writes.fail) c.self.view_is
 
 pub returns-then-next_fails-clause-unchanged : goal.returns-then-next_fails-clause-unchanged
 returns-then-next_fails-clause-unchanged c = λ failed. ap (λ (s : Sunk). s.bytes) c.self.view_is

@@ -1,7 +1,7 @@
 use Rattle.std.proofs.Common.{◌≡◌, drop}
 use Rattle.clap.specs.Words.{app_of}
 use Rattle.ac_command.specs.inner.Apps.{app_by, with_arguments}
-use Rattle.ac_command.proofs.command_in.Given as goal
+use Rattle.ac_command.proofs.command_with.Given as goal
 
 abbrev pub invariant-loop-argument : goal.invariant-loop-argument
 invariant-loop-argument l =

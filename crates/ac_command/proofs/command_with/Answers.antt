@@ -1,9 +1,9 @@
-use Rattle.std.proofs.Common.{◌≡◌, ◌∙◌, ap, arith, get_or}
+use Rattle.std.proofs.Common.{◌∙◌, ap, arith}
 use Rattle.clap.specs.Simple.{app_of_fields}
 use Rattle.clap.specs.Words.{app_of, with_rule}
 use Rattle.ac_command.specs.inner.Apps.{with_arguments, without_help}
 use Rattle.ac_command.proofs.Apps.{one_more}
-use Rattle.ac_command.proofs.command_in.Goals as goal
+use Rattle.ac_command.proofs.command_with.Goals as goal
 
 pub loop-argument-init : goal.loop-argument-init
 loop-argument-init c =
