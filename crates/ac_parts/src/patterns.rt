@@ -9,22 +9,24 @@ ghost use Rattle.ac_terms.specs.Read.{pattern_of};
 
 use crate::test::Test;
 use ac_terms::Pat;
+use ac_types::{Box, Many};
 
 // Each part is looked at (`&`): an `&&` would be one more branch of the proof.
 /// Whether the type of each variable of a pattern passes.
 #[cycle(pat)]
-#[tactic(auto, using(crate::proofs::WalkLaws::pattern_laws))]
 pub fn pattern_passes<T: Test>(pat: &Pat, test: &T) -> bool
     ensures { result ≡ list_all (λ (U : Typ). T.passes test.now (OfType U))
         (pattern_types (pattern_of pat.now)) }
 {
     match pat {
         Pat::Var(ty) => test.passes_type(ty),
-        Pat::Tuple(parts) => patterns_pass(parts.as_slice(), test),
-        Pat::Cons(head, tail) => pattern_passes(head, test) & pattern_passes(tail, test),
-        Pat::Present(inner) => pattern_passes(inner, test),
-        Pat::Exn(_, Some(inner)) => pattern_passes(inner, test),
-        Pat::Exn(_, None) => true,
+        Pat::Tuple(parts) => patterns_pass(parts, test),
+        Pat::Cons(head, tail) => boxed_passes(head, test) & boxed_passes(tail, test),
+        Pat::Present(inner) => boxed_passes(inner, test),
+        Pat::Exn(_, text) => match text {
+            None => true,
+            Some(text) => boxed_passes(text, test),
+        },
         Pat::Wild => true,
         Pat::Int(_) => true,
         Pat::Bool(_) => true,
@@ -35,13 +37,22 @@ pub fn pattern_passes<T: Test>(pat: &Pat, test: &T) -> bool
     }
 }
 
+// The same in a box.
 #[cycle(pat)]
-#[tactic(auto, using(crate::proofs::WalkLaws::pattern_laws))]
-fn patterns_pass<T: Test>(pats: &[Pat], test: &T) -> bool
+fn boxed_passes<T: Test>(pat: &Box<Pat>, test: &T) -> bool
+    ensures { result ≡ list_all (λ (U : Typ). T.passes test.now (OfType U))
+        (pattern_types (pattern_of pat.now)) }
+{
+    pattern_passes(pat, test)
+}
+
+#[cycle(pat)]
+#[tactic(auto, using(crate::proofs::WalkLaws::list_laws))]
+fn patterns_pass<T: Test>(pats: &Many<Pat>, test: &T) -> bool
     ensures { result ≡ list_all (λ (U : Typ). T.passes test.now (OfType U))
         (all_pattern_types (patterns (map pattern_of pats.now))) }
 {
-    for pat in pats {
+    for pat in pats.as_slice() {
         if !pattern_passes(pat, test) {
             return false;
         }

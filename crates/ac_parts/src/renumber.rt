@@ -41,82 +41,119 @@ pub fn term_renumbered(alloc: Global, term: &Term, numbers: &[u32]) -> Result<Te
     match term {
         Term::Int(n) => Ok(Term::Int(*n)),
         Term::Bool(b) => Ok(Term::Bool(*b)),
-        Term::Str(text) => text.copy(alloc).map(Term::Str),
+        Term::Str(text) => match text.copy(alloc) {
+            Ok(text) => Ok(Term::Str(text)),
+            Err(want) => Err(want),
+        },
         Term::Unit => Ok(Term::Unit),
         Term::ExnVal(number, None) => Ok(Term::ExnVal(*number, None)),
-        Term::ExnVal(number, Some(inner)) => boxed(alloc, inner, numbers).map(|inner| Term::ExnVal(
-            *number,
-            Some(inner),
-        )),
-        Term::Tuple(parts) => terms(alloc, parts.as_slice(), numbers).map(Term::Tuple),
-        Term::Nil(ty) => ty.copy(alloc).map(Term::Nil),
-        Term::Empty(ty) => ty.copy(alloc).map(Term::Empty),
-        Term::Present(inner) => boxed(alloc, inner, numbers).map(Term::Present),
-        Term::Cons(head, tail) => {
-            both(boxed(alloc, head, numbers), boxed(alloc, tail, numbers)).map(|(
-                head,
-                tail,
-            )| Term::Cons(head, tail))
-        }
+        Term::ExnVal(number, Some(inner)) => match boxed(alloc, inner, numbers) {
+            Ok(inner) => Ok(Term::ExnVal(*number, Some(inner))),
+            Err(want) => Err(want),
+        },
+        Term::Tuple(parts) => match terms(alloc, parts, numbers) {
+            Ok(parts) => Ok(Term::Tuple(parts)),
+            Err(want) => Err(want),
+        },
+        Term::Nil(ty) => match ty.copy(alloc) {
+            Ok(ty) => Ok(Term::Nil(ty)),
+            Err(want) => Err(want),
+        },
+        Term::Empty(ty) => match ty.copy(alloc) {
+            Ok(ty) => Ok(Term::Empty(ty)),
+            Err(want) => Err(want),
+        },
+        Term::Present(inner) => match boxed(alloc, inner, numbers) {
+            Ok(inner) => Ok(Term::Present(inner)),
+            Err(want) => Err(want),
+        },
+        Term::Cons(head, tail) => match both(
+            boxed(alloc, head, numbers),
+            boxed(alloc, tail, numbers),
+        ) {
+            Ok((head, tail)) => Ok(Term::Cons(head, tail)),
+            Err(want) => Err(want),
+        },
         Term::Var(i) => Ok(Term::Var(*i)),
         Term::Own(i) => Ok(Term::Own(*i)),
-        Term::Ref(entry, field) => {
-            let entry = number_in(numbers, *entry);
-            field.copy(alloc).map(|field| Term::Ref(entry, field))
-        }
-        Term::Lam(ty, body) => {
-            both(ty.copy(alloc), boxed(alloc, body, numbers)).map(|(ty, body)| Term::Lam(ty, body))
-        }
+        Term::Ref(entry, field) => match field.copy(alloc) {
+            Ok(field) => Ok(Term::Ref(number_in(numbers, *entry), field)),
+            Err(want) => Err(want),
+        },
+        Term::Lam(ty, body) => match both(ty.copy(alloc), boxed(alloc, body, numbers)) {
+            Ok((ty, body)) => Ok(Term::Lam(ty, body)),
+            Err(want) => Err(want),
+        },
         Term::Rec(from, to, body) => {
             let types = both(from.copy(alloc), to.copy(alloc));
-            both(types, boxed(alloc, body, numbers)).map(|((from, to), body)| Term::Rec(
-                from, to, body,
-            ))
+            match both(types, boxed(alloc, body, numbers)) {
+                Ok(((from, to), body)) => Ok(Term::Rec(from, to, body)),
+                Err(want) => Err(want),
+            }
         }
-        Term::App(f, a) => {
-            both(boxed(alloc, f, numbers), boxed(alloc, a, numbers)).map(|(f, a)| Term::App(f, a))
-        }
+        Term::App(f, a) => match both(boxed(alloc, f, numbers), boxed(alloc, a, numbers)) {
+            Ok((f, a)) => Ok(Term::App(f, a)),
+            Err(want) => Err(want),
+        },
         Term::Let(ty, value, body) => {
             let inner = both(boxed(alloc, value, numbers), boxed(alloc, body, numbers));
-            both(ty.copy(alloc), inner).map(|(ty, (value, body))| Term::Let(ty, value, body))
+            match both(ty.copy(alloc), inner) {
+                Ok((ty, (value, body))) => Ok(Term::Let(ty, value, body)),
+                Err(want) => Err(want),
+            }
         }
         Term::If(test, yes, no) => {
             let inner = both(boxed(alloc, yes, numbers), boxed(alloc, no, numbers));
-            both(boxed(alloc, test, numbers), inner).map(|(test, (yes, no))| Term::If(
-                test, yes, no,
-            ))
+            match both(boxed(alloc, test, numbers), inner) {
+                Ok((test, (yes, no))) => Ok(Term::If(test, yes, no)),
+                Err(want) => Err(want),
+            }
         }
-        Term::Seq(parts) => terms(alloc, parts.as_slice(), numbers).map(Term::Seq),
-        Term::Match(of, cases) => {
-            let cases = arms(alloc, cases.as_slice(), numbers);
-            both(boxed(alloc, of, numbers), cases).map(|(of, cases)| Term::Match(of, cases))
-        }
-        Term::Try(of, cases) => {
-            let cases = arms(alloc, cases.as_slice(), numbers);
-            both(boxed(alloc, of, numbers), cases).map(|(of, cases)| Term::Try(of, cases))
-        }
-        Term::Raise(ty, inner) => both(ty.copy(alloc), boxed(alloc, inner, numbers)).map(|(
-            ty,
-            inner,
-        )| Term::Raise(ty, inner)),
-        Term::Prim(number, args) => {
-            terms(alloc, args.as_slice(), numbers).map(|args| Term::Prim(*number, args))
-        }
+        Term::Seq(parts) => match terms(alloc, parts, numbers) {
+            Ok(parts) => Ok(Term::Seq(parts)),
+            Err(want) => Err(want),
+        },
+        Term::Match(of, cases) => match both(
+            boxed(alloc, of, numbers),
+            arms(alloc, cases, numbers),
+        ) {
+            Ok((of, cases)) => Ok(Term::Match(of, cases)),
+            Err(want) => Err(want),
+        },
+        Term::Try(of, cases) => match both(boxed(alloc, of, numbers), arms(alloc, cases, numbers)) {
+            Ok((of, cases)) => Ok(Term::Try(of, cases)),
+            Err(want) => Err(want),
+        },
+        Term::Raise(ty, inner) => match both(ty.copy(alloc), boxed(alloc, inner, numbers)) {
+            Ok((ty, inner)) => Ok(Term::Raise(ty, inner)),
+            Err(want) => Err(want),
+        },
+        Term::Prim(number, args) => match terms(alloc, args, numbers) {
+            Ok(args) => Ok(Term::Prim(*number, args)),
+            Err(want) => Err(want),
+        },
         Term::Marshal(ty, mark, value) => {
             let inner = both(boxed(alloc, mark, numbers), boxed(alloc, value, numbers));
-            both(ty.copy(alloc), inner).map(|(ty, (mark, value))| Term::Marshal(ty, mark, value))
+            match both(ty.copy(alloc), inner) {
+                Ok((ty, (mark, value))) => Ok(Term::Marshal(ty, mark, value)),
+                Err(want) => Err(want),
+            }
         }
-        Term::Unmarshal(ty, inner) => both(ty.copy(alloc), boxed(alloc, inner, numbers)).map(|(
-            ty,
-            inner,
-        )| Term::Unmarshal(ty, inner)),
-        Term::Val(ty, value) => {
-            let value = value_renumbered(alloc, value, numbers);
-            both(ty.copy(alloc), value).map(|(ty, value)| Term::Val(ty, value))
-        }
+        Term::Unmarshal(ty, inner) => match both(ty.copy(alloc), boxed(alloc, inner, numbers)) {
+            Ok((ty, inner)) => Ok(Term::Unmarshal(ty, inner)),
+            Err(want) => Err(want),
+        },
+        Term::Val(ty, value) => match both(
+            ty.copy(alloc),
+            value_renumbered(alloc, value, numbers),
+        ) {
+            Ok((ty, value)) => Ok(Term::Val(ty, value)),
+            Err(want) => Err(want),
+        },
     }
 }
 
+// The same in a box.
 #[cycle(term)]
 fn boxed(alloc: Global, term: &Box<Term>, numbers: &[u32]) -> Result<Box<Term>, Memory>
     ensures { IfOk result (λ t. expr_of t ≡ renumbered (number_for numbers.now)
@@ -126,12 +163,12 @@ fn boxed(alloc: Global, term: &Box<Term>, numbers: &[u32]) -> Result<Box<Term>, 
 }
 
 #[cycle(term)]
-fn terms(alloc: Global, all: &[Term], numbers: &[u32]) -> Result<Many<Term>, Memory>
+fn terms(alloc: Global, all: &Many<Term>, numbers: &[u32]) -> Result<Many<Term>, Memory>
     ensures { IfOk result (λ ts. exprs (map expr_of ts) ≡ all_renumbered (number_for numbers.now)
         (exprs (map expr_of all.now))) }
 {
     let mut found = Many::new(alloc);
-    for term in all {
+    for term in all.as_slice() {
         let made = term_renumbered(alloc, term, numbers)?;
         found.push(made)?;
     }
@@ -139,12 +176,12 @@ fn terms(alloc: Global, all: &[Term], numbers: &[u32]) -> Result<Many<Term>, Mem
 }
 
 #[cycle(term)]
-fn arms(alloc: Global, cases: &[Arm], numbers: &[u32]) -> Result<Many<Arm>, Memory>
+fn arms(alloc: Global, cases: &Many<Arm>, numbers: &[u32]) -> Result<Many<Arm>, Memory>
     ensures { IfOk result (λ found. arms (map arm_of found) ≡ arms_renumbered
         (number_for numbers.now) (arms (map arm_of cases.now))) }
 {
     let mut found = Many::new(alloc);
-    for case in cases {
+    for case in cases.as_slice() {
         let made = arm(alloc, case, numbers)?;
         found.push(made)?;
     }
@@ -158,11 +195,11 @@ fn arm(alloc: Global, case: &Arm, numbers: &[u32]) -> Result<Arm, Memory>
       renumbered (number_for numbers.now) (arm_of case.now).1,
     )) }
 {
-    both(
-        case.pat.copy(alloc),
-        term_renumbered(alloc, &case.body, numbers),
-    )
-    .map(|(pat, body)| Arm { pat, body })
+    let body = term_renumbered(alloc, &case.body, numbers);
+    match both(case.pat.copy(alloc), body) {
+        Ok((pat, body)) => Ok(Arm { pat, body }),
+        Err(want) => Err(want),
+    }
 }
 
 /// A copy of a packed value, in which each reference and each home has the number that the list has
@@ -176,30 +213,51 @@ pub fn value_renumbered(alloc: Global, value: &PVal, numbers: &[u32]) -> Result<
     match value {
         PVal::Int(n) => Ok(PVal::Int(*n)),
         PVal::Bool(b) => Ok(PVal::Bool(*b)),
-        PVal::Str(text) => text.copy(alloc).map(PVal::Str),
+        PVal::Str(text) => match text.copy(alloc) {
+            Ok(text) => Ok(PVal::Str(text)),
+            Err(want) => Err(want),
+        },
         PVal::Unit => Ok(PVal::Unit),
-        PVal::Exn(exn) => exn.copy(alloc).map(PVal::Exn),
-        PVal::Tuple(parts) => values(alloc, parts.as_slice(), numbers).map(PVal::Tuple),
-        PVal::List(parts) => values(alloc, parts.as_slice(), numbers).map(PVal::List),
+        PVal::Exn(exn) => match exn.copy(alloc) {
+            Ok(exn) => Ok(PVal::Exn(exn)),
+            Err(want) => Err(want),
+        },
+        PVal::Tuple(parts) => match values(alloc, parts, numbers) {
+            Ok(parts) => Ok(PVal::Tuple(parts)),
+            Err(want) => Err(want),
+        },
+        PVal::List(parts) => match values(alloc, parts, numbers) {
+            Ok(parts) => Ok(PVal::List(parts)),
+            Err(want) => Err(want),
+        },
         PVal::Absent => Ok(PVal::Absent),
-        PVal::Present(inner) => {
-            let inner = value_renumbered(alloc, inner, numbers)?;
-            Box::new(alloc, inner).map(PVal::Present)
-        }
-        PVal::Fun(home, term) => {
-            let home = home_renumbered(numbers, *home);
-            boxed(alloc, term, numbers).map(|term| PVal::Fun(home, term))
-        }
+        PVal::Present(inner) => match boxed_value(alloc, inner, numbers) {
+            Ok(inner) => Ok(PVal::Present(inner)),
+            Err(want) => Err(want),
+        },
+        PVal::Fun(home, term) => match boxed(alloc, term, numbers) {
+            Ok(term) => Ok(PVal::Fun(home_renumbered(numbers, *home), term)),
+            Err(want) => Err(want),
+        },
     }
 }
 
+// The same in a box.
 #[cycle(term)]
-fn values(alloc: Global, all: &[PVal], numbers: &[u32]) -> Result<Many<PVal>, Memory>
+fn boxed_value(alloc: Global, value: &Box<PVal>, numbers: &[u32]) -> Result<Box<PVal>, Memory>
+    ensures { IfOk result (λ v. value_of v ≡ value_renumbered (number_for numbers.now)
+        (value_of value.now)) }
+{
+    Box::new(alloc, value_renumbered(alloc, value, numbers)?)
+}
+
+#[cycle(term)]
+fn values(alloc: Global, all: &Many<PVal>, numbers: &[u32]) -> Result<Many<PVal>, Memory>
     ensures { IfOk result (λ vs. pvalues (map value_of vs) ≡ values_renumbered
         (number_for numbers.now) (pvalues (map value_of all.now))) }
 {
     let mut found = Many::new(alloc);
-    for value in all {
+    for value in all.as_slice() {
         let made = value_renumbered(alloc, value, numbers)?;
         found.push(made)?;
     }

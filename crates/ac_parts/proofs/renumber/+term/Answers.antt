@@ -1,4 +1,4 @@
-use Rattle.std.proofs.Common.{◌≡◌, arith, length}
+use Rattle.std.proofs.Common.{◌≡◌, ap, arith, length}
 use Rattle.ac_terms.specs.Read.{expr_of, arm_of, value_of}
 use Rattle.ac_parts.specs.Numbers.{number_for}
 use Rattle.ac_types.proofs.Loops.{built}
@@ -7,21 +7,21 @@ use Rattle.ac_parts.proofs.renumber.+term.Goals as goal
 
 pub terms-loop-term-preserved : goal.terms-loop-term-preserved
 terms-loop-term-preserved t c =
-    built expr_of (term_made (number_for c.args.numbers.now)) _ _ _ _ _ _ c.loop-term.invariant c.loop-term-test.true c.term-item.is c.in_ok-push.ensures.ok c.in_ok-made.ensures
+    built expr_of (term_made (number_for c.args.numbers.now)) _ _ _ _ _ _ c.loop-term.invariant (rw c.as_slice-term-items.ensures at c.loop-term-test.true) (rw c.as_slice-term-items.ensures at c.term-item.is) c.in_ok-push.ensures.ok c.in_ok-made.ensures
 
 pub terms-returns : goal.terms-returns
-terms-returns t c = let e : c.loop-term.term-index ≡ length c.args.all.now = omega arith in all_terms (number_for c.args.numbers.now) _ _ _ e c.loop-term.invariant
+terms-returns t c = let e : c.loop-term.term-index ≡ length c.args.all.now = omega (arith, ap length c.as_slice-term-items.ensures) in all_terms (number_for c.args.numbers.now) _ _ _ e c.loop-term.invariant
 
 pub arms-loop-case-preserved : goal.arms-loop-case-preserved
 arms-loop-case-preserved t c =
-    built arm_of (arm_made (number_for c.args.numbers.now)) _ _ _ _ _ _ c.loop-case.invariant c.loop-case-test.true c.case-item.is c.in_ok-push.ensures.ok c.in_ok-made.ensures
+    built arm_of (arm_made (number_for c.args.numbers.now)) _ _ _ _ _ _ c.loop-case.invariant (rw c.as_slice-case-items.ensures at c.loop-case-test.true) (rw c.as_slice-case-items.ensures at c.case-item.is) c.in_ok-push.ensures.ok c.in_ok-made.ensures
 
 pub arms-returns : goal.arms-returns
-arms-returns t c = let e : c.loop-case.case-index ≡ length c.args.cases.now = omega arith in all_arms (number_for c.args.numbers.now) _ _ _ e c.loop-case.invariant
+arms-returns t c = let e : c.loop-case.case-index ≡ length c.args.cases.now = omega (arith, ap length c.as_slice-case-items.ensures) in all_arms (number_for c.args.numbers.now) _ _ _ e c.loop-case.invariant
 
 pub values-loop-value-preserved : goal.values-loop-value-preserved
 values-loop-value-preserved t c =
-    built value_of (value_made (number_for c.args.numbers.now)) _ _ _ _ _ _ c.loop-value.invariant c.loop-value-test.true c.value-item.is c.in_ok-push.ensures.ok c.in_ok-made.ensures
+    built value_of (value_made (number_for c.args.numbers.now)) _ _ _ _ _ _ c.loop-value.invariant (rw c.as_slice-value-items.ensures at c.loop-value-test.true) (rw c.as_slice-value-items.ensures at c.value-item.is) c.in_ok-push.ensures.ok c.in_ok-made.ensures
 
 pub values-returns : goal.values-returns
-values-returns t c = let e : c.loop-value.value-index ≡ length c.args.all.now = omega arith in all_values (number_for c.args.numbers.now) _ _ _ e c.loop-value.invariant
+values-returns t c = let e : c.loop-value.value-index ≡ length c.args.all.now = omega (arith, ap length c.as_slice-value-items.ensures) in all_values (number_for c.args.numbers.now) _ _ _ e c.loop-value.invariant
