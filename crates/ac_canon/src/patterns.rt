@@ -13,7 +13,6 @@ use ac_types::Memory;
 
 /// Puts a pattern.
 #[cycle(pat)]
-#[tactic(auto, using(crate::proofs::PatternForms::pattern_laws))]
 pub fn put_pattern<S: Spelling>(out: &mut Out, spelling: &S, pat: &Pat) -> Result<(), Memory>
     ensures { OnOk result (out.new ≡ out.old ++
         pattern_bytes (S.spelled_type spelling.now) (pattern_of pat.now)) }
@@ -44,19 +43,19 @@ pub fn put_pattern<S: Spelling>(out: &mut Out, spelling: &S, pat: &Pat) -> Resul
             out.put_u8(0x0B)?;
             put_pattern(out, spelling, inner)
         }
-        Pat::Exn(number, text) => {
-            put_byte(out, 0x0C, *number)?;
-            match text {
-                None => Ok(()),
-                Some(text) => put_pattern(out, spelling, text),
+        Pat::Exn(number, text) => match text {
+            None => put_byte(out, 0x0C, *number),
+            Some(text) => {
+                put_byte(out, 0x0C, *number)?;
+                put_pattern(out, spelling, text)
             }
-        }
+        },
     }
 }
 
 // Puts each pattern.
 #[cycle(pat)]
-#[tactic(auto, using(crate::proofs::PatternForms::pattern_laws))]
+#[tactic(auto, using(crate::proofs::Joins::joins))]
 fn put_patterns<S: Spelling>(out: &mut Out, spelling: &S, pats: &[Pat]) -> Result<(), Memory>
     ensures { OnOk result (out.new ≡ out.old ++
         all_pattern_bytes (S.spelled_type spelling.now) (patterns (map pattern_of pats.now))) }

@@ -4,7 +4,7 @@ ghost use Rattle.std.specs.Prelude.{◌≡◌, ◌++◌, ◌∷◌, map, length,
 ghost use Rattle.ac_types.specs.ReadTypes.{typ_of};
 ghost use Rattle.ac_terms.specs.Terms.{exprs, arms, pvalues};
 ghost use Rattle.ac_terms.specs.Read.{environment_of, bytes_of, expr_of, arm_of, value_of};
-ghost use Rattle.ac_terms.specs.Spelling.{one_written, two_written, four_written, word, term_bytes};
+ghost use Rattle.ac_terms.specs.Spelling.{one_written, two_written, four_written, word, term_count, value_count, term_bytes};
 ghost use Rattle.ac_terms.specs.SpelledBy.{pattern_bytes, term_bytes as term_by, all_term_bytes, arm_bytes, value_bytes, all_value_bytes};
 ghost use Rattle.ac_canon.specs.Canon.{kept};
 
@@ -32,7 +32,6 @@ pub fn term_bytes(alloc: Global, env: &Env, t: &Term) -> Result<Text, Memory>
 
 /// Puts a term.
 #[cycle(term)]
-#[tactic(auto, using(crate::proofs::ValueForms::term_laws))]
 pub fn put_term<S: Spelling>(out: &mut Out, spelling: &S, term: &Term) -> Result<(), Memory>
     ensures { OnOk result (out.new ≡ out.old ++
         term_by (S.spelled_type spelling.now) (S.spelled_reference spelling.now)
@@ -43,13 +42,13 @@ pub fn put_term<S: Spelling>(out: &mut Out, spelling: &S, term: &Term) -> Result
         Term::Bool(b) => put_bool(out, 0x02, *b),
         Term::Str(text) => put_string(out, 0x03, text),
         Term::Unit => out.put_u8(0x04),
-        Term::ExnVal(number, text) => {
-            put_byte(out, 0x05, *number)?;
-            match text {
-                None => Ok(()),
-                Some(text) => put_term(out, spelling, text),
+        Term::ExnVal(number, text) => match text {
+            None => put_byte(out, 0x05, *number),
+            Some(text) => {
+                put_byte(out, 0x05, *number)?;
+                put_term(out, spelling, text)
             }
-        }
+        },
         Term::Tuple(parts) => put_tuple(out, spelling, parts.as_slice()),
         Term::Nil(ty) => put_tagged_type(out, spelling, 0x07, ty),
         Term::Empty(ty) => put_tagged_type(out, spelling, 0x08, ty),
@@ -114,8 +113,8 @@ fn put_field_of<S: Spelling>(
     entry: u32,
     field: &Word,
 ) -> Result<(), Memory>
-    ensures { OnOk result (out.new ≡ out.old ++ 0x0D ∷
-        S.spelled_reference spelling.now entry ++ word field.now) }
+    ensures { OnOk result (out.new ≡ out.old ++ (0x0D ∷
+        S.spelled_reference spelling.now entry ++ word field.now)) }
 {
     out.put_u8(0x0D)?;
     spelling.put_reference(out, entry)?;
@@ -124,7 +123,6 @@ fn put_field_of<S: Spelling>(
 
 // Puts a term behind a tag.
 #[cycle(term)]
-#[tactic(auto, using(crate::proofs::Joins::joins))]
 fn put_one<S: Spelling>(out: &mut Out, spelling: &S, tag: u8, a: &Term) -> Result<(), Memory>
     ensures { OnOk result (out.new ≡ out.old ++ tag ∷
         term_by (S.spelled_type spelling.now) (S.spelled_reference spelling.now)
@@ -136,7 +134,6 @@ fn put_one<S: Spelling>(out: &mut Out, spelling: &S, tag: u8, a: &Term) -> Resul
 
 // Puts a type and a term behind a tag.
 #[cycle(term)]
-#[tactic(auto, using(crate::proofs::Joins::joins))]
 fn put_typed<S: Spelling>(
     out: &mut Out,
     spelling: &S,
@@ -144,10 +141,10 @@ fn put_typed<S: Spelling>(
     a: &Term,
     ty: &Ty,
 ) -> Result<(), Memory>
-    ensures { OnOk result (out.new ≡ out.old ++ tag ∷
+    ensures { OnOk result (out.new ≡ out.old ++ (tag ∷
         S.spelled_type spelling.now (typ_of ty.now) ++
         term_by (S.spelled_type spelling.now) (S.spelled_reference spelling.now)
-        (expr_of a.now)) }
+        (expr_of a.now))) }
 {
     put_tagged_type(out, spelling, tag, ty)?;
     put_term(out, spelling, a)
@@ -155,7 +152,6 @@ fn put_typed<S: Spelling>(
 
 // Puts a recursive function.
 #[cycle(term)]
-#[tactic(auto, using(crate::proofs::Joins::joins))]
 fn put_recursive<S: Spelling>(
     out: &mut Out,
     spelling: &S,
@@ -163,11 +159,11 @@ fn put_recursive<S: Spelling>(
     from: &Ty,
     to: &Ty,
 ) -> Result<(), Memory>
-    ensures { OnOk result (out.new ≡ out.old ++ 0x0F ∷
+    ensures { OnOk result (out.new ≡ out.old ++ (0x0F ∷
         S.spelled_type spelling.now (typ_of from.now) ++
         S.spelled_type spelling.now (typ_of to.now) ++
         term_by (S.spelled_type spelling.now) (S.spelled_reference spelling.now)
-        (expr_of body.now)) }
+        (expr_of body.now))) }
 {
     put_tagged_type(out, spelling, 0x0F, from)?;
     spelling.put_type(out, to)?;
@@ -176,11 +172,11 @@ fn put_recursive<S: Spelling>(
 
 // Puts a tuple.
 #[cycle(term)]
-#[tactic(auto, using(crate::proofs::Joins::joins))]
 fn put_tuple<S: Spelling>(out: &mut Out, spelling: &S, parts: &[Term]) -> Result<(), Memory>
-    ensures { OnOk result (out.new ≡ out.old ++ 0x06 ∷ one_written (length parts.now) ++
+    ensures { OnOk result (out.new ≡ out.old ++ (0x06 ∷ one_written
+        (term_count (exprs (map expr_of parts.now))) ++
         all_term_bytes (S.spelled_type spelling.now) (S.spelled_reference spelling.now)
-        (exprs (map expr_of parts.now))) }
+        (exprs (map expr_of parts.now)))) }
 {
     out.put_u8(0x06)?;
     put_count_u8(out, parts.len())?;
@@ -189,11 +185,11 @@ fn put_tuple<S: Spelling>(out: &mut Out, spelling: &S, parts: &[Term]) -> Result
 
 // Puts a sequence.
 #[cycle(term)]
-#[tactic(auto, using(crate::proofs::Joins::joins))]
 fn put_sequence<S: Spelling>(out: &mut Out, spelling: &S, parts: &[Term]) -> Result<(), Memory>
-    ensures { OnOk result (out.new ≡ out.old ++ 0x13 ∷ four_written (length parts.now) ++
+    ensures { OnOk result (out.new ≡ out.old ++ (0x13 ∷ four_written
+        (term_count (exprs (map expr_of parts.now))) ++
         all_term_bytes (S.spelled_type spelling.now) (S.spelled_reference spelling.now)
-        (exprs (map expr_of parts.now))) }
+        (exprs (map expr_of parts.now)))) }
 {
     out.put_u8(0x13)?;
     put_count_u32(out, parts.len())?;
@@ -202,7 +198,6 @@ fn put_sequence<S: Spelling>(out: &mut Out, spelling: &S, parts: &[Term]) -> Res
 
 // Puts a primitive with its arguments.
 #[cycle(term)]
-#[tactic(auto, using(crate::proofs::Joins::joins))]
 fn put_primitive<S: Spelling>(
     out: &mut Out,
     spelling: &S,
@@ -233,7 +228,6 @@ fn put_terms<S: Spelling>(out: &mut Out, spelling: &S, terms: &[Term]) -> Result
 
 // Puts how many arms there are, and each.
 #[cycle(term)]
-#[tactic(auto, using(crate::proofs::Joins::joins))]
 fn put_cases<S: Spelling>(out: &mut Out, spelling: &S, cases: &[Arm]) -> Result<(), Memory>
     ensures { OnOk result (out.new ≡ out.old ++ two_written (length cases.now) ++
         arm_bytes (S.spelled_type spelling.now) (S.spelled_reference spelling.now)
@@ -259,7 +253,6 @@ fn put_arms<S: Spelling>(out: &mut Out, spelling: &S, cases: &[Arm]) -> Result<(
 
 // Puts an arm.
 #[cycle(term)]
-#[tactic(auto, using(crate::proofs::Joins::joins))]
 fn put_arm<S: Spelling>(out: &mut Out, spelling: &S, case: &Arm) -> Result<(), Memory>
     ensures { OnOk result (out.new ≡ out.old ++
         pattern_bytes (S.spelled_type spelling.now) (arm_of case.now).0 ++
@@ -272,17 +265,16 @@ fn put_arm<S: Spelling>(out: &mut Out, spelling: &S, case: &Arm) -> Result<(), M
 
 // Puts a captured value at its type.
 #[cycle(term)]
-#[tactic(auto, using(crate::proofs::Joins::joins))]
 fn put_captured<S: Spelling>(
     out: &mut Out,
     spelling: &S,
     value: &PVal,
     ty: &Ty,
 ) -> Result<(), Memory>
-    ensures { OnOk result (out.new ≡ out.old ++ 0x1A ∷
+    ensures { OnOk result (out.new ≡ out.old ++ (0x1A ∷
         S.spelled_type spelling.now (typ_of ty.now) ++
         value_bytes (S.spelled_type spelling.now) (S.spelled_reference spelling.now)
-        (value_of value.now)) }
+        (value_of value.now))) }
 {
     put_tagged_type(out, spelling, 0x1A, ty)?;
     put_value(out, spelling, value)
@@ -290,7 +282,6 @@ fn put_captured<S: Spelling>(
 
 /// Puts a packed value.
 #[cycle(term)]
-#[tactic(auto, using(crate::proofs::ValueForms::value_laws))]
 pub fn put_value<S: Spelling>(out: &mut Out, spelling: &S, value: &PVal) -> Result<(), Memory>
     ensures { OnOk result (out.new ≡ out.old ++
         value_bytes (S.spelled_type spelling.now) (S.spelled_reference spelling.now)
@@ -318,11 +309,11 @@ pub fn put_value<S: Spelling>(out: &mut Out, spelling: &S, value: &PVal) -> Resu
 
 // Puts a tuple of packed values.
 #[cycle(term)]
-#[tactic(auto, using(crate::proofs::Joins::joins))]
 fn put_value_tuple<S: Spelling>(out: &mut Out, spelling: &S, parts: &[PVal]) -> Result<(), Memory>
-    ensures { OnOk result (out.new ≡ out.old ++ 0x06 ∷ one_written (length parts.now) ++
+    ensures { OnOk result (out.new ≡ out.old ++ (0x06 ∷ one_written
+        (value_count (pvalues (map value_of parts.now))) ++
         all_value_bytes (S.spelled_type spelling.now) (S.spelled_reference spelling.now)
-        (pvalues (map value_of parts.now))) }
+        (pvalues (map value_of parts.now)))) }
 {
     out.put_u8(0x06)?;
     put_count_u8(out, parts.len())?;
@@ -331,11 +322,11 @@ fn put_value_tuple<S: Spelling>(out: &mut Out, spelling: &S, parts: &[PVal]) -> 
 
 // Puts a list of packed values.
 #[cycle(term)]
-#[tactic(auto, using(crate::proofs::Joins::joins))]
 fn put_value_list<S: Spelling>(out: &mut Out, spelling: &S, parts: &[PVal]) -> Result<(), Memory>
-    ensures { OnOk result (out.new ≡ out.old ++ 0x07 ∷ four_written (length parts.now) ++
+    ensures { OnOk result (out.new ≡ out.old ++ (0x07 ∷ four_written
+        (value_count (pvalues (map value_of parts.now))) ++
         all_value_bytes (S.spelled_type spelling.now) (S.spelled_reference spelling.now)
-        (pvalues (map value_of parts.now))) }
+        (pvalues (map value_of parts.now)))) }
 {
     out.put_u8(0x07)?;
     put_count_u32(out, parts.len())?;

@@ -22,7 +22,6 @@ pub fn type_bytes(alloc: Global, t: &Ty) -> Result<Text, Memory>
 
 /// Puts a type in full.
 #[cycle(ty)]
-#[tactic(auto, using(crate::proofs::TypeForms::type_laws))]
 pub fn put_type(out: &mut Out, ty: &Ty) -> Result<(), Memory>
     ensures { OnOk result (out.new ≡ out.old ++ type_bytes (typ_of ty.now)) }
 {
@@ -64,7 +63,7 @@ pub fn put_type(out: &mut Out, ty: &Ty) -> Result<(), Memory>
 
 // Puts each type.
 #[cycle(ty)]
-#[tactic(auto, using(crate::proofs::TypeForms::type_laws))]
+#[tactic(auto, using(crate::proofs::Joins::joins))]
 fn put_types(out: &mut Out, tys: &[Ty]) -> Result<(), Memory>
     ensures { OnOk result (out.new ≡ out.old ++ all_type_bytes (typs (map typ_of tys.now))) }
 {
