@@ -8,6 +8,7 @@ use Rattle.ac_types.specs.declared.ty.Ty.TheOpen.{Ty-F}
 use Rattle.ac_types.specs.declared.ty.Ty.TheVariants as ty
 use Rattle.ac_types.proofs.SizeLaws.{typ_out}
 use Rattle.ac_terms.specs.Spelling.{type_count}
+use Rattle.ac_canon.proofs.Joins.{joins}
 
 abbrev layer : Ty-F Ty → Typ
 layer x = typ_layer (map-Ty Ty Typ typ_of x)
@@ -48,3 +49,5 @@ typ_of-Mine t = typ_out (ty.Mine t) ∙ ap layer (ty.outs-Mine t)
 pub count_types : (ts : List Ty) → type_count (typs (map typ_of ts)) ≡ length ts
 count_types [] = refl
 count_types (t ∷ ts) = ap suc (count_types ts)
+
+pub ruleset type_laws = (typ_of-Int, typ_of-Bool, typ_of-Str, typ_of-Unit, typ_of-Exn, typ_of-Tuple, typ_of-List, typ_of-Opt, typ_of-Fun, typ_of-Abs, typ_of-Mine, count_types, joins)
