@@ -1,5 +1,6 @@
 pub mod Crowds
 pub mod Growing
+pub mod Joined
 pub mod Kept
 pub mod Made
 pub mod PatternForms

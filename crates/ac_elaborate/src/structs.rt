@@ -30,10 +30,18 @@ pub fn outer_term(alloc: Global, tree: &SExpr, outer: &Outer) -> Result<Term, Me
 }
 
 /// The first items of a struct, and the scope behind them.
-#[derive(Drop)]
 pub struct Items<'a> {
     abbrevs: Abbrevs<'a>,
     fields: Many<Field>,
+}
+
+impl<'a> Drop for Items<'a> {
+    fn drop(self) {
+        let Items {
+            abbrevs: _,
+            fields: _,
+        } = self;
+    }
 }
 
 impl<'a> Items<'a> {
@@ -87,15 +95,20 @@ impl<'a> Items<'a> {
             ++ item_field (outer_of self.entry.abbrevs.outer)
             (ValField (name_of name.now) (type_of ty.now) (tree_of body.now))) }
     {
+        let field = field(alloc, name, ty, body, &self.abbrevs.outer)?;
         let Items { abbrevs, fields } = self;
-        let Abbrevs { outer, types } = abbrevs;
-        let field = field(alloc, name, ty, body, &outer)?;
         let fields = field_more(fields, field);
-        let (fields, outer) = both(fields, outer.with_field(alloc, name))?;
-        Ok(Items {
-            abbrevs: Abbrevs { outer, types },
-            fields,
-        })
+        let (fields, abbrevs) = both(fields, abbrevs.with_field(alloc, name))?;
+        Ok(Items { abbrevs, fields })
+    }
+
+    // The types and the fields alone.
+    fn into_contents(self) -> (Many<TyField>, Many<Field>)
+        ensures types { result.0 ≡ self.entry.abbrevs.types }
+        ensures fields { result.1 ≡ self.entry.fields }
+    {
+        let Items { abbrevs, fields } = self;
+        (abbrevs.into_types(), fields)
     }
 }
 
@@ -147,8 +160,5 @@ pub fn contents(
         let more = found.with(alloc, tree)?;
         found = more;
     }
-    let Items { abbrevs, fields } = found;
-    let Abbrevs { outer, types } = abbrevs;
-    drop(outer);
-    Ok((types, fields))
+    Ok(found.into_contents())
 }

@@ -11,13 +11,13 @@ ghost use Rattle.ac_scopes.specs.Searches.{found, found_in_all, found_in_arms};
 ghost use Rattle.ac_outer.specs.Primitives.{read_primitive};
 ghost use Rattle.ac_outer.specs.Fronts.{scope_of};
 ghost use Rattle.ac_elaborate.specs.inner.Crowd.{crowd};
-ghost use Rattle.ac_elaborate.specs.inner.Joining.{RecOf, AppliedOf, OrOf};
+ghost use Rattle.ac_elaborate.specs.inner.Joining.{RecOf, AppliedOf, ChoiceOf, LetOf, MarshalOf};
 
 use crate::patterns::{pattern, variables};
 use ac_outer::{Primitive, Scope, fun_ty, named, ty};
 use ac_syntax::{SArm, SExpr, SExprKind, SName, SType};
 use ac_terms::{Arm, Term};
-use ac_types::{Box, Many, Memory, both};
+use ac_types::{Box, Many, Memory, Ty, both};
 use std::alloc::Global;
 
 // The primitive that a tree names.
@@ -52,18 +52,43 @@ fn applied(
     }
 }
 
-// A choice that is true where the first is.
+// A choice.
 #[tactic(auto, using(crate::proofs::TermLaws::made_laws))]
-fn or(
-    alloc: Global,
-    left: Result<Box<Term>, Memory>,
-    right: Result<Box<Term>, Memory>,
+fn choice(
+    test: Result<Box<Term>, Memory>,
+    so: Result<Box<Term>, Memory>,
+    otherwise: Result<Box<Term>, Memory>,
 ) -> Result<Term, Memory>
-    ensures { IfOk result (λ t. OrOf left right t) }
+    ensures { IfOk result (λ t. ChoiceOf test so otherwise t) }
 {
-    let (test, otherwise) = both(left, right)?;
-    let so = Box::new(alloc, Term::Bool(true))?;
+    let (test, (so, otherwise)) = both(test, both(so, otherwise))?;
     Ok(Term::If(test, so, otherwise))
+}
+
+// A term that is bound in a body.
+#[tactic(auto, using(crate::proofs::TermLaws::made_laws))]
+fn let_in(
+    ty: Result<Ty, Memory>,
+    bound: Result<Box<Term>, Memory>,
+    body: Result<Box<Term>, Memory>,
+) -> Result<Term, Memory>
+    ensures { IfOk result (λ t. LetOf ty bound body t) }
+{
+    let (ty, (bound, body)) = both(ty, both(bound, body))?;
+    Ok(Term::Let(ty, bound, body))
+}
+
+// A value of a type that is marshalled under a mark.
+#[tactic(auto, using(crate::proofs::TermLaws::made_laws))]
+fn marshal(
+    ty: Result<Ty, Memory>,
+    mark: Result<Box<Term>, Memory>,
+    value: Result<Box<Term>, Memory>,
+) -> Result<Term, Memory>
+    ensures { IfOk result (λ t. MarshalOf ty mark value t) }
+{
+    let (ty, (mark, value)) = both(ty, both(mark, value))?;
+    Ok(Term::Marshal(ty, mark, value))
 }
 
 /// The term of a tree in a scope.
@@ -106,25 +131,24 @@ pub fn term<'a>(alloc: Global, tree: &'a SExpr, scope: &'a Scope<'a>) -> Result<
             boxed(alloc, function, scope),
             boxed(alloc, argument, scope),
         ),
-        SExprKind::Let(name, tree, bound, body) => {
-            let inner = both(boxed(alloc, bound, scope), under(alloc, body, name, scope));
-            both(ty(alloc, tree, scope), inner).map(|(ty, (bound, body))| Term::Let(
-                ty, bound, body,
-            ))
-        }
+        SExprKind::Let(name, tree, bound, body) => let_in(
+            ty(alloc, tree, scope),
+            boxed(alloc, bound, scope),
+            under(alloc, body, name, scope),
+        ),
         SExprKind::LetRec(fun, body) => {
             let bound = in_fun(alloc, &fun.body, &fun.name, &fun.arg, scope);
-            let bound = boxed_rec(alloc, &fun.ty, &fun.result, scope, bound)?;
-            let body = under(alloc, body, &fun.name, scope)?;
-            let ty = fun_ty(alloc, &fun.ty, &fun.result, scope)?;
-            Ok(Term::Let(ty, bound, body))
+            let_in(
+                fun_ty(alloc, &fun.ty, &fun.result, scope),
+                boxed_rec(alloc, &fun.ty, &fun.result, scope, bound),
+                under(alloc, body, &fun.name, scope),
+            )
         }
-        SExprKind::If(test, so, otherwise) => {
-            let ways = both(boxed(alloc, so, scope), boxed(alloc, otherwise, scope));
-            both(boxed(alloc, test, scope), ways).map(|(test, (so, otherwise))| Term::If(
-                test, so, otherwise,
-            ))
-        }
+        SExprKind::If(test, so, otherwise) => choice(
+            boxed(alloc, test, scope),
+            boxed(alloc, so, scope),
+            boxed(alloc, otherwise, scope),
+        ),
         SExprKind::Seq(parts) => all(alloc, parts.as_slice(), scope).map(Term::Seq),
         SExprKind::Match(of, cases) => both(
             boxed(alloc, of, scope),
@@ -140,27 +164,24 @@ pub fn term<'a>(alloc: Global, tree: &'a SExpr, scope: &'a Scope<'a>) -> Result<
             ty(alloc, tree, scope),
             boxed(alloc, exception, scope),
         ).map(|(ty, exception)| Term::Raise(ty, exception)),
-        SExprKind::And(left, right) => {
-            let ways = both(
-                boxed(alloc, right, scope),
-                Box::new(alloc, Term::Bool(false)),
-            );
-            both(boxed(alloc, left, scope), ways).map(|(test, (so, otherwise))| Term::If(
-                test, so, otherwise,
-            ))
-        }
-        SExprKind::Or(left, right) => {
-            or(alloc, boxed(alloc, left, scope), boxed(alloc, right, scope))
-        }
+        SExprKind::And(left, right) => choice(
+            boxed(alloc, left, scope),
+            boxed(alloc, right, scope),
+            Box::new(alloc, Term::Bool(false)),
+        ),
+        SExprKind::Or(left, right) => choice(
+            boxed(alloc, left, scope),
+            Box::new(alloc, Term::Bool(true)),
+            boxed(alloc, right, scope),
+        ),
         SExprKind::Op(number, parts) => {
             all(alloc, parts.as_slice(), scope).map(|parts| Term::Prim(*number, parts))
         }
-        SExprKind::Marshal(mark, value, tree) => {
-            let inner = both(boxed(alloc, mark, scope), boxed(alloc, value, scope));
-            both(ty(alloc, tree, scope), inner).map(|(ty, (mark, value))| Term::Marshal(
-                ty, mark, value,
-            ))
-        }
+        SExprKind::Marshal(mark, value, tree) => marshal(
+            ty(alloc, tree, scope),
+            boxed(alloc, mark, scope),
+            boxed(alloc, value, scope),
+        ),
         SExprKind::Unmarshal(text, tree) => both(
             ty(alloc, tree, scope),
             boxed(alloc, text, scope),
@@ -169,7 +190,7 @@ pub fn term<'a>(alloc: Global, tree: &'a SExpr, scope: &'a Scope<'a>) -> Result<
 }
 
 #[cycle(term)]
-fn boxed<'a>(alloc: Global, tree: &'a SExpr, scope: &'a Scope<'a>) -> Result<Box<Term>, Memory>
+fn boxed<'a>(alloc: Global, tree: &'a Box<SExpr>, scope: &'a Scope<'a>) -> Result<Box<Term>, Memory>
     requires { found crowd (scope_of scope.now) (tree_of tree.now) ≡ None }
     ensures { IfOk result (λ t. expr_of t ≡ term_in (scope_of scope.now) (tree_of tree.now)) }
 {
@@ -180,7 +201,7 @@ fn boxed<'a>(alloc: Global, tree: &'a SExpr, scope: &'a Scope<'a>) -> Result<Box
 #[cycle(term)]
 fn under<'a>(
     alloc: Global,
-    body: &'a SExpr,
+    body: &'a Box<SExpr>,
     name: &'a SName,
     scope: &'a Scope<'a>,
 ) -> Result<Box<Term>, Memory>
@@ -198,7 +219,7 @@ fn under<'a>(
 #[cycle(term)]
 fn in_fun<'a>(
     alloc: Global,
-    body: &'a SExpr,
+    body: &'a Box<SExpr>,
     name: &'a SName,
     argument: &'a SName,
     scope: &'a Scope<'a>,
@@ -226,8 +247,8 @@ fn rec(
     ensures { IfOk result (λ t. RecOf (scope_of scope.now) (type_of from.now) (type_of to.now)
         body t) }
 {
-    let body = body?;
-    let (from, to) = both(ty(alloc, from, scope), ty(alloc, to, scope))?;
+    let types = both(ty(alloc, from, scope), ty(alloc, to, scope));
+    let (body, (from, to)) = both(body, types)?;
     Ok(Term::Rec(from, to, body))
 }
 

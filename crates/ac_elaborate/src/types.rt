@@ -1,11 +1,11 @@
 // Types with names: abbreviations, and the specs of signatures.
 
-ghost use Rattle.std.specs.Prelude.{◌≡◌, ◌∷◌, ◌++◌, [], map, None, Some, IfOk};
+ghost use Rattle.std.specs.Prelude.{◌≡◌, ◌∷◌, ◌++◌, ◌<◌, [], length, map, None, Some, IfOk};
 ghost use Rattle.ac_types.specs.Types.{TMine};
 ghost use Rattle.ac_types.specs.ReadTypes.{typ_of, typed_of, sig_type_of, sig_of};
 ghost use Rattle.ac_syntax.specs.ReadTrees.{name_of, type_of, abbrev_of, abbrevs_of, spec_of, sig_tree_of};
 ghost use Rattle.ac_syntax.specs.Trees.{AbstractSpec, ManifestSpec, ValSpec};
-ghost use Rattle.ac_scopes.specs.Scopes.{with_type, each_in};
+ghost use Rattle.ac_scopes.specs.Scopes.{with_type, with_field, each_in};
 ghost use Rattle.ac_scopes.specs.Written.{type_in};
 ghost use Rattle.ac_scopes.specs.Definitions.{after_abbrev, after_spec, abbrev_type, spec_type, spec_value, signature_in};
 ghost use Rattle.ac_outer.specs.Fronts.{front_of, outer_of};
@@ -24,12 +24,17 @@ pub fn outer_ty(alloc: Global, tree: &SType, outer: &Outer) -> Result<Ty, Memory
 }
 
 /// The types of some abbreviations, and the scope behind them.
-#[derive(Drop)]
 pub struct Abbrevs<'a> {
     /// The scope.
     pub outer: Outer<'a>,
     /// The types.
     pub types: Many<TyField>,
+}
+
+impl<'a> Drop for Abbrevs<'a> {
+    fn drop(self) {
+        let Abbrevs { outer: _, types: _ } = self;
+    }
 }
 
 impl<'a> Abbrevs<'a> {
@@ -53,11 +58,32 @@ impl<'a> Abbrevs<'a> {
             map typed_of self.entry.types ++ abbrev_type (outer_of self.entry.outer)
             (abbrev_of a.now)) }
     {
+        let ty = outer_ty(alloc, &a.ty, &self.outer)?;
         let Abbrevs { outer, types } = self;
-        let ty = outer_ty(alloc, &a.ty, &outer)?;
         let types = typed_more(alloc, types, &a.name.word, &ty);
         let (types, outer) = both(types, outer.with_type(alloc, &a.name, ty))?;
         Ok(Abbrevs { outer, types })
+    }
+
+    /// With one more field in scope.
+    pub fn with_field(self, alloc: Global, name: &SName) -> Result<Abbrevs<'a>, Memory>
+        requires { length (outer_of self.outer).fields < 65536 }
+        ensures outer { IfOk result (λ r. outer_of r.outer ≡
+            with_field (name_of name.now) (outer_of self.entry.outer)) }
+        ensures types { IfOk result (λ r. r.types ≡ self.entry.types) }
+    {
+        let Abbrevs { outer, types } = self;
+        let outer = outer.with_field(alloc, name)?;
+        Ok(Abbrevs { outer, types })
+    }
+
+    /// The types alone.
+    pub fn into_types(self) -> Many<TyField>
+        ensures { result ≡ self.entry.types }
+    {
+        let Abbrevs { outer, types } = self;
+        drop(outer);
+        types
     }
 }
 
@@ -87,17 +113,24 @@ pub fn like(alloc: Global, front: &Front, abbrevs: &[SAbbrev]) -> Result<Many<Ty
         let more = found.with(alloc, a)?;
         found = more;
     }
-    let Abbrevs { outer, types } = found;
-    drop(outer);
-    Ok(types)
+    Ok(found.into_types())
 }
 
 // The first specs of a signature, and the scope behind them.
-#[derive(Drop)]
 struct Specs<'a> {
     outer: Outer<'a>,
     types: Many<SigType>,
     vals: Many<TyField>,
+}
+
+impl<'a> Drop for Specs<'a> {
+    fn drop(self) {
+        let Specs {
+            outer: _,
+            types: _,
+            vals: _,
+        } = self;
+    }
 }
 
 impl<'a> Specs<'a> {
@@ -139,8 +172,8 @@ impl<'a> Specs<'a> {
             ++ spec_type (outer_of self.entry.outer) (ManifestSpec (abbrev_of a.now))) }
         ensures vals { IfOk result (λ r. r.vals ≡ self.entry.vals) }
     {
+        let ty = outer_ty(alloc, &a.ty, &self.outer)?;
         let Specs { outer, types, vals } = self;
-        let ty = outer_ty(alloc, &a.ty, &outer)?;
         let types = manifest_more(alloc, types, &a.name.word, &ty);
         let (types, outer) = both(types, outer.with_type(alloc, &a.name, ty))?;
         Ok(Specs { outer, types, vals })
@@ -153,11 +186,19 @@ impl<'a> Specs<'a> {
             ++ spec_value (outer_of self.entry.outer)
             (ValSpec (name_of name.now) (type_of tree.now))) }
     {
+        let mut specs = self;
+        let (name, ty) = both(name.word.copy(alloc), outer_ty(alloc, tree, &specs.outer))?;
+        specs.vals.push(TyField { name, ty })?;
+        Ok(specs)
+    }
+
+    // The signature of them.
+    fn into_sig(self) -> Sig
+        ensures { result ≡ record { types = self.entry.types; vals = self.entry.vals } }
+    {
         let Specs { outer, types, vals } = self;
-        let mut vals = vals;
-        let typed = both(name.word.copy(alloc), outer_ty(alloc, tree, &outer));
-        vals.push(typed.map(|(name, ty)| TyField { name, ty })?)?;
-        Ok(Specs { outer, types, vals })
+        drop(outer);
+        Sig { types, vals }
     }
 }
 
@@ -219,7 +260,5 @@ pub fn signature(alloc: Global, front: &Front, tree: &SSig) -> Result<Sig, Memor
         let more = found.with(alloc, spec)?;
         found = more;
     }
-    let Specs { outer, types, vals } = found;
-    drop(outer);
-    Ok(Sig { types, vals })
+    Ok(found.into_sig())
 }

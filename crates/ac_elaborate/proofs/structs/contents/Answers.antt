@@ -43,6 +43,6 @@ returns c =
     let e : c.loop-tree.tree-index ≡ length c.args.trees.now = omega arith in
     let S = outer_of c.loop-tree.found.abbrevs.outer in
     record {
-      types = gives_all field_tree_of after_field item_type _ _ S c.loop-tree.tree-index c.args.trees.now e c.loop-tree.invariant.types;
-      fields = gives_all field_tree_of after_field item_field _ _ S c.loop-tree.tree-index c.args.trees.now e c.loop-tree.invariant.fields;
+      types = ap (map typed_of) c.into_contents.ensures.types ∙ gives_all field_tree_of after_field item_type _ _ S c.loop-tree.tree-index c.args.trees.now e c.loop-tree.invariant.types;
+      fields = ap (map field_of) c.into_contents.ensures.fields ∙ gives_all field_tree_of after_field item_field _ _ S c.loop-tree.tree-index c.args.trees.now e c.loop-tree.invariant.fields;
     }

@@ -1,6 +1,7 @@
-use Rattle.std.proofs.Common.{◌≡◌, ap, sym, subst, arith, rules, length, None}
+use Rattle.std.proofs.Common.{◌≡◌, ◌∙◌, ap, sym, true, false, subst, arith, rules, length, None}
 use Rattle.std.proofs.lemmas.Grind.{common_steps}
 use Rattle.ac_syntax.specs.declared.surface.SExprKind.TheViews.{the_lemmas}
+use Rattle.ac_syntax.specs.declared.surface.SExprKind.TheVariants as variants
 use Rattle.std.specs.Prelude.{IfOk}
 use Rattle.ac_terms.specs.Terms.{Expr}
 use Rattle.ac_scopes.specs.Written.{term_in}
@@ -10,9 +11,11 @@ use Rattle.ac_syntax.specs.ReadTrees.{tree_of}
 use Rattle.ac_elaborate.specs.inner.Crowd.{crowd}
 use Rattle.ac_elaborate.proofs.Within.{found_in_arm, item_within, item_arm_within}
 use Rattle.ac_terms.specs.Read.{expr_of, arm_of}
+use Rattle.ac_terms.proofs.TermForms.{expr_of-Bool, expr_of-Unit}
 use Rattle.ac_types.proofs.Loops.{built}
 use Rattle.ac_outer.specs.Fronts.{scope_of}
 use Rattle.ac_elaborate.proofs.Made.{term_made, all_terms, arm_made, all_arms}
+use Rattle.ac_elaborate.proofs.Joined.{shown, flag_ok, chosen, bound, marshalled, applied_to}
 use Rattle.ac_elaborate.proofs.term.+term.Goals as goal
 
 pub all-term-requires : goal.all-term-requires
@@ -42,3 +45,30 @@ arms-returns t c = let e : c.loop-case.case-index ≡ length c.args.cases.now = 
 pub term-returns-in-Of : goal.term-returns-in-Of
 term-returns-in-Of t c =
     subst (λ (e : Expr). IfOk c.dotted_value.result (λ t. expr_of t ≡ e)) (sym (ap (term_in (scope_of c.args.scope.now)) (tree_of-Of c.args.tree.now c.in-Of.owner c.in-Of.name c.in-Of.is))) c.dotted_value.ensures
+
+pub term-returns-in-Bool : goal.term-returns-in-Bool
+term-returns-in-Bool t c = expr_of-Bool _ ∙ sym (ap (term_in (scope_of c.args.scope.now)) (shown c.args.tree.now _ _ c.in-Bool.is (variants.outs-Bool _)))
+
+pub term-returns-in-Unit : goal.term-returns-in-Unit
+term-returns-in-Unit t c = expr_of-Unit ∙ sym (ap (term_in (scope_of c.args.scope.now)) (shown c.args.tree.now _ _ c.in-Unit.is variants.outs-Unit))
+
+pub term-returns-in-Var : goal.term-returns-in-Var
+term-returns-in-Var t c = c.plain_value.ensures ∙ sym (ap (term_in (scope_of c.args.scope.now)) (shown c.args.tree.now _ _ c.in-Var.is (variants.outs-Var _)))
+
+pub term-returns-in-App : goal.term-returns-in-App
+term-returns-in-App t c = applied_to _ _ _ _ _ _ _ _ (ap (term_in (scope_of c.args.scope.now)) (shown c.args.tree.now _ _ c.in-App.is (variants.outs-App _ _))) c.primitive_at.ensures c.boxed-in-App.ensures c.boxed-in-App-2.ensures c.applied.ensures
+
+pub term-returns-in-Let : goal.term-returns-in-Let
+term-returns-in-Let t c = bound _ _ _ _ _ _ _ _ (ap (term_in (scope_of c.args.scope.now)) (shown c.args.tree.now _ _ c.in-Let.is (variants.outs-Let _ _ _ _))) c.ty-in-Let.ensures c.boxed-in-Let.ensures c.under-in-Let.ensures c.let_in.ensures
+
+pub term-returns-in-If : goal.term-returns-in-If
+term-returns-in-If t c = chosen _ _ _ _ _ _ _ _ (ap (term_in (scope_of c.args.scope.now)) (shown c.args.tree.now _ _ c.in-If.is (variants.outs-If _ _ _))) c.boxed-in-If.ensures c.boxed-in-If-2.ensures c.boxed-in-If-3.ensures c.choice.ensures
+
+pub term-returns-in-And : goal.term-returns-in-And
+term-returns-in-And t c = chosen _ _ _ _ _ _ _ _ (ap (term_in (scope_of c.args.scope.now)) (shown c.args.tree.now _ _ c.in-And.is (variants.outs-And _ _))) c.boxed-in-And.ensures c.boxed-in-And-2.ensures (flag_ok c.new.result false c.new.ensures) c.choice-in-And.ensures
+
+pub term-returns-in-Or : goal.term-returns-in-Or
+term-returns-in-Or t c = chosen _ _ _ _ _ _ _ _ (ap (term_in (scope_of c.args.scope.now)) (shown c.args.tree.now _ _ c.in-Or.is (variants.outs-Or _ _))) c.boxed-in-Or.ensures (flag_ok c.new-in-Or.result true c.new-in-Or.ensures) c.boxed-in-Or-2.ensures c.choice-in-Or.ensures
+
+pub term-returns-in-Marshal : goal.term-returns-in-Marshal
+term-returns-in-Marshal t c = marshalled _ _ _ _ _ _ _ _ (ap (term_in (scope_of c.args.scope.now)) (shown c.args.tree.now _ _ c.in-Marshal.is (variants.outs-Marshal _ _ _))) c.ty-in-Marshal.ensures c.boxed-in-Marshal.ensures c.boxed-in-Marshal-2.ensures c.marshal.ensures

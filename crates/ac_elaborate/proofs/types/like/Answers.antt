@@ -1,4 +1,4 @@
-use Rattle.std.proofs.Common.{◌≡◌, arith, length}
+use Rattle.std.proofs.Common.{◌≡◌, ◌∙◌, ap, arith, length, map}
 use Rattle.ac_types.specs.ReadTypes.{typed_of}
 use Rattle.ac_syntax.specs.ReadTrees.{abbrev_of}
 use Rattle.ac_scopes.specs.Definitions.{after_abbrev, abbrev_type}
@@ -18,4 +18,4 @@ loop-a-preserved c =
 pub returns : goal.returns
 returns c =
     let e : c.loop-a.a-index ≡ length c.args.abbrevs.now = omega arith in
-    gives_all abbrev_of after_abbrev abbrev_type _ _ (outer_of c.loop-a.found.outer) c.loop-a.a-index c.args.abbrevs.now e c.loop-a.invariant
+    ap (map typed_of) c.into_types.ensures ∙ gives_all abbrev_of after_abbrev abbrev_type _ _ (outer_of c.loop-a.found.outer) c.loop-a.a-index c.args.abbrevs.now e c.loop-a.invariant

@@ -1,5 +1,5 @@
-use Rattle.std.proofs.Common.{◌≡◌, arith, length}
-use Rattle.ac_types.specs.ReadTypes.{sig_type_of, typed_of}
+use Rattle.std.proofs.Common.{◌≡◌, ◌∙◌, ap, arith, length}
+use Rattle.ac_types.specs.ReadTypes.{sig_type_of, typed_of, sig_of}
 use Rattle.ac_syntax.specs.ReadTrees.{spec_of}
 use Rattle.ac_scopes.specs.Definitions.{after_spec, spec_type, spec_value}
 use Rattle.ac_outer.specs.Fronts.{front_of, outer_of}
@@ -25,6 +25,6 @@ loop-spec-preserved c = record {
 pub returns : goal.returns
 returns c =
     let e : c.loop-spec.spec-index ≡ length c.as_slice-specs.result.now = omega arith in
-    sig_made c.loop-spec.found.types c.loop-spec.found.vals c.as_slice-specs.result.now c.args.tree.now (front_of c.args.front.now) c.as_slice-specs.ensures
+    ap sig_of c.into_sig.ensures ∙ sig_made c.loop-spec.found.types c.loop-spec.found.vals c.as_slice-specs.result.now c.args.tree.now (front_of c.args.front.now) c.as_slice-specs.ensures
     (gives_all spec_of after_spec spec_type _ _ (outer_of c.loop-spec.found.outer) c.loop-spec.spec-index c.as_slice-specs.result.now e c.loop-spec.invariant.types)
     (gives_all spec_of after_spec spec_value _ _ (outer_of c.loop-spec.found.outer) c.loop-spec.spec-index c.as_slice-specs.result.now e c.loop-spec.invariant.vals)
