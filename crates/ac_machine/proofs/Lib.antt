@@ -4,6 +4,7 @@ pub mod EachLaws
 pub mod FieldLaws
 pub mod GivingLaws
 pub mod HeldLaws
+pub mod KnownLaws
 pub mod PatternLaws
 pub mod PrimitiveLaws
 pub mod RunLaws

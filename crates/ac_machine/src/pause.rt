@@ -38,7 +38,7 @@ pub enum Pause {
 }
 
 /// What the machine waits for.
-#[derive(Clone, Copy, PartialEq, Eq)]
+#[derive(Clone, Copy)]
 pub enum Wait {
     Printing,
     Sending,
