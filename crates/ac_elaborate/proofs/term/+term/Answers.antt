@@ -4,7 +4,7 @@ use Rattle.ac_syntax.specs.declared.surface.SExprKind.TheViews.{the_lemmas}
 use Rattle.ac_syntax.specs.declared.surface.SExprKind.TheVariants as variants
 use Rattle.std.specs.Prelude.{IfOk}
 use Rattle.ac_terms.specs.Terms.{Expr}
-use Rattle.ac_scopes.specs.Written.{term_in}
+use Rattle.ac_scopes.specs.Written.{primitive_at, term_in}
 use Rattle.ac_scopes.specs.Searches.{found}
 use Rattle.ac_syntax.proofs.TreeLaws.{tree_of-Of}
 use Rattle.ac_syntax.specs.ReadTrees.{tree_of}
@@ -56,7 +56,7 @@ pub term-returns-in-Var : goal.term-returns-in-Var
 term-returns-in-Var t c = c.plain_value.ensures ∙ sym (ap (term_in (scope_of c.args.scope.now)) (shown c.args.tree.now _ _ c.in-Var.is (variants.outs-Var _)))
 
 pub term-returns-in-App : goal.term-returns-in-App
-term-returns-in-App t c = applied_to _ _ _ _ _ _ _ _ (ap (term_in (scope_of c.args.scope.now)) (shown c.args.tree.now _ _ c.in-App.is (variants.outs-App _ _))) c.primitive_at.ensures c.boxed-in-App.ensures c.boxed-in-App-2.ensures c.applied.ensures
+term-returns-in-App t c = applied_to _ _ _ _ _ _ _ _ (ap (term_in (scope_of c.args.scope.now)) (shown c.args.tree.now _ _ c.in-App.is (variants.outs-App _ _))) (c.primitive_at.ensures ∙ ap (λ f. primitive_at (tree_of f)) c.deref.ensures) c.boxed-in-App.ensures c.boxed-in-App-2.ensures c.applied.ensures
 
 pub term-returns-in-Let : goal.term-returns-in-Let
 term-returns-in-Let t c = bound _ _ _ _ _ _ _ _ (ap (term_in (scope_of c.args.scope.now)) (shown c.args.tree.now _ _ c.in-Let.is (variants.outs-Let _ _ _ _))) c.ty-in-Let.ensures c.boxed-in-Let.ensures c.under-in-Let.ensures c.let_in.ensures
