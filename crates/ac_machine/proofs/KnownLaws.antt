@@ -1,15 +1,11 @@
 -- Values by what they are read as.
-use Rattle.std.proofs.Common.{◌≡◌, ℤ, Bool, true, Some, ap, refl}
-use Rattle.ac_values.specs.Values.{MValue, MInt, MBool, MUnit, MNil, MAbsent}
-use Rattle.ac_values.specs.ValueReaders.{int_in, bool_in, is_unit, is_nil, is_absent}
+use Rattle.std.proofs.Common.{◌≡◌, ℤ, true, Some, ap, refl}
+use Rattle.ac_values.specs.Values.{MValue, MInt, MUnit, MNil, MAbsent}
+use Rattle.ac_values.specs.ValueReaders.{int_in, is_unit, is_nil, is_absent}
 
 pub known_int : (m : MValue) (n : ℤ) → int_in m ≡ Some n → m ≡ MInt n
 known_int (MInt k) n e = let h : k ≡ n = cc in ap MInt h
 known_int m n e = absurd (cc)
-
-pub known_bool : (m : MValue) (b : Bool) → bool_in m ≡ Some b → m ≡ MBool b
-known_bool (MBool k) b e = let h : k ≡ b = cc in ap MBool h
-known_bool m b e = absurd (cc)
 
 pub known_unit : (m : MValue) → is_unit m ≡ true → m ≡ MUnit
 known_unit MUnit e = refl
