@@ -1,4 +1,5 @@
 pub mod WalkLaws
 pub mod FormLaws
+pub mod VisitLaws
 pub mod SlotLaws
 pub mod TypeLaws

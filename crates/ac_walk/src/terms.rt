@@ -1,13 +1,15 @@
 // The visit of terms.
 
-ghost use Rattle.std.specs.Prelude.{◌≡◌, suc, map};
+ghost use Rattle.std.specs.Prelude.{◌≡◌, ◌++◌, ◌∷◌, [], suc, map};
 ghost use Rattle.ac_types.specs.Types.{TInt};
 ghost use Rattle.ac_types.specs.ReadTypes.{typ_of};
-ghost use Rattle.ac_terms.specs.Terms.{Var, exprs, arms};
+ghost use Rattle.ac_terms.specs.Terms.{Var, Lam, Rec, Let, If, Marshal, exprs, arms};
 ghost use Rattle.ac_terms.specs.Read.{expr_of, arm_of};
-ghost use Rattle.ac_terms.specs.Parts.{all_term_parts, arm_parts};
+ghost use Rattle.ac_terms.specs.Heads.{next_head, type_heads};
+ghost use Rattle.ac_terms.specs.Parts.{OfType, all_term_parts, arm_parts};
 ghost use Rattle.ac_walk.specs.Pieces.{term_at, terms_at, arms_at, terms_written, arms_written_at, cases_written, spoken_at};
 ghost use Rattle.ac_walk.specs.inner.Goes.{Visits, VisitsTerm};
+ghost use Rattle.ac_walk.specs.inner.Written.{written_in, spoken_in};
 
 use crate::around::Slot;
 use crate::piece::{Around, Piece};
@@ -15,6 +17,7 @@ use crate::shapes::binders;
 use crate::walk::Walk;
 use ac_heads::{Stop, deeper};
 use ac_terms::{Arm, Term};
+use ac_types::Ty;
 
 impl<'a> Walk<'a> {
     /// Visits a term inside a part that nests so deep.
@@ -33,7 +36,7 @@ impl<'a> Walk<'a> {
             Term::Unit => self.head(d, &[0x04]),
             Term::ExnVal(number, inner) => match inner {
                 None => self.head(d, &[0x05, *number]),
-                Some(inner) => self.one(d, &[0x05, *number], Piece::Term(inner, around, d)),
+                Some(inner) => self.one_term(d, &[0x05, *number], inner, &around),
             },
             Term::Tuple(parts) => {
                 let all = Piece::Terms(parts.as_slice(), around, d);
@@ -41,72 +44,192 @@ impl<'a> Walk<'a> {
             }
             Term::Nil(ty) => self.one(d, &[0x07], Piece::Type(ty)),
             Term::Empty(ty) => self.one(d, &[0x08], Piece::Type(ty)),
-            Term::Present(inner) => self.one(d, &[0x09], Piece::Term(inner, around, d)),
-            Term::Cons(head, tail) => {
-                let head = Piece::Term(head, around, d);
-                self.two(d, &[0x0A], head, Piece::Term(tail, around, d))
-            }
+            Term::Present(inner) => self.one_term(d, &[0x09], inner, &around),
+            Term::Cons(head, tail) => self.two_terms(d, 0x0A, head, tail, &around),
             Term::Var(i) => self.variable(*i, around, d),
             Term::Own(field) => self.short(d, 0x0C, *field),
             Term::Ref(entry, field) => {
                 let number = site.number(*entry);
                 self.reference(d, *entry, number, field)
             },
-            Term::Lam(ty, body) => {
-                let body = Piece::Term(body, around.under(1)?, d);
-                self.two(d, &[0x0E], Piece::Type(ty), body)
-            }
-            Term::Rec(from, to, body) => {
-                let body = Piece::Term(body, around.under(2)?, d);
-                self.three(d, &[0x0F], Piece::Type(from), Piece::Type(to), body)
-            }
-            Term::App(f, a) => {
-                let f = Piece::Term(f, around, d);
-                self.two(d, &[0x10], f, Piece::Term(a, around, d))
-            }
-            Term::Let(ty, bound, body) => {
-                let bound = Piece::Term(bound, around, d);
-                let body = Piece::Term(body, around.under(1)?, d);
-                self.three(d, &[0x11], Piece::Type(ty), bound, body)
-            }
-            Term::If(test, so, otherwise) => {
-                let test = Piece::Term(test, around, d);
-                let so = Piece::Term(so, around, d);
-                self.three(d, &[0x12], test, so, Piece::Term(otherwise, around, d))
-            }
+            Term::Lam(ty, body) => self.lambda(d, ty, body, &around),
+            Term::Rec(from, to, body) => self.recursive(d, from, to, body, &around),
+            Term::App(f, a) => self.two_terms(d, 0x10, f, a, &around),
+            Term::Let(ty, bound, body) => self.local(d, ty, bound, body, &around),
+            Term::If(test, so, otherwise) => self.choice(d, test, so, otherwise, &around),
             Term::Seq(parts) => {
                 let all = Piece::Terms(parts.as_slice(), around, d);
                 self.many(d, 0x13, parts.len(), all)
             }
-            Term::Match(of, cases) => {
-                let of = Piece::Term(of, around, d);
-                self.two(d, &[0x14], of, Piece::Cases(cases.as_slice(), around, d))
-            }
-            Term::Try(of, cases) => {
-                let of = Piece::Term(of, around, d);
-                self.two(d, &[0x15], of, Piece::Cases(cases.as_slice(), around, d))
-            }
-            Term::Raise(ty, inner) => {
-                let inner = Piece::Term(inner, around, d);
-                self.two(d, &[0x16], Piece::Type(ty), inner)
-            }
+            Term::Match(of, cases) => self.with_cases(d, 0x14, of, cases.as_slice(), &around),
+            Term::Try(of, cases) => self.with_cases(d, 0x15, of, cases.as_slice(), &around),
+            Term::Raise(ty, inner) => self.typed_term(d, 0x16, ty, inner, &around),
             Term::Prim(number, args) => {
                 let args = Piece::Terms(args.as_slice(), around, d);
                 self.one(d, &[0x17, *number], args)
             }
-            Term::Marshal(ty, mark, inner) => {
-                let mark = Piece::Term(mark, around, d);
-                let inner = Piece::Term(inner, around, d);
-                self.three(d, &[0x18], Piece::Type(ty), mark, inner)
-            }
-            Term::Unmarshal(ty, inner) => {
-                let inner = Piece::Term(inner, around, d);
-                self.two(d, &[0x19], Piece::Type(ty), inner)
-            }
+            Term::Marshal(ty, mark, inner) => self.marshal(d, ty, mark, inner, &around),
+            Term::Unmarshal(ty, inner) => self.typed_term(d, 0x19, ty, inner, &around),
             Term::Val(ty, value) => {
                 self.two(d, &[0x1A], Piece::Type(ty), Piece::Packed(value, ty, d))
             }
         }
+    }
+
+    // A head, and then a term.
+    fn one_term(
+        &mut self,
+        d: u32,
+        bytes: &[u8],
+        t: &'a Term,
+        around: &Around<'a>,
+    ) -> Result<(), Stop>
+        ensures { Visits result
+            (next_head d bytes.now ∷ written_in self.old.site around.now d t.now)
+            (spoken_in self.old.site around.now t.now) self.old self.new }
+    {
+        self.one(d, bytes, Piece::Term(t, *around, d))
+    }
+
+    // A head, and then two terms.
+    fn two_terms(
+        &mut self,
+        d: u32,
+        tag: u8,
+        first: &'a Term,
+        second: &'a Term,
+        around: &Around<'a>,
+    ) -> Result<(), Stop>
+        ensures { Visits result (next_head d (tag ∷ []) ∷
+            written_in self.old.site around.now d first.now ++
+            written_in self.old.site around.now d second.now)
+            (spoken_in self.old.site around.now first.now ++
+            spoken_in self.old.site around.now second.now) self.old self.new }
+    {
+        let first = Piece::Term(first, *around, d);
+        self.two(d, &[tag], first, Piece::Term(second, *around, d))
+    }
+
+    // A head, and then a type and a term.
+    fn typed_term(
+        &mut self,
+        d: u32,
+        tag: u8,
+        ty: &'a Ty,
+        t: &'a Term,
+        around: &Around<'a>,
+    ) -> Result<(), Stop>
+        ensures { Visits result (next_head d (tag ∷ []) ∷ type_heads (typ_of ty.now) ++
+            written_in self.old.site around.now d t.now)
+            (spoken_at self.old.site (OfType (typ_of ty.now) ∷ []) ++
+            spoken_in self.old.site around.now t.now) self.old self.new }
+    {
+        self.two(d, &[tag], Piece::Type(ty), Piece::Term(t, *around, d))
+    }
+
+    // A head, and then a term and arms.
+    fn with_cases(
+        &mut self,
+        d: u32,
+        tag: u8,
+        of: &'a Term,
+        cases: &'a [Arm],
+        around: &Around<'a>,
+    ) -> Result<(), Stop>
+        ensures { Visits result (next_head d (tag ∷ []) ∷
+            written_in self.old.site around.now d of.now ++
+            cases_written self.old.site (suc d)
+            (arms_at self.old.site around.now (arms (map arm_of cases.now))))
+            (spoken_in self.old.site around.now of.now ++ spoken_at self.old.site (arm_parts
+            (arms_at self.old.site around.now (arms (map arm_of cases.now))))) self.old self.new }
+    {
+        let of = Piece::Term(of, *around, d);
+        self.two(d, &[tag], of, Piece::Cases(cases, *around, d))
+    }
+
+    // A function.
+    #[tactic(auto, using(crate::proofs::FormLaws::case_laws))]
+    fn lambda(
+        &mut self,
+        d: u32,
+        ty: &'a Ty,
+        body: &'a Term,
+        around: &Around<'a>,
+    ) -> Result<(), Stop>
+        ensures { VisitsTerm result d (term_at self.old.site around.now
+            (Lam (typ_of ty.now) (expr_of body.now))) self.old self.new }
+    {
+        let within = around.under(1)?;
+        self.typed_term(d, 0x0E, ty, body, &within)
+    }
+
+    // A recursive function.
+    #[tactic(auto, using(crate::proofs::FormLaws::case_laws))]
+    fn recursive(
+        &mut self,
+        d: u32,
+        from: &'a Ty,
+        to: &'a Ty,
+        body: &'a Term,
+        around: &Around<'a>,
+    ) -> Result<(), Stop>
+        ensures { VisitsTerm result d (term_at self.old.site around.now
+            (Rec (typ_of from.now) (typ_of to.now) (expr_of body.now))) self.old self.new }
+    {
+        let body = Piece::Term(body, around.under(2)?, d);
+        self.three(d, &[0x0F], Piece::Type(from), Piece::Type(to), body)
+    }
+
+    // A term with a variable of its own.
+    #[tactic(auto, using(crate::proofs::FormLaws::term_laws))]
+    fn local(
+        &mut self,
+        d: u32,
+        ty: &'a Ty,
+        bound: &'a Term,
+        body: &'a Term,
+        around: &Around<'a>,
+    ) -> Result<(), Stop>
+        ensures { VisitsTerm result d (term_at self.old.site around.now
+            (Let (typ_of ty.now) (expr_of bound.now) (expr_of body.now))) self.old self.new }
+    {
+        let bound = Piece::Term(bound, *around, d);
+        let body = Piece::Term(body, around.under(1)?, d);
+        self.three(d, &[0x11], Piece::Type(ty), bound, body)
+    }
+
+    // A choice.
+    fn choice(
+        &mut self,
+        d: u32,
+        test: &'a Term,
+        so: &'a Term,
+        otherwise: &'a Term,
+        around: &Around<'a>,
+    ) -> Result<(), Stop>
+        ensures { VisitsTerm result d (term_at self.old.site around.now
+            (If (expr_of test.now) (expr_of so.now) (expr_of otherwise.now))) self.old self.new }
+    {
+        let test = Piece::Term(test, *around, d);
+        let so = Piece::Term(so, *around, d);
+        self.three(d, &[0x12], test, so, Piece::Term(otherwise, *around, d))
+    }
+
+    // A term that is marshalled.
+    fn marshal(
+        &mut self,
+        d: u32,
+        ty: &'a Ty,
+        mark: &'a Term,
+        inner: &'a Term,
+        around: &Around<'a>,
+    ) -> Result<(), Stop>
+        ensures { VisitsTerm result d (term_at self.old.site around.now
+            (Marshal (typ_of ty.now) (expr_of mark.now) (expr_of inner.now))) self.old self.new }
+    {
+        let mark = Piece::Term(mark, *around, d);
+        let inner = Piece::Term(inner, *around, d);
+        self.three(d, &[0x18], Piece::Type(ty), mark, inner)
     }
 
     // A variable, or the captured value that stands for it.
