@@ -1,6 +1,5 @@
 -- What the visit of a term comes to, by what it is at the top.
-use Rattle.std.proofs.Common.{◌≡◌, sym, subst, ℕ, List, ◌++◌, Result, arith}
-use Rattle.std.proofs.lemmas.Grind.{common_steps}
+use Rattle.std.proofs.Common.{◌≡◌, sym, subst, ap, ◌∙◌, ℕ, List, ◌++◌, Result}
 use Rattle.std.proofs.lemmas.List.Concat.{flat_map-append}
 use Rattle.ac_terms.specs.Terms.{Expr}
 use Rattle.ac_terms.specs.Parts.{Portion}
@@ -23,4 +22,4 @@ both_spoken : (s : Site) (ps qs : List Portion) → spoken_at s ps ++ spoken_at 
 both_spoken s ps qs = sym (flat_map-append (spoken_by (entries_at s)) ps qs)
 
 pub each_spoken : (s : Site) (ps qs rs : List Portion) → spoken_at s ps ++ spoken_at s qs ++ spoken_at s rs ≡ spoken_at s (ps ++ qs ++ rs)
-each_spoken s ps qs rs = grind (arith, common_steps)
+each_spoken s ps qs rs = ap (λ (ns : List ℕ). ns ++ spoken_at s rs) (both_spoken s ps qs) ∙ both_spoken s (ps ++ qs) rs
