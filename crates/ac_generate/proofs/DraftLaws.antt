@@ -283,6 +283,8 @@ wrote_next_value v vs d =
     sym (further (λ p. all_value_code vs) (all_value_blocks vs) (value_code v n) (value_blocks v n) d (address d + length (value_code v n)) (n + value_lambdas v) refl (ap (λ k. n + k) (value_block_count v n)))
 
 -- the equations of the forms
+pub ruleset draft_laws = (wrote_Int, wrote_Boolean, wrote_Str, wrote_Unit, wrote_Exn, wrote_ExnOf, wrote_Tuple, wrote_Nil, wrote_Empty, wrote_Present, wrote_Cons, wrote_Var, wrote_Own, wrote_Ref, wrote_Lam, wrote_Rec, wrote_App, wrote_Let, wrote_Seq, wrote_Raise, wrote_Prim, wrote_Marshal, wrote_Unmarshal, wrote_Val)
+
 pub ruleset list_laws = (wrote_none, wrote_next, wrote_no_parts, wrote_first, wrote_no_rest, wrote_later)
 
 pub ruleset value_laws = (wrote_KInt, wrote_KBool, wrote_KStr, wrote_KUnit, wrote_KAbsent, wrote_KExn, text_none, text_some, wrote_KPresent, wrote_KTuple, wrote_KList, wrote_KLam, wrote_KRec, wrote_no_values, wrote_next_value)

@@ -6,7 +6,7 @@ use Rattle.ac_types.specs.declared.ty.Ty.{Ty}
 use Rattle.ac_terms.specs.declared.term.Term.{Term}
 use Rattle.ac_terms.specs.declared.term.Term.TheVariants as term
 use Rattle.ac_terms.specs.declared.term.Arm.{Arm}
-use Rattle.ac_terms.specs.Terms.{Expr, Exprs, Lam, Rec, If, Match, Try, arms, exprs}
+use Rattle.ac_terms.specs.Terms.{Lam, Rec, If, Match, Try, arms}
 use Rattle.ac_terms.specs.Read.{expr_of, arm_of}
 use Rattle.ac_terms.proofs.TermForms.{expr_of-Lam, expr_of-Rec, expr_of-If, expr_of-Match, expr_of-Try}
 use Rattle.ac_generate.specs.inner.CodeScopes.{types_of, types_step}
@@ -38,15 +38,6 @@ lam_is e t b b' is h = ap expr_of is ∙ expr_of-Lam t b ∙ ap (λ x. Lam (typ_
 
 pub rec_is : (e : Term) (t u : Ty) (b b' : Term) → e ≡ term.Rec t u b → b' ≡ b → expr_of e ≡ Rec (typ_of t) (typ_of u) (expr_of b')
 rec_is e t u b b' is h = ap expr_of is ∙ expr_of-Rec t u b ∙ ap (λ x. Rec (typ_of t) (typ_of u) (expr_of x)) (sym h)
-
-pub one_is : (F : Expr → Expr) (f : Term → Term) (e a a' : Term) → ((x : Term) → expr_of (f x) ≡ F (expr_of x)) → e ≡ f a → a' ≡ a → expr_of e ≡ F (expr_of a')
-one_is F f e a a' form is h = ap expr_of is ∙ form a ∙ ap (λ x. F (expr_of x)) (sym h)
-
-pub two_is : (F : Expr → Expr → Expr) (f : Term → Term → Term) (e a b a' b' : Term) → ((x y : Term) → expr_of (f x y) ≡ F (expr_of x) (expr_of y)) → e ≡ f a b → a' ≡ a → b' ≡ b → expr_of e ≡ F (expr_of a') (expr_of b')
-two_is F f e a b a' b' form is ha hb = ap expr_of is ∙ form a b ∙ ap (λ x. F (expr_of x) (expr_of b)) (sym ha) ∙ ap (λ x. F (expr_of a') (expr_of x)) (sym hb)
-
-pub all_is : (F : Exprs → Expr) (f : List Term → Term) (e : Term) (xs xs' : List Term) → ((ys : List Term) → expr_of (f ys) ≡ F (exprs (map expr_of ys))) → e ≡ f xs → xs' ≡ xs → expr_of e ≡ F (exprs (map expr_of xs'))
-all_is F f e xs xs' form is h = ap expr_of is ∙ form xs ∙ ap (λ ys. F (exprs (map expr_of ys))) (sym h)
 
 pub if_is : (e c a b c' a' b' : Term) → e ≡ term.If c a b → c' ≡ c → a' ≡ a → b' ≡ b → expr_of e ≡ If (expr_of c') (expr_of a') (expr_of b')
 if_is e c a b c' a' b' is hc ha hb =

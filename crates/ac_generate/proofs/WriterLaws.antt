@@ -2,11 +2,6 @@
 use Rattle.std.proofs.Common.{◌≡◌, ℕ, suc, List, [], ◌∷◌, ◌++◌, ◌+◌, map, reverse, replicate, refl, sym, ap, ◌∙◌}
 use Rattle.std.proofs.lemmas.Grind.{common_steps}
 use Rattle.std.proofs.lemmas.List.{append-nil, append_assoc, map-append, map-set, set_past, reverse-append, reverse-reverse, replicate-append-replicate}
-use Rattle.ac_types.specs.Types.{Typ}
-use Rattle.ac_terms.specs.declared.pat.Pat.{Pat}
-use Rattle.ac_terms.specs.Terms.{Pattern}
-use Rattle.ac_terms.specs.Parts.{pattern_types}
-use Rattle.ac_terms.specs.Read.{pattern_of}
 use Rattle.ac_code.specs.Code as instr
 use Rattle.ac_generate.specs.inner.Drafts.{Draft, put, put_all}
 use Rattle.ac_generate.specs.Sizes.{unbind}
@@ -24,10 +19,6 @@ map_reverse f [] = refl
 map_reverse f (x ∷ xs) = ap (map f) (reverse_cons x xs) ∙ map-append f (reverse xs) (x ∷ []) ∙ ap (λ ys. ys ++ f x ∷ []) (map_reverse f xs) ∙ sym (reverse_cons (f x) (map f xs))
 
 pub ruleset scope_laws = (scope_forms, append-nil, append_assoc, map-append, reverse-append, reverse-reverse, reverse_cons, map_reverse)
-
--- a pattern that binds nothing
-pub nothing_added : (p : Pat) (q : Pattern) (Ts : List Typ) → pattern_of p ≡ q → pattern_types q ≡ [] → Ts ≡ Ts ++ pattern_types (pattern_of p)
-nothing_added p q Ts is none = sym (ap (λ l. Ts ++ l) (ap pattern_types is ∙ none) ∙ append-nil Ts)
 
 pub ruleset pattern_laws = (pattern_forms, append-nil, append_assoc, map-append, common_steps)
 

@@ -1,6 +1,6 @@
 // The variables around a term.
 
-ghost use Rattle.std.specs.Prelude.{◌≡◌, ◌++◌, ◌∷◌, [], map, reverse, OnOk, IfOk};
+ghost use Rattle.std.specs.Prelude.{◌≡◌, ◌++◌, map, reverse, OnOk, IfOk};
 ghost use Rattle.ac_types.specs.ReadTypes.{typ_of};
 ghost use Rattle.ac_types.specs.Types.{TFun};
 ghost use Rattle.ac_terms.specs.Read.{pattern_of};
@@ -44,7 +44,8 @@ fn add_types(alloc: Global, scope: &Scope, types: &mut Vec<Ty>) -> Result<(), Me
         Scope::Empty => Ok(()),
         Scope::Variable(outer, ty) => {
             add_types(alloc, outer, types)?;
-            add_copy(alloc, ty, types)
+            types.push(ty.copy(alloc)?)?;
+            Ok(())
         }
         Scope::Variables(outer, newer) => {
             add_types(alloc, outer, types)?;
@@ -57,16 +58,8 @@ fn add_copies(alloc: Global, newer: &[Ty], types: &mut Vec<Ty>) -> Result<(), Me
     ensures { OnOk result (types.new.items ≡ types.old.items ++ newer.now) }
 {
     for ty in newer {
-        add_copy(alloc, ty, types)?;
+        types.push(ty.copy(alloc)?)?;
     }
-    Ok(())
-}
-
-fn add_copy(alloc: Global, ty: &Ty, types: &mut Vec<Ty>) -> Result<(), Memory>
-    ensures { OnOk result (types.new.items ≡ types.old.items ++ ty.now ∷ []) }
-{
-    let ty = ty.copy(alloc)?;
-    types.push(ty)?;
     Ok(())
 }
 
@@ -88,7 +81,10 @@ fn add_variables(alloc: Global, pat: &Pat, types: &mut Vec<Ty>) -> Result<(), Me
         (pattern_of pat.now)) }
 {
     match pat {
-        Pat::Var(ty) => add_copy(alloc, ty, types),
+        Pat::Var(ty) => {
+            types.push(ty.copy(alloc)?)?;
+            Ok(())
+        }
         Pat::Tuple(parts) => add_all_variables(alloc, parts.as_slice(), types),
         Pat::Cons(head, tail) => {
             add_variables(alloc, head, types)?;

@@ -1,25 +1,23 @@
 // The code of terms, arms and packed values.
 
-ghost use Rattle.std.specs.Prelude.{◌≡◌, ◌∷◌, ◌++◌, map, reverse, OnOk, IfOk};
+ghost use Rattle.std.specs.Prelude.{◌≡◌, ◌∷◌, map, OnOk, IfOk};
 ghost use Rattle.ac_types.specs.Types.{TFun};
 ghost use Rattle.ac_types.specs.ReadTypes.{typ_of};
 ghost use Rattle.ac_terms.specs.Terms.{exprs, arms, pvalues, KFun};
-ghost use Rattle.ac_terms.specs.Parts.{pattern_types};
-ghost use Rattle.ac_terms.specs.Read.{home_of, expr_of, arm_of, pattern_of, value_of};
-ghost use Rattle.ac_code.specs.ReadCode.{instr_of};
-ghost use Rattle.ac_generate.specs.Sizes.{bound, unbind};
+ghost use Rattle.ac_terms.specs.Read.{home_of, expr_of, arm_of, value_of};
 ghost use Rattle.ac_generate.specs.inner.CodeScopes.{types_of};
-ghost use Rattle.ac_generate.specs.inner.Drafts.{draft_of, address, count, put, put_all, block_begun, block_ended, wrote, wrote_all, wrote_seq, wrote_arm, wrote_arms, wrote_arms_then, arm_end, ends, wrote_value, wrote_values};
+ghost use Rattle.ac_generate.specs.inner.Drafts.{draft_of, address, count, block_begun, block_ended, wrote, wrote_all, wrote_seq, wrote_arm, wrote_arms, arm_end, ends, wrote_value, wrote_values};
 
 use crate::scope::{Scope, function_type, variables};
 use crate::writer::Writer;
 use ac_code::{CodeId, Instr};
-use ac_terms::{Arm, Home, PVal, Pat, Term};
+use ac_terms::{Arm, Home, PVal, Term};
 use ac_types::{Memory, Ty};
 
 impl Writer {
     /// Writes the code of a term, and the blocks of its lambdas.
     #[cycle(term)]
+    #[tactic(auto, using(crate::proofs::TermLaws::term_laws))]
     pub fn term(&mut self, home: Home, scope: &Scope, term: &Term) -> Result<(), Memory>
         ensures { OnOk result (draft_of self.new ≡ wrote (home_of home) (types_of scope.now)
             (expr_of term.now) (draft_of self.old)) }
@@ -29,19 +27,27 @@ impl Writer {
             Term::Bool(b) => self.put(Instr::PushBool(*b)),
             Term::Str(text) => self.text(text),
             Term::Unit => self.put(Instr::PushUnit),
-            Term::ExnVal(number, text) => match text {
-                None => self.put(Instr::MakeExn(*number)),
-                Some(text) => self.one_then(home, scope, text, Instr::MakeExn(*number)),
-            },
+            Term::ExnVal(number, text) => {
+                match text {
+                    None => {}
+                    Some(text) => self.term(home, scope, text)?,
+                }
+                self.put(Instr::MakeExn(*number))
+            }
             Term::Tuple(parts) => {
-                self.all_then(home, scope, parts.as_slice(), Instr::MakeTuple(parts.len()))
+                self.all(home, scope, parts.as_slice())?;
+                self.put(Instr::MakeTuple(parts.len()))
             }
             Term::Nil(_) => self.put(Instr::PushNil),
             Term::Empty(_) => self.put(Instr::PushNone),
-            Term::Present(inner) => self.one_then(home, scope, inner, Instr::MakeSome),
+            Term::Present(inner) => {
+                self.term(home, scope, inner)?;
+                self.put(Instr::MakeSome)
+            }
             Term::Cons(head, tail) => {
                 self.term(home, scope, head)?;
-                self.one_then(home, scope, tail, Instr::MakeCons)
+                self.term(home, scope, tail)?;
+                self.put(Instr::MakeCons)
             }
             Term::Var(i) => self.put(Instr::Var(*i)),
             Term::Own(field) => self.put(Instr::Own(*field)),
@@ -56,16 +62,14 @@ impl Writer {
             }
             Term::App(function, argument) => {
                 self.term(home, scope, function)?;
-                self.one_then(home, scope, argument, Instr::Apply)
+                self.term(home, scope, argument)?;
+                self.put(Instr::Apply)
             }
             Term::Let(ty, bound, body) => {
-                self.one_then(home, scope, bound, Instr::Bind)?;
-                self.one_then(
-                    home,
-                    &Scope::Variable(&*scope, &*ty),
-                    body,
-                    Instr::Unbind(1),
-                )
+                self.term(home, scope, bound)?;
+                self.put(Instr::Bind)?;
+                self.term(home, &Scope::Variable(&*scope, &*ty), body)?;
+                self.put(Instr::Unbind(1))
             }
             // an open jump gets its address once what it skips stands there
             Term::If(test, so, otherwise) => {
@@ -83,85 +87,44 @@ impl Writer {
             Term::Seq(parts) => self.parts(home, scope, parts.as_slice()),
             Term::Match(of, cases) => {
                 self.term(home, scope, of)?;
-                self.arms_then(home, scope, cases.as_slice(), Instr::NoMatch)
+                let ends = self.arms(home, scope, cases.as_slice())?;
+                self.put(Instr::NoMatch)?;
+                self.land(ends.as_slice());
+                Ok(())
             }
             Term::Try(of, cases) => {
                 let to_handler = self.hold()?;
-                self.one_then(home, scope, of, Instr::EndTry)?;
+                self.term(home, scope, of)?;
+                self.put(Instr::EndTry)?;
                 let to_end = self.hold()?;
                 let handler = self.address();
-                self.arms_then(home, scope, cases.as_slice(), Instr::Raise)?;
+                let ends = self.arms(home, scope, cases.as_slice())?;
+                self.put(Instr::Raise)?;
                 let end = self.address();
+                self.land(ends.as_slice());
                 self.set(to_end, Instr::Jump(end));
                 self.set(to_handler, Instr::Try(handler));
                 Ok(())
             }
-            Term::Raise(_, inner) => self.one_then(home, scope, inner, Instr::Raise),
+            Term::Raise(_, inner) => {
+                self.term(home, scope, inner)?;
+                self.put(Instr::Raise)
+            }
             Term::Prim(number, args) => {
-                self.all_then(home, scope, args.as_slice(), Instr::Prim(*number))
+                self.all(home, scope, args.as_slice())?;
+                self.put(Instr::Prim(*number))
             }
             Term::Marshal(ty, mark, inner) => {
                 self.term(home, scope, mark)?;
-                let ty = ty.copy(self.alloc)?;
-                self.one_then(home, scope, inner, Instr::Marshal(ty))
+                self.term(home, scope, inner)?;
+                self.marshal(ty)
             }
             Term::Unmarshal(ty, inner) => {
-                let ty = ty.copy(self.alloc)?;
-                self.one_then(home, scope, inner, Instr::Unmarshal(ty))
+                self.term(home, scope, inner)?;
+                self.unmarshal(ty)
             }
             Term::Val(_, value) => self.value(value),
         }
-    }
-
-    // Writes the code of a term, and an instruction behind it.
-    #[cycle(term)]
-    fn one_then(
-        &mut self,
-        home: Home,
-        scope: &Scope,
-        term: &Term,
-        last: Instr,
-    ) -> Result<(), Memory>
-        ensures { OnOk result (draft_of self.new ≡ put (instr_of last)
-            (wrote (home_of home) (types_of scope.now) (expr_of term.now) (draft_of self.old))) }
-    {
-        self.term(home, scope, term)?;
-        self.put(last)
-    }
-
-    // Writes the code of some terms, and an instruction behind them.
-    #[cycle(term)]
-    fn all_then(
-        &mut self,
-        home: Home,
-        scope: &Scope,
-        terms: &[Term],
-        last: Instr,
-    ) -> Result<(), Memory>
-        ensures { OnOk result (draft_of self.new ≡ put (instr_of last)
-            (wrote_all (home_of home) (types_of scope.now) (exprs (map expr_of terms.now))
-            (draft_of self.old))) }
-    {
-        self.all(home, scope, terms)?;
-        self.put(last)
-    }
-
-    // Writes the code of some arms, and an instruction behind them. The arms go on behind that.
-    #[cycle(term)]
-    fn arms_then(
-        &mut self,
-        home: Home,
-        scope: &Scope,
-        cases: &[Arm],
-        last: Instr,
-    ) -> Result<(), Memory>
-        ensures { OnOk result (draft_of self.new ≡ wrote_arms_then (instr_of last) (home_of home)
-            (types_of scope.now) (arms (map arm_of cases.now)) (draft_of self.old)) }
-    {
-        let ends = self.arms(home, scope, cases)?;
-        self.put(last)?;
-        self.land(ends.as_slice());
-        Ok(())
     }
 
     // Writes the block of a lambda whose body sees the inner variables, and gives its number.
@@ -267,30 +230,24 @@ impl Writer {
 
     // Writes the code of an arm, and gives the address of its jump to the end.
     #[cycle(term)]
+    #[tactic(auto, using(crate::proofs::TermLaws::arm_laws))]
     fn arm(&mut self, home: Home, scope: &Scope, case: &Arm) -> Result<usize, Memory>
         ensures ok { OnOk result (draft_of self.new ≡ wrote_arm (home_of home) (types_of scope.now)
             (arm_of case.now).0 (arm_of case.now).1 (draft_of self.old)) }
         ensures address { IfOk result (λ at. at ≡ arm_end (arm_of case.now).0 (arm_of case.now).1
             (address (draft_of self.old))) }
     {
+        let bound = variables(self.alloc, &case.pat)?;
         let test = self.hold()?;
-        self.arm_body(home, scope, &case.body, &case.pat)?;
+        self.term(
+            home,
+            &Scope::Variables(&*scope, bound.as_slice()),
+            &case.body,
+        )?;
+        self.unbind(bound.len())?;
         let end = self.hold()?;
         self.test(test, &case.pat)?;
         Ok(end)
-    }
-
-    // Writes the code of a term that sees a pattern's variables, and what drops these.
-    #[cycle(term)]
-    fn arm_body(&mut self, home: Home, scope: &Scope, body: &Term, pat: &Pat) -> Result<(), Memory>
-        ensures { OnOk result (draft_of self.new ≡ put_all (unbind (bound (pattern_of pat.now)))
-            (wrote (home_of home) (reverse (pattern_types (pattern_of pat.now)) ++ types_of scope.now)
-            (expr_of body.now) (draft_of self.old))) }
-    {
-        let types = variables(self.alloc, pat)?;
-        let inner = Scope::Variables(&*scope, types.as_slice());
-        self.term(home, &inner, body)?;
-        self.unbind(types.len())
     }
 
     /// Writes what builds a packed value, and the blocks of its functions.

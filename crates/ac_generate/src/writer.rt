@@ -2,8 +2,9 @@
 
 ghost use Rattle.std.specs.Prelude.{◌≡◌, ◌+◌, ◌++◌, ◌∷◌, [], map, set, replicate, OnOk, IfOk, option_map};
 ghost use Rattle.ac_terms.specs.Terms.{KExn};
+ghost use Rattle.ac_types.specs.ReadTypes.{typ_of};
 ghost use Rattle.ac_terms.specs.Read.{home_of, expr_of, pattern_of, bytes_of};
-ghost use Rattle.ac_code.specs.Code.{PushStr, Ref, Test, Jump, MakeCons, Return};
+ghost use Rattle.ac_code.specs.Code.{PushStr, Ref, Marshal, Unmarshal, Test, Jump, MakeCons, Return};
 ghost use Rattle.ac_code.specs.ReadCode.{instr_of, block_of};
 ghost use Rattle.ac_generate.specs.Sizes.{unbind};
 ghost use Rattle.ac_generate.specs.Generate.{lambda_block};
@@ -13,7 +14,7 @@ ghost use Rattle.ac_generate.specs.inner.Drafts.{draft_of, address, count, put, 
 use crate::scope::{Scope, context};
 use ac_code::{Block, CodeId, Instr};
 use ac_terms::{Exn, Home, Pat, Term};
-use ac_types::{Many, Memory, Text, Word};
+use ac_types::{Many, Memory, Text, Ty, Word};
 use std::alloc::Global;
 use std::mem;
 
@@ -117,6 +118,24 @@ impl Writer {
     {
         let field = field.copy(self.alloc)?;
         self.put(Instr::Ref(entry, field))
+    }
+
+    /// Writes a marshal at a type.
+    pub fn marshal(&mut self, ty: &Ty) -> Result<(), Memory>
+        ensures { OnOk result (draft_of self.new ≡ put (Marshal (typ_of ty.now))
+            (draft_of self.old)) }
+    {
+        let ty = ty.copy(self.alloc)?;
+        self.put(Instr::Marshal(ty))
+    }
+
+    /// Writes an unmarshal as a type.
+    pub fn unmarshal(&mut self, ty: &Ty) -> Result<(), Memory>
+        ensures { OnOk result (draft_of self.new ≡ put (Unmarshal (typ_of ty.now))
+            (draft_of self.old)) }
+    {
+        let ty = ty.copy(self.alloc)?;
+        self.put(Instr::Unmarshal(ty))
     }
 
     /// Puts the test of a pattern at an address that is written. Where the pattern doesn't fit, the

@@ -75,10 +75,6 @@ abbrev pub ends : Arms → ℕ → List ℕ
 ends no_arms p = []
 ends (arm q b rest) p = arm_end q b p ∷ ends rest (suc (arm_end q b p))
 
--- with the code of some arms and an instruction, behind which their jumps go
-abbrev pub wrote_arms_then : Instr → Home → List Typ → Arms → Draft → Draft
-wrote_arms_then i c G cases d = let e = put i (wrote_arms c G cases d) in jumps_at (ends cases (address d)) (address e) e
-
 -- with the code of a packed value, of packed values
 unfoldable pub wrote_value : PValue → Draft → Draft
 wrote_value v d = record { first = d.first; instrs = d.instrs ++ value_code v (count d); blocks = d.blocks ++ value_blocks v (count d) }
