@@ -7,7 +7,7 @@ The output of the gate goes to the file gate.log of the folder that it names. A 
 specs and proofs, seconds of a processor for the proof, for the tests, and for the edits with the proof that they begin
 with, the number of edits, and GB at the most in one process. Every two seconds it looks at what each process has used.
 """
-import collections, os, re, subprocess, sys, tempfile, time
+import collections, functools, os, re, subprocess, sys, tempfile, time
 
 TOP = os.path.dirname(os.path.dirname(os.path.abspath(__file__)))
 TICKS = os.sysconf("SC_CLK_TCK")
@@ -120,28 +120,14 @@ def row(crate, functions, seconds, held):
 
 
 def longest_chain(crates, seconds):
-    """Returns the crates whose proofs, each of which waits for the one before it, take longest together, and how long."""
-    found = {}
-    for crate, names in crates.items():
-        longest = max((found[it] for it in names if it in found), default=(0, []))
-        found[crate] = longest[0] + seconds[crate]["proof"], [*longest[1], crate]
-    return max(found.values())
+    """Returns how long the proofs take together that wait for one another, where that is longest, and of which crates they are."""
 
+    @functools.cache
+    def up_to(crate):
+        longest, chain = max((up_to(it) for it in crates[crate] if it in crates), default=(0, ()))
+        return longest + seconds[crate]["proof"], (*chain, crate)
 
-def in_order(crates):
-    """Returns the crates, each behind those that it names."""
-    placed = {}
-
-    def place(crate):
-        for it in crates[crate]:
-            if it in crates and it not in placed:
-                place(it)
-        placed[crate] = crates[crate]
-
-    for crate in crates:
-        if crate not in placed:
-            place(crate)
-    return placed
+    return max(map(up_to, crates))
 
 
 def main():
@@ -156,7 +142,7 @@ def main():
     for crate in crates:
         print(row(crate, functions, seconds[crate], held[crate]))
     sums = {kind: sum(seconds[it][kind] for it in crates) / 60 for kind in ("proof", "tests", "edits")}
-    longest, chain = longest_chain(in_order(crates), seconds)
+    longest, chain = longest_chain(crates, seconds)
     print(f"last line: {text_of(log).rstrip().rpartition(chr(10))[2]}")
     print(f"minutes: {minutes:.0f}, of {os.cpu_count()} processors; at most {most / 1e9:.1f} GB in use on the machine")
     print(f"minutes of a processor: {sum(sums.values()):.0f} (" + ", ".join(f"{kind} {it:.0f}" for kind, it in sums.items()) + f"); the host gave {taken:.0f} to others")
