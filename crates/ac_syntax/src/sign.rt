@@ -128,7 +128,7 @@ pub struct Sign<'t> {
     pub kind: SignKind<'t>,
 }
 
-const SPELLINGS: [(&[u8], Symbol); 73] = [
+const SPELLINGS: &[(&[u8], Symbol)] = &[
     (b"(", Symbol::Open),
     (b")", Symbol::Close),
     (b"[", Symbol::OpenSquare),
@@ -209,8 +209,7 @@ const SPELLINGS: [(&[u8], Symbol); 73] = [
 pub fn symbol_of(bytes: &[u8]) -> Option<Symbol>
     ensures { result ≡ symbol_of bytes.now }
 {
-    let spellings: [(&[u8], Symbol); 73] = SPELLINGS;
-    find(spellings.as_slice(), bytes)
+    find(SPELLINGS, bytes)
 }
 
 fn find(spellings: &[(&[u8], Symbol)], bytes: &[u8]) -> Option<Symbol>
