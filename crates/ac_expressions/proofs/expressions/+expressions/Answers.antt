@@ -21,10 +21,10 @@ use Rattle.ac_expressions.proofs.LastOperands.{no_operand, not_last}
 use Rattle.ac_expressions.proofs.NoForms.{unbefore, arm_no_body, choice_no_arms, let_no_bound, let_no_body, let_rec_no_bound, let_rec_no_body, rec_no_body, fun_no_arrow, fun_no_body, if_no_so, if_no_otherwise, marshal_no_value, marshal_no_type, unmarshal_no_type, raise_no_type}
 use Rattle.ac_expressions.proofs.expressions.+expressions.Goals as goal
 
-pub before-returns-in_err-tree-clause-none : goal.before-returns-in_err-tree-clause-none
-before-returns-in_err-tree-clause-none t c =
+pub before-returns-in_err-tree : goal.before-returns-in_err-tree
+before-returns-in_err-tree t c =
     let p = err_from_is_err_and c.from_residual.result c.from_residual.ensures.1 in
-    rw (p.1, p.2) (on_syntax_more _ before_none c.in_err-tree.ensures.none)
+    rw (p.1, p.2) (record { tree = tt; height = tt; low = tt; shorter = tt; none = on_syntax_more _ before_none c.in_err-tree.ensures.none })
 
 pub before-returns-clause-tree : goal.before-returns-clause-tree
 before-returns-clause-tree t c = IfOk-weaker c.followed.result _ _ (λ x o. rw o.0 (before c.in_ok-tree.ensures.tree o.1)) c.followed.ensures.item
@@ -40,15 +40,15 @@ before-returns-clause-low t c =
 pub before-returns-clause-none : goal.before-returns-clause-none
 before-returns-clause-none t c = IfErr-weaker c.followed.result _ _ (λ e o. on_syntax_more e (unbefore _ _ _ _ _ c.in_ok-tree.ensures.tree) o) c.followed.ensures.none
 
-pub arm-returns-in_err-pat-clause-none : goal.arm-returns-in_err-pat-clause-none
-arm-returns-in_err-pat-clause-none t c =
+pub arm-returns-in_err-pat : goal.arm-returns-in_err-pat
+arm-returns-in_err-pat t c =
     let p = err_from_is_err_and c.from_residual.result c.from_residual.ensures.1 in
-    rw (p.1, p.2) (on_syntax_more _ first_none c.in_err-pat.ensures.none)
+    rw (p.1, p.2) (record { tree = tt; height = tt; shorter = tt; none = on_syntax_more _ first_none c.in_err-pat.ensures.none })
 
-pub arm-returns-in_err-body-clause-none : goal.arm-returns-in_err-body-clause-none
-arm-returns-in_err-body-clause-none t c =
+pub arm-returns-in_err-body : goal.arm-returns-in_err-body
+arm-returns-in_err-body t c =
     let p = err_from_is_err_and c.from_residual-in_err-body.result c.from_residual-in_err-body.ensures.1 in
-    rw (p.1, p.2) (on_syntax_more _ (arm_no_body _ _ _ _ c.in_ok-pat.ensures.tree) c.in_err-body.ensures.none)
+    rw (p.1, p.2) (record { tree = tt; height = tt; shorter = tt; none = on_syntax_more _ (arm_no_body _ _ _ _ c.in_ok-pat.ensures.tree) c.in_err-body.ensures.none })
 
 pub arm-returns-clause-tree : goal.arm-returns-clause-tree
 arm-returns-clause-tree t c =
@@ -60,15 +60,15 @@ arm-returns-clause-height t c =
     let made = arm_tree_of-made c.in_ok-pat.pat c.into_inner-body.result ∙ ap (λ (e : SExpr). (pat_of c.in_ok-pat.pat, tree_of e)) c.into_inner-body.ensures in
     c.in_ok-body.ensures.height ∙ sym (ap (λ (x : PatTree × Tree). height x.1) made)
 
-pub arms-returns-in_err-first-clause-none : goal.arms-returns-in_err-first-clause-none
-arms-returns-in_err-first-clause-none t c =
+pub arms-returns-in_err-first : goal.arms-returns-in_err-first
+arms-returns-in_err-first t c =
     let p = err_from_is_err_and c.from_residual.result c.from_residual.ensures.1 in
-    rw (p.1, p.2) (on_syntax_more _ (arms_none _ _) c.in_err-first.ensures.none)
+    rw (p.1, p.2) (record { tree = tt; height = tt; low = tt; shorter = tt; none = on_syntax_more _ (arms_none _ _) c.in_err-first.ensures.none })
 
-pub arms-returns-in_err-next-clause-none : goal.arms-returns-in_err-next-clause-none
-arms-returns-in_err-next-clause-none t c =
+pub arms-returns-in_err-next : goal.arms-returns-in_err-next
+arms-returns-in_err-next t c =
     let p = err_from_is_err_and c.from_residual-in_err-next.result c.from_residual-in_err-next.ensures.1 in
-    rw (p.1, p.2) (on_syntax_more _ (next_arm_none _ _ _ _ c.loop-behind.invariant.read _ c.in-Some.ensures.found) c.in_err-next.ensures.none)
+    rw (p.1, p.2) (record { tree = tt; height = tt; low = tt; shorter = tt; none = on_syntax_more _ (next_arm_none _ _ _ _ c.loop-behind.invariant.read _ c.in-Some.ensures.found) c.in_err-next.ensures.none })
 
 pub arms-returns-clause-tree : goal.arms-returns-clause-tree
 arms-returns-clause-tree t c = IfOk-weaker c.followed.result _ _ (λ x o. rw o.0 (all_arms _ _ _ _ c.loop-behind.invariant.read _ o.1)) c.followed.ensures.item
@@ -82,28 +82,28 @@ arms-returns-clause-low t c = IfOk-weaker c.followed.result _ _ (λ x o. rw o.0 
 pub arms-returns-clause-none : goal.arms-returns-clause-none
 arms-returns-clause-none t c = IfErr-weaker c.followed.result _ _ (λ e o. on_syntax_more e (unended_arms _ _ _ _ c.loop-behind.invariant.read c.in_default.ensures.found) o) c.followed.ensures.none
 
-pub choice-returns-in_err-of-clause-none : goal.choice-returns-in_err-of-clause-none
-choice-returns-in_err-of-clause-none t c =
+pub choice-returns-in_err-of : goal.choice-returns-in_err-of
+choice-returns-in_err-of t c =
     let p = err_from_is_err_and c.from_residual.result c.from_residual.ensures.1 in
-    rw (p.1, p.2) (on_syntax_more _ first_none c.in_err-of.ensures.none)
+    rw (p.1, p.2) (record { tree = tt; height = tt; of_height = tt; low = tt; shorter = tt; none = on_syntax_more _ first_none c.in_err-of.ensures.none })
 
-pub choice-returns-in_err-arms-clause-none : goal.choice-returns-in_err-arms-clause-none
-choice-returns-in_err-arms-clause-none t c =
+pub choice-returns-in_err-arms : goal.choice-returns-in_err-arms
+choice-returns-in_err-arms t c =
     let p = err_from_is_err_and c.from_residual-in_err-arms.result c.from_residual-in_err-arms.ensures.1 in
-    rw (p.1, p.2) (on_syntax_more _ (choice_no_arms _ _ _ _ _ c.in_ok-of.ensures.tree c.after_bar.ensures.found) c.in_err-arms.ensures.none)
+    rw (p.1, p.2) (record { tree = tt; height = tt; of_height = tt; low = tt; shorter = tt; none = on_syntax_more _ (choice_no_arms _ _ _ _ _ c.in_ok-of.ensures.tree c.after_bar.ensures.found) c.in_err-arms.ensures.none })
 
 pub choice-returns-clause-tree : goal.choice-returns-clause-tree
 choice-returns-clause-tree t c = then _ c.in_ok-of.ensures.tree (subst (λ (l : List Sign). IsArms c.args.depth l (map arm_tree_of c.in_ok-arms.arms) (read_signs c.in_ok-arms.rest.now)) c.after_bar.ensures.found c.in_ok-arms.ensures.tree)
 
-pub tuple-returns-in_err-second-clause-none : goal.tuple-returns-in_err-second-clause-none
-tuple-returns-in_err-second-clause-none t c =
+pub tuple-returns-in_err-second : goal.tuple-returns-in_err-second
+tuple-returns-in_err-second t c =
     let p = err_from_is_err_and c.from_residual.result c.from_residual.ensures.1 in
-    rw (p.1, p.2) (on_syntax_more _ (second_item_none _ _) c.in_err-second.ensures.none)
+    rw (p.1, p.2) (record { tree = tt; height = tt; shorter = tt; none = on_syntax_more _ (second_item_none _ _) c.in_err-second.ensures.none })
 
-pub tuple-returns-in_err-part-clause-none : goal.tuple-returns-in_err-part-clause-none
-tuple-returns-in_err-part-clause-none t c =
+pub tuple-returns-in_err-part : goal.tuple-returns-in_err-part
+tuple-returns-in_err-part t c =
     let p = err_from_is_err_and c.from_residual-in_err-part.result c.from_residual-in_err-part.ensures.1 in
-    rw (p.1, p.2) (on_syntax_more _ (item_none _ _ _ _ _ c.loop-behind.invariant.read _ c.in-Some.ensures.found) c.in_err-part.ensures.none)
+    rw (p.1, p.2) (record { tree = tt; height = tt; shorter = tt; none = on_syntax_more _ (item_none _ _ _ _ _ c.loop-behind.invariant.read _ c.in-Some.ensures.found) c.in_err-part.ensures.none })
 
 pub tuple-returns-clause-tree : goal.tuple-returns-clause-tree
 tuple-returns-clause-tree t c = IfOk-weaker c.tuple.result _ _ (λ x o. all_items _ _ _ _ _ c.loop-behind.invariant.read _ _ _ o.1 o.0) c.tuple.ensures.tree
@@ -111,131 +111,131 @@ tuple-returns-clause-tree t c = IfOk-weaker c.tuple.result _ _ (λ x o. all_item
 pub tuple-returns-clause-none : goal.tuple-returns-clause-none
 tuple-returns-clause-none t c = IfErr-weaker c.tuple.result _ _ (λ e o. on_syntax_more e (unended_items _ _ _ _ _ c.loop-behind.invariant.read c.in_default.ensures.found) o) c.tuple.ensures.none
 
-pub let_in-returns-in_err-binder-clause-none : goal.let_in-returns-in_err-binder-clause-none
-let_in-returns-in_err-binder-clause-none t c =
+pub let_in-returns-in_err-binder : goal.let_in-returns-in_err-binder
+let_in-returns-in_err-binder t c =
     let p = err_from_is_err_and c.from_residual.result c.from_residual.ensures.1 in
-    rw (p.1, p.2) (on_syntax_more _ first_none c.in_err-binder.ensures.none)
+    rw (p.1, p.2) (record { tree = tt; height = tt; shorter = tt; none = on_syntax_more _ first_none c.in_err-binder.ensures.none })
 
-pub let_in-returns-in_err-bound-clause-none : goal.let_in-returns-in_err-bound-clause-none
-let_in-returns-in_err-bound-clause-none t c =
+pub let_in-returns-in_err-bound : goal.let_in-returns-in_err-bound
+let_in-returns-in_err-bound t c =
     let p = err_from_is_err_and c.from_residual-in_err-bound.result c.from_residual-in_err-bound.ensures.1 in
-    rw (p.1, p.2) (on_syntax_more _ (let_no_bound _ _ _ _ c.in_ok-binder.ensures.found) c.in_err-bound.ensures.none)
+    rw (p.1, p.2) (record { tree = tt; height = tt; shorter = tt; none = on_syntax_more _ (let_no_bound _ _ _ _ c.in_ok-binder.ensures.found) c.in_err-bound.ensures.none })
 
-pub let_in-returns-in_err-body-clause-none : goal.let_in-returns-in_err-body-clause-none
-let_in-returns-in_err-body-clause-none t c =
+pub let_in-returns-in_err-body : goal.let_in-returns-in_err-body
+let_in-returns-in_err-body t c =
     let p = err_from_is_err_and c.from_residual-in_err-body.result c.from_residual-in_err-body.ensures.1 in
-    rw (p.1, p.2) (on_syntax_more _ (let_no_body _ _ _ _ c.in_ok-binder.ensures.found _ _ c.in_ok-bound.ensures.tree) c.in_err-body.ensures.none)
+    rw (p.1, p.2) (record { tree = tt; height = tt; shorter = tt; none = on_syntax_more _ (let_no_body _ _ _ _ c.in_ok-binder.ensures.found _ _ c.in_ok-bound.ensures.tree) c.in_err-body.ensures.none })
 
 pub let_in-returns-clause-tree : goal.let_in-returns-clause-tree
 let_in-returns-clause-tree t c = IfOk-weaker c.let_in.result _ _ (λ x o. rw o.1 (record { parts = _; is = o.0; read = then _ c.in_ok-binder.ensures.found (then _ c.in_ok-bound.ensures.tree c.in_ok-body.ensures.tree) })) c.let_in.ensures.tree
 
-pub let_rec-returns-in_err-head-clause-none : goal.let_rec-returns-in_err-head-clause-none
-let_rec-returns-in_err-head-clause-none t c =
+pub let_rec-returns-in_err-head : goal.let_rec-returns-in_err-head
+let_rec-returns-in_err-head t c =
     let p = err_from_is_err_and c.from_residual.result c.from_residual.ensures.1 in
-    rw (p.1, p.2) (on_syntax_more _ first_none c.in_err-head.ensures.none)
+    rw (p.1, p.2) (record { tree = tt; height = tt; shorter = tt; none = on_syntax_more _ first_none c.in_err-head.ensures.none })
 
-pub let_rec-returns-in_err-bound-clause-none : goal.let_rec-returns-in_err-bound-clause-none
-let_rec-returns-in_err-bound-clause-none t c =
+pub let_rec-returns-in_err-bound : goal.let_rec-returns-in_err-bound
+let_rec-returns-in_err-bound t c =
     let p = err_from_is_err_and c.from_residual-in_err-bound.result c.from_residual-in_err-bound.ensures.1 in
-    rw (p.1, p.2) (on_syntax_more _ (let_rec_no_bound _ _ _ _ c.in_ok-head.ensures.found) c.in_err-bound.ensures.none)
+    rw (p.1, p.2) (record { tree = tt; height = tt; shorter = tt; none = on_syntax_more _ (let_rec_no_bound _ _ _ _ c.in_ok-head.ensures.found) c.in_err-bound.ensures.none })
 
-pub let_rec-returns-in_err-body-clause-none : goal.let_rec-returns-in_err-body-clause-none
-let_rec-returns-in_err-body-clause-none t c =
+pub let_rec-returns-in_err-body : goal.let_rec-returns-in_err-body
+let_rec-returns-in_err-body t c =
     let p = err_from_is_err_and c.from_residual-in_err-body.result c.from_residual-in_err-body.ensures.1 in
-    rw (p.1, p.2) (on_syntax_more _ (let_rec_no_body _ _ _ _ c.in_ok-head.ensures.found _ _ c.in_ok-bound.ensures.tree) c.in_err-body.ensures.none)
+    rw (p.1, p.2) (record { tree = tt; height = tt; shorter = tt; none = on_syntax_more _ (let_rec_no_body _ _ _ _ c.in_ok-head.ensures.found _ _ c.in_ok-bound.ensures.tree) c.in_err-body.ensures.none })
 
 pub let_rec-returns-clause-tree : goal.let_rec-returns-clause-tree
 let_rec-returns-clause-tree t c = IfOk-weaker c.let_rec.result _ _ (λ x o. rw o.1 (record { parts = _; is = o.0; read = then _ c.in_ok-head.ensures.found (then _ c.in_ok-bound.ensures.tree c.in_ok-body.ensures.tree) })) c.let_rec.ensures.tree
 
-pub fun-returns-in_err-binder-clause-none : goal.fun-returns-in_err-binder-clause-none
-fun-returns-in_err-binder-clause-none t c =
+pub fun-returns-in_err-binder : goal.fun-returns-in_err-binder
+fun-returns-in_err-binder t c =
     let p = err_from_is_err_and c.from_residual.result c.from_residual.ensures.1 in
-    rw (p.1, p.2) (on_syntax_more _ first_none c.in_err-binder.ensures.none)
+    rw (p.1, p.2) (record { tree = tt; height = tt; shorter = tt; none = on_syntax_more _ first_none c.in_err-binder.ensures.none })
 
-pub fun-returns-in_err-later-clause-none : goal.fun-returns-in_err-later-clause-none
-fun-returns-in_err-later-clause-none t c =
+pub fun-returns-in_err-later : goal.fun-returns-in_err-later
+fun-returns-in_err-later t c =
     let p = err_from_is_err_and c.from_residual-in_err-later.result c.from_residual-in_err-later.ensures.1 in
-    rw (p.1, p.2) (on_syntax_more _ (fun_no_arrow _ _ _ _ c.in_ok-binder.ensures.found) c.in_err-later.ensures.none)
+    rw (p.1, p.2) (record { tree = tt; height = tt; shorter = tt; none = on_syntax_more _ (fun_no_arrow _ _ _ _ c.in_ok-binder.ensures.found) c.in_err-later.ensures.none })
 
-pub fun-returns-in_err-body-clause-none : goal.fun-returns-in_err-body-clause-none
-fun-returns-in_err-body-clause-none t c =
+pub fun-returns-in_err-body : goal.fun-returns-in_err-body
+fun-returns-in_err-body t c =
     let p = err_from_is_err_and c.from_residual-in_err-body.result c.from_residual-in_err-body.ensures.1 in
-    rw (p.1, p.2) (on_syntax_more _ (fun_no_body _ _ _ _ c.in_ok-binder.ensures.found _ c.in_ok-later.ensures.found) c.in_err-body.ensures.none)
+    rw (p.1, p.2) (record { tree = tt; height = tt; shorter = tt; none = on_syntax_more _ (fun_no_body _ _ _ _ c.in_ok-binder.ensures.found _ c.in_ok-later.ensures.found) c.in_err-body.ensures.none })
 
 pub fun-returns-clause-tree : goal.fun-returns-clause-tree
 fun-returns-clause-tree t c = IfOk-weaker c.fun.result _ _ (λ x o. rw o.1 (record { parts = _; is = o.0; read = then _ c.in_ok-binder.ensures.found (behind c.in_ok-later.ensures.found c.in_ok-body.ensures.tree) })) c.fun.ensures.tree
 
-pub rec-returns-in_err-head-clause-none : goal.rec-returns-in_err-head-clause-none
-rec-returns-in_err-head-clause-none t c =
+pub rec-returns-in_err-head : goal.rec-returns-in_err-head
+rec-returns-in_err-head t c =
     let p = err_from_is_err_and c.from_residual.result c.from_residual.ensures.1 in
-    rw (p.1, p.2) (on_syntax_more _ first_none c.in_err-head.ensures.none)
+    rw (p.1, p.2) (record { tree = tt; height = tt; shorter = tt; none = on_syntax_more _ first_none c.in_err-head.ensures.none })
 
-pub rec-returns-in_err-body-clause-none : goal.rec-returns-in_err-body-clause-none
-rec-returns-in_err-body-clause-none t c =
+pub rec-returns-in_err-body : goal.rec-returns-in_err-body
+rec-returns-in_err-body t c =
     let p = err_from_is_err_and c.from_residual-in_err-body.result c.from_residual-in_err-body.ensures.1 in
-    rw (p.1, p.2) (on_syntax_more _ (rec_no_body _ _ _ _ c.in_ok-head.ensures.found) c.in_err-body.ensures.none)
+    rw (p.1, p.2) (record { tree = tt; height = tt; shorter = tt; none = on_syntax_more _ (rec_no_body _ _ _ _ c.in_ok-head.ensures.found) c.in_err-body.ensures.none })
 
 pub rec-returns-clause-tree : goal.rec-returns-clause-tree
 rec-returns-clause-tree t c = IfOk-weaker c.rec.result _ _ (λ x o. rw o.1 (record { parts = _; is = o.0; read = then _ c.in_ok-head.ensures.found c.in_ok-body.ensures.tree })) c.rec.ensures.tree
 
-pub if_else-returns-in_err-test-clause-none : goal.if_else-returns-in_err-test-clause-none
-if_else-returns-in_err-test-clause-none t c =
+pub if_else-returns-in_err-test : goal.if_else-returns-in_err-test
+if_else-returns-in_err-test t c =
     let p = err_from_is_err_and c.from_residual.result c.from_residual.ensures.1 in
-    rw (p.1, p.2) (on_syntax_more _ first_none c.in_err-test.ensures.none)
+    rw (p.1, p.2) (record { tree = tt; height = tt; shorter = tt; none = on_syntax_more _ first_none c.in_err-test.ensures.none })
 
-pub if_else-returns-in_err-so-clause-none : goal.if_else-returns-in_err-so-clause-none
-if_else-returns-in_err-so-clause-none t c =
+pub if_else-returns-in_err-so : goal.if_else-returns-in_err-so
+if_else-returns-in_err-so t c =
     let p = err_from_is_err_and c.from_residual-in_err-so.result c.from_residual-in_err-so.ensures.1 in
-    rw (p.1, p.2) (on_syntax_more _ (if_no_so _ _ _ _ c.in_ok-test.ensures.tree) c.in_err-so.ensures.none)
+    rw (p.1, p.2) (record { tree = tt; height = tt; shorter = tt; none = on_syntax_more _ (if_no_so _ _ _ _ c.in_ok-test.ensures.tree) c.in_err-so.ensures.none })
 
-pub if_else-returns-in_err-otherwise-clause-none : goal.if_else-returns-in_err-otherwise-clause-none
-if_else-returns-in_err-otherwise-clause-none t c =
+pub if_else-returns-in_err-otherwise : goal.if_else-returns-in_err-otherwise
+if_else-returns-in_err-otherwise t c =
     let p = err_from_is_err_and c.from_residual-in_err-otherwise.result c.from_residual-in_err-otherwise.ensures.1 in
-    rw (p.1, p.2) (on_syntax_more _ (if_no_otherwise _ _ _ _ c.in_ok-test.ensures.tree _ _ c.in_ok-so.ensures.tree) c.in_err-otherwise.ensures.none)
+    rw (p.1, p.2) (record { tree = tt; height = tt; shorter = tt; none = on_syntax_more _ (if_no_otherwise _ _ _ _ c.in_ok-test.ensures.tree _ _ c.in_ok-so.ensures.tree) c.in_err-otherwise.ensures.none })
 
 pub if_else-returns-clause-tree : goal.if_else-returns-clause-tree
 if_else-returns-clause-tree t c = IfOk-weaker c.if_else.result _ _ (λ x o. rw o.1 (record { parts = _; is = o.0; read = then _ c.in_ok-test.ensures.tree (then _ c.in_ok-so.ensures.tree c.in_ok-otherwise.ensures.tree) })) c.if_else.ensures.tree
 
-pub marshal-returns-in_err-mark-clause-none : goal.marshal-returns-in_err-mark-clause-none
-marshal-returns-in_err-mark-clause-none t c =
+pub marshal-returns-in_err-mark : goal.marshal-returns-in_err-mark
+marshal-returns-in_err-mark t c =
     let p = err_from_is_err_and c.from_residual.result c.from_residual.ensures.1 in
-    rw (p.1, p.2) (on_syntax_more _ first_none c.in_err-mark.ensures.none)
+    rw (p.1, p.2) (record { tree = tt; height = tt; shorter = tt; none = on_syntax_more _ first_none c.in_err-mark.ensures.none })
 
-pub marshal-returns-in_err-value-clause-none : goal.marshal-returns-in_err-value-clause-none
-marshal-returns-in_err-value-clause-none t c =
+pub marshal-returns-in_err-value : goal.marshal-returns-in_err-value
+marshal-returns-in_err-value t c =
     let p = err_from_is_err_and c.from_residual-in_err-value.result c.from_residual-in_err-value.ensures.1 in
-    rw (p.1, p.2) (on_syntax_more _ (marshal_no_value _ _ _ _ c.in_ok-mark.ensures.tree) c.in_err-value.ensures.none)
+    rw (p.1, p.2) (record { tree = tt; height = tt; shorter = tt; none = on_syntax_more _ (marshal_no_value _ _ _ _ c.in_ok-mark.ensures.tree) c.in_err-value.ensures.none })
 
-pub marshal-returns-in_err-ty-clause-none : goal.marshal-returns-in_err-ty-clause-none
-marshal-returns-in_err-ty-clause-none t c =
+pub marshal-returns-in_err-ty : goal.marshal-returns-in_err-ty
+marshal-returns-in_err-ty t c =
     let p = err_from_is_err_and c.from_residual-in_err-ty.result c.from_residual-in_err-ty.ensures.1 in
-    rw (p.1, p.2) (on_syntax_more _ (marshal_no_type _ _ _ _ c.in_ok-mark.ensures.tree _ _ c.in_ok-value.ensures.tree) c.in_err-ty.ensures.none)
+    rw (p.1, p.2) (record { tree = tt; height = tt; shorter = tt; none = on_syntax_more _ (marshal_no_type _ _ _ _ c.in_ok-mark.ensures.tree _ _ c.in_ok-value.ensures.tree) c.in_err-ty.ensures.none })
 
 pub marshal-returns-clause-tree : goal.marshal-returns-clause-tree
 marshal-returns-clause-tree t c = IfOk-weaker c.marshal.result _ _ (λ x o. rw o.1 (record { parts = _; is = o.0; read = then _ c.in_ok-mark.ensures.tree (then _ c.in_ok-value.ensures.tree c.in_ok-ty.ensures.found) })) c.marshal.ensures.tree
 
-pub unmarshal-returns-in_err-text-clause-none : goal.unmarshal-returns-in_err-text-clause-none
-unmarshal-returns-in_err-text-clause-none t c =
+pub unmarshal-returns-in_err-text : goal.unmarshal-returns-in_err-text
+unmarshal-returns-in_err-text t c =
     let p = err_from_is_err_and c.from_residual.result c.from_residual.ensures.1 in
-    rw (p.1, p.2) (on_syntax_more _ first_none c.in_err-text.ensures.none)
+    rw (p.1, p.2) (record { tree = tt; height = tt; shorter = tt; none = on_syntax_more _ first_none c.in_err-text.ensures.none })
 
-pub unmarshal-returns-in_err-ty-clause-none : goal.unmarshal-returns-in_err-ty-clause-none
-unmarshal-returns-in_err-ty-clause-none t c =
+pub unmarshal-returns-in_err-ty : goal.unmarshal-returns-in_err-ty
+unmarshal-returns-in_err-ty t c =
     let p = err_from_is_err_and c.from_residual-in_err-ty.result c.from_residual-in_err-ty.ensures.1 in
-    rw (p.1, p.2) (on_syntax_more _ (unmarshal_no_type _ _ _ _ c.in_ok-text.ensures.tree) c.in_err-ty.ensures.none)
+    rw (p.1, p.2) (record { tree = tt; height = tt; shorter = tt; none = on_syntax_more _ (unmarshal_no_type _ _ _ _ c.in_ok-text.ensures.tree) c.in_err-ty.ensures.none })
 
 pub unmarshal-returns-clause-tree : goal.unmarshal-returns-clause-tree
 unmarshal-returns-clause-tree t c = IfOk-weaker c.unmarshal.result _ _ (λ x o. rw o.1 (record { parts = _; is = o.0; read = then _ c.in_ok-text.ensures.tree c.in_ok-ty.ensures.found })) c.unmarshal.ensures.tree
 
-pub raise-returns-in_err-exception-clause-none : goal.raise-returns-in_err-exception-clause-none
-raise-returns-in_err-exception-clause-none t c =
+pub raise-returns-in_err-exception : goal.raise-returns-in_err-exception
+raise-returns-in_err-exception t c =
     let p = err_from_is_err_and c.from_residual.result c.from_residual.ensures.1 in
-    rw (p.1, p.2) (on_syntax_more _ first_none c.in_err-exception.ensures.none)
+    rw (p.1, p.2) (record { tree = tt; height = tt; shorter = tt; none = on_syntax_more _ first_none c.in_err-exception.ensures.none })
 
-pub raise-returns-in_err-ty-clause-none : goal.raise-returns-in_err-ty-clause-none
-raise-returns-in_err-ty-clause-none t c =
+pub raise-returns-in_err-ty : goal.raise-returns-in_err-ty
+raise-returns-in_err-ty t c =
     let p = err_from_is_err_and c.from_residual-in_err-ty.result c.from_residual-in_err-ty.ensures.1 in
-    rw (p.1, p.2) (on_syntax_more _ (raise_no_type _ _ _ _ c.in_ok-exception.ensures.tree) c.in_err-ty.ensures.none)
+    rw (p.1, p.2) (record { tree = tt; height = tt; shorter = tt; none = on_syntax_more _ (raise_no_type _ _ _ _ c.in_ok-exception.ensures.tree) c.in_err-ty.ensures.none })
 
 pub raise-returns-clause-tree : goal.raise-returns-clause-tree
 raise-returns-clause-tree t c = IfOk-weaker c.raise.result _ _ (λ x o. rw o.1 (record { parts = _; is = o.0; read = then _ c.in_ok-exception.ensures.tree c.in_ok-ty.ensures.found })) c.raise.ensures.tree
@@ -255,10 +255,10 @@ part-returns-clause-tree t c = IfOk-weaker c.keyword_part.result _ _ (λ x o. su
 pub part-returns-clause-none : goal.part-returns-clause-none
 part-returns-clause-none t c = IfErr-weaker c.keyword_part.result _ _ (λ e o. on_syntax_more e (λ n. subst (λ (l : List Sign). NoTree c.args.depth Part l) (sym (word_at c.in-Some.ensures.found c.here.ensures)) n) o) c.keyword_part.ensures.none
 
-pub expr-returns-in_err-first-clause-none : goal.expr-returns-in_err-first-clause-none
-expr-returns-in_err-first-clause-none t c =
+pub expr-returns-in_err-first : goal.expr-returns-in_err-first
+expr-returns-in_err-first t c =
     let p = err_from_is_err_and c.from_residual.result c.from_residual.ensures.1 in
-    rw (p.1, p.2) (on_syntax_more _ (part_none _ _) c.in_err-first.ensures.none)
+    rw (p.1, p.2) (record { tree = tt; height = tt; shorter = tt; none = on_syntax_more _ (part_none _ _) c.in_err-first.ensures.none })
 
 pub expr-returns-in_default-clause-tree : goal.expr-returns-in_default-clause-tree
 expr-returns-in_default-clause-tree t c = alone_tree _ _ _ _ c.in_ok-first.ensures.tree c.in_default.ensures.found
@@ -276,15 +276,15 @@ expr-returns-clause-tree t c =
 pub expr-returns-clause-none : goal.expr-returns-clause-none
 expr-returns-clause-none t c = IfErr-weaker c.sequence.result _ _ (λ e o. on_syntax_more e (sequence_none _ _ _ _ _ c.in_ok-first.ensures.tree c.in-Some.ensures.found) o) c.sequence.ensures.none
 
-pub sequence-returns-in_err-second-clause-none : goal.sequence-returns-in_err-second-clause-none
-sequence-returns-in_err-second-clause-none t c =
+pub sequence-returns-in_err-second : goal.sequence-returns-in_err-second
+sequence-returns-in_err-second t c =
     let p = err_from_is_err_and c.from_residual.result c.from_residual.ensures.1 in
-    rw (p.1, p.2) (on_syntax_more _ (second_part_none _ _) c.in_err-second.ensures.none)
+    rw (p.1, p.2) (record { tree = tt; height = tt; shorter = tt; none = on_syntax_more _ (second_part_none _ _) c.in_err-second.ensures.none })
 
-pub sequence-returns-in_err-next-clause-none : goal.sequence-returns-in_err-next-clause-none
-sequence-returns-in_err-next-clause-none t c =
+pub sequence-returns-in_err-next : goal.sequence-returns-in_err-next
+sequence-returns-in_err-next t c =
     let p = err_from_is_err_and c.from_residual-in_err-next.result c.from_residual-in_err-next.ensures.1 in
-    rw (p.1, p.2) (on_syntax_more _ (next_part_none _ _ _ _ _ c.loop-behind.invariant.read _ c.in-Some.ensures.found) c.in_err-next.ensures.none)
+    rw (p.1, p.2) (record { tree = tt; height = tt; shorter = tt; none = on_syntax_more _ (next_part_none _ _ _ _ _ c.loop-behind.invariant.read _ c.in-Some.ensures.found) c.in_err-next.ensures.none })
 
 pub sequence-returns-clause-tree : goal.sequence-returns-clause-tree
 sequence-returns-clause-tree t c = IfOk-weaker c.sequence.result _ _ (λ x o. rw o.1 (all_parts _ _ _ _ _ c.loop-behind.invariant.read _ _ c.in_default.ensures.found o.0)) c.sequence.ensures.tree
@@ -298,22 +298,22 @@ atom-returns-in-Some-clause-tree t c = IfOk-weaker c.opened.result _ _ (λ x o. 
 pub atom-returns-in-Some-clause-none : goal.atom-returns-in-Some-clause-none
 atom-returns-in-Some-clause-none t c = IfErr-weaker c.opened.result _ _ (λ e o. on_syntax_more e (λ n. subst (λ (l : List Sign). NoTree c.args.depth Atom l) (sym (word_at c.in-Some.ensures.found c.here-at.ensures)) n) o) c.opened.ensures.none
 
-pub atom-returns-in_err-choice-clause-none : goal.atom-returns-in_err-choice-clause-none
-atom-returns-in_err-choice-clause-none t c =
+pub atom-returns-in_err-choice : goal.atom-returns-in_err-choice
+atom-returns-in_err-choice t c =
     let pos : 0 < c.args.depth = omega (arith, c.if-depth-eq0.false) in
     let p = err_from_is_err_and c.from_residual.result c.from_residual.ensures.1 in
-    rw (p.1, p.2) (on_syntax_more _ (match_none _ _ _ pos c.in-Some-after.ensures.found) c.in_err-choice.ensures.none)
+    rw (p.1, p.2) (record { tree = tt; height = tt; shorter = tt; none = on_syntax_more _ (match_none _ _ _ pos c.in-Some-after.ensures.found) c.in_err-choice.ensures.none })
 
 pub atom-returns-in-Some-after-clause-tree : goal.atom-returns-in-Some-after-clause-tree
 atom-returns-in-Some-after-clause-tree t c =
     let pos : 0 < c.args.depth = omega (arith, c.if-depth-eq0.false) in
     IfOk-weaker c.match_with.result _ _ (λ x o. rw o.1 (match_tree _ _ _ pos _ _ _ _ _ c.here-at.ensures c.in_ok-choice.ensures.tree c.in-Some-after.ensures.found o.0)) c.match_with.ensures.tree
 
-pub atom-returns-in_err-choice-2-clause-none : goal.atom-returns-in_err-choice-2-clause-none
-atom-returns-in_err-choice-2-clause-none t c =
+pub atom-returns-in_err-choice-2 : goal.atom-returns-in_err-choice-2
+atom-returns-in_err-choice-2 t c =
     let pos : 0 < c.args.depth = omega (arith, c.if-depth-eq0.false) in
     let p = err_from_is_err_and c.from_residual-in_err-choice-2.result c.from_residual-in_err-choice-2.ensures.1 in
-    rw (p.1, p.2) (on_syntax_more _ (try_none _ _ _ pos c.in-Some-after-2.ensures.found) c.in_err-choice-2.ensures.none)
+    rw (p.1, p.2) (record { tree = tt; height = tt; shorter = tt; none = on_syntax_more _ (try_none _ _ _ pos c.in-Some-after-2.ensures.found) c.in_err-choice-2.ensures.none })
 
 pub atom-returns-in-Some-after-2-clause-tree : goal.atom-returns-in-Some-after-2-clause-tree
 atom-returns-in-Some-after-2-clause-tree t c =
@@ -331,11 +331,11 @@ atom-returns-clause-none t c = IfErr-weaker c.parsed_leaf.result _ _ (λ e o. on
 pub app-returns-then-depth-eq0-clause-none : goal.app-returns-then-depth-eq0-clause-none
 app-returns-then-depth-eq0-clause-none t c = refused _ _ c.refused_at.ensures (flat_none _ _ _ c.if-depth-eq0.true)
 
-pub app-returns-in_err-item-clause-none : goal.app-returns-in_err-item-clause-none
-app-returns-in_err-item-clause-none t c =
+pub app-returns-in_err-item : goal.app-returns-in_err-item
+app-returns-in_err-item t c =
     let pos : 0 < c.args.depth = omega (arith, c.if-depth-eq0.false) in
     let p = err_from_is_err_and c.from_residual.result c.from_residual.ensures.1 in
-    rw (p.1, p.2) (on_syntax_more _ (prefixed_none _ _ _ _ _ c.in-Some.ensures.found pos) c.in_err-item.ensures.none)
+    rw (p.1, p.2) (record { tree = tt; height = tt; shorter = tt; none = on_syntax_more _ (prefixed_none _ _ _ _ _ c.in-Some.ensures.found pos) c.in_err-item.ensures.none })
 
 pub app-returns-clause-tree : goal.app-returns-clause-tree
 app-returns-clause-tree t c =
@@ -350,10 +350,10 @@ app-returns-clause-none t c =
 pub minus-returns-in-Some-clause-tree : goal.minus-returns-in-Some-clause-tree
 minus-returns-in-Some-clause-tree t c = IfOk-weaker c.negative.result _ _ (λ x o. rw o.1 (lone_tree _ _ _ _ _ _ c.requires c.in-Some.ensures.found o.0)) c.negative.ensures.tree
 
-pub minus-returns-in_err-operand-clause-none : goal.minus-returns-in_err-operand-clause-none
-minus-returns-in_err-operand-clause-none t c =
+pub minus-returns-in_err-operand : goal.minus-returns-in_err-operand
+minus-returns-in_err-operand t c =
     let p = err_from_is_err_and c.from_residual.result c.from_residual.ensures.1 in
-    rw (p.1, p.2) (on_syntax_more _ (minus_none _ _ _ c.in_default.ensures.found c.requires) c.in_err-operand.ensures.none)
+    rw (p.1, p.2) (record { tree = tt; height = tt; shorter = tt; none = on_syntax_more _ (minus_none _ _ _ c.in_default.ensures.found c.requires) c.in_err-operand.ensures.none })
 
 pub minus-returns-clause-tree : goal.minus-returns-clause-tree
 minus-returns-clause-tree t c = IfOk-weaker c.operation.result _ _ (λ x o. rw o.1 (minus_tree _ _ _ c.in_default.ensures.found c.requires _ _ _ c.in_ok-operand.ensures.tree o.0)) c.operation.ensures.tree
@@ -370,11 +370,11 @@ unary-returns-in-Some-clause-none t c = IfErr-weaker c.minus.result _ _ (λ e o.
 pub unary-returns-then-depth-eq0-2-clause-none : goal.unary-returns-then-depth-eq0-2-clause-none
 unary-returns-then-depth-eq0-2-clause-none t c = refused _ _ c.refused_at-then-depth-eq0-2.ensures (flat_none _ _ _ c.if-depth-eq0-2.true)
 
-pub unary-returns-in_err-operand-clause-none : goal.unary-returns-in_err-operand-clause-none
-unary-returns-in_err-operand-clause-none t c =
+pub unary-returns-in_err-operand : goal.unary-returns-in_err-operand
+unary-returns-in_err-operand t c =
     let pos : 0 < c.args.depth = omega (arith, c.if-depth-eq0-2.false) in
     let p = err_from_is_err_and c.from_residual.result c.from_residual.ensures.1 in
-    rw (p.1, p.2) (on_syntax_more _ (not_none _ _ _ c.in-Some-after.ensures.found pos) c.in_err-operand.ensures.none)
+    rw (p.1, p.2) (record { tree = tt; height = tt; shorter = tt; none = on_syntax_more _ (not_none _ _ _ c.in-Some-after.ensures.found pos) c.in_err-operand.ensures.none })
 
 pub unary-returns-in-Some-after-clause-tree : goal.unary-returns-in-Some-after-clause-tree
 unary-returns-in-Some-after-clause-tree t c =
@@ -415,11 +415,11 @@ binary-returns-then-level-eq0-clause-tree t c = IfOk-weaker c.unary.result _ _ (
 pub binary-returns-then-level-eq0-clause-none : goal.binary-returns-then-level-eq0-clause-none
 binary-returns-then-level-eq0-clause-none t c = IfErr-weaker c.unary.result _ _ (λ e o. on_syntax_more e (unary_none _ _ _ c.if-level-eq0.true) o) c.unary.ensures.none
 
-pub binary-returns-in_err-first-clause-none : goal.binary-returns-in_err-first-clause-none
-binary-returns-in_err-first-clause-none t c =
+pub binary-returns-in_err-first : goal.binary-returns-in_err-first
+binary-returns-in_err-first t c =
     let lv : suc (c.args.level - 1) ≡ c.args.level = omega (arith, c.if-level-eq0.false) in
     let p = err_from_is_err_and c.from_residual.result c.from_residual.ensures.1 in
-    rw (p.1, p.2) (on_syntax_more _ (operand_none _ _ _ _ lv) c.in_err-first.ensures.none)
+    rw (p.1, p.2) (record { tree = tt; height = tt; shorter = tt; none = on_syntax_more _ (operand_none _ _ _ _ lv) c.in_err-first.ensures.none })
 
 pub arms-loop-behind-init : goal.arms-loop-behind-init
 arms-loop-behind-init t c =
@@ -472,18 +472,18 @@ sequence-loop-behind-preserved t c =
       shorter = omega (arith, i.shorter, c.in-Some.ensures.shorter, h.shorter);
     }
 
-pub next_argument-returns-in_err-argument-clause-none : goal.next_argument-returns-in_err-argument-clause-none
-next_argument-returns-in_err-argument-clause-none t c =
+pub next_argument-returns-in_err-argument : goal.next_argument-returns-in_err-argument
+next_argument-returns-in_err-argument t c =
     let p = err_from_is_err_and c.from_residual.result c.from_residual.ensures.1 in
-    rw (p.1, p.2) c.in_err-argument.ensures.none
+    rw (p.1, p.2) (record { tree = tt; height = tt; shorter = tt; none = c.in_err-argument.ensures.none })
 
 pub next_argument-returns-clause-tree : goal.next_argument-returns-clause-tree
 next_argument-returns-clause-tree t c = IfOk-weaker c.application.result _ _ (λ x o. rw o.1 (record { parts = _; is = o.0; read = c.in_ok-argument.ensures.tree })) c.application.ensures.tree
 
-pub applied-returns-in_err-function-clause-none : goal.applied-returns-in_err-function-clause-none
-applied-returns-in_err-function-clause-none t c =
+pub applied-returns-in_err-function : goal.applied-returns-in_err-function
+applied-returns-in_err-function t c =
     let p = err_from_is_err_and c.from_residual.result c.from_residual.ensures.1 in
-    rw (p.1, p.2) (on_syntax_more _ (λ n. applied_none _ _ n c.requires) c.in_err-function.ensures.none)
+    rw (p.1, p.2) (record { tree = tt; height = tt; shorter = tt; none = on_syntax_more _ (λ n. applied_none _ _ n c.requires) c.in_err-function.ensures.none })
 
 pub applied-loop-alloc-init : goal.applied-loop-alloc-init
 applied-loop-alloc-init t c =
@@ -501,10 +501,10 @@ applied-returns-then-function-depth-clause-none t c =
     let i = c.loop-alloc.invariant in
     refused _ _ c.refused_at.ensures (same_none i.same (argument_high _ _ _ _ (sym c.begins_atom.ensures ∙ c.loop-alloc-test.true) (subst (λ (n : ℕ). c.args.depth ≤ n) i.height c.if-function-depth.true)))
 
-pub applied-returns-in_err-next-clause-none : goal.applied-returns-in_err-next-clause-none
-applied-returns-in_err-next-clause-none t c =
+pub applied-returns-in_err-next : goal.applied-returns-in_err-next
+applied-returns-in_err-next t c =
     let p = err_from_is_err_and c.from_residual-in_err-next.result c.from_residual-in_err-next.ensures.1 in
-    rw (p.1, p.2) (on_syntax_more _ (λ n. same_none c.loop-alloc.invariant.same (argument_none _ _ _ _ (sym c.begins_atom.ensures ∙ c.loop-alloc-test.true) n)) c.in_err-next.ensures.none)
+    rw (p.1, p.2) (record { tree = tt; height = tt; shorter = tt; none = on_syntax_more _ (λ n. same_none c.loop-alloc.invariant.same (argument_none _ _ _ _ (sym c.begins_atom.ensures ∙ c.loop-alloc-test.true) n)) c.in_err-next.ensures.none })
 
 pub applied-loop-alloc-preserved : goal.applied-loop-alloc-preserved
 applied-loop-alloc-preserved t c =
@@ -525,19 +525,19 @@ applied-returns-clause-tree t c =
     let low : height (tree_of c.loop-alloc.function.tree) ≤ c.args.depth = omega (arith, i.height, i.low) in
     i.same.back _ _ (args_ended _ _ _ _ (sym c.begins_atom.ensures ∙ c.loop-alloc-test.false) low)
 
-pub right_side-returns-in_err-right-clause-none : goal.right_side-returns-in_err-right-clause-none
-right_side-returns-in_err-right-clause-none t c =
+pub right_side-returns-in_err-right : goal.right_side-returns-in_err-right
+right_side-returns-in_err-right t c =
     let p = err_from_is_err_and c.from_residual.result c.from_residual.ensures.1 in
-    rw (p.1, p.2) c.in_err-right.ensures.none
+    rw (p.1, p.2) (record { tree = tt; height = tt; shorter = tt; none = c.in_err-right.ensures.none })
 
 pub right_side-returns-clause-tree : goal.right_side-returns-clause-tree
 right_side-returns-clause-tree t c = IfOk-weaker c.join.result _ _ (λ x o. rw o.1 (record { parts = _; is = o.0; read = c.in_ok-right.ensures.tree })) c.join.ensures.tree
 
-pub to_left-returns-in_err-left-clause-none : goal.to_left-returns-in_err-left-clause-none
-to_left-returns-in_err-left-clause-none t c =
+pub to_left-returns-in_err-left : goal.to_left-returns-in_err-left
+to_left-returns-in_err-left t c =
     let lv : suc (c.args.level - 1) ≡ c.args.level = omega (arith, c.requires.level.0) in
     let p = err_from_is_err_and c.from_residual.result c.from_residual.ensures.1 in
-    rw (p.1, p.2) (on_syntax_more _ (operand_none _ _ _ _ lv) c.in_err-left.ensures.none)
+    rw (p.1, p.2) (record { tree = tt; height = tt; shorter = tt; none = on_syntax_more _ (operand_none _ _ _ _ lv) c.in_err-left.ensures.none })
 
 pub to_left-loop-operator-init : goal.to_left-loop-operator-init
 to_left-loop-operator-init t c =
@@ -561,12 +561,12 @@ to_left-returns-then-left-depth-clause-none t c =
     let s = left_step _ _ c.args.depth c.here-at.result _ _ _ _ lv c.in-Some.ensures.found c.requires.side in
     refused _ _ c.refused_at.ensures (same_none i.same (s.high (subst (λ (n : ℕ). c.args.depth ≤ n) i.height c.if-left-depth.true)))
 
-pub to_left-returns-in_err-joined-clause-none : goal.to_left-returns-in_err-joined-clause-none
-to_left-returns-in_err-joined-clause-none t c =
+pub to_left-returns-in_err-joined : goal.to_left-returns-in_err-joined
+to_left-returns-in_err-joined t c =
     let lv : suc (c.args.level - 1) ≡ c.args.level = omega (arith, c.requires.level.0) in
     let s = left_step _ _ c.args.depth c.here-at.result _ _ _ _ lv c.in-Some.ensures.found c.requires.side in
     let p = err_from_is_err_and c.from_residual-in_err-joined.result c.from_residual-in_err-joined.ensures.1 in
-    rw (p.1, p.2) (on_syntax_more _ (λ n. same_none c.loop-operator.invariant.same (s.refused n)) c.in_err-joined.ensures.none)
+    rw (p.1, p.2) (record { tree = tt; height = tt; shorter = tt; none = on_syntax_more _ (λ n. same_none c.loop-operator.invariant.same (s.refused n)) c.in_err-joined.ensures.none })
 
 pub to_left-loop-operator-preserved : goal.to_left-loop-operator-preserved
 to_left-loop-operator-preserved t c =
@@ -681,10 +681,10 @@ keyword_part-returns-in-None-clause-tree t c = rw c.in-Let.is (IfOk-weaker c.let
 pub keyword_part-returns-in-None-clause-none : goal.keyword_part-returns-in-None-clause-none
 keyword_part-returns-in-None-clause-none t c = rw c.in-Let.is (IfErr-weaker c.let_in.result _ _ (λ e o. on_syntax_more e (let_none _ _ _ c.in-None.ensures.found) o) c.let_in.ensures.none)
 
-pub compared-returns-in_err-joined-clause-none : goal.compared-returns-in_err-joined-clause-none
-compared-returns-in_err-joined-clause-none t c =
+pub compared-returns-in_err-joined : goal.compared-returns-in_err-joined
+compared-returns-in_err-joined t c =
     let p = err_from_is_err_and c.from_residual.result c.from_residual.ensures.1 in
-    rw (p.1, p.2) (on_syntax_more _ no_operand c.in_err-joined.ensures.none)
+    rw (p.1, p.2) (record { tree = tt; height = tt; shorter = tt; none = on_syntax_more _ no_operand c.in_err-joined.ensures.none })
 
 pub compared-returns-in-Some-clause-none : goal.compared-returns-in-Some-clause-none
 compared-returns-in-Some-clause-none t c = refused _ _ c.refused_at.ensures (not_last c.in_ok-joined.ensures.tree.read c.in-Some.ensures.found)
@@ -751,18 +751,18 @@ opened-returns-in-Some-after-2-clause-tree t c = IfOk-weaker c.absent.result _ _
 pub opened-returns-in-Some-after-2-clause-none : goal.opened-returns-in-Some-after-2-clause-none
 opened-returns-in-Some-after-2-clause-none t c = IfErr-weaker c.absent.result _ _ (λ e o. on_syntax_more e (absent_none _ _ _ _ c.in-Some-after-2.ensures.found) o) c.absent.ensures.none
 
-pub enclosed-returns-in_err-first-clause-none : goal.enclosed-returns-in_err-first-clause-none
-enclosed-returns-in_err-first-clause-none t c =
+pub enclosed-returns-in_err-first : goal.enclosed-returns-in_err-first
+enclosed-returns-in_err-first t c =
     let p = err_from_is_err_and c.from_residual.result c.from_residual.ensures.1 in
-    rw (p.1, p.2) (on_syntax_more _ (opened_none _ _ _ c.requires.unclosed c.requires.no_nil c.requires.no_absent) c.in_err-first.ensures.none)
+    rw (p.1, p.2) (record { tree = tt; height = tt; shorter = tt; none = on_syntax_more _ (opened_none _ _ _ c.requires.unclosed c.requires.no_nil c.requires.no_absent) c.in_err-first.ensures.none })
 
 pub enclosed-returns-in-Some-clause-tree : goal.enclosed-returns-in-Some-clause-tree
 enclosed-returns-in-Some-clause-tree t c = parens_tree _ _ _ c.requires.unclosed c.requires.no_nil c.requires.no_absent _ _ c.in_ok-first.ensures.tree _ c.in-Some.ensures.found
 
-pub enclosed-returns-in_err-behind-clause-none : goal.enclosed-returns-in_err-behind-clause-none
-enclosed-returns-in_err-behind-clause-none t c =
+pub enclosed-returns-in_err-behind : goal.enclosed-returns-in_err-behind
+enclosed-returns-in_err-behind t c =
     let p = err_from_is_err_and c.from_residual-in_err-behind.result c.from_residual-in_err-behind.ensures.1 in
-    rw (p.1, p.2) (on_syntax_more _ (unclosed_none _ _ _ c.requires.unclosed c.requires.no_nil c.requires.no_absent _ _ c.in_ok-first.ensures.tree c.in_default.ensures.found) c.in_err-behind.ensures.none)
+    rw (p.1, p.2) (record { tree = tt; height = tt; shorter = tt; none = on_syntax_more _ (unclosed_none _ _ _ c.requires.unclosed c.requires.no_nil c.requires.no_absent _ _ c.in_ok-first.ensures.tree c.in_default.ensures.found) c.in_err-behind.ensures.none })
 
 pub enclosed-returns-then-first-depth-clause-none : goal.enclosed-returns-then-first-depth-clause-none
 enclosed-returns-then-first-depth-clause-none t c =

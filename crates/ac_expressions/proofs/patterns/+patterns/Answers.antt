@@ -15,10 +15,10 @@ use Rattle.ac_expressions.proofs.PatLaws.{pat_of-Unit}
 use Rattle.ac_expressions.proofs.PatSteps.{flat_pat, pat_alone, pat_none, pat_cons, cons_none, cons_high, prefixed_tree, prefixed_none, single_tree, single_none, unit_pat, var_pat, var_none, opened_none, unclosed_none, tuple_high, tuple_none, tuple_tree, parens_tree, leaf_tree, leaf_none, tuple_of, second_none, part_none, part_read, unended_none, highest_next}
 use Rattle.ac_expressions.proofs.patterns.+patterns.Goals as goal
 
-pub whole-returns-in_err-head-clause-none : goal.whole-returns-in_err-head-clause-none
-whole-returns-in_err-head-clause-none t c =
+pub whole-returns-in_err-head : goal.whole-returns-in_err-head
+whole-returns-in_err-head t c =
     let p = err_from_is_err_and c.from_residual.result c.from_residual.ensures.1 in
-    rw (p.1, p.2) (on_syntax_more _ (pat_none _ _) c.in_err-head.ensures.none)
+    rw (p.1, p.2) (record { tree = tt; height = tt; shorter = tt; none = on_syntax_more _ (pat_none _ _) c.in_err-head.ensures.none })
 
 pub whole-returns-in_default-clause-tree : goal.whole-returns-in_default-clause-tree
 whole-returns-in_default-clause-tree t c = pat_alone _ _ _ _ c.in_ok-head.ensures.tree c.in_default.ensures.found
@@ -27,10 +27,10 @@ pub whole-returns-then-head-depth-clause-none : goal.whole-returns-then-head-dep
 whole-returns-then-head-depth-clause-none t c =
     refused _ _ c.refused_at.ensures (cons_high _ _ _ _ _ c.in_ok-head.ensures.tree c.in-Some.ensures.found (subst (λ (n : ℕ). c.args.depth ≤ n) c.in_ok-head.ensures.height c.if-head-depth.true))
 
-pub whole-returns-in_err-tail-clause-none : goal.whole-returns-in_err-tail-clause-none
-whole-returns-in_err-tail-clause-none t c =
+pub whole-returns-in_err-tail : goal.whole-returns-in_err-tail
+whole-returns-in_err-tail t c =
     let p = err_from_is_err_and c.from_residual-in_err-tail.result c.from_residual-in_err-tail.ensures.1 in
-    rw (p.1, p.2) (on_syntax_more _ (cons_none _ _ _ _ _ c.in_ok-head.ensures.tree c.in-Some.ensures.found) c.in_err-tail.ensures.none)
+    rw (p.1, p.2) (record { tree = tt; height = tt; shorter = tt; none = on_syntax_more _ (cons_none _ _ _ _ _ c.in_ok-head.ensures.tree c.in-Some.ensures.found) c.in_err-tail.ensures.none })
 
 pub whole-returns-clause-tree : goal.whole-returns-clause-tree
 whole-returns-clause-tree t c =
@@ -46,11 +46,11 @@ prefixed-returns-in_default-clause-none t c = IfErr-weaker c.single.result _ _ (
 pub prefixed-returns-then-depth-eq0-clause-none : goal.prefixed-returns-then-depth-eq0-clause-none
 prefixed-returns-then-depth-eq0-clause-none t c = refused _ _ c.refused_at.ensures (flat_pat _ _ _ c.if-depth-eq0.true)
 
-pub prefixed-returns-in_err-item-clause-none : goal.prefixed-returns-in_err-item-clause-none
-prefixed-returns-in_err-item-clause-none t c =
+pub prefixed-returns-in_err-item : goal.prefixed-returns-in_err-item
+prefixed-returns-in_err-item t c =
     let pos : 0 < c.args.depth = omega (arith, c.if-depth-eq0.false) in
     let p = err_from_is_err_and c.from_residual.result c.from_residual.ensures.1 in
-    rw (p.1, p.2) (on_syntax_more _ (prefixed_none _ _ _ _ _ c.in-Some.ensures.found pos) c.in_err-item.ensures.none)
+    rw (p.1, p.2) (record { tree = tt; height = tt; shorter = tt; none = on_syntax_more _ (prefixed_none _ _ _ _ _ c.in-Some.ensures.found pos) c.in_err-item.ensures.none })
 
 pub prefixed-returns-clause-tree : goal.prefixed-returns-clause-tree
 prefixed-returns-clause-tree t c =
@@ -70,10 +70,10 @@ single-returns-in-Some-clause-none t c =
     IfErr-weaker c.opened.result _ _
     (λ e o. on_syntax_more e (λ n. subst (λ (l : List Sign). NoPat c.args.depth Single l) (sym (word_at c.in-Some.ensures.found c.here.ensures)) n) o) c.opened.ensures.none
 
-pub single-returns-in_err-tree-clause-none : goal.single-returns-in_err-tree-clause-none
-single-returns-in_err-tree-clause-none t c =
+pub single-returns-in_err-tree : goal.single-returns-in_err-tree
+single-returns-in_err-tree t c =
     let p = err_from_is_err_and c.from_residual.result c.from_residual.ensures.1 in
-    rw (p.1, p.2) (on_syntax_more _ (λ f. leaf_none _ _ (f c.in_default.ensures.found)) c.in_err-tree.ensures.none)
+    rw (p.1, p.2) (record { tree = tt; height = tt; shorter = tt; none = on_syntax_more _ (λ f. leaf_none _ _ (f c.in_default.ensures.found)) c.in_err-tree.ensures.none })
 
 pub single-returns-clause-tree : goal.single-returns-clause-tree
 single-returns-clause-tree t c =
@@ -82,15 +82,15 @@ single-returns-clause-tree t c =
 pub single-returns-clause-height : goal.single-returns-clause-height
 single-returns-clause-height t c = sym c.in_ok-tree.ensures.found.leaf
 
-pub tuple-returns-in_err-second-clause-none : goal.tuple-returns-in_err-second-clause-none
-tuple-returns-in_err-second-clause-none t c =
+pub tuple-returns-in_err-second : goal.tuple-returns-in_err-second
+tuple-returns-in_err-second t c =
     let p = err_from_is_err_and c.from_residual.result c.from_residual.ensures.1 in
-    rw (p.1, p.2) (on_syntax_more _ (second_none _ _) c.in_err-second.ensures.none)
+    rw (p.1, p.2) (record { tree = tt; height = tt; shorter = tt; none = on_syntax_more _ (second_none _ _) c.in_err-second.ensures.none })
 
-pub tuple-returns-in_err-part-clause-none : goal.tuple-returns-in_err-part-clause-none
-tuple-returns-in_err-part-clause-none t c =
+pub tuple-returns-in_err-part : goal.tuple-returns-in_err-part
+tuple-returns-in_err-part t c =
     let p = err_from_is_err_and c.from_residual-in_err-part.result c.from_residual-in_err-part.ensures.1 in
-    rw (p.1, p.2) (on_syntax_more _ (part_none _ _ _ _ _ c.loop-behind.invariant.read _ c.in-Some.ensures.found) c.in_err-part.ensures.none)
+    rw (p.1, p.2) (record { tree = tt; height = tt; shorter = tt; none = on_syntax_more _ (part_none _ _ _ _ _ c.loop-behind.invariant.read _ c.in-Some.ensures.found) c.in_err-part.ensures.none })
 
 pub tuple-loop-behind-init : goal.tuple-loop-behind-init
 tuple-loop-behind-init t c =
@@ -135,18 +135,18 @@ opened-returns-then-begins_name-clause-tree t c = IfOk-weaker c.variable.result 
 pub opened-returns-then-begins_name-clause-none : goal.opened-returns-then-begins_name-clause-none
 opened-returns-then-begins_name-clause-none t c = IfErr-weaker c.variable.result _ _ (λ e o. on_syntax_more e (λ n. var_none _ _ _ n (sym c.begins_name.ensures ∙ c.if-begins_name.true)) o) c.variable.ensures.none
 
-pub enclosed-returns-in_err-first-clause-none : goal.enclosed-returns-in_err-first-clause-none
-enclosed-returns-in_err-first-clause-none t c =
+pub enclosed-returns-in_err-first : goal.enclosed-returns-in_err-first
+enclosed-returns-in_err-first t c =
     let p = err_from_is_err_and c.from_residual.result c.from_residual.ensures.1 in
-    rw (p.1, p.2) (on_syntax_more _ (opened_none _ _ _ c.requires.unclosed c.requires.no_name) c.in_err-first.ensures.none)
+    rw (p.1, p.2) (record { tree = tt; height = tt; shorter = tt; none = on_syntax_more _ (opened_none _ _ _ c.requires.unclosed c.requires.no_name) c.in_err-first.ensures.none })
 
 pub enclosed-returns-in-Some-clause-tree : goal.enclosed-returns-in-Some-clause-tree
 enclosed-returns-in-Some-clause-tree t c = parens_tree _ _ _ c.requires.unclosed c.requires.no_name _ _ c.in_ok-first.ensures.tree _ c.in-Some.ensures.found
 
-pub enclosed-returns-in_err-behind-clause-none : goal.enclosed-returns-in_err-behind-clause-none
-enclosed-returns-in_err-behind-clause-none t c =
+pub enclosed-returns-in_err-behind : goal.enclosed-returns-in_err-behind
+enclosed-returns-in_err-behind t c =
     let p = err_from_is_err_and c.from_residual-in_err-behind.result c.from_residual-in_err-behind.ensures.1 in
-    rw (p.1, p.2) (on_syntax_more _ (unclosed_none _ _ _ c.requires.unclosed c.requires.no_name _ _ c.in_ok-first.ensures.tree c.in_default.ensures.found) c.in_err-behind.ensures.none)
+    rw (p.1, p.2) (record { tree = tt; height = tt; shorter = tt; none = on_syntax_more _ (unclosed_none _ _ _ c.requires.unclosed c.requires.no_name _ _ c.in_ok-first.ensures.tree c.in_default.ensures.found) c.in_err-behind.ensures.none })
 
 pub enclosed-returns-then-first-depth-clause-none : goal.enclosed-returns-then-first-depth-clause-none
 enclosed-returns-then-first-depth-clause-none t c =
