@@ -1,23 +1,24 @@
 // Expressions, by recursive descent. What would be higher than `depth` is refused on the way down.
 
-ghost use Rattle.std.specs.Prelude.{◌≡◌, ◌<◌, ◌≤◌, ◌-◌, ◌^◌, ◌∷◌, true, suc, length, map, IfOk, IfErr};
+ghost use Rattle.std.specs.Prelude.{◌≡◌, ◌<◌, ◌≤◌, ◌-◌, ◌^◌, ◌∷◌, length, map, IfOk, IfErr};
 ghost use Rattle.ac_syntax.specs.Signs.{Fixed};
-ghost use Rattle.ac_syntax.specs.Trees.{ExApp, ExNil, ExAbsent, arm_trees, height, highest_arm};
-ghost use Rattle.ac_syntax.specs.Expressions.{Expr, Part, Binary, After, Unary, App, Atom, front, ToLeft, ToRight, Once, operator_tree, side_of, IsTree};
+ghost use Rattle.ac_syntax.specs.Trees.{ExApp, arm_trees, height, highest_arm};
+ghost use Rattle.ac_syntax.specs.Expressions.{Expr, Part, App, Atom, IsTree};
 ghost use Rattle.ac_syntax.specs.ReadSigns.{read_signs};
 ghost use Rattle.ac_syntax.specs.ReadTrees.{tree_of, arm_tree_of};
 ghost use Rattle.ac_syntax.specs.PartParsing.{OnSyntax, NoSymbol};
-ghost use Rattle.ac_expressions.specs.inner.Pieces.{Nothing, Before, Behind, IsAscribed, Made, NoPrefix};
-ghost use Rattle.ac_expressions.specs.inner.Forms.{keyword_symbol, NoTree, measured, operator_read, IsLastOperand, IsLet, let_tree, IsLetRec, let_rec_tree, IsFun, fun_tree, IsRec, rec_tree, IsIf, if_tree, IsMarshal, marshal_tree, IsUnmarshal, unmarshal_tree, IsRaise, raise_tree, IsParts, sequence_tree, IsItems, tuple_tree, IsArm, IsArms, IsChoice};
+ghost use Rattle.ac_expressions.specs.inner.Pieces.{Nothing, Before, Made, NoPrefix};
+ghost use Rattle.ac_expressions.specs.inner.Forms.{keyword_symbol, NoTree, measured, IsLet, let_tree, IsLetRec, let_rec_tree, IsFun, fun_tree, IsRec, rec_tree, IsIf, if_tree, IsMarshal, marshal_tree, IsUnmarshal, unmarshal_tree, IsRaise, raise_tree, IsParts, sequence_tree, IsItems, tuple_tree, IsArm, IsArms, IsChoice};
 
-use crate::binders::{argument, ascribed, function_head, type_behind, typed};
-use crate::build::{self, Choice, Operator, Parsed};
-use crate::front::{begins_atom, expect, followed, lone_number, next_prefix};
-use crate::keywords::{Keyword, after_bar, next_keyword, operator};
-use crate::leaves::parsed_leaf;
+use crate::binders::{argument, function_head, type_behind, typed};
+use crate::build::{self, Choice, Parsed};
+use crate::front::{begins_atom, expect, followed, next_prefix};
+use crate::keywords::{Keyword, after_bar, next_keyword};
+use crate::leaves::{absent, nil, parsed_leaf};
+use crate::operators::binary;
 use crate::patterns::arm_pattern;
 use ac_syntax::{SArm, Sign, Stop, Symbol, after, here, refused_at};
-use ac_types::{Many, primitives};
+use ac_types::Many;
 use std::alloc::Global;
 
 // An expression with this symbol behind it.
@@ -136,41 +137,6 @@ fn tuple<'s, 't>(
     build::tuple(alloc, at, parts, height, rest)
 }
 
-// What stands behind a `([`.
-fn nil<'s, 't>(
-    alloc: Global,
-    at: u32,
-    signs: &'s [Sign<'t>],
-) -> Result<(Parsed, &'s [Sign<'t>]), Stop>
-    ensures tree { IfOk result (λ x. Made (Behind Symbol.CloseSquare (IsAscribed Symbol.Close))
-        (ExNil at) (read_signs signs.now) (tree_of x.0.tree) (read_signs x.1.now)) }
-    ensures height { IfOk result (λ x. measured x.0) }
-    ensures shorter { IfOk result (λ x. length x.1.now < length signs.now) }
-    ensures none { IfErr result (λ e. OnSyntax e
-        (Nothing (Behind Symbol.CloseSquare (IsAscribed Symbol.Close)) (read_signs signs.now))) }
-{
-    let behind = expect(Symbol::CloseSquare, signs)?;
-    let (ty, rest) = ascribed(alloc, Symbol::Close, behind)?;
-    build::nil(alloc, at, ty, rest)
-}
-
-// What stands behind a `(None`.
-fn absent<'s, 't>(
-    alloc: Global,
-    at: u32,
-    signs: &'s [Sign<'t>],
-) -> Result<(Parsed, &'s [Sign<'t>]), Stop>
-    ensures tree { IfOk result (λ x. Made (IsAscribed Symbol.Close) (ExAbsent at)
-        (read_signs signs.now) (tree_of x.0.tree) (read_signs x.1.now)) }
-    ensures height { IfOk result (λ x. measured x.0) }
-    ensures shorter { IfOk result (λ x. length x.1.now < length signs.now) }
-    ensures none { IfErr result (λ e. OnSyntax e
-        (Nothing (IsAscribed Symbol.Close) (read_signs signs.now))) }
-{
-    let (ty, rest) = ascribed(alloc, Symbol::Close, signs)?;
-    build::absent(alloc, at, ty, rest)
-}
-
 // What stands behind a `(` and begins with an expression.
 #[cycle(expressions)]
 fn enclosed<'s, 't>(
@@ -259,9 +225,9 @@ fn atom<'s, 't>(
     parsed_leaf(alloc, signs)
 }
 
-// An atom behind a word that takes it, or an atom with its arguments.
+/// An atom behind a word that takes it, or an atom with its arguments.
 #[cycle(expressions)]
-fn app<'s, 't>(
+pub fn app<'s, 't>(
     alloc: Global,
     depth: u32,
     signs: &'s [Sign<'t>],
@@ -329,239 +295,6 @@ fn next_argument<'s, 't>(
 {
     let (argument, rest) = atom(alloc, depth, signs)?;
     build::application(alloc, at, function, argument, rest)
-}
-
-// What stands behind a `-`.
-#[cycle(expressions)]
-fn minus<'s, 't>(
-    alloc: Global,
-    depth: u32,
-    at: u32,
-    signs: &'s [Sign<'t>],
-) -> Result<(Parsed, &'s [Sign<'t>]), Stop>
-    requires { 0 < depth }
-    ensures tree { IfOk result (λ x. IsTree depth Unary
-        (Fixed at Symbol.Minus ∷ read_signs signs.now) (tree_of x.0.tree) (read_signs x.1.now)) }
-    ensures height { IfOk result (λ x. measured x.0) }
-    ensures shorter { IfOk result (λ x. length x.1.now < length signs.now) }
-    ensures none { IfErr result (λ e. OnSyntax e
-        (NoTree depth Unary (Fixed at Symbol.Minus ∷ read_signs signs.now))) }
-{
-    if let Some((n, rest)) = lone_number(signs) {
-        return build::negative(alloc, at, n, rest);
-    }
-    let (operand, rest) = unary(alloc, depth - 1, signs)?;
-    build::operation(alloc, at, primitives::NEG, operand, rest)
-}
-
-// A `-` or a `not` with its operand, or an application.
-#[cycle(expressions)]
-fn unary<'s, 't>(
-    alloc: Global,
-    depth: u32,
-    signs: &'s [Sign<'t>],
-) -> Result<(Parsed, &'s [Sign<'t>]), Stop>
-    ensures tree { IfOk result (λ x. IsTree depth Unary (read_signs signs.now) (tree_of x.0.tree)
-        (read_signs x.1.now)) }
-    ensures height { IfOk result (λ x. measured x.0) }
-    ensures shorter { IfOk result (λ x. length x.1.now < length signs.now) }
-    ensures none { IfErr result (λ e. OnSyntax e (NoTree depth Unary (read_signs signs.now))) }
-{
-    let at = here(signs);
-    if let Some(behind) = after(Symbol::Minus, signs) {
-        if depth == 0 {
-            return Err(refused_at(signs));
-        }
-        return minus(alloc, depth, at, behind);
-    }
-    if let Some(behind) = after(Symbol::Not, signs) {
-        if depth == 0 {
-            return Err(refused_at(signs));
-        }
-        let (operand, rest) = unary(alloc, depth - 1, behind)?;
-        return build::operation(alloc, at, primitives::NOT, operand, rest);
-    }
-    app(alloc, depth, signs)
-}
-
-// A left side and its operator with the operand of this level that stands here.
-#[cycle(expressions)]
-fn right_side<'s, 't>(
-    alloc: Global,
-    level: u32,
-    depth: u32,
-    at: u32,
-    operator: Operator,
-    left: Parsed,
-    signs: &'s [Sign<'t>],
-) -> Result<(Parsed, &'s [Sign<'t>]), Stop>
-    requires level { level ≤ 6 }
-    requires low { left.height < 2 ^ 32 - 1 }
-    requires small { depth < 2 ^ 32 - 1 }
-    requires left { measured left }
-    ensures tree { IfOk result (λ x. Made (IsTree depth (Binary level))
-        (operator_tree at (operator_read operator) (tree_of left.tree)) (read_signs signs.now)
-        (tree_of x.0.tree) (read_signs x.1.now)) }
-    ensures height { IfOk result (λ x. measured x.0) }
-    ensures shorter { IfOk result (λ x. length x.1.now < length signs.now) }
-    ensures none { IfErr result (λ e. OnSyntax e
-        (NoTree depth (Binary level) (read_signs signs.now))) }
-{
-    let (right, rest) = binary(alloc, level, depth, signs)?;
-    build::join(alloc, at, operator, left, right, rest)
-}
-
-// Operands with the operators of a level that group to the left.
-#[cycle(expressions)]
-fn to_left<'s, 't>(
-    alloc: Global,
-    level: u32,
-    depth: u32,
-    signs: &'s [Sign<'t>],
-) -> Result<(Parsed, &'s [Sign<'t>]), Stop>
-    requires level { (0 < level) × (level ≤ 6) }
-    requires side { side_of level ≡ ToLeft }
-    ensures tree { IfOk result (λ x. IsTree depth (Binary level) (read_signs signs.now)
-        (tree_of x.0.tree) (read_signs x.1.now)) }
-    ensures height { IfOk result (λ x. measured x.0) }
-    ensures shorter { IfOk result (λ x. length x.1.now < length signs.now) }
-    ensures none { IfErr result (λ e. OnSyntax e
-        (NoTree depth (Binary level) (read_signs signs.now))) }
-{
-    let at = here(signs);
-    let (mut left, mut rest) = binary(alloc, level - 1, depth, signs)?;
-    while let Some((operator, behind)) = operator(level, rest) {
-        if left.height >= depth {
-            return Err(refused_at(rest));
-        }
-        let (joined, later) = right_side(alloc, level - 1, depth - 1, at, operator, left, behind)?;
-        left = joined;
-        rest = later;
-    }
-    Ok((left, rest))
-}
-
-// What follows a first operand at a level whose operators group to the right.
-#[cycle(expressions)]
-fn to_right<'s, 't>(
-    alloc: Global,
-    level: u32,
-    depth: u32,
-    at: u32,
-    first: Parsed,
-    signs: &'s [Sign<'t>],
-) -> Result<(Parsed, &'s [Sign<'t>]), Stop>
-    requires level { (0 < level) × (level ≤ 6) }
-    requires side { side_of level ≡ ToRight }
-    requires low { first.height ≤ depth }
-    requires first { measured first }
-    requires stops { level < front (read_signs signs.now) }
-    ensures tree { IfOk result (λ x. IsTree depth (After level at (tree_of first.tree))
-        (read_signs signs.now) (tree_of x.0.tree) (read_signs x.1.now)) }
-    ensures height { IfOk result (λ x. measured x.0) }
-    ensures within { IfOk result (λ x. length x.1.now ≤ length signs.now) }
-    ensures none { IfErr result (λ e. OnSyntax e
-        (NoTree depth (After level at (tree_of first.tree)) (read_signs signs.now))) }
-{
-    let Some((operator, behind)) = operator(level, signs) else {
-        return Ok((first, signs));
-    };
-    if first.height >= depth {
-        return Err(refused_at(signs));
-    }
-    right_side(alloc, level, depth - 1, at, operator, first, behind)
-}
-
-// A left side and its operator with the right side here, the last operator of this level.
-#[cycle(expressions)]
-fn compared<'s, 't>(
-    alloc: Global,
-    level: u32,
-    depth: u32,
-    at: u32,
-    operator: Operator,
-    left: Parsed,
-    signs: &'s [Sign<'t>],
-) -> Result<(Parsed, &'s [Sign<'t>]), Stop>
-    requires level { (0 < level) × (level ≤ 6) }
-    requires low { left.height < 2 ^ 32 - 1 }
-    requires small { depth < 2 ^ 32 - 1 }
-    requires left { measured left }
-    ensures tree { IfOk result (λ x. Made (IsLastOperand level depth)
-        (operator_tree at (operator_read operator) (tree_of left.tree)) (read_signs signs.now)
-        (tree_of x.0.tree) (read_signs x.1.now)) }
-    ensures height { IfOk result (λ x. measured x.0) }
-    ensures shorter { IfOk result (λ x. length x.1.now < length signs.now) }
-    ensures none { IfErr result (λ e. OnSyntax e
-        (Nothing (IsLastOperand level depth) (read_signs signs.now))) }
-{
-    let (joined, rest) = right_side(alloc, level - 1, depth, at, operator, left, signs)?;
-    match self::operator(level, rest) {
-        Some(_) => Err(refused_at(rest)),
-        None => Ok((joined, rest)),
-    }
-}
-
-// What follows a first operand at a level with at most one operator.
-#[cycle(expressions)]
-fn once<'s, 't>(
-    alloc: Global,
-    level: u32,
-    depth: u32,
-    at: u32,
-    first: Parsed,
-    signs: &'s [Sign<'t>],
-) -> Result<(Parsed, &'s [Sign<'t>]), Stop>
-    requires level { (0 < level) × (level ≤ 6) }
-    requires side { side_of level ≡ Once }
-    requires low { first.height ≤ depth }
-    requires first { measured first }
-    requires stops { level < front (read_signs signs.now) }
-    ensures tree { IfOk result (λ x. IsTree depth (After level at (tree_of first.tree))
-        (read_signs signs.now) (tree_of x.0.tree) (read_signs x.1.now)) }
-    ensures height { IfOk result (λ x. measured x.0) }
-    ensures within { IfOk result (λ x. length x.1.now ≤ length signs.now) }
-    ensures none { IfErr result (λ e. OnSyntax e
-        (NoTree depth (After level at (tree_of first.tree)) (read_signs signs.now))) }
-{
-    let Some((operator, behind)) = operator(level, signs) else {
-        return Ok((first, signs));
-    };
-    if first.height >= depth {
-        return Err(refused_at(signs));
-    }
-    compared(alloc, level, depth - 1, at, operator, first, behind)
-}
-
-// An operand of this level or tighter.
-#[cycle(expressions)]
-fn binary<'s, 't>(
-    alloc: Global,
-    level: u32,
-    depth: u32,
-    signs: &'s [Sign<'t>],
-) -> Result<(Parsed, &'s [Sign<'t>]), Stop>
-    requires { level ≤ 6 }
-    ensures tree { IfOk result (λ x. IsTree depth (Binary level) (read_signs signs.now)
-        (tree_of x.0.tree) (read_signs x.1.now)) }
-    ensures height { IfOk result (λ x. measured x.0) }
-    ensures shorter { IfOk result (λ x. length x.1.now < length signs.now) }
-    ensures none { IfErr result (λ e. OnSyntax e
-        (NoTree depth (Binary level) (read_signs signs.now))) }
-{
-    if level == 0 {
-        return unary(alloc, depth, signs);
-    }
-    if level <= 2 {
-        return to_left(alloc, level, depth, signs);
-    }
-    let at = here(signs);
-    let (first, rest) = binary(alloc, level - 1, depth, signs)?;
-    if level == 4 {
-        once(alloc, level, depth, at, first, rest)
-    } else {
-        to_right(alloc, level, depth, at, first, rest)
-    }
 }
 
 // What stands behind a `let` that is not recursive.

@@ -2,12 +2,15 @@
 
 ghost use Rattle.std.specs.Prelude.{◌≡◌, ◌<◌, ℕ, ◌∷◌, length, IfOk, IfErr, MatchOption, Some, None};
 ghost use Rattle.ac_syntax.specs.Signs.{Upper};
+ghost use Rattle.ac_syntax.specs.Trees.{ExNil, ExAbsent};
 ghost use Rattle.ac_syntax.specs.ReadSigns.{read_signs};
 ghost use Rattle.ac_syntax.specs.ReadTrees.{tree_of, expr_kind_of};
 ghost use Rattle.ac_syntax.specs.PartParsing.{OnSyntax, NoSymbol};
+ghost use Rattle.ac_expressions.specs.inner.Pieces.{Nothing, Behind, IsAscribed, Made};
 ghost use Rattle.ac_expressions.specs.inner.Forms.{base_expr, measured, FormLeafAt, NoFormLeaf};
 
-use crate::build::Parsed;
+use crate::binders::ascribed;
+use crate::build::{self, Parsed};
 use crate::front::{constant, expect, name};
 use ac_syntax::{SExpr, SExprKind, SName, Sign, SignKind, Stop, Symbol, next, refused_at};
 use ac_types::exceptions::{DIVISION_BY_ZERO, END_OF_FILE, MATCH_FAILURE, NOT_FOUND};
@@ -101,4 +104,39 @@ pub fn parsed_leaf<'s, 't>(
     let (tree, rest) = leaf(alloc, signs)?;
     let tree = Box::new(alloc, tree)?;
     Ok((Parsed { tree, height: 1 }, rest))
+}
+
+/// What stands behind a `([`.
+pub fn nil<'s, 't>(
+    alloc: Global,
+    at: u32,
+    signs: &'s [Sign<'t>],
+) -> Result<(Parsed, &'s [Sign<'t>]), Stop>
+    ensures tree { IfOk result (λ x. Made (Behind Symbol.CloseSquare (IsAscribed Symbol.Close))
+        (ExNil at) (read_signs signs.now) (tree_of x.0.tree) (read_signs x.1.now)) }
+    ensures height { IfOk result (λ x. measured x.0) }
+    ensures shorter { IfOk result (λ x. length x.1.now < length signs.now) }
+    ensures none { IfErr result (λ e. OnSyntax e
+        (Nothing (Behind Symbol.CloseSquare (IsAscribed Symbol.Close)) (read_signs signs.now))) }
+{
+    let behind = expect(Symbol::CloseSquare, signs)?;
+    let (ty, rest) = ascribed(alloc, Symbol::Close, behind)?;
+    build::nil(alloc, at, ty, rest)
+}
+
+/// What stands behind a `(None`.
+pub fn absent<'s, 't>(
+    alloc: Global,
+    at: u32,
+    signs: &'s [Sign<'t>],
+) -> Result<(Parsed, &'s [Sign<'t>]), Stop>
+    ensures tree { IfOk result (λ x. Made (IsAscribed Symbol.Close) (ExAbsent at)
+        (read_signs signs.now) (tree_of x.0.tree) (read_signs x.1.now)) }
+    ensures height { IfOk result (λ x. measured x.0) }
+    ensures shorter { IfOk result (λ x. length x.1.now < length signs.now) }
+    ensures none { IfErr result (λ e. OnSyntax e
+        (Nothing (IsAscribed Symbol.Close) (read_signs signs.now))) }
+{
+    let (ty, rest) = ascribed(alloc, Symbol::Close, signs)?;
+    build::absent(alloc, at, ty, rest)
 }

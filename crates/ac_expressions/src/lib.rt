@@ -7,6 +7,7 @@ mod expressions;
 mod front;
 mod keywords;
 mod leaves;
+mod operators;
 mod patterns;
 mod whole;
 

@@ -23,9 +23,9 @@ whole-returns-in_err-head t c =
 pub whole-returns-in_default-clause-tree : goal.whole-returns-in_default-clause-tree
 whole-returns-in_default-clause-tree t c = pat_alone _ _ _ _ c.in_ok-head.ensures.tree c.in_default.ensures.found
 
-pub whole-returns-then-head-depth-clause-none : goal.whole-returns-then-head-depth-clause-none
-whole-returns-then-head-depth-clause-none t c =
-    refused _ _ c.refused_at.ensures (cons_high _ _ _ _ _ c.in_ok-head.ensures.tree c.in-Some.ensures.found (subst (λ (n : ℕ). c.args.depth ≤ n) c.in_ok-head.ensures.height c.if-head-depth.true))
+pub whole-returns-then-head-depth : goal.whole-returns-then-head-depth
+whole-returns-then-head-depth t c =
+    record { tree = tt; height = tt; shorter = tt; none = refused _ _ c.refused_at.ensures (cons_high _ _ _ _ _ c.in_ok-head.ensures.tree c.in-Some.ensures.found (subst (λ (n : ℕ). c.args.depth ≤ n) c.in_ok-head.ensures.height c.if-head-depth.true)) }
 
 pub whole-returns-in_err-tail : goal.whole-returns-in_err-tail
 whole-returns-in_err-tail t c =
@@ -43,8 +43,8 @@ prefixed-returns-in_default-clause-tree t c = IfOk-weaker c.single.result _ _ (�
 pub prefixed-returns-in_default-clause-none : goal.prefixed-returns-in_default-clause-none
 prefixed-returns-in_default-clause-none t c = IfErr-weaker c.single.result _ _ (λ e o. on_syntax_more e (single_none _ _ c.in_default.ensures.found) o) c.single.ensures.none
 
-pub prefixed-returns-then-depth-eq0-clause-none : goal.prefixed-returns-then-depth-eq0-clause-none
-prefixed-returns-then-depth-eq0-clause-none t c = refused _ _ c.refused_at.ensures (flat_pat _ _ _ c.if-depth-eq0.true)
+pub prefixed-returns-then-depth-eq0 : goal.prefixed-returns-then-depth-eq0
+prefixed-returns-then-depth-eq0 t c = record { tree = tt; height = tt; shorter = tt; none = refused _ _ c.refused_at.ensures (flat_pat _ _ _ c.if-depth-eq0.true) }
 
 pub prefixed-returns-in_err-item : goal.prefixed-returns-in_err-item
 prefixed-returns-in_err-item t c =
@@ -57,8 +57,8 @@ prefixed-returns-clause-tree t c =
     let pos : 0 < c.args.depth = omega (arith, c.if-depth-eq0.false) in
     IfOk-weaker c.prefixed_by.result _ _ (λ x o. rw (o.1, o.0) (prefixed_tree _ _ _ _ _ c.in-Some.ensures.found pos _ _ c.in_ok-item.ensures.tree)) c.prefixed_by.ensures.tree
 
-pub single-returns-then-depth-eq0-clause-none : goal.single-returns-then-depth-eq0-clause-none
-single-returns-then-depth-eq0-clause-none t c = refused _ _ c.refused_at.ensures (flat_pat _ _ _ c.if-depth-eq0.true)
+pub single-returns-then-depth-eq0 : goal.single-returns-then-depth-eq0
+single-returns-then-depth-eq0 t c = record { tree = tt; height = tt; shorter = tt; none = refused _ _ c.refused_at.ensures (flat_pat _ _ _ c.if-depth-eq0.true) }
 
 pub single-returns-in-Some-clause-tree : goal.single-returns-in-Some-clause-tree
 single-returns-in-Some-clause-tree t c =
@@ -148,9 +148,9 @@ enclosed-returns-in_err-behind t c =
     let p = err_from_is_err_and c.from_residual-in_err-behind.result c.from_residual-in_err-behind.ensures.1 in
     rw (p.1, p.2) (record { tree = tt; height = tt; shorter = tt; none = on_syntax_more _ (unclosed_none _ _ _ c.requires.unclosed c.requires.no_name _ _ c.in_ok-first.ensures.tree c.in_default.ensures.found) c.in_err-behind.ensures.none })
 
-pub enclosed-returns-then-first-depth-clause-none : goal.enclosed-returns-then-first-depth-clause-none
-enclosed-returns-then-first-depth-clause-none t c =
-    refused _ _ c.refused_at.ensures (tuple_high _ _ _ c.requires.unclosed c.requires.no_name _ _ c.in_ok-first.ensures.tree _ c.in_default.ensures.found c.in_ok-behind.ensures.found (subst (λ (n : ℕ). c.args.depth ≤ n) c.in_ok-first.ensures.height c.if-first-depth.true))
+pub enclosed-returns-then-first-depth : goal.enclosed-returns-then-first-depth
+enclosed-returns-then-first-depth t c =
+    record { tree = tt; height = tt; shorter = tt; none = refused _ _ c.refused_at.ensures (tuple_high _ _ _ c.requires.unclosed c.requires.no_name _ _ c.in_ok-first.ensures.tree _ c.in_default.ensures.found c.in_ok-behind.ensures.found (subst (λ (n : ℕ). c.args.depth ≤ n) c.in_ok-first.ensures.height c.if-first-depth.true)) }
 
 pub enclosed-returns-clause-tree : goal.enclosed-returns-clause-tree
 enclosed-returns-clause-tree t c =

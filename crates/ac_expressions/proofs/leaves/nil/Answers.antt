@@ -1,7 +1,7 @@
 use Rattle.std.proofs.lemmas.Result.{err_from_is_err_and}
 use Rattle.ac_syntax.proofs.OnStop.{on_syntax_more}
 use Rattle.ac_expressions.proofs.Readers.{no_symbol, behind_none}
-use Rattle.ac_expressions.proofs.expressions.nil.Goals as goal
+use Rattle.ac_expressions.proofs.leaves.nil.Goals as goal
 
 pub returns-in_err-behind-clause-none : goal.returns-in_err-behind-clause-none
 returns-in_err-behind-clause-none c =

@@ -1,0 +1,251 @@
+// Operators by level, and what stands between them.
+
+ghost use Rattle.std.specs.Prelude.{◌≡◌, ◌<◌, ◌≤◌, ◌-◌, ◌^◌, ◌∷◌, length, IfOk, IfErr};
+ghost use Rattle.ac_syntax.specs.Signs.{Fixed};
+ghost use Rattle.ac_syntax.specs.Expressions.{Binary, After, Unary, front, ToLeft, ToRight, Once, operator_tree, side_of, IsTree};
+ghost use Rattle.ac_syntax.specs.ReadSigns.{read_signs};
+ghost use Rattle.ac_syntax.specs.ReadTrees.{tree_of};
+ghost use Rattle.ac_syntax.specs.PartParsing.{OnSyntax};
+ghost use Rattle.ac_expressions.specs.inner.Pieces.{Nothing, Made};
+ghost use Rattle.ac_expressions.specs.inner.Forms.{NoTree, measured, operator_read, IsLastOperand};
+
+use crate::build::{self, Operator, Parsed};
+use crate::expressions::app;
+use crate::front::lone_number;
+use crate::keywords::operator;
+use ac_syntax::{Sign, Stop, Symbol, after, here, refused_at};
+use ac_types::primitives;
+use std::alloc::Global;
+
+// What stands behind a `-`.
+#[cycle(expressions)]
+fn minus<'s, 't>(
+    alloc: Global,
+    depth: u32,
+    at: u32,
+    signs: &'s [Sign<'t>],
+) -> Result<(Parsed, &'s [Sign<'t>]), Stop>
+    requires { 0 < depth }
+    ensures tree { IfOk result (λ x. IsTree depth Unary
+        (Fixed at Symbol.Minus ∷ read_signs signs.now) (tree_of x.0.tree) (read_signs x.1.now)) }
+    ensures height { IfOk result (λ x. measured x.0) }
+    ensures shorter { IfOk result (λ x. length x.1.now < length signs.now) }
+    ensures none { IfErr result (λ e. OnSyntax e
+        (NoTree depth Unary (Fixed at Symbol.Minus ∷ read_signs signs.now))) }
+{
+    if let Some((n, rest)) = lone_number(signs) {
+        return build::negative(alloc, at, n, rest);
+    }
+    let (operand, rest) = unary(alloc, depth - 1, signs)?;
+    build::operation(alloc, at, primitives::NEG, operand, rest)
+}
+
+// A `-` or a `not` with its operand, or an application.
+#[cycle(expressions)]
+fn unary<'s, 't>(
+    alloc: Global,
+    depth: u32,
+    signs: &'s [Sign<'t>],
+) -> Result<(Parsed, &'s [Sign<'t>]), Stop>
+    ensures tree { IfOk result (λ x. IsTree depth Unary (read_signs signs.now) (tree_of x.0.tree)
+        (read_signs x.1.now)) }
+    ensures height { IfOk result (λ x. measured x.0) }
+    ensures shorter { IfOk result (λ x. length x.1.now < length signs.now) }
+    ensures none { IfErr result (λ e. OnSyntax e (NoTree depth Unary (read_signs signs.now))) }
+{
+    let at = here(signs);
+    if let Some(behind) = after(Symbol::Minus, signs) {
+        if depth == 0 {
+            return Err(refused_at(signs));
+        }
+        return minus(alloc, depth, at, behind);
+    }
+    if let Some(behind) = after(Symbol::Not, signs) {
+        if depth == 0 {
+            return Err(refused_at(signs));
+        }
+        let (operand, rest) = unary(alloc, depth - 1, behind)?;
+        return build::operation(alloc, at, primitives::NOT, operand, rest);
+    }
+    app(alloc, depth, signs)
+}
+
+// A left side and its operator with the operand of this level that stands here.
+#[cycle(expressions)]
+fn right_side<'s, 't>(
+    alloc: Global,
+    level: u32,
+    depth: u32,
+    at: u32,
+    operator: Operator,
+    left: Parsed,
+    signs: &'s [Sign<'t>],
+) -> Result<(Parsed, &'s [Sign<'t>]), Stop>
+    requires level { level ≤ 6 }
+    requires low { left.height < 2 ^ 32 - 1 }
+    requires small { depth < 2 ^ 32 - 1 }
+    requires left { measured left }
+    ensures tree { IfOk result (λ x. Made (IsTree depth (Binary level))
+        (operator_tree at (operator_read operator) (tree_of left.tree)) (read_signs signs.now)
+        (tree_of x.0.tree) (read_signs x.1.now)) }
+    ensures height { IfOk result (λ x. measured x.0) }
+    ensures shorter { IfOk result (λ x. length x.1.now < length signs.now) }
+    ensures none { IfErr result (λ e. OnSyntax e
+        (NoTree depth (Binary level) (read_signs signs.now))) }
+{
+    let (right, rest) = binary(alloc, level, depth, signs)?;
+    build::join(alloc, at, operator, left, right, rest)
+}
+
+// Operands with the operators of a level that group to the left.
+#[cycle(expressions)]
+fn to_left<'s, 't>(
+    alloc: Global,
+    level: u32,
+    depth: u32,
+    signs: &'s [Sign<'t>],
+) -> Result<(Parsed, &'s [Sign<'t>]), Stop>
+    requires level { (0 < level) × (level ≤ 6) }
+    requires side { side_of level ≡ ToLeft }
+    ensures tree { IfOk result (λ x. IsTree depth (Binary level) (read_signs signs.now)
+        (tree_of x.0.tree) (read_signs x.1.now)) }
+    ensures height { IfOk result (λ x. measured x.0) }
+    ensures shorter { IfOk result (λ x. length x.1.now < length signs.now) }
+    ensures none { IfErr result (λ e. OnSyntax e
+        (NoTree depth (Binary level) (read_signs signs.now))) }
+{
+    let at = here(signs);
+    let (mut left, mut rest) = binary(alloc, level - 1, depth, signs)?;
+    while let Some((operator, behind)) = operator(level, rest) {
+        if left.height >= depth {
+            return Err(refused_at(rest));
+        }
+        let (joined, later) = right_side(alloc, level - 1, depth - 1, at, operator, left, behind)?;
+        left = joined;
+        rest = later;
+    }
+    Ok((left, rest))
+}
+
+// What follows a first operand at a level whose operators group to the right.
+#[cycle(expressions)]
+fn to_right<'s, 't>(
+    alloc: Global,
+    level: u32,
+    depth: u32,
+    at: u32,
+    first: Parsed,
+    signs: &'s [Sign<'t>],
+) -> Result<(Parsed, &'s [Sign<'t>]), Stop>
+    requires level { (0 < level) × (level ≤ 6) }
+    requires side { side_of level ≡ ToRight }
+    requires low { first.height ≤ depth }
+    requires first { measured first }
+    requires stops { level < front (read_signs signs.now) }
+    ensures tree { IfOk result (λ x. IsTree depth (After level at (tree_of first.tree))
+        (read_signs signs.now) (tree_of x.0.tree) (read_signs x.1.now)) }
+    ensures height { IfOk result (λ x. measured x.0) }
+    ensures within { IfOk result (λ x. length x.1.now ≤ length signs.now) }
+    ensures none { IfErr result (λ e. OnSyntax e
+        (NoTree depth (After level at (tree_of first.tree)) (read_signs signs.now))) }
+{
+    let Some((operator, behind)) = operator(level, signs) else {
+        return Ok((first, signs));
+    };
+    if first.height >= depth {
+        return Err(refused_at(signs));
+    }
+    right_side(alloc, level, depth - 1, at, operator, first, behind)
+}
+
+// A left side and its operator with the right side here, the last operator of this level.
+#[cycle(expressions)]
+fn compared<'s, 't>(
+    alloc: Global,
+    level: u32,
+    depth: u32,
+    at: u32,
+    operator: Operator,
+    left: Parsed,
+    signs: &'s [Sign<'t>],
+) -> Result<(Parsed, &'s [Sign<'t>]), Stop>
+    requires level { (0 < level) × (level ≤ 6) }
+    requires low { left.height < 2 ^ 32 - 1 }
+    requires small { depth < 2 ^ 32 - 1 }
+    requires left { measured left }
+    ensures tree { IfOk result (λ x. Made (IsLastOperand level depth)
+        (operator_tree at (operator_read operator) (tree_of left.tree)) (read_signs signs.now)
+        (tree_of x.0.tree) (read_signs x.1.now)) }
+    ensures height { IfOk result (λ x. measured x.0) }
+    ensures shorter { IfOk result (λ x. length x.1.now < length signs.now) }
+    ensures none { IfErr result (λ e. OnSyntax e
+        (Nothing (IsLastOperand level depth) (read_signs signs.now))) }
+{
+    let (joined, rest) = right_side(alloc, level - 1, depth, at, operator, left, signs)?;
+    match self::operator(level, rest) {
+        Some(_) => Err(refused_at(rest)),
+        None => Ok((joined, rest)),
+    }
+}
+
+// What follows a first operand at a level with at most one operator.
+#[cycle(expressions)]
+fn once<'s, 't>(
+    alloc: Global,
+    level: u32,
+    depth: u32,
+    at: u32,
+    first: Parsed,
+    signs: &'s [Sign<'t>],
+) -> Result<(Parsed, &'s [Sign<'t>]), Stop>
+    requires level { (0 < level) × (level ≤ 6) }
+    requires side { side_of level ≡ Once }
+    requires low { first.height ≤ depth }
+    requires first { measured first }
+    requires stops { level < front (read_signs signs.now) }
+    ensures tree { IfOk result (λ x. IsTree depth (After level at (tree_of first.tree))
+        (read_signs signs.now) (tree_of x.0.tree) (read_signs x.1.now)) }
+    ensures height { IfOk result (λ x. measured x.0) }
+    ensures within { IfOk result (λ x. length x.1.now ≤ length signs.now) }
+    ensures none { IfErr result (λ e. OnSyntax e
+        (NoTree depth (After level at (tree_of first.tree)) (read_signs signs.now))) }
+{
+    let Some((operator, behind)) = operator(level, signs) else {
+        return Ok((first, signs));
+    };
+    if first.height >= depth {
+        return Err(refused_at(signs));
+    }
+    compared(alloc, level, depth - 1, at, operator, first, behind)
+}
+
+/// An operand of this level or tighter.
+#[cycle(expressions)]
+pub fn binary<'s, 't>(
+    alloc: Global,
+    level: u32,
+    depth: u32,
+    signs: &'s [Sign<'t>],
+) -> Result<(Parsed, &'s [Sign<'t>]), Stop>
+    requires { level ≤ 6 }
+    ensures tree { IfOk result (λ x. IsTree depth (Binary level) (read_signs signs.now)
+        (tree_of x.0.tree) (read_signs x.1.now)) }
+    ensures height { IfOk result (λ x. measured x.0) }
+    ensures shorter { IfOk result (λ x. length x.1.now < length signs.now) }
+    ensures none { IfErr result (λ e. OnSyntax e
+        (NoTree depth (Binary level) (read_signs signs.now))) }
+{
+    if level == 0 {
+        return unary(alloc, depth, signs);
+    }
+    if level <= 2 {
+        return to_left(alloc, level, depth, signs);
+    }
+    let at = here(signs);
+    let (first, rest) = binary(alloc, level - 1, depth, signs)?;
+    if level == 4 {
+        once(alloc, level, depth, at, first, rest)
+    } else {
+        to_right(alloc, level, depth, at, first, rest)
+    }
+}
