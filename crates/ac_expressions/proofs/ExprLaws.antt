@@ -10,7 +10,7 @@ use Rattle.ac_syntax.specs.declared.surface.SExprKind.TheViews.{roll-SExpr, roll
 use Rattle.ac_syntax.specs.declared.surface.SExprKind.TheVariants as variants
 use Rattle.ac_syntax.specs.Trees.{PatTree, Tree, ExInt, ExStr, ExVar, ExOf, ExExnOf}
 use Rattle.ac_syntax.specs.ReadTrees.{FunTree, name_of, pat_of, tree_of, expr_kind_of, arm_tree_of, fun_of, expr_kind_layer, expr_tree_layer, arm_tree_layer, fun_layer}
-use Rattle.ac_syntax.proofs.ReadLaws.{expr_kind_out, kind_at}
+use Rattle.ac_syntax.proofs.ReadLaws.{expr_kind_out, kind_at, expr_kind_of-Tuple, expr_kind_of-Seq, expr_kind_of-Op}
 
 -- an expression that the code makes
 pub tree_of-kind : (at : ℕ) (k : SExprKind) → tree_of (roll-SExpr (record { at = at; kind = k })) ≡ expr_kind_of k at
@@ -36,3 +36,6 @@ arm_tree_of-made p e = fold-roll-SArm (ℕ → Tree) (PatTree × Tree) Tree FunT
 
 pub expr_kind_of-ExnOf : (at n : ℕ) (e : SExpr) → expr_kind_of (Exn n (Some e)) at ≡ ExExnOf at n (tree_of e)
 expr_kind_of-ExnOf at n e = ap (λ f. f at) (expr_kind_out (Exn n (Some e))) ∙ ap (kind_at at) (variants.outs-Exn n (Some e))
+
+-- the forms that hold a list
+pub ruleset list_laws = (expr_kind_of-Tuple, expr_kind_of-Seq, expr_kind_of-Op)

@@ -371,7 +371,7 @@ pub fn raise<'s, 't>(
 }
 
 /// The primitive of this number on one operand.
-#[tactic(auto, using(ac_syntax::proofs::ReadLaws::expr_laws))]
+#[tactic(auto, using(crate::proofs::ExprLaws::list_laws))]
 pub fn operation<'s, 't>(
     alloc: Global,
     at: u32,
@@ -393,7 +393,7 @@ pub fn operation<'s, 't>(
 }
 
 /// A sequence of parts, of which the highest has this height.
-#[tactic(auto, using(ac_syntax::proofs::ReadLaws::expr_laws))]
+#[tactic(auto, using(crate::proofs::ExprLaws::list_laws))]
 pub fn sequence<'s, 't>(
     alloc: Global,
     at: u32,
@@ -412,7 +412,7 @@ pub fn sequence<'s, 't>(
 }
 
 /// A tuple of parts, of which the highest has this height, with its `)`.
-#[tactic(auto, using(ac_syntax::proofs::ReadLaws::expr_laws))]
+#[tactic(auto, using(crate::proofs::ExprLaws::list_laws))]
 pub fn tuple<'s, 't>(
     alloc: Global,
     at: u32,

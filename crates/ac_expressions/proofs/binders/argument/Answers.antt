@@ -3,10 +3,10 @@ use Rattle.ac_syntax.proofs.OnStop.{on_syntax_more}
 use Rattle.ac_expressions.proofs.Readers.{no_symbol, behind_none}
 use Rattle.ac_expressions.proofs.binders.argument.Goals as goal
 
-pub returns-in_err-inner-clause-none : goal.returns-in_err-inner-clause-none
-returns-in_err-inner-clause-none c =
+pub returns-in_err-inner : goal.returns-in_err-inner
+returns-in_err-inner c =
     let p = err_from_is_err_and c.from_residual.result c.from_residual.ensures.1 in
-    rw (p.1, p.2) (on_syntax_more _ no_symbol c.in_err-inner.ensures.none)
+    rw (p.1, p.2) (record { found = tt; shorter = tt; none = on_syntax_more _ no_symbol c.in_err-inner.ensures.none })
 
 pub returns-clause-none : goal.returns-clause-none
 returns-clause-none c = IfErr-weaker c.typed.result _ _ (λ e o. on_syntax_more e (behind_none c.in_ok-inner.ensures.found) o) c.typed.ensures.none

@@ -4,12 +4,12 @@ use Rattle.ac_syntax.proofs.OnStop.{on_syntax_more}
 use Rattle.ac_expressions.proofs.Readers.{head_no_argument, head_no_result}
 use Rattle.ac_expressions.proofs.binders.function_head.Goals as goal
 
-pub returns-in_err-argument-clause-none : goal.returns-in_err-argument-clause-none
-returns-in_err-argument-clause-none c =
+pub returns-in_err-argument : goal.returns-in_err-argument
+returns-in_err-argument c =
     let p = err_from_is_err_and c.from_residual-in_err-argument.result c.from_residual-in_err-argument.ensures.1 in
-    rw (p.1, p.2) (on_syntax_more _ (head_no_argument (name_of c.in_ok-name.name) _ _ c.in_ok-name.ensures.found) c.in_err-argument.ensures.none)
+    rw (p.1, p.2) (record { found = tt; shorter = tt; none = on_syntax_more _ (head_no_argument (name_of c.in_ok-name.name) _ _ c.in_ok-name.ensures.found) c.in_err-argument.ensures.none })
 
-pub returns-in_err-result-clause-none : goal.returns-in_err-result-clause-none
-returns-in_err-result-clause-none c =
+pub returns-in_err-result : goal.returns-in_err-result
+returns-in_err-result c =
     let p = err_from_is_err_and c.from_residual-in_err-result.result c.from_residual-in_err-result.ensures.1 in
-    rw (p.1, p.2) (on_syntax_more _ (head_no_result (name_of c.in_ok-name.name) _ _ _ _ c.in_ok-name.ensures.found c.in_ok-argument.ensures.found) c.in_err-result.ensures.none)
+    rw (p.1, p.2) (record { found = tt; shorter = tt; none = on_syntax_more _ (head_no_result (name_of c.in_ok-name.name) _ _ _ _ c.in_ok-name.ensures.found c.in_ok-argument.ensures.found) c.in_err-result.ensures.none })

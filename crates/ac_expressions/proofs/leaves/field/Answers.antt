@@ -8,15 +8,15 @@ use Rattle.ac_expressions.proofs.ExprLaws.{tree_of-Of}
 use Rattle.ac_expressions.proofs.Atoms.{undotted_none, unnamed_none, field_leaf}
 use Rattle.ac_expressions.proofs.leaves.field.Goals as goal
 
-pub returns-in_err-behind-clause-none : goal.returns-in_err-behind-clause-none
-returns-in_err-behind-clause-none c =
+pub returns-in_err-behind : goal.returns-in_err-behind
+returns-in_err-behind c =
     let p = err_from_is_err_and c.from_residual.result c.from_residual.ensures.1 in
-    rw (p.1, p.2) (on_syntax_more _ (undotted_none _ _ _) c.in_err-behind.ensures.none)
+    rw (p.1, p.2) (record { found = tt; shorter = tt; none = on_syntax_more _ (undotted_none _ _ _) c.in_err-behind.ensures.none })
 
-pub returns-in_err-field-clause-none : goal.returns-in_err-field-clause-none
-returns-in_err-field-clause-none c =
+pub returns-in_err-field : goal.returns-in_err-field
+returns-in_err-field c =
     let p = err_from_is_err_and c.from_residual-in_err-field.result c.from_residual-in_err-field.ensures.1 in
-    rw (p.1, p.2) (on_syntax_more _ (unnamed_none _ _ _ _ c.in_ok-behind.ensures.found) c.in_err-field.ensures.none)
+    rw (p.1, p.2) (record { found = tt; shorter = tt; none = on_syntax_more _ (unnamed_none _ _ _ _ c.in_ok-behind.ensures.found) c.in_err-field.ensures.none })
 
 pub returns-clause-found : goal.returns-clause-found
 returns-clause-found c =

@@ -4,10 +4,10 @@ use Rattle.ac_expressions.proofs.PatLaws.{pat_of-Nil}
 use Rattle.ac_expressions.proofs.PatSteps.{nil_leaf, nil_none}
 use Rattle.ac_expressions.proofs.patterns.nil.Goals as goal
 
-pub returns-in_err-rest-clause-none : goal.returns-in_err-rest-clause-none
-returns-in_err-rest-clause-none c =
+pub returns-in_err-rest : goal.returns-in_err-rest
+returns-in_err-rest c =
     let p = err_from_is_err_and c.from_residual.result c.from_residual.ensures.1 in
-    rw (p.1, p.2) (on_syntax_more _ (nil_none _ _) c.in_err-rest.ensures.none)
+    rw (p.1, p.2) (record { found = tt; shorter = tt; none = on_syntax_more _ (nil_none _ _) c.in_err-rest.ensures.none })
 
 pub returns-clause-found : goal.returns-clause-found
 returns-clause-found c = nil_leaf _ _ _ _ c.in_ok-rest.ensures.found (pat_of-Nil c.args.at)
