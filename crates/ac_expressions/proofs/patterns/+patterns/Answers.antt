@@ -159,3 +159,13 @@ enclosed-returns-clause-tree t c =
 
 pub enclosed-returns-clause-none : goal.enclosed-returns-clause-none
 enclosed-returns-clause-none t c = IfErr-weaker c.tuple.result _ _ (λ e o. on_syntax_more e (tuple_none _ _ _ c.requires.unclosed c.requires.no_name _ _ c.in_ok-first.ensures.tree _ c.in_default.ensures.found c.in_ok-behind.ensures.found) o) c.tuple.ensures.none
+
+pub tuple-returns-in_err-parts : goal.tuple-returns-in_err-parts
+tuple-returns-in_err-parts t c =
+    let p = err_from_is_err_and c.from_residual-in_err-parts.result c.from_residual-in_err-parts.ensures.1 in
+    rw (p.1, p.2) (record { tree = tt; height = tt; shorter = tt; none = tt })
+
+pub tuple-returns-in_err-parts-2 : goal.tuple-returns-in_err-parts-2
+tuple-returns-in_err-parts-2 t c =
+    let p = err_from_is_err_and c.from_residual-in_err-parts-2.result c.from_residual-in_err-parts-2.ensures.1 in
+    rw (p.1, p.2) (record { tree = tt; height = tt; shorter = tt; none = tt })
