@@ -2,7 +2,8 @@
 """Runs the gate and prints what it cost: the rows of the table in docs/STATUS.md, and the sums above it.
 
 usage: perf/gate.py [--kept]
-All is proved anew, or with --kept only what no earlier run on this machine passed. Nothing else should be at work beside it.
+All is proved anew, or with --kept, where the kit keeps what passed, only what no earlier run on this machine passed. Nothing
+else should be at work beside it.
 The output of the gate goes to the file gate.log of the folder that it names. A row has, of a crate: functions, lines of src,
 specs and proofs, seconds of a processor for the proof, for the tests, and for the edits with the proof that they begin
 with, the number of edits, and GB at the most in one process. Every two seconds it looks at what each process has used.
@@ -130,8 +131,14 @@ def longest_chain(crates, seconds):
     return max(map(up_to, crates))
 
 
+def gate_words(is_kept):
+    """Returns the gate's command. A kit that keeps nothing proves all anew each time, and its help has no flag for that."""
+    told = subprocess.run(["rt", "help"], stdout=subprocess.PIPE, stderr=subprocess.STDOUT, text=True, errors="replace").stdout
+    return ["rt", "ci", *(["--anew"] if "--anew" in told and not is_kept else [])]
+
+
 def main():
-    words = ["rt", "ci", *([] if "--kept" in sys.argv[1:] else ["--anew"])]
+    words = gate_words("--kept" in sys.argv[1:])
     log = f"{tempfile.mkdtemp(prefix='gate-')}/gate.log"
     print(f"{' '.join(words)}, with its output in {log}", flush=True)
     begun, taken = time.time(), stolen()

@@ -7,8 +7,8 @@ use Rattle.ac_terms.specs.Defs.{Environment, Seen, Own', Shelf}
 use Rattle.ac_syntax.specs.Signs.{Sign}
 use Rattle.ac_syntax.specs.Trees.{ProgramTree}
 use Rattle.ac_syntax.specs.Programs.{IsProgram, IsModule}
-use Rattle.ac_parser.specs.Texts.{HasTree}
-use Rattle.ac_parser.proofs.TextLaws.{one_program_text, one_module_text, tree_and_refusal, one_refusal}
+use Rattle.ac_syntax.specs.Texts.{HasTree}
+use Rattle.ac_syntax.proofs.UniqueTexts.{one_program_text, one_module_text, tree_and_refusal, one_refusal}
 use Rattle.ac_scopes.specs.Surfaces.{surface_main}
 use Rattle.ac_acceptance.specs.Causes.{Cause, loaded, main_type, cause}
 use Rattle.ac_acceptance.specs.Accepting.{Shelved, IsPart, GivesEntries, nothing, a_module, Accepted, IsRefused, no_tree, with_tree, Refuses, of_shelf, of_program, SameRefusal, equal, unparsed}

@@ -10,7 +10,7 @@ use Rattle.ac_syntax.specs.Signs.{Sign}
 use Rattle.ac_syntax.specs.Trees.{ProgramTree}
 use Rattle.ac_syntax.specs.Programs.{IsProgram, IsModule}
 use Rattle.ac_syntax.specs.declared.fault.ParseFault.{ParseFault}
-use Rattle.ac_parser.specs.Texts.{HasTree, Refused, SameCause}
+use Rattle.ac_syntax.specs.Texts.{HasTree, Refused, SameCause}
 use Rattle.ac_scopes.specs.Surfaces.{surface_main}
 use Rattle.ac_acceptance.specs.Causes.{Cause, NoTree, loaded, main_type, cause}
 

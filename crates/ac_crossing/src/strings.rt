@@ -8,7 +8,7 @@ ghost use Rattle.ac_rules.specs.Coherent.{IsCoherent};
 ghost use Rattle.ac_rules.specs.Faults.{marshalled};
 ghost use Rattle.ac_meaning.specs.Packing.{answer};
 ghost use Rattle.ac_meaning.specs.BarePacking.{bare_packed};
-ghost use Rattle.ac_simulation.specs.Stands.{stands};
+ghost use Rattle.ac_stands.specs.Stands.{stands};
 ghost use Rattle.ac_crossing.specs.Crossing.{Departs};
 
 use crate::fault::CrossFault;

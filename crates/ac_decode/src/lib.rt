@@ -14,4 +14,4 @@ mod spelling;
 mod terms;
 
 pub use packets::{DecodeFault, decode};
-pub use spelling::{ByNumber, encode, put_resolves};
+pub use spelling::encode;

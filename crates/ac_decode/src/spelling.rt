@@ -3,74 +3,16 @@
 ghost use Rattle.std.specs.Prelude.{◌≡◌, ◌++◌, map, IfOk, OnOk};
 ghost use Rattle.ac_terms.specs.Read.{pdef_of, packet_of, bytes_of};
 ghost use Rattle.ac_types.specs.Types.{Bytes};
-ghost use Rattle.ac_types.specs.ReadTypes.{resolve_of};
-ghost use Rattle.ac_terms.specs.Spelling.{one_written, two_written, str, listed, type_bytes, def_bytes, resolve_bytes, packet_bytes};
+ghost use Rattle.ac_terms.specs.Spelling.{two_written, listed, def_bytes, packet_bytes};
 ghost use Rattle.ac_terms.specs.Bounds.{Spells};
 
 use ac_bytes::Out;
 use ac_canon::{
-    Spelling, put_count_u8, put_count_u16, put_count_u32, put_import, put_module, put_type,
-    put_value,
+    ByNumber, put_count_u16, put_import, put_module, put_resolves, put_type, put_value,
 };
 use ac_terms::{PDef, Packet};
-use ac_types::{Memory, Resolve, Text, Ty};
+use ac_types::{Memory, Text};
 use std::alloc::Global;
-
-/// The spelling of packets: types in full, and a reference by the number of its definition.
-#[derive(Clone, Copy)]
-pub struct ByNumber;
-
-impl Spelling for ByNumber {
-    ghost spelled_type = { λ _ T. type_bytes T };
-
-    ghost spelled_reference = { λ _ j. two_written j };
-
-    fn put_type(&self, out: &mut Out, ty: &Ty) -> Result<(), Memory> {
-        put_type(out, ty)
-    }
-
-    fn put_reference(&self, out: &mut Out, entry: u32) -> Result<(), Memory> {
-        put_count_u16(out, entry as usize)
-    }
-}
-
-// A place where an import looks for its module.
-#[tactic(auto, using(ac_canon::proofs::Lists::lists))]
-fn put_resolve(out: &mut Out, by: &Resolve) -> Result<(), Memory>
-    ensures { OnOk result (out.new ≡ out.old ++ resolve_bytes (resolve_of by.now)) }
-{
-    match by {
-        Resolve::StaticLink => out.put_u8(0x01),
-        Resolve::HereAlready => out.put_u8(0x02),
-        Resolve::Uri(uri) => {
-            out.put_u8(0x03)?;
-            put_text(out, uri)
-        }
-    }
-}
-
-// A string: its length in four bytes, and its bytes.
-#[tactic(auto, using(ac_canon::proofs::Lists::lists))]
-fn put_text(out: &mut Out, text: &Text) -> Result<(), Memory>
-    ensures { OnOk result (out.new ≡ out.old ++ str (bytes_of text.now)) }
-{
-    let bytes = text.as_slice();
-    put_count_u32(out, bytes.len())?;
-    out.put_bytes(bytes)
-}
-
-/// Puts a resolvespec: how many places it has, and each.
-#[tactic(auto, using(ac_canon::proofs::Lists::lists))]
-pub fn put_resolves(out: &mut Out, places: &[Resolve]) -> Result<(), Memory>
-    ensures { OnOk result (out.new ≡ out.old ++
-        listed one_written resolve_bytes (map resolve_of places.now)) }
-{
-    put_count_u8(out, places.len())?;
-    for by in places {
-        put_resolve(out, by)?;
-    }
-    Ok(())
-}
 
 // A definition.
 #[tactic(auto, using(ac_canon::proofs::Lists::lists))]

@@ -1,2 +1,1 @@
-pub mod ScopeFaults
 pub mod inner

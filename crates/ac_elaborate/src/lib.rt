@@ -1,16 +1,13 @@
-//! From trees to entries and core terms: programs, and modules by themselves.
+//! From trees to entries and core terms: programs, and modules by themselves, whose names and counts
+//! have no fault.
 #![tactic(auto)]
 
 mod defs;
-mod fault;
 pub mod laws;
 mod patterns;
 mod program;
 mod structs;
 mod term;
 mod types;
-mod whole;
 
-pub use fault::ScopeFault;
-pub use program::RawProgram;
-pub use whole::elaborate;
+pub use program::{RawProgram, build};

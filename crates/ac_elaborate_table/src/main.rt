@@ -14,9 +14,10 @@ ghost use Rattle.ac_outer.specs.Entries.{keeps_name};
 
 mod definitions;
 
-use ac_elaborate::{RawProgram, ScopeFault, elaborate};
+use ac_elaborate::RawProgram;
 use ac_page::Page;
 use ac_parser::{parse_module, parse_program};
+use ac_surfaces::{ScopeFault, elaborate};
 use ac_syntax::{ParseFault, Surface};
 use ac_terms::Env;
 use ac_types::Many;

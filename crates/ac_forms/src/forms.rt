@@ -15,8 +15,7 @@ ghost use Rattle.ac_parts.specs.Numbers.{number_for};
 
 use crate::nesting::term_nests;
 use ac_bytes::Out;
-use ac_canon::{put_import, put_module};
-use ac_decode::{ByNumber, put_resolves};
+use ac_canon::{ByNumber, put_import, put_module, put_resolves};
 use ac_parts::module_renumbered;
 use ac_terms::{Def, Entry, Field, Import, Module, Seen};
 use ac_types::{Constraint, Many, Memory, Name, Resolve, Text, both};

@@ -10,7 +10,7 @@ use Rattle.ac_rules.specs.Modules.{is_valuable, uncovered, like_missing, are_typ
 use Rattle.ac_syntax.specs.Signs.{Sign}
 use Rattle.ac_syntax.specs.Trees.{ProgramTree}
 use Rattle.ac_syntax.specs.declared.fault.ParseFault.{ParseFault}
-use Rattle.ac_parser.specs.Texts.{too_long, lexical, too_deep, Refused, unread, syntax}
+use Rattle.ac_syntax.specs.Texts.{too_long, lexical, too_deep, Refused, unread, syntax}
 use Rattle.ac_scopes.specs.Surfaces.{SurfaceFault, surface_fault, Unbound, Repeated, TooMany}
 use Rattle.ac_acceptance.specs.Causes.{Cause, BadScopes, IllTyped, Uncovered, NotValuable, LikeMissing, Unresolved, Clash, first_at, first_below, ill_typed, uncovering, not_valuable, without_likespec, unlinked, clashes, clash_of, first_clash, added, loaded, main_type, cause}
 use Rattle.ac_acceptance.specs.Accepting.{Shelved, IsRefused, no_tree, with_tree, Refuses, of_shelf, of_program}

@@ -3,7 +3,7 @@ use Rattle.std.proofs.Common.{◌≡◌, ℕ, List}
 use Rattle.sha2.specs.Sha256.{sha256}
 use Rattle.ac_types.specs.Types.{Bytes}
 use Rattle.ac_syntax.specs.declared.fault.ParseFault.{ParseFault}
-use Rattle.ac_parser.specs.Texts.{SameCause, same, both_syntax}
+use Rattle.ac_syntax.specs.Texts.{SameCause, same, both_syntax}
 use Rattle.ac_acceptance.specs.Causes.{Cause}
 use Rattle.ac_acceptance.specs.Accepting.{Shelved, SameRefusal, equal as one_cause, unparsed}
 use Rattle.ac_acceptance.proofs.OneAnswer.{one_refused}

@@ -12,7 +12,7 @@ use Rattle.ac_syntax.specs.Trees.{ProgramTree}
 use Rattle.ac_syntax.specs.Programs.{IsProgram, IsModule}
 use Rattle.ac_syntax.specs.declared.fault.ParseFault.{ParseFault}
 use Rattle.ac_syntax.specs.declared.fault.ParseFault.TheVariants as parse
-use Rattle.ac_parser.specs.Texts.{HasTree, Refused, IsTextFault}
+use Rattle.ac_syntax.specs.Texts.{HasTree, Refused, IsTextFault}
 use Rattle.ac_acceptance.specs.Causes.{Cause, NoTree, loaded, cause}
 use Rattle.ac_acceptance.specs.Accepting.{Shelved, IsShelf, GivesEntries, nothing, a_module, IsRefused, no_tree, with_tree, Refuses, of_shelf, of_program}
 use Rattle.std.specs.List.{list_all}

@@ -13,9 +13,9 @@ use Rattle.ac_syntax.specs.Trees.{ProgramTree}
 use Rattle.ac_scopes.specs.Surfaces.{SurfaceFault, Elaborates, first_scope, surface_fault}
 use Rattle.ac_scopes.specs.Surfaces as surface
 use Rattle.ac_scopes.proofs.AddedEntries.{entries_in, entries_behind}
-use Rattle.ac_elaborate.specs.ScopeFaults.{RefusesScopes}
-use Rattle.ac_elaborate.specs.declared.fault.ScopeFault.{ScopeFault}
-use Rattle.ac_elaborate.specs.declared.fault.ScopeFault.TheVariants as scope
+use Rattle.ac_surfaces.specs.ScopeFaults.{RefusesScopes}
+use Rattle.ac_surfaces.specs.declared.fault.ScopeFault.{ScopeFault}
+use Rattle.ac_surfaces.specs.declared.fault.ScopeFault.TheVariants as scope
 use Rattle.ac_acceptance.specs.Causes.{Cause, BadScopes, IllTyped, linked_entry, linked_behind, first_at, ill_typed, uncovering, not_valuable, without_likespec, unlinked, first_clash, added, loaded, main_type, cause}
 use Rattle.ac_acceptance.specs.Counted.{has_counted}
 use Rattle.ac_acceptance.proofs.Counted.{surface_counted, linked_counted}

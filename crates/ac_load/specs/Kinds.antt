@@ -3,8 +3,8 @@ use Rattle.ac_syntax.specs.declared.fault.ParseFault.{ParseFault}
 use Rattle.ac_syntax.specs.declared.fault.ParseFault.TheVariants as parse
 use Rattle.ac_scopes.specs.Surfaces.{SurfaceFault}
 use Rattle.ac_scopes.specs.Surfaces as surface
-use Rattle.ac_elaborate.specs.declared.fault.ScopeFault.{ScopeFault}
-use Rattle.ac_elaborate.specs.declared.fault.ScopeFault.TheVariants as scope
+use Rattle.ac_surfaces.specs.declared.fault.ScopeFault.{ScopeFault}
+use Rattle.ac_surfaces.specs.declared.fault.ScopeFault.TheVariants as scope
 use Rattle.ac_acceptance.specs.Causes.{Cause}
 use Rattle.ac_acceptance.specs.Causes as cause
 use Rattle.ac_causes.specs.declared.fault.PartFault.{PartFault}

@@ -13,8 +13,9 @@ ghost use Rattle.ac_load.specs.inner.Parts.{linked_part, IsTaken, IsTreeRefused}
 
 use crate::kind::Kind;
 use ac_causes::{PartFault, linked, part_type};
-use ac_elaborate::{RawProgram, elaborate};
+use ac_elaborate::RawProgram;
 use ac_rules::Loaded;
+use ac_surfaces::elaborate;
 use ac_syntax::Surface;
 use ac_terms::{Env, Seen, Term};
 use std::alloc::Global;

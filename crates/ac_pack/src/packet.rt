@@ -12,7 +12,7 @@ ghost use Rattle.ac_values.specs.Values.{stands_as};
 ghost use Rattle.ac_rules.specs.Faults.{first_fault};
 ghost use Rattle.ac_rules.specs.Needed.{place_in, packet_of_entries};
 ghost use Rattle.ac_meaning.specs.BarePacking.{bare_packed};
-ghost use Rattle.ac_simulation.specs.Stands.{stands};
+ghost use Rattle.ac_stands.specs.Stands.{stands};
 ghost use Rattle.ac_parts.specs.Numbers.{number_for};
 ghost use Rattle.ac_forms.specs.Forms.{AllBelow, IsLong};
 ghost use Rattle.ac_pack.specs.inner.Wholes.{IsWhole};

@@ -13,7 +13,7 @@ ghost use Rattle.ac_terms.specs.Defs.{Packet};
 ghost use Rattle.ac_rules.specs.Faults.{first_fault, whole, whole_fault, marshalled};
 ghost use Rattle.ac_rules.specs.Needed.{mark_at, packet_of_entries};
 ghost use Rattle.ac_meaning.specs.BarePacking.{bare_packed};
-ghost use Rattle.ac_simulation.specs.Stands.{stands};
+ghost use Rattle.ac_stands.specs.Stands.{stands};
 ghost use Rattle.ac_forms.specs.Forms.{AllBelow};
 ghost use Rattle.ac_pack.specs.Packs.{Packed};
 ghost use Rattle.ac_pack.specs.inner.PackFaults.{of_stop, of_need};

@@ -10,10 +10,8 @@ use Rattle.ac_syntax.specs.declared.sign.Symbol.{Symbol}
 use Rattle.ac_syntax.specs.declared.sign.Symbol.TheVariants.{Colon, Equals}
 use Rattle.ac_syntax.proofs.UniqueTypes.{tail_eq, same_type}
 use Rattle.ac_syntax.proofs.UniquePrograms.{same_sig}
+use Rattle.ac_syntax.proofs.Depth.{head_eq}
 use Rattle.ac_parser.specs.inner.ProgramParsing.{UpperAt, OnlyRead, NoRead, Anything, AbbrevAt, NoAbbrev, HeadAt}
-
-pub head_eq : {x y : Sign} {r s : List Sign} → x ∷ r ≡ y ∷ s → x ≡ y
-head_eq e = cc
 
 pub lower_eq : {a b : ℕ} {w v : Bytes} {r s : List Sign} → Lower a w ∷ r ≡ Lower b v ∷ s → (a ≡ b) × (w ≡ v)
 lower_eq e = let h = head_eq e in (ap (λ (x : Sign). elim x [ Lower c u ↦ c | _ ↦ 0 ]) h, ap (λ (x : Sign). elim x [ Lower c u ↦ u | _ ↦ [] ]) h)

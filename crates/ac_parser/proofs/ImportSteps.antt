@@ -11,7 +11,8 @@ use Rattle.ac_syntax.specs.declared.sign.Symbol.TheVariants.{By, Comma, Equals, 
 use Rattle.ac_syntax.proofs.Exceptions.{nothing_there, same_value}
 use Rattle.ac_syntax.proofs.UniqueTypes.{tail_eq}
 use Rattle.ac_parser.specs.inner.ProgramParsing.{UpperAt, OnlyRead, NoRead, Anything, NoComma, NoVToken, StructOf, HeadAt, ConstraintAt, LikeAt, NameWanted, DemandAt, by_version, by_name, ResolveAt, NoResolve}
-use Rattle.ac_parser.proofs.Fronts.{head_eq, upper_eq, name_eq}
+use Rattle.ac_syntax.proofs.Depth.{head_eq}
+use Rattle.ac_parser.proofs.Fronts.{upper_eq, name_eq}
 use Rattle.ac_parser.proofs.VersionSteps.{nothing_is_none, first_no_vtoken}
 
 -- likespecs

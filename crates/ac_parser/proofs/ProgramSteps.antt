@@ -15,7 +15,7 @@ use Rattle.ac_syntax.proofs.UniqueExpressions.{same_expr}
 use Rattle.ac_syntax.proofs.Fronts.{begins_not}
 use Rattle.ac_expressions.specs.ExpressionParsing.{NoExpr}
 use Rattle.ac_parser.specs.inner.ProgramParsing.{TextAt, NoText, OnlyRead, NoRead, Anything, NoComma, NothingGoesOn, DefsSoFar, NoProgramTree}
-use Rattle.ac_parser.proofs.Fronts.{head_eq}
+use Rattle.ac_syntax.proofs.Depth.{head_eq}
 use Rattle.ac_parser.proofs.Lists.{none_at}
 use Rattle.ac_parser.proofs.VersionSteps.{nothing_is_none}
 

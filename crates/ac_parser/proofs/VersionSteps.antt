@@ -18,7 +18,7 @@ use Rattle.ac_syntax.specs.declared.sign.Symbol.TheVariants.{Equals, Version}
 use Rattle.ac_syntax.proofs.Exceptions.{nothing_there, same_value}
 use Rattle.ac_syntax.proofs.UniqueTypes.{tail_eq}
 use Rattle.ac_parser.specs.inner.ProgramParsing.{OnlyRead, NoRead, Anything, NoVToken, BeginsEquals, VersionAt, ConstraintAt}
-use Rattle.ac_parser.proofs.Fronts.{head_eq}
+use Rattle.ac_syntax.proofs.Depth.{head_eq}
 
 pub nothing_is_none : {P : Type 0} {x : Sign} {r : List Sign} → [] ≡ x ∷ r → P
 nothing_is_none e = cc

@@ -5,7 +5,7 @@ ghost use Rattle.ac_types.specs.Types.{Bytes};
 ghost use Rattle.ac_syntax.specs.Trees.{ProgramTree};
 ghost use Rattle.ac_syntax.specs.Programs.{IsProgram, IsModule};
 ghost use Rattle.ac_syntax.specs.declared.fault.ParseFault.{ParseFault};
-ghost use Rattle.ac_parser.specs.Texts.{HasTree, Refused, SameCause};
+ghost use Rattle.ac_syntax.specs.Texts.{HasTree, Refused, SameCause};
 
 /// A text is at most one program.
 pub fn one_program()

@@ -3,7 +3,7 @@
 ghost use Rattle.std.specs.Prelude.{◌≤◌, IfOk, IfErr};
 ghost use Rattle.ac_syntax.specs.Programs.{IsProgram, IsModule};
 ghost use Rattle.ac_syntax.specs.ReadTrees.{surface_of};
-ghost use Rattle.ac_parser.specs.Texts.{IsRead, HasTree, IsPlace, IsUnread, IsTextFault, FaultAt};
+ghost use Rattle.ac_syntax.specs.Texts.{IsRead, HasTree, IsPlace, IsUnread, IsTextFault, FaultAt};
 
 use crate::programs::{module_alone, program};
 use ac_lexer::{LexFault, Token, lex};

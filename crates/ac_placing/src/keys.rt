@@ -8,8 +8,7 @@ ghost use Rattle.ac_rules.specs.Packets.{wide_bytes};
 ghost use Rattle.ac_placing.specs.inner.Keys.{link_bytes, key_bytes};
 
 use ac_bytes::Out;
-use ac_canon::{Spelling, put_import, put_module, put_type};
-use ac_decode::put_resolves;
+use ac_canon::{Spelling, put_import, put_module, put_resolves, put_type};
 use ac_terms::Def;
 use ac_types::{Memory, Text, Ty};
 use std::alloc::Global;

@@ -15,7 +15,7 @@ pub data Deep : ℕ → List Sign → Option ℕ → Type 0 where
   here : {n : ℕ} {t : Sign} {ts : List Sign} → 201 ≤ open_after n t → Deep n (t ∷ ts) (Some (sign_place t))
   later : {n : ℕ} {t : Sign} {ts : List Sign} {o : Option ℕ} → open_after n t ≤ 200 → Deep (open_after n t) ts o → Deep n (t ∷ ts) o
 
-head_eq : {x y : Sign} {r s : List Sign} → x ∷ r ≡ y ∷ s → x ≡ y
+pub head_eq : {x y : Sign} {r s : List Sign} → x ∷ r ≡ y ∷ s → x ≡ y
 head_eq e = cc
 
 tail_eq : {x y : Sign} {r s : List Sign} → x ∷ r ≡ y ∷ s → r ≡ s

@@ -13,4 +13,5 @@ pub mod UniquePatterns
 pub mod Fronts
 pub mod UniqueExpressions
 pub mod UniquePrograms
+pub mod UniqueTexts
 pub mod Spellings

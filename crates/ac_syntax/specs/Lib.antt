@@ -8,3 +8,4 @@ pub mod Expressions
 pub mod Programs
 pub mod ReadTrees
 pub mod PartParsing
+pub mod Texts

@@ -17,7 +17,7 @@ use Rattle.ac_meaning.specs.BareTerms.{bare, unpacked}
 use Rattle.ac_meaning.specs.BareReduction.{BareWritten, inst}
 use Rattle.ac_meaning.specs.BarePacking.{bare_packed, bare_packed_term}
 use Rattle.ac_meaning.proofs.BareInst.{inst_none}
-use Rattle.ac_simulation.specs.Stands.{senseless, exception_with, closed, closure_of, stands}
+use Rattle.ac_stands.specs.Stands.{senseless, exception_with, closed, closure_of, stands}
 use Rattle.ac_walk.proofs.WalkLaws.{wants_memory}
 
 -- what is wanted is a lambda

@@ -22,7 +22,7 @@ use Rattle.ac_values.specs.declared.node.Value.{Value}
 use Rattle.ac_meaning.specs.BareTerms.{bare, unpacked, all_unpacked, unpacked_list}
 use Rattle.ac_meaning.specs.BareReduction.{BareWritten, inst}
 use Rattle.ac_meaning.specs.BarePacking.{bare_packed, bare_all_packed, bare_packed_term}
-use Rattle.ac_simulation.specs.Stands.{senseless, exception_with, closed, closure_of, stands, all_stand, variables}
+use Rattle.ac_stands.specs.Stands.{senseless, exception_with, closed, closure_of, stands, all_stand, variables}
 use Rattle.ac_views.specs.Sites.{typs_of}
 use Rattle.ac_walk.specs.Items.{items_packed, items_held}
 use Rattle.ac_walk.specs.Pieces.{number_at, spoken_at, values_written}

@@ -4,16 +4,15 @@ use Rattle.std.specs.Prelude.{option_map, option_and_then, IfOk}
 use mathlib.Core.Bool.{true≢false}
 use Rattle.ac_types.specs.First.{given}
 use Rattle.ac_types.specs.Types.{Typ, TBool, TStr, TUnit, TExn, TTuple, TList, TOpt, TFun, Typs, no_types, typ, agree}
-use Rattle.ac_types.specs.ReadTypes.{typ_of}
+use Rattle.ac_types.specs.ReadTypes.{typ_of, typ_layer}
 use Rattle.ac_types.proofs.Same.{both_true}
-use Rattle.ac_types.specs.ReadTypes.{typ_layer}
 use Rattle.ac_types.specs.declared.ty.Ty.{Ty, map-Ty}
 use Rattle.ac_types.specs.declared.ty.Ty.TheVariants as ty
 use Rattle.ac_types.proofs.SizeLaws.{typ_out, type_laws as read_types}
 use Rattle.ac_code.specs.Code.{Code}
 use Rattle.ac_values.specs.Values.{MValue}
 use Rattle.ac_values.specs.ValueReaders.{newest_and_rest}
-use Rattle.ac_simulation.specs.Stands.{variables as variables_of}
+use Rattle.ac_stands.specs.Stands.{variables as variables_of}
 use Rattle.ac_terms.specs.Terms.{Home, Pattern, PWild, PVar, PInt, PBool, PStr, PUnit, PTuple, PNil, PCons, PAbsent, PPresent, PExn, PExnOf, Patterns, no_patterns, pattern', Expr, Int, Boolean, Str, Unit', Exn, ExnOf, Tuple, Nil, Empty, Present, Cons, Var, Own, Ref, Lam, Rec, App, Let, If, Seq, Match, Try, Raise, Prim, Marshal, Unmarshal, Val, Evaluated, Bracket, Exprs, no_exprs, expr, Arms, no_arms, arm}
 use Rattle.ac_terms.specs.Defs.{Environment}
 use Rattle.ac_terms.specs.Read.{expr_of}

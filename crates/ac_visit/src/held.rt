@@ -9,7 +9,7 @@ ghost use Rattle.ac_rules.specs.Plain.{where_there};
 ghost use Rattle.ac_values.specs.ValueReaders.{cons_in};
 ghost use Rattle.ac_values.specs.Values.{values, node_value, stands_as, MPresent, MClosure};
 ghost use Rattle.ac_meaning.specs.BarePacking.{bare_packed};
-ghost use Rattle.ac_simulation.specs.Stands.{stands};
+ghost use Rattle.ac_stands.specs.Stands.{stands};
 ghost use Rattle.ac_views.specs.Sites.{typs_of};
 ghost use Rattle.ac_walk.specs.Pieces.{entries_at, code_at, held_at, held_parts_at, held_items_at};
 ghost use Rattle.ac_walk.specs.inner.Goes.{VisitsValue, VisitsValues};

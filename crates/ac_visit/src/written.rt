@@ -14,7 +14,7 @@ ghost use Rattle.ac_rules.specs.Faults.{Fault, first_fault};
 ghost use Rattle.ac_code.specs.ReadCode.{table_code};
 ghost use Rattle.ac_values.specs.Values.{stands_as};
 ghost use Rattle.ac_meaning.specs.BarePacking.{bare_packed};
-ghost use Rattle.ac_simulation.specs.Stands.{stands};
+ghost use Rattle.ac_stands.specs.Stands.{stands};
 ghost use Rattle.ac_heads.specs.Outcomes.{On, Stopped, walk_end, fault_in};
 ghost use Rattle.ac_walk.specs.Spoken.{spoken_by_all};
 ghost use Rattle.ac_walk.specs.Pieces.{held_at, value_written, spoken_at};

@@ -6,7 +6,7 @@ use Rattle.ac_code.specs.Code.{Code}
 use Rattle.ac_values.specs.Values.{MValue, MMore}
 use Rattle.ac_values.specs.ValueReaders.{newest_and_rest}
 use Rattle.ac_meaning.specs.Substitution.{Slot, Free, Bound, up, slot_in, slot}
-use Rattle.ac_simulation.specs.Stands.{stands, variables}
+use Rattle.ac_stands.specs.Stands.{stands, variables}
 use Rattle.ac_walk.specs.inner.Slots.{slot_under, later, newest_type}
 
 up_raised : {V : Type 0} (d : ℕ) (s : Slot V) → up (slot_under d s) ≡ slot_under (suc d) s

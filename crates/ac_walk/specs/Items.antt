@@ -6,7 +6,7 @@ use Rattle.ac_code.specs.Code.{Code}
 use Rattle.ac_values.specs.Values.{MValue, MCons}
 use Rattle.ac_meaning.specs.BareTerms.{unpacked}
 use Rattle.ac_meaning.specs.BarePacking.{bare_packed}
-use Rattle.ac_simulation.specs.Stands.{stands}
+use Rattle.ac_stands.specs.Stands.{stands}
 
 -- of a packed list
 abbrev pub items_packed : Environment → PValues → Typ → PValues

@@ -17,7 +17,7 @@ use Rattle.ac_values.specs.declared.node.Value.{Value}
 use Rattle.ac_meaning.specs.BareTerms.{BareValue, bare, bare_all, bare_arms, unpacked, all_unpacked}
 use Rattle.ac_meaning.specs.BareReduction.{BareWritten, inst, inst_all, inst_arms}
 use Rattle.ac_meaning.specs.BarePacking.{bare_packed, bare_all_packed, bare_packed_term, bare_packed_terms, bare_packed_arms}
-use Rattle.ac_simulation.specs.Stands.{stands, all_stand, variables}
+use Rattle.ac_stands.specs.Stands.{stands, all_stand, variables}
 use Rattle.ac_meaning.specs.Substitution.{Slot, Free, Bound}
 use Rattle.ac_walk.specs.declared.around.Slot as code_slot
 use Rattle.ac_walk.specs.declared.around.Slot.TheVariants as slot

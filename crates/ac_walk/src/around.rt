@@ -5,7 +5,7 @@ ghost use Rattle.ac_types.specs.Types.{TInt};
 ghost use Rattle.ac_types.specs.ReadTypes.{typ_of};
 ghost use Rattle.ac_values.specs.Values.{stands_as};
 ghost use Rattle.ac_meaning.specs.Substitution.{slot, slot_in};
-ghost use Rattle.ac_simulation.specs.Stands.{variables};
+ghost use Rattle.ac_stands.specs.Stands.{variables};
 ghost use Rattle.ac_walk.specs.Pieces.{code_at, captured_at, slot_at};
 ghost use Rattle.ac_walk.specs.inner.Slots.{slot_under, later, newest_type};
 

@@ -2,7 +2,6 @@ use Rattle.std.proofs.Common.{rules, ◌∙◌, sym, ap, ap₂, Some}
 use Rattle.std.specs.Int.{w64}
 use Rattle.std.specs.Prelude.{FitsSigned}
 use Rattle.std.proofs.lemmas.Int.{to_z-of_z}
-use Rattle.ac_terms.specs.declared.term.Term.{Term}
 use Rattle.ac_terms.specs.declared.term.Term.TheVariants as term
 use Rattle.ac_terms.specs.declared.term.PVal.TheVariants as value
 use Rattle.ac_terms.proofs.ReadLaws.{expr_of-Tuple, expr_of-Seq, expr_of-Prim}

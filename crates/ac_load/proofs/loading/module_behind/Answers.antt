@@ -5,7 +5,7 @@ use Rattle.ac_terms.specs.Defs.{Shelf}
 use Rattle.ac_terms.specs.Read.{environment_of, bytes_of}
 use Rattle.ac_syntax.specs.Programs.{IsModule}
 use Rattle.ac_syntax.specs.ReadTrees.{surface_of}
-use Rattle.ac_parser.specs.Texts.{HasTree, IsTextFault}
+use Rattle.ac_syntax.specs.Texts.{HasTree, IsTextFault}
 use Rattle.ac_load.specs.Loading.{shelved}
 use Rattle.ac_load.proofs.ShelfLaws.{text_refused, tree_refused, module_taken}
 use Rattle.ac_load.proofs.loading.module_behind.Goals as goal

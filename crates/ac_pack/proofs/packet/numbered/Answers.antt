@@ -7,7 +7,7 @@ use Rattle.ac_terms.specs.Read.{environment_of}
 use Rattle.ac_code.specs.ReadCode.{table_code}
 use Rattle.ac_values.specs.Values.{stands_as}
 use Rattle.ac_meaning.specs.BarePacking.{bare_packed}
-use Rattle.ac_simulation.specs.Stands.{stands}
+use Rattle.ac_stands.specs.Stands.{stands}
 use Rattle.ac_pack.specs.inner.Wholes.{IsWhole}
 use Rattle.ac_pack.proofs.PackLaws.{joined, front_long}
 use Rattle.ac_pack.proofs.packet.numbered.Goals as goal

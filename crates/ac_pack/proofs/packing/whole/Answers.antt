@@ -7,7 +7,7 @@ use Rattle.ac_code.specs.ReadCode.{table_code}
 use Rattle.ac_values.specs.Values.{stands_as}
 use Rattle.ac_rules.specs.Needed.{place_in, packet_of_entries}
 use Rattle.ac_meaning.specs.BarePacking.{bare_packed}
-use Rattle.ac_simulation.specs.Stands.{stands}
+use Rattle.ac_stands.specs.Stands.{stands}
 use Rattle.ac_pack.proofs.PackLaws.{too_deep, too_many, spelled}
 use Rattle.ac_pack.proofs.packing.whole.Goals as goal
 

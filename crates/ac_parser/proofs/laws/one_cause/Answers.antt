@@ -1,5 +1,5 @@
 use Rattle.ac_syntax.specs.Programs.{IsProgram, IsModule}
-use Rattle.ac_parser.proofs.TextLaws.{one_refusal}
+use Rattle.ac_syntax.proofs.UniqueTexts.{one_refusal}
 use Rattle.ac_parser.proofs.laws.one_cause.Goals as goal
 
 pub returns-clause-program : goal.returns-clause-program

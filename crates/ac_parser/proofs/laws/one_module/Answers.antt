@@ -1,4 +1,4 @@
-use Rattle.ac_parser.proofs.TextLaws.{one_module_text}
+use Rattle.ac_syntax.proofs.UniqueTexts.{one_module_text}
 use Rattle.ac_parser.proofs.laws.one_module.Goals as goal
 
 pub returns : goal.returns

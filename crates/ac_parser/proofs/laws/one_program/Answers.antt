@@ -1,4 +1,4 @@
-use Rattle.ac_parser.proofs.TextLaws.{one_program_text}
+use Rattle.ac_syntax.proofs.UniqueTexts.{one_program_text}
 use Rattle.ac_parser.proofs.laws.one_program.Goals as goal
 
 pub returns : goal.returns

@@ -6,7 +6,7 @@ use Rattle.ac_syntax.specs.Programs.{IsModule}
 use Rattle.ac_syntax.specs.ReadSigns.{read_signs}
 use Rattle.ac_syntax.proofs.OnStop.{on_syntax_more}
 use Rattle.ac_parser.specs.inner.ProgramParsing.{NoProgramTree}
-use Rattle.ac_parser.specs.Texts.{FaultAt}
+use Rattle.ac_syntax.specs.Texts.{FaultAt}
 use Rattle.ac_parser.proofs.TextLaws.{fault_of, unread_fault}
 use Rattle.ac_parser.proofs.texts.parse_module.Goals as goal
 

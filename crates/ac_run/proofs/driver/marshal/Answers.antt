@@ -10,7 +10,7 @@ use Rattle.ac_machine.specs.Resumes.{resumed_text}
 use Rattle.ac_meaning.specs.Packing.{answer}
 use Rattle.ac_meaning.specs.BarePacking.{bare_packed}
 use Rattle.ac_crossing.specs.Crossing.{Departs}
-use Rattle.ac_simulation.specs.Stands.{stands as meant}
+use Rattle.ac_stands.specs.Stands.{stands as meant}
 use Rattle.ac_run.proofs.Crossings.{taken, string_answers, string_fails_not, fault_gives_none, fault_answers}
 use Rattle.ac_run.proofs.driver.marshal.Goals as goal
 

@@ -12,7 +12,7 @@ use Rattle.ac_values.specs.Values.{stands_as}
 use Rattle.ac_meaning.specs.BareTerms.{bare}
 use Rattle.ac_meaning.specs.BareReduction.{inst}
 use Rattle.ac_meaning.specs.BarePacking.{bare_packed_term}
-use Rattle.ac_simulation.specs.Stands.{variables}
+use Rattle.ac_stands.specs.Stands.{variables}
 use Rattle.ac_walk.specs.Pieces.{entries_at, code_at}
 use Rattle.ac_visit.proofs.ListLaws.{visits_value}
 use Rattle.ac_visit.proofs.FunctionLaws.{its_lambda}

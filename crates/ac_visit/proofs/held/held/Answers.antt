@@ -3,7 +3,7 @@ use Rattle.ac_types.specs.Types.{TExn}
 use Rattle.ac_types.specs.ReadTypes.{typ_of}
 use Rattle.ac_values.specs.Values.{values, node_value}
 use Rattle.ac_meaning.specs.BarePacking.{bare_packed}
-use Rattle.ac_simulation.specs.Stands.{stands}
+use Rattle.ac_stands.specs.Stands.{stands}
 use Rattle.ac_walk.specs.Pieces.{entries_at, code_at}
 use Rattle.ac_visit.proofs.ListLaws.{visits_deeper}
 use Rattle.ac_visit.proofs.FunctionLaws.{exception_anywhere}

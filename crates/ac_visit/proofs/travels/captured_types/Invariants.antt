@@ -3,7 +3,7 @@ use Rattle.ac_types.specs.Types.{Typ}
 use Rattle.ac_types.specs.ReadTypes.{typ_of}
 use Rattle.ac_terms.specs.Read.{home_of}
 use Rattle.ac_values.specs.Values.{stands_as}
-use Rattle.ac_simulation.specs.Stands.{variables}
+use Rattle.ac_stands.specs.Stands.{variables}
 use Rattle.ac_walk.specs.Pieces.{entries_at, code_at, captured_at}
 use Rattle.ac_walk.specs.inner.Slots.{AreTypes}
 use Rattle.ac_visit.proofs.travels.captured_types.Given as goal

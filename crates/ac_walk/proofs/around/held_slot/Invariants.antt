@@ -2,7 +2,7 @@ use Rattle.std.proofs.Common.{◌≡◌, ℕ, ◌+◌, map}
 use Rattle.ac_types.specs.ReadTypes.{typ_of}
 use Rattle.ac_values.specs.Values.{stands_as}
 use Rattle.ac_meaning.specs.Substitution.{slot_in}
-use Rattle.ac_simulation.specs.Stands.{variables}
+use Rattle.ac_stands.specs.Stands.{variables}
 use Rattle.ac_walk.specs.Pieces.{code_at}
 use Rattle.ac_walk.proofs.around.held_slot.Given as goal
 

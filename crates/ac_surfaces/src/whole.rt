@@ -7,10 +7,10 @@ ghost use Rattle.ac_terms.specs.Read.{environment_of, expr_of};
 ghost use Rattle.ac_syntax.specs.ReadTrees.{surface_of};
 ghost use Rattle.ac_scopes.specs.Surfaces.{Elaborates, surface_fault};
 ghost use Rattle.ac_outer.specs.Entries.{keeps_name};
-ghost use Rattle.ac_elaborate.specs.ScopeFaults.{RefusesScopes};
+ghost use Rattle.ac_surfaces.specs.ScopeFaults.{RefusesScopes};
 
 use crate::fault::{ScopeFault, refusal};
-use crate::program::{RawProgram, build};
+use ac_elaborate::{RawProgram, build};
 use ac_flaws::scope_fault;
 use ac_syntax::Surface;
 use ac_terms::Env;

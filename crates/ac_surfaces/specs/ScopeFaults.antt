@@ -4,8 +4,8 @@ use Rattle.sha2.specs.Sha256.{sha256}
 use Rattle.ac_terms.specs.Defs.{Environment}
 use Rattle.ac_syntax.specs.Trees.{ProgramTree}
 use Rattle.ac_scopes.specs.Surfaces.{surface_fault, Unbound, Repeated, TooMany}
-use Rattle.ac_elaborate.specs.declared.fault.ScopeFault.{ScopeFault}
-use Rattle.ac_elaborate.specs.declared.fault.ScopeFault.TheVariants as code
+use Rattle.ac_surfaces.specs.declared.fault.ScopeFault.{ScopeFault}
+use Rattle.ac_surfaces.specs.declared.fault.ScopeFault.TheVariants as code
 
 -- the first fault of the surface behind these entries; want of memory is free
 abbrev pub RefusesScopes : Environment → ProgramTree → ScopeFault → Type 0

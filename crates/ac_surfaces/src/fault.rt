@@ -6,7 +6,7 @@ ghost use Rattle.ac_terms.specs.Defs.{Environment};
 ghost use Rattle.ac_syntax.specs.Trees.{ProgramTree};
 ghost use Rattle.ac_scopes.specs.Surfaces.{surface_fault};
 ghost use Rattle.ac_flaws.specs.Answers.{surface_fault_of};
-ghost use Rattle.ac_elaborate.specs.ScopeFaults.{RefusesScopes};
+ghost use Rattle.ac_surfaces.specs.ScopeFaults.{RefusesScopes};
 
 use ac_flaws::FirstFault;
 use ac_types::Memory;
@@ -25,7 +25,7 @@ pub enum ScopeFault {
 
 impl From<Memory> for ScopeFault {
     ghost use Rattle.std.specs.Prelude.{◌≡◌};
-    ghost use Rattle.ac_elaborate.specs.declared.fault.ScopeFault.TheVariants as fault;
+    ghost use Rattle.ac_surfaces.specs.declared.fault.ScopeFault.TheVariants as fault;
 
     ghost from_gives = { λ _ e. e ≡ fault.Memory };
 
