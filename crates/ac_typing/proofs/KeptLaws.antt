@@ -3,7 +3,7 @@ use Rattle.std.proofs.Common.{◌≡◌, refl, sym, ap, ap₂, ◌∙◌, arith,
 use Rattle.std.specs.Prelude.{option_map, option_and_then, is_some}
 use mathlib.Core.Bool.{true≢false}
 use Rattle.ac_types.specs.First.{given}
-use Rattle.ac_types.specs.Types.{Typ, TList, TOpt, TFun, same, parts, is_small}
+use Rattle.ac_types.specs.Types.{Typ, TList, TOpt, TFun, same, is_small}
 use Rattle.ac_types.proofs.FirstLaws.{none≢some, some_eq, given_some}
 use Rattle.ac_types.proofs.Same.{same_eq, same_refl}
 use Rattle.ac_terms.specs.TermTyping.{has}

@@ -42,30 +42,12 @@ pub fn applied(function: Option<Ty>, argument: Option<Ty>) -> Option<Ty>
     ensures { option_map typ_of result ≡ type_applied (option_map typ_of function)
         (option_map typ_of argument) }
 {
-    let Some(function) = function else {
-        drop(argument);
-        return None;
-    };
-    let Some(argument) = argument else {
-        drop(function);
-        return None;
-    };
-    match function.into_function() {
-        Some((from, to)) => {
-            let same = same_types(&argument, &from);
-            drop(argument);
-            drop(from);
-            if same {
-                Some(to)
-            } else {
-                drop(to);
-                None
-            }
-        }
-        None => {
-            drop(argument);
-            None
-        }
+    let (from, to) = function?.into_function()?;
+    let argument = argument?;
+    if same_types(&argument, &from) {
+        Some(to)
+    } else {
+        None
     }
 }
 
@@ -74,16 +56,10 @@ pub fn recursive_type(own: Ty, to: &Ty, found: Option<Ty>) -> Option<Ty>
     ensures { option_map typ_of result ≡ given (has (option_map typ_of found) (typ_of to.now))
         (Some (typ_of own)) }
 {
-    let Some(found) = found else {
-        drop(own);
-        return None;
-    };
-    let same = same_types(&found, to);
-    drop(found);
-    if same {
+    let found = found?;
+    if same_types(&found, to) {
         Some(own)
     } else {
-        drop(own);
         None
     }
 }

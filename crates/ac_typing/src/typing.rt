@@ -171,14 +171,8 @@ fn function<'a>(
     let Some(from) = seen_type(alloc, ty, site)? else {
         return Ok(None);
     };
-    let found = typed(alloc, &*body, &*site, &Variables::One(&*vars, &from));
-    match found {
-        Ok(to) => function_type(alloc, from, to),
-        Err(memory) => {
-            drop(from);
-            Err(memory)
-        }
-    }
+    let to = typed(alloc, &*body, &*site, &Variables::One(&*vars, &from))?;
+    function_type(alloc, from, to)
 }
 
 // The type of a recursive function, which sees itself.
@@ -199,45 +193,15 @@ fn recursive<'a>(
     let Some(from) = seen_type(alloc, from, site)? else {
         return Ok(None);
     };
-    match seen_type(alloc, to, site) {
-        Err(memory) => {
-            drop(from);
-            Err(memory)
-        }
-        Ok(None) => {
-            drop(from);
-            Ok(None)
-        }
-        Ok(Some(to)) => match own_type(alloc, &from, &to) {
-            Err(memory) => {
-                drop(from);
-                drop(to);
-                Err(memory)
-            }
-            Ok(None) => {
-                drop(from);
-                drop(to);
-                Ok(None)
-            }
-            Ok(Some(own)) => {
-                let outer = Variables::One(&*vars, &own);
-                let found = typed(alloc, &*body, &*site, &Variables::One(&outer, &from));
-                drop(from);
-                match found {
-                    Err(memory) => {
-                        drop(own);
-                        drop(to);
-                        Err(memory)
-                    }
-                    Ok(found) => {
-                        let end = recursive_type(own, &to, found);
-                        drop(to);
-                        Ok(end)
-                    }
-                }
-            }
-        },
-    }
+    let Some(to) = seen_type(alloc, to, site)? else {
+        return Ok(None);
+    };
+    let Some(own) = own_type(alloc, &from, &to)? else {
+        return Ok(None);
+    };
+    let outer = Variables::One(&*vars, &own);
+    let found = typed(alloc, &*body, &*site, &Variables::One(&outer, &from))?;
+    Ok(recursive_type(own, &to, found))
 }
 
 // The types of some terms, where each has one.

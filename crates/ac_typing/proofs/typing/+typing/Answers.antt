@@ -1,27 +1,24 @@
-use Rattle.std.proofs.Common.{◌≡◌, refl, sym, ap, ap₂, ◌∙◌, arith, rules, length, map, List, ◌∷◌, ◌++◌, true, ◌&&◌, Option, Some, None}
+use Rattle.std.proofs.Common.{◌≡◌, refl, sym, ap, ap₂, ◌∙◌, arith, length, map, List, ◌∷◌, ◌++◌, true, ◌&&◌, Option, Some, None}
 use Rattle.std.specs.Prelude.{option_map, option_and_then}
-use Rattle.std.proofs.lemmas.Grind.{common_steps}
 use Rattle.ac_types.specs.First.{given}
-use Rattle.ac_types.specs.Types.{Typ, Typs, TFun, TTuple, TOpt, TList, TBool, TStr, TExn, agree}
+use Rattle.ac_types.specs.Types.{Typ, Typs, TTuple, TOpt, TList, TBool, TStr, TExn, agree}
 use Rattle.ac_types.specs.ReadTypes.{typ_of}
 use Rattle.ac_types.specs.declared.ty.Ty.{Ty}
 use Rattle.ac_types.specs.declared.ty.Ty.TheVariants as ty
 use Rattle.ac_types.proofs.SizeLaws.{type_laws}
-use Rattle.ac_types.proofs.Same.{both_true}
 use Rattle.ac_terms.specs.PrimitiveTypes.{primitive_type}
 use Rattle.ac_terms.specs.Terms.{arms}
 use Rattle.ac_terms.specs.TermTyping.{has, both_same, last_of}
 use Rattle.ac_terms.specs.Read.{expr_of, arm_of, pattern_of, home_of}
 use Rattle.ac_terms.specs.declared.term.Term.{Term}
 use Rattle.ac_terms.specs.declared.term.Arm.{Arm}
-use Rattle.ac_terms.specs.declared.term.PVal.TheViews.{the_lemmas}
 use Rattle.ac_rules.specs.Views.{Coloured}
 use Rattle.ac_rules.specs.Typing.{type_of, arm_types, one_of, type_seen, type_applied}
 use Rattle.ac_views.specs.Sites.{entries_of, scope_at}
 use Rattle.ac_typing.specs.inner.Parts.{types_in, newest_first, arm_type}
 use Rattle.ac_typing.proofs.KeptLaws.{K}
 use Rattle.ac_typing.proofs.Collected.{ahead, collected, item_none, item_some, items_all}
-use Rattle.ac_typing.proofs.TermLaws.{form_laws, types_collected, arms_collected}
+use Rattle.ac_typing.proofs.TermLaws.{types_collected, arms_collected}
 use Rattle.ac_typing.proofs.ArmLaws.{arm_none, arm_some, arms_all}
 use Rattle.ac_typing.proofs.ScopeLaws.{types_in-One, types_in-More}
 use Rattle.ac_typing.proofs.FormLaws.{carry, function_none, function_some, recursive_none, recursive_no_result, recursive_big, recursive_some, binding_other, binding_some, body_some}
@@ -106,11 +103,11 @@ function-returns-in_default t c =
     function_none (entries_of c.args.site.now) c.args.site.now (types_in c.args.vars.now) (typ_of c.args.ty.now) (expr_of c.args.body.now)
     (ap (option_map typ_of) (sym c.in_default.is) ∙ c.in_ok-from.ensures)
 
-pub function-returns-in-Ok : goal.function-returns-in-Ok
-function-returns-in-Ok t c =
+pub function-returns : goal.function-returns
+function-returns t c =
     carry c.function_type.result _ _
-    (function_some (entries_of c.args.site.now) c.args.site.now (types_in c.args.vars.now) (typ_of c.args.ty.now) (typ_of c.in-Some.from) (expr_of c.args.body.now) (option_map typ_of c.in-Ok.to) _
-    (ap (option_map typ_of) (sym c.in-Some.is) ∙ c.in_ok-from.ensures) c.in-Ok.ensures (types_in-One c.args.vars _))
+    (function_some (entries_of c.args.site.now) c.args.site.now (types_in c.args.vars.now) (typ_of c.args.ty.now) (typ_of c.in-Some.from) (expr_of c.args.body.now) (option_map typ_of c.in_ok-to.to) _
+    (ap (option_map typ_of) (sym c.in-Some.is) ∙ c.in_ok-from.ensures) c.in_ok-to.ensures (types_in-One c.args.vars _))
     c.function_type.ensures
 
 pub recursive-returns-in_default : goal.recursive-returns-in_default
@@ -118,25 +115,25 @@ recursive-returns-in_default t c =
     recursive_none (entries_of c.args.site.now) c.args.site.now (types_in c.args.vars.now) (typ_of c.args.from.now) (typ_of c.args.to.now) (expr_of c.args.body.now)
     (ap (option_map typ_of) (sym c.in_default.is) ∙ c.in_ok-from.ensures)
 
-pub recursive-returns-in-Ok-None : goal.recursive-returns-in-Ok-None
-recursive-returns-in-Ok-None t c =
+pub recursive-returns-in_default-2 : goal.recursive-returns-in_default-2
+recursive-returns-in_default-2 t c =
     recursive_no_result (entries_of c.args.site.now) c.args.site.now (types_in c.args.vars.now) (typ_of c.args.from.now) (typ_of c.args.to.now) (expr_of c.args.body.now)
-    (ap (option_map typ_of) (sym c.in-Ok-None.field-0-is) ∙ c.in-Ok-None.ensures)
+    (ap (option_map typ_of) (sym c.in_default-2.is) ∙ c.in_ok-to.ensures)
 
-pub recursive-returns-in-Ok-None-own_type : goal.recursive-returns-in-Ok-None-own_type
-recursive-returns-in-Ok-None-own_type t c =
-    recursive_big (entries_of c.args.site.now) c.args.site.now (types_in c.args.vars.now) (typ_of c.args.from.now) (typ_of c.args.to.now) (typ_of c.in-Some.from) (typ_of c.in-Ok-Some.to) (expr_of c.args.body.now)
-    (ap (option_map typ_of) (sym c.in-Some.is) ∙ c.in_ok-from.ensures) (ap (option_map typ_of) (sym c.in-Ok-Some.field-0-is) ∙ c.in-Ok-Some.ensures)
-    (ap (option_map typ_of) (sym c.in-Ok-None-own_type.field-0-is) ∙ c.in-Ok-None-own_type.ensures)
+pub recursive-returns-in_default-3 : goal.recursive-returns-in_default-3
+recursive-returns-in_default-3 t c =
+    recursive_big (entries_of c.args.site.now) c.args.site.now (types_in c.args.vars.now) (typ_of c.args.from.now) (typ_of c.args.to.now) (typ_of c.in-Some.from) (typ_of c.in-Some-2.to) (expr_of c.args.body.now)
+    (ap (option_map typ_of) (sym c.in-Some.is) ∙ c.in_ok-from.ensures) (ap (option_map typ_of) (sym c.in-Some-2.is) ∙ c.in_ok-to.ensures)
+    (ap (option_map typ_of) (sym c.in_default-3.is) ∙ c.in_ok-own.ensures)
 
-pub recursive-returns-in-Ok : goal.recursive-returns-in-Ok
-recursive-returns-in-Ok t c =
-    c.recursive_type-end.ensures
-    ∙ recursive_some (entries_of c.args.site.now) c.args.site.now (types_in c.args.vars.now) (typ_of c.args.from.now) (typ_of c.args.to.now) (typ_of c.in-Some.from) (typ_of c.in-Ok-Some.to) (typ_of c.in-Ok-Some-own_type.own) (expr_of c.args.body.now)
-    (option_map typ_of c.in-Ok.found) _
-    (ap (option_map typ_of) (sym c.in-Some.is) ∙ c.in_ok-from.ensures) (ap (option_map typ_of) (sym c.in-Ok-Some.field-0-is) ∙ c.in-Ok-Some.ensures)
-    (ap (option_map typ_of) (sym c.in-Ok-Some-own_type.field-0-is) ∙ c.in-Ok-Some-own_type.ensures)
-    c.in-Ok.ensures (types_in-One _ _ ∙ ap (λ (G : List Typ). typ_of c.in-Some.from ∷ G) (types_in-One c.args.vars _))
+pub recursive-returns : goal.recursive-returns
+recursive-returns t c =
+    c.recursive_type.ensures
+    ∙ recursive_some (entries_of c.args.site.now) c.args.site.now (types_in c.args.vars.now) (typ_of c.args.from.now) (typ_of c.args.to.now) (typ_of c.in-Some.from) (typ_of c.in-Some-2.to) (typ_of c.in-Some-3.own) (expr_of c.args.body.now)
+    (option_map typ_of c.in_ok-found.found) _
+    (ap (option_map typ_of) (sym c.in-Some.is) ∙ c.in_ok-from.ensures) (ap (option_map typ_of) (sym c.in-Some-2.is) ∙ c.in_ok-to.ensures)
+    (ap (option_map typ_of) (sym c.in-Some-3.is) ∙ c.in_ok-own.ensures)
+    c.in_ok-found.ensures (types_in-One _ _ ∙ ap (λ (G : List Typ). typ_of c.in-Some.from ∷ G) (types_in-One c.args.vars _))
 
 -- the type of each form, from those of its parts
 
