@@ -1,8 +1,9 @@
 //! The spellings of types, terms and definitions.
 //!
 //! What is put is the same whatever spells types and references: how they are spelled is a
-//! parameter, `Spelling`. `ByName` is that of canonical texts, and `ByNumber` that of packets. A term, a type and a pattern
-//! are gone through by recursion, whose depth is their height; the parts of a list by a loop.
+//! parameter, `Spelling`. `ByName` is that of canonical texts, and `ByNumber` that of packets. A
+//! term, a type and a pattern are gone through by recursion, whose depth is their height; the parts
+//! of a list by a loop.
 #![tactic(auto)]
 
 mod counts;
