@@ -1,9 +1,9 @@
 -- What is asked for, by the values that were given.
 use Rattle.std.proofs.Common.{◌≡◌, refl, codes, Bool, List, Option}
 use Rattle.std.specs.Prelude.{is_some}
-use Rattle.ac_words.specs.Form.{Given, Text}
-use Rattle.ac_words.specs.WordValues.{all_in, first_in}
-use Rattle.ac_words.specs.Commands.{ProgramFiles, chain_by, chain_of, check_by, check_of, make_by, make_of, program_of, run_by, run_of}
+use Rattle.ac_command.specs.Form.{Given, Text}
+use Rattle.ac_command.specs.WordValues.{all_in, first_in}
+use Rattle.ac_command.specs.Commands.{ProgramFiles, chain_by, chain_of, check_by, check_of, make_by, make_of, program_of, run_by, run_of}
 
 pub run_is : (g : Given) (p : Option ProgramFiles) (steps from to : Option Text) → p ≡ program_of g → steps ≡ first_in (codes "steps") g
     → from ≡ first_in (codes "in") g → to ≡ first_in (codes "out") g → run_by p steps from to ≡ run_of g

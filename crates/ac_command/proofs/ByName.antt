@@ -2,11 +2,11 @@
 use Rattle.std.proofs.Common.{◌≡◌, ◌∙◌, sym, ap, refl, codes, Bool, true, false, List, [], ◌∷◌, map, drop, Option, Some, None, String, string_bytes}
 use Rattle.std.specs.Prelude.{if◌then◌else◌, option_and_then, option_map, slice_get}
 use Rattle.std.specs.Str.{bytes_eq}
-use Rattle.ac_words.specs.Form.{Given, Text}
-use Rattle.ac_words.specs.Commands.{Request, command_by, command_of, words_of}
-use Rattle.ac_word_clap.specs.Rules.{row}
-use Rattle.ac_command.specs.declared.Kind.{Kind}
-use Rattle.ac_command.specs.declared.Kind.TheVariants as kind
+use Rattle.ac_command.specs.Form.{Given, Text}
+use Rattle.ac_command.specs.Commands.{Request, command_by, command_of, words_of}
+use Rattle.ac_command.specs.inner.Rules.{row}
+use Rattle.ac_command.specs.declared.kinds.Kind.{Kind}
+use Rattle.ac_command.specs.declared.kinds.Kind.TheVariants as kind
 use Rattle.ac_command.specs.inner.ByKind.{asked_of, form_of, kind_named}
 
 -- what the command of this kind asks for by its words

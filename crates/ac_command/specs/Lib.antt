@@ -1,1 +1,4 @@
+pub mod Form
+pub mod WordValues
+pub mod Commands
 pub mod inner

@@ -1,7 +1,7 @@
 // What is read of texts and of words, whose values may cross to another thread.
 
+use ac_command::Command;
 use ac_lexer::Token;
-use ac_words::Command;
 
 fn crosses<T: Send + Sync>() {}
 

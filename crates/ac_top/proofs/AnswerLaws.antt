@@ -3,7 +3,7 @@ use Rattle.std.proofs.Common.{◌≡◌, inl, inr, ℕ, [], ◌∷◌, Option, I
 use Rattle.std.specs.Prelude.{Result}
 use Rattle.ac_types.specs.Types.{Bytes}
 use Rattle.ac_types.specs.declared.memory.Memory.{Memory}
-use Rattle.ac_words.specs.Commands.{ProgramFiles, Request}
+use Rattle.ac_command.specs.Commands.{ProgramFiles, Request}
 use Rattle.ac_files.specs.Files.{Reading}
 use Rattle.ac_files.specs.ManyTexts.{TextsFail, of_shelf_list, of_shelf_text, of_text}
 use Rattle.ac_files.specs.ProgramTexts.{HasBadLine, ReadsFail, of_list, of_listed, of_program}

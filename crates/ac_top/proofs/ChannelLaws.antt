@@ -7,8 +7,8 @@ use Rattle.std.proofs.lemmas.Bool.{leb-true, le-leb}
 use Rattle.ac_outside.specs.Outside.{Contents, Appended, Extends, Rose, Wrote, risen, or_empty}
 use Rattle.ac_outside.specs.declared.traits.Put.{Put}
 use Rattle.ac_outside.specs.declared.traits.Put.TheVariants as put
-use Rattle.ac_words.specs.Form.{Text}
-use Rattle.ac_words.specs.Commands.{ChannelName, standard, file}
+use Rattle.ac_command.specs.Form.{Text}
+use Rattle.ac_command.specs.Commands.{ChannelName, standard, file}
 use Rattle.ac_top.specs.inner.Told.{tells, sent_in}
 use Rattle.ac_top.specs.Channels.{of_channel}
 use Rattle.ac_top.specs.inner.Counts.{count_of_both}

@@ -2,7 +2,7 @@
 use Rattle.std.proofs.Common.{◌≡◌, ◌⊎◌, inl, inr, ℕ, Bool, true, IsTrue, List, [], ◌∷◌, Option, Some, None, refl, sym, ◌∙◌}
 use Rattle.std.proofs.lemmas.List.{append-nil}
 use Rattle.ac_types.specs.Types.{Bytes}
-use Rattle.ac_words.specs.Commands.{ChannelName, ProgramFiles, Request, run, names, code, make, check, chain}
+use Rattle.ac_command.specs.Commands.{ChannelName, ProgramFiles, Request, run, names, code, make, check, chain}
 use Rattle.ac_files.proofs.Turns.{turn_none}
 use Rattle.ac_files.specs.ProgramTexts.{HasBadLine, ReadsFail}
 use Rattle.ac_files.specs.declared.shelf.TextsFault.{TextsFault}

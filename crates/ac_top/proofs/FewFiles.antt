@@ -4,13 +4,13 @@ use Rattle.std.proofs.lemmas.Bool.{ltb-false}
 use Rattle.std.specs.Prelude.{is_some, option_and_then, option_map, find, if◌then◌else◌}
 use Rattle.std.specs.List.{list_all}
 use Rattle.std.specs.Str.{bytes_eq}
-use Rattle.ac_words.specs.Form.{Argument, Form, Given, Look, Text, WordPlace, option, word, named, plain, refused}
-use Rattle.ac_words.specs.Form.{look, option_in, place_of_number, with_next, with_option, with_word, arguments_of}
-use Rattle.ac_words.specs.Form.{with_values, with_run, with_place, with_place_in, place_after, given_from, is_once, given_once, given_of}
-use Rattle.ac_words.specs.WordValues.{all_in, first_in, is_file}
-use Rattle.ac_words.specs.Commands.{ChannelName, ProgramFiles, Request, run, names, code, are_one, run_with, run_of, names_of, code_of}
-use Rattle.ac_words.specs.Commands.{make_with, make_of, check_with, check_of, chain_with, chain_of, program_of, run_form, program_form, make_form, check_form, chain_form}
-use Rattle.ac_words.specs.Commands.{steps_in, channel_in, seed_in, modules_in, shelf_in, files_in, command_of}
+use Rattle.ac_command.specs.Form.{Argument, Form, Given, Look, Text, WordPlace, option, word, named, plain, refused}
+use Rattle.ac_command.specs.Form.{look, option_in, place_of_number, with_next, with_option, with_word, arguments_of}
+use Rattle.ac_command.specs.Form.{with_values, with_run, with_place, with_place_in, place_after, given_from, is_once, given_once, given_of}
+use Rattle.ac_command.specs.WordValues.{all_in, first_in, is_file}
+use Rattle.ac_command.specs.Commands.{ChannelName, ProgramFiles, Request, run, names, code, are_one, run_with, run_of, names_of, code_of}
+use Rattle.ac_command.specs.Commands.{make_with, make_of, check_with, check_of, chain_with, chain_of, program_of, run_form, program_form, make_form, check_form, chain_form}
+use Rattle.ac_command.specs.Commands.{steps_in, channel_in, seed_in, modules_in, shelf_in, files_in, command_of}
 use Rattle.ac_top.specs.inner.Apart.{HasFewPrograms}
 
 -- a bound on runs is at most m, where there is one

@@ -3,7 +3,7 @@ use Rattle.std.proofs.Common.{◌≡◌, ℕ, Bool, IsTrue, Option, Some, None, 
 use Rattle.ac_types.specs.Types.{Bytes}
 use Rattle.ac_terms.specs.Terms.{Value}
 use Rattle.ac_outside.specs.Outside.{Contents}
-use Rattle.ac_words.specs.Commands.{ChannelName, standard, file}
+use Rattle.ac_command.specs.Commands.{ChannelName, standard, file}
 use Rattle.ac_rules.specs.Views.{Mode}
 use Rattle.ac_meaning.specs.Acts.{Outcome}
 use Rattle.ac_run.specs.Sessions.{Session, HasInput, ProgramEnds, HasLeft}

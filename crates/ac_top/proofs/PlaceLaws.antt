@@ -9,8 +9,8 @@ use Rattle.ac_types.specs.Types.{Bytes}
 use Rattle.ac_outside.specs.Outside.{Contents, Rose, Created, or_empty}
 use Rattle.ac_outside.specs.declared.traits.Put.{Put}
 use Rattle.ac_outside.specs.declared.traits.Put.TheVariants as put
-use Rattle.ac_words.specs.Form.{Text}
-use Rattle.ac_words.specs.Commands.{ChannelName, ProgramFiles, standard, file, are_one}
+use Rattle.ac_command.specs.Form.{Text}
+use Rattle.ac_command.specs.Commands.{ChannelName, ProgramFiles, standard, file, are_one}
 use Rattle.ac_meaning.specs.Writes.{Write}
 use Rattle.ac_meaning.specs.Worlds.{Trace}
 use Rattle.ac_meaning.specs.Acts.{Outcome, writes_of, before_writes_of, receives_of}

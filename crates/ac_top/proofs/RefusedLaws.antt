@@ -1,7 +1,7 @@
 -- The run of a text that is refused ends as the text means.
 use Rattle.std.proofs.Common.{◌≡◌, ℕ, IsTrue, List, Option, ◌⊎◌, inl, inr, refl}
 use Rattle.ac_types.specs.Types.{Bytes}
-use Rattle.ac_words.specs.Commands.{ChannelName, ProgramFiles}
+use Rattle.ac_command.specs.Commands.{ChannelName, ProgramFiles}
 use Rattle.ac_acceptance.specs.Accepting.{Shelved}
 use Rattle.ac_load.specs.Loading.{Rejects}
 use Rattle.ac_load.specs.Kinds.{Says}

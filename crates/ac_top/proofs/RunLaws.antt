@@ -25,10 +25,10 @@ use Rattle.ac_acceptance.specs.Accepting.{Shelved}
 use Rattle.ac_load.specs.Loading.{Loads}
 use Rattle.ac_files.specs.Files.{IsTextOf}
 use Rattle.ac_files.specs.ProgramTexts.{IsShelfBy}
-use Rattle.ac_words.specs.Commands.{ChannelName, ProgramFiles}
+use Rattle.ac_command.specs.Commands.{ChannelName, ProgramFiles}
 use Rattle.ac_answers.specs.declared.status.Status.{Status}
 use Rattle.ac_answers.specs.declared.status.TheConstants.Status.{FINISHED, UNCAUGHT, SPENT, OUT_OF_MEMORY, READ_FAULT, WRITE_FAULT}
-use Rattle.ac_words.specs.Form.{Text}
+use Rattle.ac_command.specs.Form.{Text}
 use Rattle.ac_outside.specs.Outside.{Rose}
 use Rattle.ac_top.specs.Channels.{of_channel, of_console}
 use Rattle.ac_top.specs.Streams.{AllWritten, read_line, write_line, memory_line}

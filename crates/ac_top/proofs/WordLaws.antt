@@ -2,9 +2,9 @@
 use Rattle.std.proofs.Common.{◌≡◌, ℕ, Bool, true, false, List, [], ◌∷◌, Option, Some, None, codes, refl, subst}
 use Rattle.std.specs.Prelude.{is_some, option_and_then, option_map, if◌then◌else◌}
 use Rattle.std.specs.Str.{bytes_eq}
-use Rattle.ac_words.specs.Form.{Text, Given, given_of}
-use Rattle.ac_words.specs.WordValues.{all_in, first_in}
-use Rattle.ac_words.specs.Commands.{ChannelName, ProgramFiles, Request, run, names, code, are_one, run_with, run_of, names_of, code_of, make_with, make_of, check_with, check_of, chain_with, chain_of, program_of, run_form, program_form, make_form, check_form, chain_form, steps_in, channel_in, seed_in, modules_in, shelf_in, files_in, command_of}
+use Rattle.ac_command.specs.Form.{Text, Given, given_of}
+use Rattle.ac_command.specs.WordValues.{all_in, first_in}
+use Rattle.ac_command.specs.Commands.{ChannelName, ProgramFiles, Request, run, names, code, are_one, run_with, run_of, names_of, code_of, make_with, make_of, check_with, check_of, chain_with, chain_of, program_of, run_form, program_form, make_form, check_form, chain_form, steps_in, channel_in, seed_in, modules_in, shelf_in, files_in, command_of}
 use Rattle.ac_top.specs.inner.Apart.{IsApart}
 
 abbrev AreApart : Option Request → Type 0

@@ -1,8 +1,8 @@
 -- The channels of a run, among standard streams and files.
 use Rattle.std.specs.Prelude.{◌≡◌, ℕ, Bool, IsTrue, List, [], Option, Some, None}
 use Rattle.ac_outside.specs.Outside.{Contents}
-use Rattle.ac_words.specs.Form.{Text}
-use Rattle.ac_words.specs.Commands.{ChannelName, standard, file}
+use Rattle.ac_command.specs.Form.{Text}
+use Rattle.ac_command.specs.Commands.{ChannelName, standard, file}
 
 -- what belongs to a channel: this where there is none, this of the standard stream, or this of the file of its name
 abbrev pub of_channel : {A : Type 0} → Option ChannelName → A → A → (Text → A) → A

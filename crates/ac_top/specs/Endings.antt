@@ -3,7 +3,7 @@ use Rattle.std.specs.Prelude.{◌≡◌, ℕ, List, [], Option, Some, None, map,
 use Rattle.std.specs.declared.alloc.Global.{Global}
 use Rattle.ac_types.specs.Types.{Bytes}
 use Rattle.ac_outside.specs.Outside.{Rose}
-use Rattle.ac_words.specs.Commands.{Request, run, chain}
+use Rattle.ac_command.specs.Commands.{Request, run, chain}
 use Rattle.ac_files.specs.Files.{Reading}
 use Rattle.ac_files.specs.ProgramTexts.{HasBadLine}
 use Rattle.ac_answers.specs.declared.status.Status.{Status}

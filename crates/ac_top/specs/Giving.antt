@@ -2,7 +2,7 @@
 use Rattle.std.specs.Prelude.{List, Option}
 use Rattle.ac_types.specs.Types.{Bytes}
 use Rattle.ac_types.specs.declared.text.Text.{Text}
-use Rattle.ac_words.specs.Commands.{ProgramFiles, Request, run, names, code, make, check, chain}
+use Rattle.ac_command.specs.Commands.{ProgramFiles, Request, run, names, code, make, check, chain}
 use Rattle.ac_acceptance.specs.Accepting.{Shelved}
 use Rattle.ac_files.specs.Files.{Reading, IsTextOf}
 use Rattle.ac_files.specs.ManyTexts.{AreTexts}

@@ -1,7 +1,7 @@
 -- What a call is handed, before it and after it, and what a run's channels have of that.
 use Rattle.std.specs.Prelude.{◌≡◌, ◌⊎◌, ℕ, Bool, true, IsTrue, List, [], ◌&&◌, Option, Some, None, is_some}
 use Rattle.ac_outside.specs.Outside.{Contents, Rose, or_empty}
-use Rattle.ac_words.specs.Commands.{ChannelName, standard, file}
+use Rattle.ac_command.specs.Commands.{ChannelName, standard, file}
 use Rattle.ac_run.specs.Sessions.{Streams, streams}
 use Rattle.ac_top.specs.Channels.{of_channel, of_console}
 use Rattle.ac_files.specs.Files.{FilesSeen, Reading, files_read}

@@ -1,7 +1,7 @@
 -- The files and channels that a request names.
 use Rattle.std.specs.Prelude.{◌≡◌, List, [], ◌∷◌, Option, Some, None}
 use Rattle.ac_types.specs.Types.{Bytes}
-use Rattle.ac_words.specs.Commands.{ChannelName, Request, run, names, code, make, check, chain}
+use Rattle.ac_command.specs.Commands.{ChannelName, Request, run, names, code, make, check, chain}
 use Rattle.ac_files.specs.Files.{Reading}
 use Rattle.ac_files.specs.ManyTexts.{TextsFail, ReadInTurn}
 use Rattle.ac_top.specs.Channels.{NoFile}

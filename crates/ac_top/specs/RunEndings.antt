@@ -3,7 +3,7 @@ use Rattle.std.specs.Prelude.{◌≡◌, ◌⊎◌, ℕ, Bool, true, false, IsTr
 use Rattle.ac_types.specs.Types.{Bytes, Typ}
 use Rattle.ac_terms.specs.Terms.{Expr, Value}
 use Rattle.ac_terms.specs.Defs.{Environment}
-use Rattle.ac_words.specs.Commands.{ChannelName, ProgramFiles, standard}
+use Rattle.ac_command.specs.Commands.{ChannelName, ProgramFiles, standard}
 use Rattle.ac_rules.specs.Views.{Mode}
 use Rattle.ac_meaning.specs.Acts.{Outcome, receives_of}
 use Rattle.ac_meaning.specs.Reduction.{Ends}

@@ -8,7 +8,7 @@ ghost use Rattle.ac_rules.specs.Packets.{PacketCause, Accepts, RefusesPacket};
 ghost use Rattle.ac_meaning.specs.Packing.{Lands, Sinks, landing, of_cause, unmarshal_failure_exn};
 ghost use Rattle.ac_outside.specs.Outside.{Rose};
 ghost use Rattle.ac_rules.specs.Views.{Mode};
-ghost use Rattle.ac_words.specs.Commands.{ChannelName, ProgramFiles, Request, run, check, chain};
+ghost use Rattle.ac_command.specs.Commands.{ChannelName, ProgramFiles, Request, run, check, chain};
 ghost use Rattle.ac_acceptance.specs.Accepting.{Shelved, IsShelf};
 ghost use Rattle.ac_load.specs.Loading.{Loads};
 ghost use Rattle.ac_files.specs.Files.{Reading, IsTextOf};

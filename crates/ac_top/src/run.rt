@@ -9,7 +9,7 @@ ghost use Rattle.ac_load.specs.Loading.{Loads, shelf_of};
 ghost use Rattle.ac_files.specs.Files.{FilesSeen, files_seen, IsTextOf, Since};
 ghost use Rattle.ac_files.specs.ProgramTexts.{IsShelfBy};
 ghost use Rattle.ac_run.specs.Course.{begun};
-ghost use Rattle.ac_words.specs.Commands.{are_one, channel_of, files_of};
+ghost use Rattle.ac_command.specs.Commands.{are_one, channel_of, files_of};
 ghost use Rattle.ac_top.specs.Channels.{KeptBut, NoFile, NotStandard};
 ghost use Rattle.ac_top.specs.Streams.{feeding, writing};
 ghost use Rattle.ac_top.specs.Handed.{what_is_handed};
@@ -19,12 +19,12 @@ ghost use Rattle.ac_top.specs.inner.Runs.{Prepared, MakesFile};
 use crate::saying::{no_memory, refuse, say, tell_spent, tell_uncaught, tell_unread};
 use crate::world::run_among;
 use ac_answers::Status;
+use ac_command::{Channel, Run};
 use ac_files::{ProgramTexts, read_program};
 use ac_load::load;
 use ac_outside::{Files, Put, Sink, Source};
 use ac_rules::Loaded;
 use ac_run::{RunEnd, Session};
-use ac_words::{Channel, Run};
 use std::alloc::Global;
 
 /// Runs the program of a file.

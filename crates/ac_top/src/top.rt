@@ -1,7 +1,7 @@
 // The top call: what the words ask for, from files and input to output.
 ghost use Rattle.std.specs.Prelude.{◌≡◌, Bool, Some, IsTrue};
 ghost use Rattle.ac_files.specs.Files.{files_seen};
-ghost use Rattle.ac_words.specs.Commands.{command_of, request_of};
+ghost use Rattle.ac_command.specs.Commands.{command_of, request_of};
 ghost use Rattle.ac_top.specs.Channels.{KeptBut, NotStandard};
 ghost use Rattle.ac_top.specs.Streams.{feeding, writing};
 ghost use Rattle.ac_top.specs.Handed.{what_is_handed};
@@ -14,9 +14,8 @@ use crate::chaining::chain_files;
 use crate::run::run_file;
 use crate::saying::{no_memory, refuse_words};
 use ac_answers::{Showing, Status};
-use ac_command::read_words;
+use ac_command::{Command, read_words};
 use ac_outside::{Files, Gate, Sink, Source};
-use ac_words::Command;
 use std::alloc::Global;
 use std::thread::Threads;
 

@@ -2,7 +2,7 @@
 ghost use Rattle.std.specs.Prelude.{◌≡◌, ◌≤◌, ◌<◌, ◌⊎◌, ℕ, [], Option, None, Some, IsTrue, true, false, length, option_map, is_some};
 ghost use native.Mathlib.Omega.{arith};
 ghost use Rattle.ac_outside.specs.Outside.{Rose, Contents, NeverFall};
-ghost use Rattle.ac_words.specs.Commands.{ChannelName, are_one, channel_of};
+ghost use Rattle.ac_command.specs.Commands.{ChannelName, are_one, channel_of};
 ghost use Rattle.ac_run.specs.Sessions.{streams};
 ghost use Rattle.ac_top.specs.inner.Told.{tells, left_in, stream_left, sent_in};
 ghost use Rattle.ac_top.specs.Channels.{of_channel, of_console, KeptBut, NoFile, NotStandard};
@@ -11,9 +11,9 @@ ghost use Rattle.ac_top.specs.inner.Runs.{RanIn, ErrorsApart, is_there};
 
 use crate::no_files::NoFiles;
 use crate::no_input::NoInput;
+use ac_command::Channel;
 use ac_outside::{Files, Got, Put, Sink, Source, SureSink, World};
 use ac_run::{RunEnd, Session};
-use ac_words::Channel;
 use std::alloc::Global;
 use std::marker::{Brand, PhantomData};
 

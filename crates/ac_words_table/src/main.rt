@@ -4,9 +4,8 @@
 //! An empty line has no words.
 #![tactic(auto)]
 
-use ac_command::read_words;
+use ac_command::{Chain, Channel, Check, Command, Make, Program, Run, read_words};
 use ac_types::Memory;
-use ac_words::{Chain, Channel, Check, Command, Make, Program, Run};
 use std::alloc::Global;
 use std::io;
 

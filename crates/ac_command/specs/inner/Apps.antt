@@ -2,8 +2,8 @@
 use Rattle.std.specs.Prelude.{ℕ, List, [], ◌∷◌, Some, codes, max, true}
 use Rattle.clap.specs.Words.{App, Rule, Text, new_app, new_rule, with_rule}
 use Rattle.clap.specs.declared.builder.ArgAction.TheVariants.{Set}
-use Rattle.ac_command.specs.declared.Argument.{Argument}
-use Rattle.ac_command.specs.declared.Argument.TheVariants as argument
+use Rattle.ac_command.specs.declared.arguments.Argument.{Argument}
+use Rattle.ac_command.specs.declared.arguments.Argument.TheVariants as argument
 
 -- an option `--NAME` with a value
 abbrev pub value_rule : Text → Rule

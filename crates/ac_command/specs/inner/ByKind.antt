@@ -1,10 +1,10 @@
 -- What the commands are read as.
 use Rattle.std.specs.Prelude.{Option, Some, None, if◌then◌else◌, codes}
 use Rattle.std.specs.Str.{bytes_eq}
-use Rattle.ac_words.specs.Form.{Form, Given, Text}
-use Rattle.ac_words.specs.Commands.{Request, chain_form, chain_of, check_form, check_of, code_of, make_form, make_of, names_of, program_form, run_form, run_of}
-use Rattle.ac_command.specs.declared.Kind.{Kind}
-use Rattle.ac_command.specs.declared.Kind.TheVariants as kind
+use Rattle.ac_command.specs.Form.{Form, Given, Text}
+use Rattle.ac_command.specs.Commands.{Request, chain_form, chain_of, check_form, check_of, code_of, make_form, make_of, names_of, program_form, run_form, run_of}
+use Rattle.ac_command.specs.declared.kinds.Kind.{Kind}
+use Rattle.ac_command.specs.declared.kinds.Kind.TheVariants as kind
 
 -- the command of a name
 abbrev pub kind_named : Text → Option Kind

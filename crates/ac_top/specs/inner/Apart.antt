@@ -1,6 +1,6 @@
 -- What the words of a request ensure: the channels of a run aren't one file, and a chain has few files.
 use Rattle.std.specs.Prelude.{◌≡◌, ◌≤◌, false, length}
-use Rattle.ac_words.specs.Commands.{Request, run, chain, are_one}
+use Rattle.ac_command.specs.Commands.{Request, run, chain, are_one}
 
 abbrev pub IsApart : Request → Type 0
 IsApart (run p steps from to) = are_one from to ≡ false

@@ -4,7 +4,7 @@ use Rattle.ac_types.specs.Types.{Bytes}
 use Rattle.ac_outside.specs.Outside.{Contents, NeverFall, Created, OthersSame, Rose}
 use Rattle.ac_outside.specs.declared.traits.Put.{Put}
 use Rattle.ac_outside.specs.declared.traits.Put.TheVariants as put
-use Rattle.ac_words.specs.Commands.{ChannelName, standard, file}
+use Rattle.ac_command.specs.Commands.{ChannelName, standard, file}
 use Rattle.ac_rules.specs.Views.{Mode}
 use Rattle.ac_terms.specs.Terms.{Value}
 use Rattle.ac_meaning.specs.Acts.{Outcome}

@@ -1,7 +1,7 @@
 -- What the channels of a run tell.
 use Rattle.std.specs.Prelude.{ℕ, ◌&&◌, Bool, true, List, [], Option, drop}
 use Rattle.ac_outside.specs.Outside.{Contents, or_empty}
-use Rattle.ac_words.specs.Commands.{ChannelName}
+use Rattle.ac_command.specs.Commands.{ChannelName}
 use Rattle.ac_top.specs.Channels.{of_channel}
 
 -- whether all is told of what a run reads from and writes to: files, the stream of its input, its console, and the stream of its channel

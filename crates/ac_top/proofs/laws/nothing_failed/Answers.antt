@@ -2,7 +2,7 @@ use Rattle.std.proofs.Common.{◌≡◌, ◌⊎◌, inl, inr, List, ℕ, IsTrue,
 use Rattle.ac_types.specs.Types.{Bytes}
 use Rattle.ac_types.proofs.FirstLaws.{none≢some}
 use Rattle.ac_outside.specs.Outside.{Rose}
-use Rattle.ac_words.specs.Commands.{ChannelName, ProgramFiles, standard, file}
+use Rattle.ac_command.specs.Commands.{ChannelName, ProgramFiles, standard, file}
 use Rattle.ac_acceptance.specs.Accepting.{Shelved}
 use Rattle.ac_files.specs.Files.{IsTextOf}
 use Rattle.ac_files.specs.ProgramTexts.{IsShelfBy, ReadsFail}

@@ -1,7 +1,7 @@
 use Rattle.std.proofs.Common.{◌≡◌, ℕ, List, Option, refl}
 use Rattle.ac_types.specs.Types.{Bytes}
 use Rattle.ac_outside.specs.Outside.{Rose}
-use Rattle.ac_words.specs.Commands.{Request}
+use Rattle.ac_command.specs.Commands.{Request}
 use Rattle.ac_files.specs.ManyTexts.{TextsFail}
 use Rattle.ac_files.specs.ProgramTexts.{HasBadLine}
 use Rattle.ac_answers.specs.declared.status.Status.{Status}

@@ -2,7 +2,7 @@ use Rattle.std.proofs.Common.{◌≡◌, ℕ, Bool, IsTrue, List, Option, refl, 
 use Rattle.ac_types.specs.Types.{Bytes}
 use Rattle.ac_types.specs.declared.text.Text.{Text}
 use Rattle.ac_rules.specs.Views.{Plain}
-use Rattle.ac_words.specs.Commands.{ProgramFiles, Request, run, names, code, make, check, chain}
+use Rattle.ac_command.specs.Commands.{ProgramFiles, Request, run, names, code, make, check, chain}
 use Rattle.ac_acceptance.specs.Accepting.{Shelved}
 use Rattle.ac_files.specs.Files.{Reading}
 use Rattle.ac_chain.specs.ChainTexts.{texts_of}

@@ -1,7 +1,7 @@
 use Rattle.std.proofs.Common.{◌≡◌, ◌∙◌, Option, Some, option_map, ap, sym, subst}
-use Rattle.ac_words.specs.Commands.{ChannelName, channel_of, file}
-use Rattle.ac_words.specs.declared.command.Channel.{Channel}
-use Rattle.ac_words.specs.declared.command.Channel.TheVariants as channel
+use Rattle.ac_command.specs.Commands.{ChannelName, channel_of, file}
+use Rattle.ac_command.specs.declared.command.Channel.{Channel}
+use Rattle.ac_command.specs.declared.command.Channel.TheVariants as channel
 use Rattle.ac_files.specs.Files.{files_seen}
 use Rattle.ac_top.specs.inner.Runs.{MakesFile}
 use Rattle.ac_top.proofs.run.make_channel.Goals as goal

@@ -1,6 +1,6 @@
 use Rattle.std.proofs.Common.{◌≡◌, ◌∙◌, refl, ap, Bool, true, Option, Some, None, is_some, option_map}
 use Rattle.ac_run.specs.Course.{begun}
-use Rattle.ac_words.specs.Commands.{channel_of}
+use Rattle.ac_command.specs.Commands.{channel_of}
 use Rattle.ac_top.proofs.EndingLaws.{end_early}
 use Rattle.ac_top.proofs.PlaceLaws.{untouched_by}
 use Rattle.ac_top.proofs.run.run_program.Goals as goal

@@ -1,5 +1,5 @@
 use Rattle.std.specs.Prelude.{option_map}
-use Rattle.ac_words.specs.Commands.{channel_of}
+use Rattle.ac_command.specs.Commands.{channel_of}
 use Rattle.ac_top.specs.Channels.{of_channel}
 use Rattle.ac_top.proofs.world.run_on.Given as goal
 
