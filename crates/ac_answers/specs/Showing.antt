@@ -4,7 +4,7 @@ use Rattle.ac_types.specs.Types.{Bytes, Typ}
 use Rattle.ac_terms.specs.Terms.{Expr}
 use Rattle.ac_terms.specs.Defs.{Environment}
 use Rattle.ac_generate.specs.Generated.{program_code}
-use Rattle.ac_listing.specs.Listing.{listing_of}
+use Rattle.ac_shown.specs.Listing.{listing_of}
 use Rattle.ac_shown.specs.DefinitionNames.{names_shown}
 use Rattle.ac_acceptance.specs.Accepting.{Shelved}
 use Rattle.ac_load.specs.Loading.{Loads, Rejects}

@@ -4,9 +4,9 @@
 
 use ac_code::CodeTable;
 use ac_generate::generate;
-use ac_listing::listing;
 use ac_load::{Shelf, load};
 use ac_rules::Loaded;
+use ac_shown::listing;
 use ac_terms::Home;
 use ac_types::{Memory, Text};
 use std::alloc::Global;

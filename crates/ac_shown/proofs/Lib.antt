@@ -1,1 +1,2 @@
+mod ListingExamples
 mod NamesExamples

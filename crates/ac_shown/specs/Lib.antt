@@ -1,1 +1,2 @@
 pub mod DefinitionNames
+pub mod Listing

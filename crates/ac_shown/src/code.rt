@@ -3,11 +3,11 @@
 ghost use Rattle.std.specs.Prelude.{◌≡◌, ◌<◌, ◌^◌, IfOk, length};
 ghost use Rattle.ac_terms.specs.Read.{environment_of, expr_of};
 ghost use Rattle.ac_generate.specs.Generated.{program_code};
-ghost use Rattle.ac_listing.specs.Listing.{listing_of};
+ghost use Rattle.ac_shown.specs.Listing.{listing_of};
 
+use crate::blocks::listing;
 use ac_code::CodeTable;
 use ac_generate::{generate, generate_entries};
-use ac_listing::listing;
 use ac_terms::{Env, Home, Term};
 use ac_types::{Memory, Text};
 use std::alloc::Global;

@@ -4,6 +4,7 @@ ghost use Rattle.std.specs.Prelude.{◌≡◌, ◌++◌, ◌+◌, ◌<◌, ◌-�
 ghost use Rattle.ac_terms.specs.Read.{entry_of, environment_of, def_of_code, name_of_code};
 ghost use Rattle.ac_shown.specs.DefinitionNames.{is_own_entry, digits_of, def_shown, name_line, names_shown};
 
+use crate::digits::put_name;
 use ac_literals::{put_literal, put_number};
 use ac_terms::{Def, Entry, Env, Seen};
 use ac_types::{Memory, Name, Text, Word};
@@ -95,9 +96,6 @@ fn put_digits(alloc: Global, text: &mut Text, name: Option<Name>) -> Result<(), 
 {
     match name {
         None => Ok(()),
-        Some(name) => {
-            let digits = hex::encode(alloc, name.0.as_slice())?;
-            text.extend(digits.as_bytes())
-        }
+        Some(name) => put_name(alloc, text, &name),
     }
 }

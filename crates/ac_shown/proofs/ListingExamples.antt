@@ -7,7 +7,7 @@ use Rattle.ac_types.specs.Exceptions as exceptions
 use Rattle.ac_types.specs.Primitives as primitives
 use Rattle.ac_terms.specs.Terms.{Main, In, PWild, PVar, PStr, PTuple, PCons, PPresent, PExnOf, patterns}
 use Rattle.ac_code.specs.Code.{PushInt, Test, Prim, Stop, Return, Own}
-use Rattle.ac_listing.specs.Listing.{type_shown, instr_shown, listing_of}
+use Rattle.ac_shown.specs.Listing.{type_shown, instr_shown, listing_of}
 
 -- the blocks of `IO.print_int (3 + 4)`
 pub sum_printed : listing_of (record {

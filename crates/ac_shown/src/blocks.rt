@@ -3,7 +3,7 @@
 ghost use Rattle.std.specs.Prelude.{◌≡◌, ◌++◌, ⊤, map, IfOk, OnOk, MatchOption};
 ghost use Rattle.ac_terms.specs.Read.{home_of};
 ghost use Rattle.ac_code.specs.ReadCode.{instr_of, block_of, table_code};
-ghost use Rattle.ac_listing.specs.Listing.{instr_line, instr_lines, home_shown, block_lines, listing_of};
+ghost use Rattle.ac_shown.specs.Listing.{instr_line, instr_lines, home_shown, block_lines, listing_of};
 
 use crate::instructions::{put_instr, put_numbered};
 use ac_code::{Block, CodeId, CodeTable, Instr};

@@ -1,7 +1,7 @@
 use Rattle.ac_code.specs.ReadCode.{instr_of}
-use Rattle.ac_listing.specs.Listing.{instr_line}
+use Rattle.ac_shown.specs.Listing.{instr_line}
 use Rattle.ac_literals.proofs.Steps.{one_more, get_there}
-use Rattle.ac_listing.proofs.blocks.put_instrs.Goals as goal
+use Rattle.ac_shown.proofs.blocks.put_instrs.Goals as goal
 
 pub loop-address-preserved : goal.loop-address-preserved
 loop-address-preserved c =

@@ -1,9 +1,9 @@
 use Rattle.std.proofs.Common.{◌≡◌, ◌++◌, arith}
 use Rattle.ac_code.specs.ReadCode.{block_of}
 use Rattle.ac_code.specs.declared.block.Block.{Block}
-use Rattle.ac_listing.specs.Listing.{block_lines}
+use Rattle.ac_shown.specs.Listing.{block_lines}
 use Rattle.ac_literals.proofs.Steps.{one_more, there_is}
-use Rattle.ac_listing.proofs.blocks.listing.Goals as goal
+use Rattle.ac_shown.proofs.blocks.listing.Goals as goal
 
 pub loop-number-preserved : goal.loop-number-preserved
 loop-number-preserved c =

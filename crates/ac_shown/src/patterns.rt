@@ -3,7 +3,7 @@
 ghost use Rattle.std.specs.Prelude.{◌≡◌, ◌++◌, [], map, OnOk};
 ghost use Rattle.ac_terms.specs.Terms.{patterns};
 ghost use Rattle.ac_terms.specs.Read.{pattern_of};
-ghost use Rattle.ac_listing.specs.Listing.{pattern_shown, patterns_shown, truth_word};
+ghost use Rattle.ac_shown.specs.Listing.{pattern_shown, patterns_shown, truth_word};
 
 use crate::types::put_type;
 use ac_literals::{put_integer, put_literal};

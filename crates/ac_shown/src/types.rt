@@ -3,10 +3,10 @@
 ghost use Rattle.std.specs.Prelude.{◌≡◌, ◌++◌, [], map, OnOk};
 ghost use Rattle.ac_types.specs.Types.{typs};
 ghost use Rattle.ac_types.specs.ReadTypes.{typ_of};
-ghost use Rattle.hex.specs.Hex.{encode_lower};
-ghost use Rattle.ac_listing.specs.Listing.{type_shown, parts_shown};
+ghost use Rattle.ac_shown.specs.Listing.{type_shown, parts_shown};
 
-use ac_types::{Memory, Name, Text, Ty};
+use crate::digits::put_name;
+use ac_types::{Memory, Text, Ty};
 use std::alloc::Global;
 
 /// Adds a type.
@@ -65,12 +65,4 @@ fn put_parts(alloc: Global, text: &mut Text, tys: &[Ty]) -> Result<(), Memory>
         front = b" * ";
     }
     Ok(())
-}
-
-// Adds the 64 digits of a name.
-fn put_name(alloc: Global, text: &mut Text, name: &Name) -> Result<(), Memory>
-    ensures { OnOk result (text.new.0 ≡ text.old.0 ++ encode_lower name.now.0) }
-{
-    let digits = hex::encode(alloc, name.0.as_slice())?;
-    text.extend(digits.as_bytes())
 }

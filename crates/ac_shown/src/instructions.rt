@@ -3,7 +3,7 @@
 ghost use Rattle.std.specs.Prelude.{◌≡◌, ◌++◌, OnOk};
 ghost use Rattle.std.specs.Fmt.{decimal};
 ghost use Rattle.ac_code.specs.ReadCode.{instr_of};
-ghost use Rattle.ac_listing.specs.Listing.{instr_shown};
+ghost use Rattle.ac_shown.specs.Listing.{instr_shown};
 
 use crate::patterns::{put_pattern, put_truth};
 use crate::types::put_type;
