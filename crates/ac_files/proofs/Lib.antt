@@ -1,3 +1,7 @@
+pub mod Lines
+pub mod Reached
+pub mod GoodLists
+mod ShelfExamples
 pub mod Pieces
 pub mod Turns
 pub mod Wider

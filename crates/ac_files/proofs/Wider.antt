@@ -4,10 +4,10 @@ use Rattle.std.specs.Prelude.{◌&&◌, Result}
 use Rattle.std.specs.List.{list_all}
 use Rattle.ac_types.specs.Types.{Bytes}
 use Rattle.ac_outside.specs.Outside.{Contents}
-use Rattle.ac_shelf.specs.ShelfLists.{Listed, ShelfAnswer, Lists, listed_uris}
+use Rattle.ac_files.specs.ShelfLists.{Listed, ShelfAnswer, Lists, listed_uris}
 use Rattle.ac_rules.specs.Modules.{are_distinct}
 use Rattle.ac_types.specs.Limits.{is_uri}
-use Rattle.ac_shelf.proofs.GoodLists.{good_list}
+use Rattle.ac_files.proofs.GoodLists.{good_list}
 use Rattle.ac_acceptance.specs.Accepting.{Shelved, IsShelf}
 use Rattle.ac_load.specs.Loading.{shelf_of}
 use Rattle.ac_load.specs.declared.shelf.Shelf.{Shelf}

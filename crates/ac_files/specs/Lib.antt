@@ -1,4 +1,5 @@
 pub mod Files
 pub mod ManyTexts
 pub mod ProgramTexts
+pub mod ShelfLists
 pub mod inner

@@ -2,7 +2,7 @@
 use Rattle.std.specs.Prelude.{◌≡◌, List, [], ◌∷◌, ◌++◌, Option, Some}
 use Rattle.ac_types.specs.Types.{Bytes}
 use Rattle.ac_types.specs.declared.text.Text.{Text}
-use Rattle.ac_shelf.specs.ShelfLists.{Listed, Lists}
+use Rattle.ac_files.specs.ShelfLists.{Listed, Lists}
 use Rattle.ac_acceptance.specs.Accepting.{Shelved}
 use Rattle.ac_files.specs.Files.{Reading, IsTextOf}
 use Rattle.ac_files.specs.ProgramTexts.{ReadRose, ListSays, IsShelfBy}

@@ -2,7 +2,7 @@
 use Rattle.std.specs.Prelude.{◌≡◌, ℕ, List, [], ◌∷◌, ◌++◌, Option, Some, None}
 use Rattle.ac_types.specs.Types.{Bytes}
 use Rattle.ac_outside.specs.Outside.{Rose}
-use Rattle.ac_shelf.specs.ShelfLists.{Listed, ShelfAnswer, Lists, BadLine, shelf_answer}
+use Rattle.ac_files.specs.ShelfLists.{Listed, ShelfAnswer, Lists, BadLine, shelf_answer}
 use Rattle.ac_acceptance.specs.Accepting.{Shelved}
 use Rattle.ac_files.specs.Files.{Reading, IsTextOf}
 

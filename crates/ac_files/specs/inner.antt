@@ -1,2 +1,3 @@
-pub mod Fronts
+pub mod Behind
 pub mod Failing
+pub mod Fronts

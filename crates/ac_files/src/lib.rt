@@ -1,11 +1,15 @@
-//! The texts that a command reads of files: that of a program, and those of its shelf.
+//! The texts that a command reads of files: that of a program or those of several, and those of
+//! their shelf, whose list says which file has the text of which URI.
 #![tactic(auto)]
 
+mod line;
+mod list;
 mod program;
 mod shelf;
 mod text;
 mod texts;
 
+pub use list::{ShelfFault, ShelfLine, shelf_list};
 pub use program::{ProgramTexts, read_program};
 pub use shelf::TextsFault;
 pub use texts::{ManyTexts, read_texts};

@@ -1,17 +1,17 @@
 // The texts of a shelf.
 ghost use Rattle.std.specs.Prelude.{◌≡◌, ◌≤◌, ℕ, None, Some, IsTrue, IfOk, IsErrOf, length, map, option_map};
 ghost use Rattle.ac_outside.specs.Outside.{NeverFall, Rose};
-ghost use Rattle.ac_shelf.specs.ShelfLists.{Lists, BadLine, listed_of, shelf_answer};
+ghost use Rattle.ac_files.specs.ShelfLists.{Lists, BadLine, listed_of, shelf_answer};
 ghost use Rattle.ac_acceptance.specs.Accepting.{IsShelf};
 ghost use Rattle.ac_load.specs.Loading.{shelf_of, shelved};
 ghost use Rattle.ac_files.specs.Files.{files_seen, files_read, IsTextOf};
 ghost use Rattle.ac_files.specs.ProgramTexts.{AreListed, IsShelfBy, HasBadLine};
 ghost use Rattle.ac_files.specs.inner.Failing.{ShelfFails, LinesGive, LinesFail, EntriesFail};
 
+use crate::list::{ShelfFault, ShelfLine, shelf_list};
 use crate::text::{ReadFault, read_text};
 use ac_load::{Shelf, ShelfEntry};
 use ac_outside::Files;
-use ac_shelf::{ShelfFault, ShelfLine, shelf_list};
 use ac_types::Many;
 use std::alloc::Global;
 

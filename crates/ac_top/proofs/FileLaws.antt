@@ -5,7 +5,7 @@ use Rattle.std.specs.Borrow.{Bor}
 use Rattle.ac_types.specs.Types.{Bytes}
 use Rattle.ac_types.specs.declared.text.Text.{Text}
 use Rattle.ac_types.proofs.FirstLaws.{some_eq}
-use Rattle.ac_shelf.specs.ShelfLists.{Listed, ShelfAnswer, Lists, BadLine, shelf_answer}
+use Rattle.ac_files.specs.ShelfLists.{Listed, ShelfAnswer, Lists, BadLine, shelf_answer}
 use Rattle.ac_acceptance.specs.Accepting.{Shelved}
 use Rattle.ac_files.specs.Files.{Reading, IsTextOf}
 use Rattle.ac_files.specs.ManyTexts.{AreTexts}

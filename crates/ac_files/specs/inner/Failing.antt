@@ -1,7 +1,7 @@
 -- The reads of a shelf that may fail, and what the lines of a list give.
 use Rattle.std.specs.Prelude.{◌≡◌, List, ◌∷◌, ◌++◌, Option, Some}
 use Rattle.ac_types.specs.Types.{Bytes}
-use Rattle.ac_shelf.specs.ShelfLists.{Listed, Lists, shelf_answer}
+use Rattle.ac_files.specs.ShelfLists.{Listed, Lists, shelf_answer}
 use Rattle.ac_acceptance.specs.Accepting.{Shelved}
 use Rattle.ac_files.specs.Files.{Reading}
 use Rattle.ac_files.specs.ProgramTexts.{ReadRose, AreListed, ListSays}

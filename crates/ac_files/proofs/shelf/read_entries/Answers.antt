@@ -1,5 +1,5 @@
 use Rattle.std.proofs.Common.{◌≡◌, ◌∙◌, ◌++◌, ◌∷◌, List, [], Err, map, take, drop, sym, ap, subst, arith, suc, length, length-append}
-use Rattle.ac_shelf.specs.ShelfLists.{Listed, listed_of}
+use Rattle.ac_files.specs.ShelfLists.{Listed, listed_of}
 use Rattle.ac_acceptance.specs.Accepting.{Shelved}
 use Rattle.ac_load.specs.Loading.{shelved}
 use Rattle.ac_files.specs.Files.{files_seen, files_read}

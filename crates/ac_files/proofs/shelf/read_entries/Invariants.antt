@@ -1,6 +1,6 @@
 use Rattle.std.proofs.Common.{◌≡◌, IsTrue, take, map, length}
 use Rattle.ac_outside.specs.Outside.{NeverFall}
-use Rattle.ac_shelf.specs.ShelfLists.{listed_of}
+use Rattle.ac_files.specs.ShelfLists.{listed_of}
 use Rattle.ac_load.specs.Loading.{shelved}
 use Rattle.ac_files.specs.Files.{files_seen, files_read}
 use Rattle.ac_files.specs.ProgramTexts.{AreListed}

@@ -1,7 +1,7 @@
 use Rattle.std.proofs.Common.{List, subst}
 use Rattle.std.specs.Prelude.{map}
-use Rattle.ac_shelf.specs.declared.list.ShelfLine.{ShelfLine}
-use Rattle.ac_shelf.specs.ShelfLists.{listed_of}
+use Rattle.ac_files.specs.declared.list.ShelfLine.{ShelfLine}
+use Rattle.ac_files.specs.ShelfLists.{listed_of}
 use Rattle.ac_load.specs.Loading.{shelf_of}
 use Rattle.ac_files.specs.Files.{files_seen, files_read}
 use Rattle.ac_files.specs.ProgramTexts.{AreListed}

@@ -1,9 +1,9 @@
 use Rattle.std.proofs.Common.{◌≡◌, ◌∙◌, ◌+◌, ap, arith, map, ◌++◌}
 use Rattle.ac_types.specs.Types.{Bytes}
-use Rattle.ac_shelf.specs.ShelfLists.{BadLine, line_has, had_of, listed_of}
-use Rattle.ac_shelf.specs.inner.Behind.{fits_behind}
-use Rattle.ac_shelf.proofs.Reached.{within, uris, too_long, go_on}
-use Rattle.ac_shelf.proofs.list.shelf_list.Goals as goal
+use Rattle.ac_files.specs.ShelfLists.{BadLine, line_has, had_of, listed_of}
+use Rattle.ac_files.specs.inner.Behind.{fits_behind}
+use Rattle.ac_files.proofs.Reached.{within, uris, too_long, go_on}
+use Rattle.ac_files.proofs.list.shelf_list.Goals as goal
 
 pub returns-then-line-place-clause-bad : goal.returns-then-line-place-clause-bad
 returns-then-line-place-clause-bad c = λ n e.

@@ -1,9 +1,9 @@
-// One line of a list.
+// One line of the list of a shelf.
 
 ghost use Rattle.std.specs.Prelude.{◌≡◌, ◌==◌, [], ◌∷◌, ◌++◌, ◌<◌, true, false, length, Some, None, MatchOption};
 ghost use Rattle.std.specs.List.{before_first, after_first, list_any, position, position_or_len};
 ghost use Rattle.ac_types.specs.Limits.{is_uri};
-ghost use Rattle.ac_shelf.specs.ShelfLists.{is_space, is_listed_file, lines, pair_of, without_feed};
+ghost use Rattle.ac_files.specs.ShelfLists.{is_space, is_listed_file, lines, pair_of, without_feed};
 
 // The place of the first such byte.
 fn first_place(byte: u8, text: &[u8]) -> Option<usize>

@@ -1,7 +1,7 @@
 use Rattle.std.proofs.Common.{◌<◌, arith, length}
 use Rattle.std.proofs.lemmas.Str.{is_utf8-from_IsUtf8}
-use Rattle.ac_shelf.proofs.Lines.{file_is, no_file}
-use Rattle.ac_shelf.proofs.line.file_of.Goals as goal
+use Rattle.ac_files.proofs.Lines.{file_is, no_file}
+use Rattle.ac_files.proofs.line.file_of.Goals as goal
 
 pub returns-in-Ok : goal.returns-in-Ok
 returns-in-Ok c =

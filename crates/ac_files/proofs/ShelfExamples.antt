@@ -7,7 +7,7 @@ use Rattle.std.proofs.lemmas.Bool.{ltb-true}
 use Rattle.std.proofs.lemmas.Str.{IsUtf8-from_ascii, is_utf8-from_IsUtf8}
 use Rattle.ac_types.proofs.Same.{both_true}
 use Rattle.ac_types.specs.Types.{Bytes}
-use Rattle.ac_shelf.specs.ShelfLists.{Lists, BadLine, lines, shelf_answer}
+use Rattle.ac_files.specs.ShelfLists.{Lists, BadLine, lines, shelf_answer}
 
 abbrev feed : Bytes
 feed = 10 ∷ []

@@ -1,7 +1,7 @@
 -- What a line has behind the entries in front of it.
 use Rattle.std.specs.Prelude.{◌&&◌, Bool, false, List, ◌++◌, length, nat_le, Option, Some, None}
 use Rattle.ac_rules.specs.Modules.{are_distinct}
-use Rattle.ac_shelf.specs.ShelfLists.{Listed, listed_uris}
+use Rattle.ac_files.specs.ShelfLists.{Listed, listed_uris}
 
 -- entries are 256 at most, and no two have one URI
 abbrev pub are_few : List Listed → Bool

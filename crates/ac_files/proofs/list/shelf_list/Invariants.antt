@@ -1,7 +1,7 @@
 use Rattle.std.proofs.Common.{map, length}
-use Rattle.ac_shelf.specs.ShelfLists.{listed_of}
-use Rattle.ac_shelf.proofs.Reached.{Reached}
-use Rattle.ac_shelf.proofs.list.shelf_list.Given as goal
+use Rattle.ac_files.specs.ShelfLists.{listed_of}
+use Rattle.ac_files.proofs.Reached.{Reached}
+use Rattle.ac_files.proofs.list.shelf_list.Given as goal
 
 abbrev pub invariant-loop-rest : goal.invariant-loop-rest
 invariant-loop-rest l = Reached l.text l.rest l.number l.place (map listed_of l.entries)

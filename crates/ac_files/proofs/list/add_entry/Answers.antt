@@ -1,7 +1,7 @@
 use Rattle.std.proofs.Common.{◌∙◌, sym, arith, map}
-use Rattle.ac_shelf.specs.ShelfLists.{listed_of}
-use Rattle.ac_shelf.proofs.Lines.{too_many, twice, one_more, any_listed, map_length}
-use Rattle.ac_shelf.proofs.list.add_entry.Goals as goal
+use Rattle.ac_files.specs.ShelfLists.{listed_of}
+use Rattle.ac_files.proofs.Lines.{too_many, twice, one_more, any_listed, map_length}
+use Rattle.ac_files.proofs.list.add_entry.Goals as goal
 
 pub returns-then-len-ge-MOST_ENTRIES-clause-fits : goal.returns-then-len-ge-MOST_ENTRIES-clause-fits
 returns-then-len-ge-MOST_ENTRIES-clause-fits c =

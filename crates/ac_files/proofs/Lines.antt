@@ -1,4 +1,4 @@
--- Lines of a list, one behind the other.
+-- Lines of a shelf's list, one behind the other.
 use Rattle.std.proofs.Common.{◌≡◌, ◌<◌, ◌≤◌, ◌+◌, ◌&&◌, ℕ, suc, Bool, true, false, not, List, [], ◌∷◌, ◌++◌, length, map, take, drop, Option, Some, None, refl, sym, subst, ◌∙◌, ap, ap₂, arith, append_assoc, append-nil, length-append, cond}
 use Rattle.std.specs.Prelude.{nat_le, nat_lt, ◌||◌, is_some}
 use Rattle.std.specs.List.{position, position_or_len, before_first, after_first, concat, list_all, list_any}
@@ -11,9 +11,9 @@ use Rattle.ac_types.proofs.FirstLaws.{none≢some, some_eq}
 use Rattle.ac_types.proofs.Same.{both_true, and_true, bytes_eq, bytes_refl}
 use Rattle.ac_rules.specs.Modules.{are_distinct}
 use Rattle.ac_types.specs.Limits.{is_uri}
-use Rattle.ac_shelf.specs.declared.list.ShelfLine as code_line
-use Rattle.ac_shelf.specs.ShelfLists.{Listed, is_space, is_listed_file, pair_of, listed_of, is_feed, byte_in_front, lines, line_has, without_feed, has_form, had_of, entry_of_line, entries_of_lines, listed_uris, are_good}
-use Rattle.ac_shelf.specs.inner.Behind.{are_few, fits_behind}
+use Rattle.ac_files.specs.declared.list.ShelfLine as code_line
+use Rattle.ac_files.specs.ShelfLists.{Listed, is_space, is_listed_file, pair_of, listed_of, is_feed, byte_in_front, lines, line_has, without_feed, has_form, had_of, entry_of_line, entries_of_lines, listed_uris, are_good}
+use Rattle.ac_files.specs.inner.Behind.{are_few, fits_behind}
 
 -- where the first such place is
 pub place_is : {A : Type 0} (p : A → Bool) (xs : List A) (i : ℕ) → position p xs ≡ Some i → i ≡ position_or_len p xs

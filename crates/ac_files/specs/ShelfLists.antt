@@ -5,7 +5,7 @@ use Rattle.std.specs.Str.{is_utf8}
 use Rattle.ac_types.specs.Types.{Bytes}
 use Rattle.ac_rules.specs.Modules.{are_distinct}
 use Rattle.ac_types.specs.Limits.{is_uri}
-use Rattle.ac_shelf.specs.declared.list.ShelfLine as code_line
+use Rattle.ac_files.specs.declared.list.ShelfLine as code_line
 
 -- a URI, and the name of the file that has its text
 pub record Listed : Type 0 where

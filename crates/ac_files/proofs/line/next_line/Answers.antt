@@ -1,9 +1,9 @@
 use Rattle.std.proofs.Common.{◌∙◌, sym, ap₂, arith, ◌∷◌, ◌+◌, length}
 use Rattle.std.proofs.lemmas.List.{take_all, drop_all}
 use Rattle.ac_types.specs.Types.{Bytes}
-use Rattle.ac_shelf.specs.ShelfLists.{is_feed, lines}
-use Rattle.ac_shelf.proofs.Lines.{feed_first, no_feed, place_within}
-use Rattle.ac_shelf.proofs.line.next_line.Goals as goal
+use Rattle.ac_files.specs.ShelfLists.{is_feed, lines}
+use Rattle.ac_files.proofs.Lines.{feed_first, no_feed, place_within}
+use Rattle.ac_files.proofs.line.next_line.Goals as goal
 
 pub returns-then-at-text-clause-lines : goal.returns-then-at-text-clause-lines
 returns-then-at-text-clause-lines c =

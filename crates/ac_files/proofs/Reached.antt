@@ -1,4 +1,4 @@
--- How far the lines of a list have been gone through.
+-- How far the lines of a shelf's list have been gone through.
 use Rattle.std.proofs.Common.{◌≡◌, ◌<◌, ◌≤◌, ◌+◌, ◌&&◌, ℕ, Bool, true, false, List, [], ◌∷◌, ◌++◌, length, sym, ◌∙◌, ap, arith, length-append}
 use Rattle.std.specs.Prelude.{nat_le, cond}
 use Rattle.std.specs.List.{concat, list_all}
@@ -6,9 +6,9 @@ use Rattle.std.proofs.lemmas.Bool.{leb-true, le-leb, lt-leb}
 use Rattle.ac_types.specs.Types.{Bytes}
 use Rattle.ac_types.proofs.Same.{both_true}
 use Rattle.ac_types.specs.Limits.{is_uri}
-use Rattle.ac_shelf.specs.ShelfLists.{Listed, Lists, BadLine, lines, line_has, without_feed, has_form, had_of, entries_of_lines, are_good, answer_behind, shelf_answer}
-use Rattle.ac_shelf.specs.inner.Behind.{are_few, fits_behind}
-use Rattle.ac_shelf.proofs.Lines.{good_more, concat_more, entries_more, all_uris}
+use Rattle.ac_files.specs.ShelfLists.{Listed, Lists, BadLine, lines, line_has, without_feed, has_form, had_of, entries_of_lines, are_good, answer_behind, shelf_answer}
+use Rattle.ac_files.specs.inner.Behind.{are_few, fits_behind}
+use Rattle.ac_files.proofs.Lines.{good_more, concat_more, entries_more, all_uris}
 
 -- good lines in front of the rest, so many, with these entries
 pub record Reached (text rest : Bytes) (number place : ℕ) (xs : List Listed) : Type 0 where

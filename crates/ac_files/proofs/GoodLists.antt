@@ -1,4 +1,4 @@
--- A list without bad lines names distinct URIs, and not too many.
+-- A shelf's list without bad lines names distinct URIs, and not too many.
 use Rattle.std.proofs.Common.{◌≡◌, ◌≤◌, Bool, true, false, List, [], ◌∷◌, ◌++◌, ◌+◌, length, refl, sym, ap, subst, arith}
 use Rattle.std.specs.Prelude.{nat_le, cond}
 use Rattle.std.specs.List.{concat, list_all}
@@ -7,8 +7,8 @@ use Rattle.ac_types.specs.Types.{Bytes}
 use Rattle.ac_types.specs.Limits.{is_uri}
 use Rattle.ac_types.proofs.Same.{both_true}
 use Rattle.ac_rules.specs.Modules.{are_distinct}
-use Rattle.ac_shelf.specs.ShelfLists.{Listed, ShelfAnswer, Lists, BadLine, lines, has_form, entries_of_lines, listed_uris, are_good, answer_behind, shelf_answer}
-use Rattle.ac_shelf.proofs.Lines.{all_uris}
+use Rattle.ac_files.specs.ShelfLists.{Listed, ShelfAnswer, Lists, BadLine, lines, has_form, entries_of_lines, listed_uris, are_good, answer_behind, shelf_answer}
+use Rattle.ac_files.proofs.Lines.{all_uris}
 
 -- entries that a shelf may have
 pub record AreFit (xs : List Listed) : Type 0 where

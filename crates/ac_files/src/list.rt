@@ -1,12 +1,12 @@
-// All lines of a list.
+// All lines of the list of a shelf.
 
 ghost use Rattle.std.specs.Prelude.{◌≡◌, ◌≤◌, [], ◌∷◌, ◌++◌, ℕ, IsTrue, IfOk, IsErrOf, length, map, true};
 ghost use Rattle.std.specs.List.{list_all, list_any};
 ghost use Rattle.ac_rules.specs.Modules.{are_distinct};
 ghost use Rattle.ac_types.specs.Limits.{is_uri};
 ghost use Rattle.ac_types.specs.Types.{same_bytes};
-ghost use Rattle.ac_shelf.specs.ShelfLists.{Lists, BadLine, Listed, shelf_answer, line_has, had_of, listed_of, listed_uris};
-ghost use Rattle.ac_shelf.specs.inner.Behind.{are_few, fits_behind};
+ghost use Rattle.ac_files.specs.ShelfLists.{Lists, BadLine, Listed, shelf_answer, line_has, had_of, listed_of, listed_uris};
+ghost use Rattle.ac_files.specs.inner.Behind.{are_few, fits_behind};
 
 use crate::line::{next_line, pair_in, without_feed};
 use ac_types::{Many, Memory, Text};

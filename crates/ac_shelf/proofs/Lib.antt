@@ -1,4 +1,0 @@
-pub mod Lines
-pub mod Reached
-pub mod GoodLists
-mod ShelfExamples

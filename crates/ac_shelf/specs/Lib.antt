@@ -1,2 +1,0 @@
-pub mod ShelfLists
-pub mod inner
