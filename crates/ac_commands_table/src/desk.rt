@@ -86,13 +86,21 @@ impl Desk {
         kept(page, self.faults.push(fault).is_ok());
     }
 
+    /// A file's bytes.
+    pub fn bytes(&self, name: &str) -> Option<&[u8]> {
+        match self.files.bytes(name) {
+            Some(text) => Some(text.as_slice()),
+            None => None,
+        }
+    }
+
     /// Prints a file's bytes.
     pub fn show(&self, alloc: Global, page: &mut Page, name: &str) {
-        let Some(text) = self.files.bytes(name) else {
+        let Some(bytes) = self.bytes(name) else {
             page.put(b"no such file\n");
             return;
         };
-        match hex::encode(alloc, text.as_slice()) {
+        match hex::encode(alloc, bytes) {
             Ok(digits) => {
                 page.put(digits.as_bytes());
                 page.put(b"\n");
@@ -103,11 +111,11 @@ impl Desk {
 
     /// Prints how many bytes a file has.
     pub fn measure(&self, page: &mut Page, name: &str) {
-        let Some(text) = self.files.bytes(name) else {
+        let Some(bytes) = self.bytes(name) else {
             page.put(b"no such file\n");
             return;
         };
-        page.number(text.as_slice().len() as u64);
+        page.number(bytes.len() as u64);
         page.put(b"\n");
     }
 

@@ -1,5 +1,6 @@
 //! Runs the command lines of its input over files in memory, and prints what each wrote and how it
-//! ended.
+//! ended. Started with words, it is the program `acute` over the real files and streams, as it
+//! starts itself for pairs of processes.
 //!
 //! A line of input is one of these, and is printed again:
 //!
@@ -18,21 +19,33 @@
 //!   the statuses and lines of faults of these calls, the same ones once, and `no front` where a
 //!   stream or a file has something that isn't a front of what it gets without a fault.
 //! - `show NAME` prints a file's bytes, in hexadecimal digits; `length NAME` how many they are.
+//! - `pipe WORDS | WORDS` starts two processes with these words, a writer and a reader whose input
+//!   is the writer's output. The system joins the two: no byte of theirs passes through this
+//!   process. Their files are those that lie beside the program, where `save NAME` lays one, too.
+//!   Behind it stands for each what stands behind a call. Under `rt try` the program can't start
+//!   itself, and both end with 127.
 //! - `new` begins anew, without files. Any other line is a heading.
 #![tactic(auto)]
 
 mod call;
+mod child;
+mod children;
 mod desk;
 mod faults;
 mod fronts;
+mod pairs;
 
 use ac_page::Page;
+use ac_top::Status;
 use ac_types::{Memory, Text};
+use child::{call_really, words_of};
 use desk::Desk;
 use faults::{Fault, place_of};
+use pairs::join_pair;
 use std::alloc::Global;
 use std::fs;
 use std::io::{self, Write};
+use std::process::ExitCode;
 use std::thread::Threads;
 
 // Does what a line says that is no call, and writes what is printed behind it.
@@ -46,7 +59,7 @@ fn prepare(rt: &HostRuntime, desk: &mut Desk, page: &mut Page, line: &str) {
     }
 }
 
-// A line that speaks of one file, or of the next call.
+// A line that speaks of one file, of the next call, or of processes.
 fn set_up(rt: &HostRuntime, desk: &mut Desk, page: &mut Page, word: &str, rest: &str) {
     let alloc = rt.alloc();
     match word {
@@ -54,10 +67,12 @@ fn set_up(rt: &HostRuntime, desk: &mut Desk, page: &mut Page, word: &str, rest: 
         "bytes" => add_bytes(alloc, desk, page, rest),
         "blanks" => add_blanks(alloc, desk, page, rest),
         "take" => take(rt, desk, page, rest),
+        "save" => save(rt, desk, page, rest),
         "show" => desk.show(alloc, page, rest),
         "length" => desk.measure(page, rest),
         "input" => feed(alloc, desk, page, rest),
         "fail" => fail(desk, page, rest),
+        "pipe" => join_pair(rt, page, rest),
         _ => {}
     }
 }
@@ -91,6 +106,13 @@ fn take(rt: &HostRuntime, desk: &mut Desk, page: &mut Page, name: &str) {
     match fs::read(rt, name) {
         Ok(bytes) => desk.begin(rt.alloc(), page, name, &bytes),
         Err(_) => page.put(b"no such file\n"),
+    }
+}
+
+fn save(rt: &HostRuntime, desk: &Desk, page: &mut Page, name: &str) {
+    match desk.bytes(name) {
+        Some(bytes) if fs::write(rt, name, bytes).is_ok() => {}
+        _ => page.put(b"not saved\n"),
     }
 }
 
@@ -128,16 +150,32 @@ fn make_calls<R: Threads + Sync>(
     }
 }
 
-fn main(rt: HostRuntime) -> io::Result<()> {
+// Does each line of the input. Its calls start their threads by a handle of its own.
+fn do_lines<R: Threads + Sync>(threads: &R, rt: &HostRuntime) -> io::Result<()> {
     let mut desk = Desk::new(rt.alloc());
     for line in rt.lines(rt.alloc()) {
         let line = line?;
         println!(rt; "{line}")?;
         let mut page = Page::new(rt.alloc());
-        prepare(&rt, &mut desk, &mut page, line.as_str());
-        make_calls(&rt, rt.alloc(), &mut desk, &mut page, line.as_str());
+        prepare(rt, &mut desk, &mut page, line.as_str());
+        make_calls(threads, rt.alloc(), &mut desk, &mut page, line.as_str());
         rt.stdout()
             .write_all(page.bytes().unwrap_or(b"out of memory\n"))?;
     }
     Ok(())
+}
+
+fn main(rt: HostRuntime) -> ExitCode {
+    let words = match words_of(rt.alloc(), &rt) {
+        Ok(words) => words,
+        Err(_) => return ExitCode::from(Status::OUT_OF_MEMORY.0),
+    };
+    if words.is_empty() {
+        return match do_lines(&rt, &rt) {
+            Ok(()) => ExitCode::SUCCESS,
+            Err(_) => ExitCode::FAILURE,
+        };
+    }
+    let Status(status) = call_really(&rt, rt, &words);
+    ExitCode::from(status)
 }

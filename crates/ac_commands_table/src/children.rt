@@ -14,7 +14,7 @@ const PAUSE: u64 = 10;
 #[derive(Drop)]
 pub struct Ended {
     /// Its status, `None` where a signal ended it.
-    pub status: Option<i32>,
+    pub status: Option<u8>,
     /// What it wrote on output, nothing where another child read that.
     pub output: Vec<u8>,
     /// What it wrote on errors.
@@ -55,7 +55,7 @@ fn wait_for(rt: &HostRuntime, mut child: Child) -> io::Result<Ended> {
     child.kill()?;
     let ended = child.wait_with_output(rt.alloc())?;
     Ok(Ended {
-        status: ended.status.code(),
+        status: ended.status.code().and_then(|code| u8::try_from(code).ok()),
         output: ended.stdout,
         errors: ended.stderr,
     })
