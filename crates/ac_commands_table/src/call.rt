@@ -4,7 +4,7 @@ use crate::faults::{Fault, Place, numbers_at};
 use ac_outside::{MemoryFiles, MemorySink, MemorySource, OpenGate};
 use ac_page::Page;
 use ac_top::{Status, acute};
-use ac_types::{Memory, Text};
+use ac_types::{Memory, Text, both};
 use std::alloc::Global;
 use std::thread::Threads;
 
@@ -35,10 +35,11 @@ pub fn call<R: Threads + Sync>(
     input: &[u8],
     faults: &[Fault],
 ) -> Result<Left, Memory> {
-    let input = Text::from_slice(alloc, input)?;
-    let mut input = MemorySource::new(input, numbers_at(alloc, faults, Place::Input)?);
-    let mut output = MemorySink::new(alloc, numbers_at(alloc, faults, Place::Output)?);
-    let mut errors = MemorySink::new(alloc, numbers_at(alloc, faults, Place::Errors)?);
+    let sinks = both(
+        sink(alloc, faults, Place::Output),
+        sink(alloc, faults, Place::Errors),
+    );
+    let (mut input, (mut output, mut errors)) = both(source(alloc, input, faults), sinks)?;
     let Status(status) = acute(
         rt,
         alloc,
@@ -49,10 +50,32 @@ pub fn call<R: Threads + Sync>(
         &mut errors,
         &OpenGate,
     );
+    left_by(alloc, status, &output, &errors)
+}
+
+// These bytes on standard input, with its faults.
+fn source(alloc: Global, bytes: &[u8], faults: &[Fault]) -> Result<MemorySource, Memory> {
+    let numbers = numbers_at(alloc, faults, Place::Input);
+    let (bytes, numbers) = both(Text::from_slice(alloc, bytes), numbers)?;
+    Ok(MemorySource::new(bytes, numbers))
+}
+
+// An empty stream, with the faults of this place.
+fn sink(alloc: Global, faults: &[Fault], place: Place) -> Result<MemorySink, Memory> {
+    Ok(MemorySink::new(alloc, numbers_at(alloc, faults, place)?))
+}
+
+fn left_by(
+    alloc: Global,
+    status: u8,
+    output: &MemorySink,
+    errors: &MemorySink,
+) -> Result<Left, Memory> {
+    let (output, errors) = both(output.bytes().copy(alloc), errors.bytes().copy(alloc))?;
     Ok(Left {
         status,
-        output: output.bytes().copy(alloc)?,
-        errors: errors.bytes().copy(alloc)?,
+        output,
+        errors,
     })
 }
 

@@ -2,10 +2,10 @@
 
 use crate::call::{Left, call, put_status, put_stream, words_in};
 use crate::faults::{Fault, Place, numbers_at};
-use crate::fronts::{are_alike, end_alike, has_fronts, is_front_file, is_same_file, put_end};
+use crate::fronts::{End, are_alike, end_of, has_fronts, is_front_file, is_same_file, put_if_new};
 use ac_outside::{Files, MemoryFile, MemoryFiles, Put};
 use ac_page::Page;
-use ac_types::{Many, Memory, Text};
+use ac_types::{Many, Memory, Text, both};
 use std::alloc::Global;
 use std::thread::Threads;
 
@@ -14,13 +14,24 @@ const MOST: u64 = 10_000;
 
 /// Files in memory, their names, the name of the one that is being written, and what the next call
 /// gets on standard input and with which faults.
-#[derive(Drop)]
 pub struct Desk {
     files: MemoryFiles,
     names: Vec<String>,
     open: String,
     input: Text,
     faults: Vec<Fault>,
+}
+
+impl Drop for Desk {
+    fn drop(self) {
+        let Desk {
+            files: _,
+            names: _,
+            open: _,
+            input: _,
+            faults: _,
+        } = self;
+    }
 }
 
 // What a call left, and the files behind it.
@@ -173,22 +184,37 @@ impl Desk {
     ) -> Result<(), Memory> {
         let words = words_in(alloc, line)?;
         let whole = self.outcome(rt, alloc, &words, &self.faults)?;
-        let mut last: Option<Outcome> = None;
+        let mut last: Option<End> = None;
         for number in 0..MOST {
-            let faults = self.with_fault(alloc, Fault { place, number })?;
-            let one = self.outcome(rt, alloc, &words, &faults)?;
-            if self.is_same(&one, &whole) {
-                return Ok(());
-            }
-            if !self.is_front(&one, &whole) {
-                page.put(b"no front\n");
-            }
-            if is_new(&last, &one) {
-                put_end(page, &one.left);
-            }
-            last = Some(one);
+            let fault = Fault { place, number };
+            let Some(end) = self.end(rt, alloc, page, &words, &whole, fault)? else {
+                break;
+            };
+            put_if_new(page, last, end);
+            last = Some(end);
         }
         Ok(())
+    }
+
+    // How a call with one fault more ends, `None` where it does all that the whole call does.
+    fn end<R: Threads + Sync>(
+        &self,
+        rt: &R,
+        alloc: Global,
+        page: &mut Page,
+        words: &[String],
+        whole: &Outcome,
+        fault: Fault,
+    ) -> Result<Option<End>, Memory> {
+        let faults = self.with_fault(alloc, fault)?;
+        let one = self.outcome(rt, alloc, words, &faults)?;
+        if self.is_same(&one, whole) {
+            return Ok(None);
+        }
+        if !self.is_front(&one, whole) {
+            page.put(b"no front\n");
+        }
+        Ok(Some(end_of(&one.left)))
     }
 
     // A call over copies of the files, with these faults.
@@ -238,26 +264,29 @@ impl Desk {
 
     // The files that were begun, with these faults.
     fn copy(&self, alloc: Global, faults: &[Fault]) -> Result<MemoryFiles, Memory> {
+        let numbers = both(
+            numbers_at(alloc, faults, Place::Reads),
+            numbers_at(alloc, faults, Place::Writes),
+        );
+        let (files, (reads, writes)) = both(self.copies(alloc), numbers)?;
+        Ok(MemoryFiles::new(alloc, files, reads, writes))
+    }
+
+    fn copies(&self, alloc: Global) -> Result<Many<MemoryFile>, Memory> {
         let mut files = Many::new(alloc);
         for name in self.names.as_slice() {
-            if let Some(text) = self.files.bytes(name.as_str()) {
-                let name = String::from_str(alloc, name.as_str())?;
-                let bytes = text.copy(alloc)?;
-                files.push(MemoryFile { name, bytes })?;
+            if let Some(bytes) = self.bytes(name.as_str()) {
+                files.push(file(alloc, name.as_str(), bytes)?)?;
             }
         }
-        let reads = numbers_at(alloc, faults, Place::Reads)?;
-        let writes = numbers_at(alloc, faults, Place::Writes)?;
-        Ok(MemoryFiles::new(alloc, files, reads, writes))
+        Ok(files)
     }
 }
 
-// Whether a call ended otherwise than the one before it.
-fn is_new(last: &Option<Outcome>, one: &Outcome) -> bool {
-    match last {
-        Some(last) => !end_alike(&last.left, &one.left),
-        None => true,
-    }
+fn file(alloc: Global, name: &str, bytes: &[u8]) -> Result<MemoryFile, Memory> {
+    let name = String::from_str(alloc, name)?;
+    let bytes = Text::from_slice(alloc, bytes)?;
+    Ok(MemoryFile { name, bytes })
 }
 
 fn kept(page: &mut Page, kept: bool) {

@@ -8,8 +8,16 @@ const READ_LINE: &[u8] = b"acute: read fault\n";
 
 const WRITE_LINE: &[u8] = b"acute: write fault\n";
 
+/// How a call ended in which one call failed: its status, and the line of a fault that stands last
+/// on errors, empty where none does.
+#[derive(Clone, Copy)]
+pub struct End {
+    status: u8,
+    line: &'static [u8],
+}
+
 // The line of a fault that stands last on errors, if one does, and what stands in front of it.
-fn parted(errors: &[u8]) -> (&[u8], &[u8]) {
+fn parted(errors: &[u8]) -> (&[u8], &'static [u8]) {
     if let Some(front) = errors.strip_suffix(READ_LINE) {
         return (front, READ_LINE);
     }
@@ -58,16 +66,23 @@ pub fn is_same_file(name: &str, now: &MemoryFiles, whole: &MemoryFiles) -> bool 
     bytes_of(now, name) == bytes_of(whole, name)
 }
 
-/// Prints how a call ended in which one call failed.
-pub fn put_end(page: &mut Page, left: &Left) {
+/// How a call ended in which one call failed.
+pub fn end_of(left: &Left) -> End {
     let (_, line) = parted(left.errors.as_slice());
-    put_status(page, left.status);
-    put_stream(page, b"errors", line);
+    End {
+        status: left.status,
+        line,
+    }
 }
 
-/// Whether two calls ended with one status and one line.
-pub fn end_alike(one: &Left, other: &Left) -> bool {
-    let (_, first) = parted(one.errors.as_slice());
-    let (_, second) = parted(other.errors.as_slice());
-    one.status == other.status && first == second
+/// Prints how a call ended, if the one before it ended otherwise.
+pub fn put_if_new(page: &mut Page, last: Option<End>, end: End) {
+    let is_new = match last {
+        Some(last) => last.status != end.status || last.line != end.line,
+        None => true,
+    };
+    if is_new {
+        put_status(page, end.status);
+        put_stream(page, b"errors", end.line);
+    }
 }

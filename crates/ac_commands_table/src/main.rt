@@ -37,7 +37,6 @@ mod pairs;
 
 use ac_page::Page;
 use ac_top::Status;
-use ac_types::{Memory, Text};
 use child::{call_really, words_of};
 use desk::Desk;
 use faults::{Fault, place_of};
@@ -77,8 +76,13 @@ fn set_up(rt: &HostRuntime, desk: &mut Desk, page: &mut Page, word: &str, rest: 
     }
 }
 
+// What stands in front of the first space, and what behind it.
+fn parted(line: &str) -> (&str, &str) {
+    line.split_once(' ').unwrap_or((line, ""))
+}
+
 fn add_bytes(alloc: Global, desk: &mut Desk, page: &mut Page, rest: &str) {
-    let (name, digits) = rest.split_once(' ').unwrap_or((rest, ""));
+    let (name, digits) = parted(rest);
     match hex::decode(alloc, digits) {
         Ok(bytes) => desk.begin(alloc, page, name, &bytes),
         Err(_) => page.put(b"no digits\n"),
@@ -86,20 +90,21 @@ fn add_bytes(alloc: Global, desk: &mut Desk, page: &mut Page, rest: &str) {
 }
 
 fn add_blanks(alloc: Global, desk: &mut Desk, page: &mut Page, rest: &str) {
-    let (name, count) = rest.split_once(' ').unwrap_or((rest, ""));
-    match blanks(alloc, count.parse::<u32>().unwrap_or(0)) {
-        Ok(text) => desk.begin(alloc, page, name, text.as_slice()),
-        Err(_) => page.lose(),
+    let (name, count) = parted(rest);
+    let text = blanks(alloc, count.parse::<u32>().unwrap_or(0));
+    match text.bytes() {
+        Some(bytes) => desk.begin(alloc, page, name, bytes),
+        None => page.lose(),
     }
 }
 
-fn blanks(alloc: Global, count: u32) -> Result<Text, Memory> {
-    let mut text = Text::new(alloc);
+fn blanks(alloc: Global, count: u32) -> Page {
+    let mut text = Page::new(alloc);
     for _ in 0..count {
-        text.extend(b" ")?;
+        text.put(b" ");
     }
-    text.extend(b"1")?;
-    Ok(text)
+    text.put(b"1");
+    text
 }
 
 fn take(rt: &HostRuntime, desk: &mut Desk, page: &mut Page, name: &str) {
@@ -124,7 +129,7 @@ fn feed(alloc: Global, desk: &mut Desk, page: &mut Page, digits: &str) {
 }
 
 fn fail(desk: &mut Desk, page: &mut Page, rest: &str) {
-    let (word, number) = rest.split_once(' ').unwrap_or((rest, ""));
+    let (word, number) = parted(rest);
     match (place_of(word), number.parse::<u64>()) {
         (Some(place), Ok(number)) => desk.fail(page, Fault { place, number }),
         _ => page.put(b"no fault\n"),
@@ -142,7 +147,7 @@ fn make_calls<R: Threads + Sync>(
     if let Some(words) = line.strip_prefix("$ ") {
         desk.call(rt, alloc, page, words);
     } else if let Some(rest) = line.strip_prefix("each ") {
-        let (word, words) = rest.split_once(' ').unwrap_or((rest, ""));
+        let (word, words) = parted(rest);
         match place_of(word) {
             Some(place) => desk.try_each(rt, alloc, page, place, words),
             None => page.put(b"no fault\n"),
@@ -154,15 +159,24 @@ fn make_calls<R: Threads + Sync>(
 fn do_lines<R: Threads + Sync>(threads: &R, rt: &HostRuntime) -> io::Result<()> {
     let mut desk = Desk::new(rt.alloc());
     for line in rt.lines(rt.alloc()) {
-        let line = line?;
-        println!(rt; "{line}")?;
-        let mut page = Page::new(rt.alloc());
-        prepare(rt, &mut desk, &mut page, line.as_str());
-        make_calls(threads, rt.alloc(), &mut desk, &mut page, line.as_str());
-        rt.stdout()
-            .write_all(page.bytes().unwrap_or(b"out of memory\n"))?;
+        do_line(threads, rt, &mut desk, line?.as_str())?;
     }
     Ok(())
+}
+
+// Prints a line, and behind it what it gives.
+fn do_line<R: Threads + Sync>(
+    threads: &R,
+    rt: &HostRuntime,
+    desk: &mut Desk,
+    line: &str,
+) -> io::Result<()> {
+    println!(rt; "{line}")?;
+    let mut page = Page::new(rt.alloc());
+    prepare(rt, desk, &mut page, line);
+    make_calls(threads, rt.alloc(), desk, &mut page, line);
+    rt.stdout()
+        .write_all(page.bytes().unwrap_or(b"out of memory\n"))
 }
 
 fn main(rt: HostRuntime) -> ExitCode {
