@@ -1,2 +1,4 @@
+pub mod RootLaws
+pub mod PackLaws
 pub mod EntryCodes
 pub mod Landings

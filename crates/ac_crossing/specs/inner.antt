@@ -1,1 +1,4 @@
+pub mod PackFaults
+pub mod Needs
+pub mod Wholes
 pub mod Landed

@@ -7,8 +7,8 @@ ghost use Rattle.ac_meaning.specs.Packing.{of_fault, of_cause, import_name, unma
 ghost use Rattle.ac_crossing.specs.inner.Landed.{IsRaised, fault_told, cause_told};
 
 use crate::fault::CrossFault;
+use crate::packing::PackFault;
 use ac_admit::AdmitFault;
-use ac_pack::PackFault;
 use ac_terms::{Exn, PDef, Packet};
 use ac_types::Text;
 use ac_types::exceptions::{MARSHAL_FAILURE, RESOLVE_FAILURE, UNMARSHAL_FAILURE};

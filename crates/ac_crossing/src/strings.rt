@@ -12,9 +12,9 @@ ghost use Rattle.ac_stands.specs.Stands.{stands};
 ghost use Rattle.ac_crossing.specs.Crossing.{Departs};
 
 use crate::fault::CrossFault;
+use crate::packing::pack;
 use crate::raising::of_packing;
 use ac_code::CodeTable;
-use ac_pack::pack;
 use ac_terms::Env;
 use ac_types::{Text, Ty};
 use ac_values::{Store, Value};

@@ -10,10 +10,10 @@ use Rattle.ac_rules.specs.Packets.{PacketCause, Definition, Clash, Full, Unresol
 use Rattle.ac_meaning.specs.Worlds.{Exception}
 use Rattle.ac_meaning.specs.Packing.{Landing, Sinks, Lands, unmarshal_failure_exn}
 use Rattle.ac_meaning.specs.ReadExn.{exn_of}
-use Rattle.ac_pack.specs.declared.packing.PackFault.{PackFault}
-use Rattle.ac_pack.specs.declared.packing.PackFault.TheVariants as pack_fault
 use Rattle.ac_admit.specs.declared.fault.AdmitFault.{AdmitFault}
 use Rattle.ac_admit.specs.declared.fault.AdmitFault.TheVariants as admit_fault
+use Rattle.ac_crossing.specs.declared.packing.PackFault.{PackFault}
+use Rattle.ac_crossing.specs.declared.packing.PackFault.TheVariants as pack_fault
 use Rattle.ac_crossing.specs.declared.fault.CrossFault.{CrossFault}
 use Rattle.ac_crossing.specs.declared.fault.CrossFault.TheVariants as fault
 

@@ -9,8 +9,8 @@ use Rattle.ac_values.specs.Values.{stands_as}
 use Rattle.ac_meaning.specs.BarePacking.{bare_packed}
 use Rattle.ac_stands.specs.Stands.{stands}
 use Rattle.ac_forms.specs.Forms.{AllBelow}
-use Rattle.ac_pack.proofs.PackLaws.{few_chosen, inside}
-use Rattle.ac_pack.proofs.packing.marked.Goals as goal
+use Rattle.ac_crossing.proofs.PackLaws.{few_chosen, inside}
+use Rattle.ac_crossing.proofs.packing.marked.Goals as goal
 
 pub whole-requires-clause-short : goal.whole-requires-clause-short
 whole-requires-clause-short c =

@@ -8,8 +8,8 @@ use Rattle.ac_values.specs.Values.{stands_as}
 use Rattle.ac_rules.specs.Needed.{place_in, packet_of_entries}
 use Rattle.ac_meaning.specs.BarePacking.{bare_packed}
 use Rattle.ac_stands.specs.Stands.{stands}
-use Rattle.ac_pack.proofs.PackLaws.{too_deep, too_many, spelled}
-use Rattle.ac_pack.proofs.packing.whole.Goals as goal
+use Rattle.ac_crossing.proofs.PackLaws.{too_deep, too_many, spelled}
+use Rattle.ac_crossing.proofs.packing.whole.Goals as goal
 
 pub returns-then-not-forms_nest : goal.returns-then-not-forms_nest
 returns-then-not-forms_nest c =

@@ -6,8 +6,8 @@ use Rattle.ac_code.specs.ReadCode.{table_code}
 use Rattle.ac_values.specs.Values.{stands_as}
 use Rattle.ac_meaning.specs.BarePacking.{bare_packed}
 use Rattle.ac_stands.specs.Stands.{stands}
-use Rattle.ac_pack.proofs.PackLaws.{are_chosen}
-use Rattle.ac_pack.proofs.packing.chosen.Goals as goal
+use Rattle.ac_crossing.proofs.PackLaws.{are_chosen}
+use Rattle.ac_crossing.proofs.packing.chosen.Goals as goal
 
 pub returns : goal.returns
 returns c =

@@ -3,8 +3,8 @@ use Rattle.ac_heads.specs.declared.stop.Stop.{Stop}
 use Rattle.ac_heads.specs.declared.stop.Stop.TheVariants as stop
 use Rattle.ac_closure.specs.declared.fault.NeedFault.{NeedFault}
 use Rattle.ac_closure.specs.declared.fault.NeedFault.TheVariants as need
-use Rattle.ac_pack.specs.declared.packing.PackFault.{PackFault}
-use Rattle.ac_pack.specs.declared.packing.PackFault.TheVariants as fault
+use Rattle.ac_crossing.specs.declared.packing.PackFault.{PackFault}
+use Rattle.ac_crossing.specs.declared.packing.PackFault.TheVariants as fault
 
 abbrev pub of_stop : Stop → PackFault
 of_stop stop.Depth = fault.Depth

@@ -8,9 +8,9 @@ use Rattle.ac_code.specs.ReadCode.{table_code}
 use Rattle.ac_values.specs.Values.{stands_as}
 use Rattle.ac_meaning.specs.BarePacking.{bare_packed}
 use Rattle.ac_stands.specs.Stands.{stands}
-use Rattle.ac_pack.specs.inner.Wholes.{IsWhole}
-use Rattle.ac_pack.proofs.PackLaws.{joined, front_long}
-use Rattle.ac_pack.proofs.packet.numbered.Goals as goal
+use Rattle.ac_crossing.specs.inner.Wholes.{IsWhole}
+use Rattle.ac_crossing.proofs.PackLaws.{joined, front_long}
+use Rattle.ac_crossing.proofs.packet.numbered.Goals as goal
 
 pub returns-in-Err : goal.returns-in-Err
 returns-in-Err c =

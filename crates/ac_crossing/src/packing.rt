@@ -15,9 +15,9 @@ ghost use Rattle.ac_rules.specs.Needed.{mark_at, packet_of_entries};
 ghost use Rattle.ac_meaning.specs.BarePacking.{bare_packed};
 ghost use Rattle.ac_stands.specs.Stands.{stands};
 ghost use Rattle.ac_forms.specs.Forms.{AllBelow};
-ghost use Rattle.ac_pack.specs.Packs.{Packed};
-ghost use Rattle.ac_pack.specs.inner.PackFaults.{of_stop, of_need};
-ghost use Rattle.ac_pack.specs.inner.Needs.{AreChosen};
+ghost use Rattle.ac_crossing.specs.Packs.{Packed};
+ghost use Rattle.ac_crossing.specs.inner.PackFaults.{of_stop, of_need};
+ghost use Rattle.ac_crossing.specs.inner.Needs.{AreChosen};
 
 use crate::packet::bytes;
 use ac_closure::{NeedFault, mark_at, needed};

@@ -25,11 +25,11 @@ use Rattle.ac_walk.specs.Spoken.{spoken_by_all}
 use Rattle.ac_heads.specs.declared.stop.Stop.{Stop}
 use Rattle.ac_heads.specs.declared.stop.Stop.TheVariants as stop
 use Rattle.ac_forms.specs.Forms.{AllBelow, forms, front_bytes, IsLong}
-use Rattle.ac_pack.specs.Packs.{Packed}
-use Rattle.ac_pack.specs.declared.packing.PackFault.{PackFault}
-use Rattle.ac_pack.specs.inner.PackFaults.{of_stop}
-use Rattle.ac_pack.specs.inner.Needs.{AreChosen}
-use Rattle.ac_pack.proofs.RootLaws.{needed_alike, needed_inside}
+use Rattle.ac_crossing.specs.Packs.{Packed}
+use Rattle.ac_crossing.specs.declared.packing.PackFault.{PackFault}
+use Rattle.ac_crossing.specs.inner.PackFaults.{of_stop}
+use Rattle.ac_crossing.specs.inner.Needs.{AreChosen}
+use Rattle.ac_crossing.proofs.RootLaws.{needed_alike, needed_inside}
 
 lt_is : (n m : ℕ) → n < m → nat_lt n m ≡ true
 lt_is n m h = grind (arith, nat_tests)

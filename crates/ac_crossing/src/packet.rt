@@ -15,7 +15,7 @@ ghost use Rattle.ac_meaning.specs.BarePacking.{bare_packed};
 ghost use Rattle.ac_stands.specs.Stands.{stands};
 ghost use Rattle.ac_parts.specs.Numbers.{number_for};
 ghost use Rattle.ac_forms.specs.Forms.{AllBelow, IsLong};
-ghost use Rattle.ac_pack.specs.inner.Wholes.{IsWhole};
+ghost use Rattle.ac_crossing.specs.inner.Wholes.{IsWhole};
 
 use ac_code::CodeTable;
 use ac_forms::{front, places, put};

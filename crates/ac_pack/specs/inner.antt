@@ -1,3 +1,0 @@
-pub mod PackFaults
-pub mod Needs
-pub mod Wholes
