@@ -6,118 +6,82 @@ use ac_terms::{Def, Field, Import, Module};
 use ac_types::{Atom, Constraint, Many, Range, Resolve, Sig, SigType, TyField, Version};
 
 impl Parts {
-    /// The type of a signature of that form, whose parts are on top.
-    pub fn sig_type(&mut self, form: &str) -> Option<SigType> {
+    /// Puts the part of a definition of that form onto the parts, made of those that are on top;
+    /// `None` where there is no such form, or a part is missing.
+    pub fn take_part(&mut self, form: &str) -> Option<()> {
         match form {
-            "abstract" => Some(SigType {
-                name: self.pile.words.pop()?,
-                manifest: None,
-            }),
+            "abstract" => {
+                let name = self.pile.words.pop()?;
+                let manifest = None;
+                self.sig_types.push(SigType { name, manifest }).ok()
+            }
             "manifest" => {
                 let name = self.pile.words.pop()?;
-                let manifest = Some(self.pile.types.pop()?);
-                Some(SigType { name, manifest })
+                let manifest = Some(self.pile.top_type());
+                self.sig_types.push(SigType { name, manifest }).ok()
             }
+            "of" => {
+                let name = self.pile.words.pop()?;
+                let ty = self.pile.top_type();
+                self.typed.push(TyField { name, ty }).ok()
+            }
+            "sig" => {
+                let alloc = self.pile.alloc;
+                let types = several(alloc, self.pile.long(), &mut self.sig_types)?;
+                let vals = self.all_typed()?;
+                self.sigs.push(Sig { types, vals }).ok()
+            }
+            "static" => self.resolves.push(Resolve::StaticLink).ok(),
+            "here" => self.resolves.push(Resolve::HereAlready).ok(),
+            "uri" => self.resolves.push(Resolve::Uri(self.pile.string())).ok(),
+            "field" => {
+                let name = self.pile.words.pop()?;
+                let ty = self.pile.top_type();
+                let term = self.pile.terms.pop()?;
+                self.fields.push(Field { name, ty, term }).ok()
+            }
+            _ => self.take_range(form),
+        }
+    }
+
+    // The same of a version or a constraint, or of a part of one.
+    fn take_range(&mut self, form: &str) -> Option<()> {
+        match form {
+            "number" => self.atoms.push(Atom::Number(self.pile.long())).ok(),
+            "myname" => self.atoms.push(Atom::MyName).ok(),
+            "version" => {
+                let alloc = self.pile.alloc;
+                let atoms = several(alloc, self.pile.long(), &mut self.atoms)?;
+                self.versions.push(Version { atoms }).ok()
+            }
+            "one" => self.ranges.push(Range::One(self.pile.long())).ok(),
+            "between" => {
+                let low = self.pile.long();
+                let high = self.pile.long();
+                self.ranges.push(Range::Between(low, high)).ok()
+            }
+            "upto" => self.ranges.push(Range::UpTo(self.pile.long())).ok(),
+            "from" => self.ranges.push(Range::From(self.pile.long())).ok(),
+            "exact" => {
+                let name = self.pile.names.pop()?;
+                self.constraints.push(Constraint::Exact(name)).ok()
+            }
+            "ranges" => self.take_ranges(false),
+            "starred" => self.take_ranges(true),
             _ => None,
         }
     }
 
-    /// The name with its type whose parts are on top.
-    pub fn typed(&mut self, form: &str) -> Option<TyField> {
-        if form != "of" {
-            return None;
-        }
-        let name = self.pile.words.pop()?;
-        let ty = self.pile.types.pop()?;
-        Some(TyField { name, ty })
+    // Ranges as a constraint, with a star or without.
+    fn take_ranges(&mut self, star: bool) -> Option<()> {
+        let atoms = several(self.pile.alloc, self.pile.long(), &mut self.ranges)?;
+        self.constraints
+            .push(Constraint::Ranges { atoms, star })
+            .ok()
     }
 
     fn all_typed(&mut self) -> Option<Many<TyField>> {
-        let count = self.pile.long()?;
-        several(self.pile.alloc, &mut self.typed, count)
-    }
-
-    /// The signature whose parts are on top: its types, and then its values.
-    pub fn sig(&mut self, form: &str) -> Option<Sig> {
-        if form != "sig" {
-            return None;
-        }
-        let count = self.pile.long()?;
-        let types = several(self.pile.alloc, &mut self.sig_types, count)?;
-        let vals = self.all_typed()?;
-        Some(Sig { types, vals })
-    }
-
-    /// The part of a version of that form.
-    pub fn atom(&mut self, form: &str) -> Option<Atom> {
-        match form {
-            "number" => self.pile.long().map(Atom::Number),
-            "myname" => Some(Atom::MyName),
-            _ => None,
-        }
-    }
-
-    /// The version whose parts are on top.
-    pub fn version(&mut self, form: &str) -> Option<Version> {
-        if form != "version" {
-            return None;
-        }
-        let count = self.pile.long()?;
-        several(self.pile.alloc, &mut self.atoms, count).map(|atoms| Version { atoms })
-    }
-
-    /// The part of a constraint of that form, whose numbers are on top.
-    pub fn range(&mut self, form: &str) -> Option<Range> {
-        match form {
-            "one" => self.pile.long().map(Range::One),
-            "between" => {
-                let low = self.pile.long()?;
-                Some(Range::Between(low, self.pile.long()?))
-            }
-            "upto" => self.pile.long().map(Range::UpTo),
-            "from" => self.pile.long().map(Range::From),
-            _ => None,
-        }
-    }
-
-    /// The constraint of that form, whose parts are on top: ranges, with a star or without, or a
-    /// name.
-    pub fn constraint(&mut self, form: &str) -> Option<Constraint> {
-        match form {
-            "ranges" => {
-                let count = self.pile.long()?;
-                let atoms = several(self.pile.alloc, &mut self.ranges, count)?;
-                Some(Constraint::Ranges { atoms, star: false })
-            }
-            "starred" => {
-                let count = self.pile.long()?;
-                let atoms = several(self.pile.alloc, &mut self.ranges, count)?;
-                Some(Constraint::Ranges { atoms, star: true })
-            }
-            "exact" => self.pile.names.pop().map(Constraint::Exact),
-            _ => None,
-        }
-    }
-
-    /// The place where an import looks, of that form.
-    pub fn resolve(&mut self, form: &str) -> Option<Resolve> {
-        match form {
-            "static" => Some(Resolve::StaticLink),
-            "here" => Some(Resolve::HereAlready),
-            "uri" => self.pile.texts.pop().map(Resolve::Uri),
-            _ => None,
-        }
-    }
-
-    /// The field of a module whose parts are on top.
-    pub fn field(&mut self, form: &str) -> Option<Field> {
-        if form != "field" {
-            return None;
-        }
-        let name = self.pile.words.pop()?;
-        let ty = self.pile.types.pop()?;
-        let term = self.pile.terms.pop()?;
-        Some(Field { name, ty, term })
+        several(self.pile.alloc, self.pile.long(), &mut self.typed)
     }
 
     fn module(&mut self) -> Option<Module> {
@@ -125,8 +89,7 @@ impl Parts {
         let version = self.versions.pop()?;
         let sig = self.sigs.pop()?;
         let types = self.all_typed()?;
-        let count = self.pile.long()?;
-        let fields = several(self.pile.alloc, &mut self.fields, count)?;
+        let fields = several(self.pile.alloc, self.pile.long(), &mut self.fields)?;
         Some(Module {
             name,
             version,
@@ -141,8 +104,7 @@ impl Parts {
         let sig = self.sigs.pop()?;
         let constraint = self.constraints.pop()?;
         let like = self.all_typed()?;
-        let count = self.pile.long()?;
-        let by = several(self.pile.alloc, &mut self.resolves, count)?;
+        let by = several(self.pile.alloc, self.pile.long(), &mut self.resolves)?;
         Some(Import {
             name,
             sig,
@@ -154,11 +116,11 @@ impl Parts {
 
     /// The definition of that form, whose parts are on top.
     pub fn def(&mut self, form: &str) -> Option<Def> {
-        match form {
-            "module" => self.module().map(Def::Module),
-            "import" => self.import().map(Def::Import),
-            "mark" => self.pile.texts.pop().map(Def::Mark),
-            _ => None,
-        }
+        Some(match form {
+            "module" => Def::Module(self.module()?),
+            "import" => Def::Import(self.import()?),
+            "mark" => Def::Mark(self.pile.string()),
+            _ => return None,
+        })
     }
 }

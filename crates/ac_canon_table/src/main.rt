@@ -15,8 +15,9 @@ mod reading;
 
 use ac_canon::{def_text, has_text};
 use ac_names::{has_name, name_hex, name_of};
+use ac_page::Page;
 use ac_terms::{Def, Entry, Env, Seen};
-use ac_types::{Many, Memory, Name, Text};
+use ac_types::{Many, Memory, Name};
 use reading::read;
 use std::alloc::Global;
 use std::io::{self, Write};
@@ -51,35 +52,45 @@ fn enter(alloc: Global, env: &mut Env, def: Def) -> Result<u32, Memory> {
     Ok(i)
 }
 
-// The canonical text and the name of an entry in digits, `-` where there is none.
-fn answer(alloc: Global, env: &Env, i: u32) -> Result<Text, Memory> {
-    let mut line = Text::new(alloc);
+// Adds the canonical text and the name of an entry in digits, `-` where there is none.
+fn write_entry(alloc: Global, page: &mut Page, env: &Env, i: u32) -> Result<(), Memory> {
     if has_text(env, i) {
         let text = def_text(alloc, env, i)?;
-        let digits = hex::encode(alloc, text.as_slice())?;
-        line.extend(digits.as_bytes())?;
+        page.put(hex::encode(alloc, text.as_slice())?.as_bytes());
     } else {
-        line.extend(b"-")?;
+        page.put(b"-");
     }
-    line.extend(b" ")?;
+    page.put(b" ");
     match name_at(alloc, env, i)? {
-        None => line.extend(b"-")?,
-        Some(name) => {
-            let digits = name_hex(alloc, &name)?;
-            line.extend(digits.as_slice())?;
-        }
+        None => page.put(b"-"),
+        Some(name) => page.put(name_hex(alloc, &name)?.as_slice()),
     }
-    Ok(line)
+    Ok(())
 }
 
-fn row(alloc: Global, env: &mut Env, line: &str) -> Result<Text, Memory> {
+fn write_row(alloc: Global, page: &mut Page, env: &mut Env, line: &str) -> Result<(), Memory> {
     match read(alloc, env, line) {
-        None => Text::from_slice(alloc, b"no definition"),
+        None => {
+            page.put(b"no definition");
+            Ok(())
+        }
         Some(def) => {
             let i = enter(alloc, env, def)?;
-            answer(alloc, env, i)
+            write_entry(alloc, page, env, i)
         }
     }
+}
+
+// A line with its answer.
+fn row(alloc: Global, env: &mut Env, line: &str) -> Page {
+    let mut page = Page::new(alloc);
+    page.put(line.as_bytes());
+    page.put(b" => ");
+    if write_row(alloc, &mut page, env, line).is_err() {
+        page.lose();
+    }
+    page.put(b"\n");
+    page
 }
 
 fn main(rt: HostRuntime) -> io::Result<()> {
@@ -87,14 +98,9 @@ fn main(rt: HostRuntime) -> io::Result<()> {
         entries: Many::new(rt.alloc()),
     };
     for line in rt.lines(rt.alloc()) {
-        let line = line?;
-        rt.stdout().write_all(line.as_bytes())?;
-        rt.stdout().write_all(b" => ")?;
-        match row(rt.alloc(), &mut env, line.as_str()) {
-            Ok(text) => rt.stdout().write_all(text.as_slice())?,
-            Err(Memory) => rt.stdout().write_all(b"out of memory")?,
-        }
-        println!(rt)?;
+        let page = row(rt.alloc(), &mut env, line?.as_str());
+        rt.stdout()
+            .write_all(page.bytes().unwrap_or(b"out of memory\n"))?;
     }
     Ok(())
 }

@@ -7,7 +7,6 @@ use ac_types::{Atom, Constraint, Range, Resolve, Sig, SigType, TyField, Version}
 use std::alloc::Global;
 
 /// What is still to be taken by a form to the left.
-#[derive(Drop)]
 pub struct Parts {
     pub pile: Pile,
     pub sig_types: Vec<SigType>,
@@ -36,5 +35,22 @@ impl Parts {
             resolves: Vec::new(alloc),
             fields: Vec::new(alloc),
         }
+    }
+}
+
+impl Drop for Parts {
+    fn drop(self) {
+        let Parts {
+            pile: _,
+            sig_types: _,
+            typed: _,
+            sigs: _,
+            atoms: _,
+            versions: _,
+            ranges: _,
+            constraints: _,
+            resolves: _,
+            fields: _,
+        } = self;
     }
 }

@@ -2,7 +2,7 @@
 
 use crate::parts::Parts;
 use ac_terms::{Def, Env};
-use ac_types::{Name, Text, Word};
+use ac_types::{Many, Name, Text, Word};
 use std::alloc::Global;
 
 /// The definition that a line writes: its forms are taken from the end on, each with its parts on
@@ -10,7 +10,7 @@ use std::alloc::Global;
 pub fn read(alloc: Global, env: &Env, line: &str) -> Option<Def> {
     let mut parts = Parts::new(alloc);
     let mut found = None;
-    for piece in line.rsplit(|c: char| c == ' ' || c == '(' || c == ')') {
+    for piece in line.rsplit([' ', '(', ')']) {
         if piece.is_empty() {
             continue;
         }
@@ -19,68 +19,31 @@ pub fn read(alloc: Global, env: &Env, line: &str) -> Option<Def> {
             parts.take(env, piece)?;
         }
     }
-    found
+    if parts.pile.whole { found } else { None }
 }
 
 impl Parts {
     // A piece that is no definition goes to the parts.
     fn take(&mut self, env: &Env, piece: &str) -> Option<()> {
-        if let Some(rest) = piece.strip_prefix('\'') {
-            let text = Text::from_slice(self.pile.alloc, rest.as_bytes()).ok()?;
+        if let Some(letters) = piece.strip_prefix('\'') {
+            let text = Text::from_slice(self.pile.alloc, letters.as_bytes()).ok()?;
             return self.pile.words.push(Word::new(text)?).ok();
         }
-        if let Some(rest) = piece.strip_prefix('@') {
-            return self.pile.names.push(kept(env, rest)?).ok();
+        if let Some(digits) = piece.strip_prefix('@') {
+            return self.pile.names.push(kept(env, digits)?).ok();
+        }
+        if let Some(digits) = piece.strip_prefix('x') {
+            let bytes = hex::decode(self.pile.alloc, digits).ok()?;
+            let text = Text(Many::from_vec(bytes));
+            return self.pile.texts.push(text).ok();
         }
         if let Ok(number) = piece.parse::<i64>() {
             return self.pile.numbers.push(number).ok();
         }
-        self.string(piece)
-    }
-
-    fn string(&mut self, piece: &str) -> Option<()> {
-        if let Some(digits) = piece.strip_prefix('x') {
-            let bytes = hex::decode(self.pile.alloc, digits).ok()?;
-            return self
-                .pile
-                .texts
-                .push(Text::from_slice(self.pile.alloc, bytes.as_slice()).ok()?)
-                .ok();
-        }
         if self.pile.take(piece).is_some() {
             return Some(());
         }
-        self.piece(piece)
-    }
-
-    // Of a signature, a version, a constraint, a resolvespec or a struct.
-    fn piece(&mut self, form: &str) -> Option<()> {
-        if let Some(spec) = self.sig_type(form) {
-            return self.sig_types.push(spec).ok();
-        }
-        if let Some(typed) = self.typed(form) {
-            return self.typed.push(typed).ok();
-        }
-        if let Some(sig) = self.sig(form) {
-            return self.sigs.push(sig).ok();
-        }
-        if let Some(atom) = self.atom(form) {
-            return self.atoms.push(atom).ok();
-        }
-        if let Some(version) = self.version(form) {
-            return self.versions.push(version).ok();
-        }
-        if let Some(range) = self.range(form) {
-            return self.ranges.push(range).ok();
-        }
-        if let Some(constraint) = self.constraint(form) {
-            return self.constraints.push(constraint).ok();
-        }
-        if let Some(resolve) = self.resolve(form) {
-            return self.resolves.push(resolve).ok();
-        }
-        let field = self.field(form)?;
-        self.fields.push(field).ok()
+        self.take_part(piece)
     }
 }
 

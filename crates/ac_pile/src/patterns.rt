@@ -1,35 +1,29 @@
 // Patterns, made of the parts that were read.
 
-use crate::pile::{Pile, several};
+use crate::pile::{Pile, boxed, several, two};
 use ac_terms::Pat;
 
 impl Pile {
     /// The pattern of that form, whose parts are on top.
     pub fn pat(&mut self, form: &str) -> Option<Pat> {
-        match form {
-            "pwild" => Some(Pat::Wild),
-            "pvar" => self.types.pop().map(Pat::Var),
-            "pint" => self.numbers.pop().map(Pat::Int),
-            "pbool" => self.truth().map(Pat::Bool),
-            "pstr" => self.texts.pop().map(Pat::Str),
-            "punit" => Some(Pat::Unit),
-            "ptuple" => {
-                let count = self.long()?;
-                several(self.alloc, &mut self.pats, count).map(Pat::Tuple)
-            }
-            "pnil" => Some(Pat::Nil),
+        Some(match form {
+            "pwild" => Pat::Wild,
+            "pvar" => Pat::Var(self.top_type()),
+            "pint" => Pat::Int(self.number()),
+            "pbool" => Pat::Bool(self.truth()),
+            "pstr" => Pat::Str(self.string()),
+            "punit" => Pat::Unit,
+            "ptuple" => Pat::Tuple(several(self.alloc, self.long(), &mut self.pats)?),
+            "pnil" => Pat::Nil,
             "pcons" => {
-                let head = self.boxed_pat()?;
-                Some(Pat::Cons(head, self.boxed_pat()?))
+                let (head, tail) = two(self.alloc, &mut self.pats)?;
+                Pat::Cons(head, tail)
             }
-            "pabsent" => Some(Pat::Absent),
-            "ppresent" => self.boxed_pat().map(Pat::Present),
-            "pexn" => Some(Pat::Exn(self.small()?, None)),
-            "pexnof" => {
-                let number = self.small()?;
-                Some(Pat::Exn(number, Some(self.boxed_pat()?)))
-            }
-            _ => None,
-        }
+            "pabsent" => Pat::Absent,
+            "ppresent" => Pat::Present(boxed(self.alloc, &mut self.pats)?),
+            "pexn" => Pat::Exn(self.small(), None),
+            "pexnof" => Pat::Exn(self.small(), Some(boxed(self.alloc, &mut self.pats)?)),
+            _ => return None,
+        })
     }
 }

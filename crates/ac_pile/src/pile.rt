@@ -4,11 +4,13 @@ use ac_terms::{Arm, PVal, Pat, Term};
 use ac_types::{Box, Many, Name, Text, Ty, Word};
 use std::alloc::Global;
 
-/// What is still to be taken by a form to the left.
-#[derive(Drop)]
+/// What is still to be taken by a form to the left. Where a number, a type or a string that a form
+/// wants isn't there, another stands for it, and the pile is no longer whole.
 pub struct Pile {
     /// What memory is taken from.
     pub alloc: Global,
+    /// Whether all that forms wanted was there.
+    pub whole: bool,
     /// Numbers.
     pub numbers: Vec<i64>,
     /// Identifiers.
@@ -34,6 +36,7 @@ impl Pile {
     pub fn new(alloc: Global) -> Pile {
         Pile {
             alloc,
+            whole: true,
             numbers: Vec::new(alloc),
             words: Vec::new(alloc),
             texts: Vec::new(alloc),
@@ -49,6 +52,11 @@ impl Pile {
     /// Puts the type, pattern, term, arm or value of that form onto the pile, made of the parts that
     /// are on top; `None` where there is no such form, or a part is missing.
     pub fn take(&mut self, form: &str) -> Option<()> {
+        self.put(form)?;
+        if self.whole { Some(()) } else { None }
+    }
+
+    fn put(&mut self, form: &str) -> Option<()> {
         if let Some(ty) = self.ty(form) {
             return self.types.push(ty).ok();
         }
@@ -65,53 +73,114 @@ impl Pile {
         self.values.push(value).ok()
     }
 
+    /// The top number.
+    pub fn number(&mut self) -> i64 {
+        match self.numbers.pop() {
+            Some(number) => number,
+            None => {
+                self.whole = false;
+                0
+            }
+        }
+    }
+
     /// The top number, in one byte.
-    pub fn small(&mut self) -> Option<u8> {
-        u8::try_from(self.numbers.pop()?).ok()
+    pub fn small(&mut self) -> u8 {
+        match u8::try_from(self.number()) {
+            Ok(number) => number,
+            Err(_) => {
+                self.whole = false;
+                0
+            }
+        }
     }
 
     /// The top number, in two bytes.
-    pub fn short(&mut self) -> Option<u16> {
-        u16::try_from(self.numbers.pop()?).ok()
+    pub fn short(&mut self) -> u16 {
+        match u16::try_from(self.number()) {
+            Ok(number) => number,
+            Err(_) => {
+                self.whole = false;
+                0
+            }
+        }
     }
 
     /// The top number, in four bytes.
-    pub fn long(&mut self) -> Option<u32> {
-        u32::try_from(self.numbers.pop()?).ok()
+    pub fn long(&mut self) -> u32 {
+        match u32::try_from(self.number()) {
+            Ok(number) => number,
+            Err(_) => {
+                self.whole = false;
+                0
+            }
+        }
     }
 
     /// Whether the top number is 1.
-    pub fn truth(&mut self) -> Option<bool> {
-        Some(self.numbers.pop()? == 1)
+    pub fn truth(&mut self) -> bool {
+        self.number() == 1
     }
 
-    /// The top type, in a box.
-    pub fn boxed_type(&mut self) -> Option<Box<Ty>> {
-        let ty = self.types.pop()?;
-        Box::new(self.alloc, ty).ok()
+    /// The top type.
+    pub fn top_type(&mut self) -> Ty {
+        match self.types.pop() {
+            Some(ty) => ty,
+            None => {
+                self.whole = false;
+                Ty::Unit
+            }
+        }
     }
 
-    /// The top pattern, in a box.
-    pub fn boxed_pat(&mut self) -> Option<Box<Pat>> {
-        let pat = self.pats.pop()?;
-        Box::new(self.alloc, pat).ok()
+    /// The top string.
+    pub fn string(&mut self) -> Text {
+        match self.texts.pop() {
+            Some(text) => text,
+            None => {
+                self.whole = false;
+                Text::new(self.alloc)
+            }
+        }
     }
 
     /// The top term, in a box.
     pub fn boxed_term(&mut self) -> Option<Box<Term>> {
-        let term = self.terms.pop()?;
-        Box::new(self.alloc, term).ok()
-    }
-
-    /// The top value, in a box.
-    pub fn boxed_value(&mut self) -> Option<Box<PVal>> {
-        let value = self.values.pop()?;
-        Box::new(self.alloc, value).ok()
+        boxed(self.alloc, &mut self.terms)
     }
 }
 
-/// That many from the top, in their order.
-pub fn several<T: Drop>(alloc: Global, pile: &mut Vec<T>, count: u32) -> Option<Many<T>> {
+impl Drop for Pile {
+    fn drop(self) {
+        let Pile {
+            alloc: _,
+            whole: _,
+            numbers: _,
+            words: _,
+            texts: _,
+            names: _,
+            types: _,
+            pats: _,
+            terms: _,
+            arms: _,
+            values: _,
+        } = self;
+    }
+}
+
+/// The top of a pile, in a box.
+pub fn boxed<T: Drop>(alloc: Global, pile: &mut Vec<T>) -> Option<Box<T>> {
+    Box::new(alloc, pile.pop()?).ok()
+}
+
+/// The two on top of a pile, each in a box.
+pub fn two<T: Drop>(alloc: Global, pile: &mut Vec<T>) -> Option<(Box<T>, Box<T>)> {
+    let first = boxed(alloc, pile)?;
+    Some((first, boxed(alloc, pile)?))
+}
+
+/// That many from the top of a pile, in their order.
+pub fn several<T: Drop>(alloc: Global, count: u32, pile: &mut Vec<T>) -> Option<Many<T>> {
     let mut items = Many::new(alloc);
     for _ in 0..count {
         items.push(pile.pop()?).ok()?;

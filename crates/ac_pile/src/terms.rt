@@ -1,29 +1,21 @@
 // Terms, made of the parts that were read.
 
-use crate::pile::{Pile, several};
+use crate::pile::{Pile, several, two};
 use ac_terms::{Arm, Term};
-use ac_types::{Box, Many, Ty};
+use ac_types::{Box, Many};
 
 impl Pile {
-    fn two(&mut self) -> Option<(Box<Term>, Box<Term>)> {
-        let first = self.boxed_term()?;
-        Some((first, self.boxed_term()?))
-    }
-
-    fn type_and_term(&mut self) -> Option<(Ty, Box<Term>)> {
-        let ty = self.types.pop()?;
-        Some((ty, self.boxed_term()?))
+    fn two_terms(&mut self) -> Option<(Box<Term>, Box<Term>)> {
+        two(self.alloc, &mut self.terms)
     }
 
     fn parts(&mut self) -> Option<Many<Term>> {
-        let count = self.long()?;
-        several(self.alloc, &mut self.terms, count)
+        several(self.alloc, self.long(), &mut self.terms)
     }
 
     fn term_and_arms(&mut self) -> Option<(Box<Term>, Many<Arm>)> {
         let of = self.boxed_term()?;
-        let count = self.long()?;
-        Some((of, several(self.alloc, &mut self.arms, count)?))
+        Some((of, several(self.alloc, self.long(), &mut self.arms)?))
     }
 
     /// The arm whose parts are on top.
@@ -38,70 +30,65 @@ impl Pile {
 
     /// The term of that form, whose parts are on top.
     pub fn term(&mut self, form: &str) -> Option<Term> {
-        match form {
-            "Int" => self.numbers.pop().map(Term::Int),
-            "Bool" => self.truth().map(Term::Bool),
-            "Str" => self.texts.pop().map(Term::Str),
-            "Unit" => Some(Term::Unit),
-            "Exn" => Some(Term::ExnVal(self.small()?, None)),
-            "ExnOf" => {
-                let number = self.small()?;
-                Some(Term::ExnVal(number, Some(self.boxed_term()?)))
-            }
-            "Tuple" => self.parts().map(Term::Tuple),
-            "Nil" => self.types.pop().map(Term::Nil),
-            "Empty" => self.types.pop().map(Term::Empty),
-            "Present" => self.boxed_term().map(Term::Present),
-            "Var" => self.short().map(Term::Var),
-            "Own" => self.short().map(Term::Own),
-            "Ref" => {
-                let entry = self.long()?;
-                Some(Term::Ref(entry, self.words.pop()?))
-            }
-            "Seq" => self.parts().map(Term::Seq),
-            "Prim" => {
-                let number = self.small()?;
-                Some(Term::Prim(number, self.parts()?))
-            }
-            _ => self.joined(form),
-        }
+        Some(match form {
+            "Int" => Term::Int(self.number()),
+            "Bool" => Term::Bool(self.truth()),
+            "Str" => Term::Str(self.string()),
+            "Unit" => Term::Unit,
+            "Exn" => Term::ExnVal(self.small(), None),
+            "ExnOf" => Term::ExnVal(self.small(), Some(self.boxed_term()?)),
+            "Tuple" => Term::Tuple(self.parts()?),
+            "Nil" => Term::Nil(self.top_type()),
+            "Empty" => Term::Empty(self.top_type()),
+            "Present" => Term::Present(self.boxed_term()?),
+            "Var" => Term::Var(self.short()),
+            "Own" => Term::Own(self.short()),
+            "Ref" => Term::Ref(self.long(), self.words.pop()?),
+            "Seq" => Term::Seq(self.parts()?),
+            "Prim" => Term::Prim(self.small(), self.parts()?),
+            _ => return self.joined(form),
+        })
     }
 
+    // The term of a form that joins terms with terms, types, arms or a value.
     fn joined(&mut self, form: &str) -> Option<Term> {
-        match form {
-            "Cons" => self.two().map(|(head, tail)| Term::Cons(head, tail)),
-            "Lam" => self.type_and_term().map(|(ty, body)| Term::Lam(ty, body)),
-            "Rec" => {
-                let from = self.types.pop()?;
-                let (to, body) = self.type_and_term()?;
-                Some(Term::Rec(from, to, body))
+        Some(match form {
+            "Cons" => {
+                let (head, tail) = self.two_terms()?;
+                Term::Cons(head, tail)
             }
-            "App" => self.two().map(|(f, a)| Term::App(f, a)),
+            "Lam" => Term::Lam(self.top_type(), self.boxed_term()?),
+            "Rec" => Term::Rec(self.top_type(), self.top_type(), self.boxed_term()?),
+            "App" => {
+                let (function, argument) = self.two_terms()?;
+                Term::App(function, argument)
+            }
             "Let" => {
-                let (ty, bound) = self.type_and_term()?;
-                Some(Term::Let(ty, bound, self.boxed_term()?))
+                let ty = self.top_type();
+                let (bound, body) = self.two_terms()?;
+                Term::Let(ty, bound, body)
             }
             "If" => {
-                let (test, so) = self.two()?;
-                Some(Term::If(test, so, self.boxed_term()?))
+                let (test, so) = self.two_terms()?;
+                Term::If(test, so, self.boxed_term()?)
             }
-            "Match" => self.term_and_arms().map(|(of, arms)| Term::Match(of, arms)),
-            "Try" => self.term_and_arms().map(|(of, arms)| Term::Try(of, arms)),
-            "Raise" => self
-                .type_and_term()
-                .map(|(ty, inner)| Term::Raise(ty, inner)),
+            "Match" => {
+                let (of, arms) = self.term_and_arms()?;
+                Term::Match(of, arms)
+            }
+            "Try" => {
+                let (of, arms) = self.term_and_arms()?;
+                Term::Try(of, arms)
+            }
+            "Raise" => Term::Raise(self.top_type(), self.boxed_term()?),
             "Marshal" => {
-                let (ty, mark) = self.type_and_term()?;
-                Some(Term::Marshal(ty, mark, self.boxed_term()?))
+                let ty = self.top_type();
+                let (mark, inner) = self.two_terms()?;
+                Term::Marshal(ty, mark, inner)
             }
-            "Unmarshal" => self
-                .type_and_term()
-                .map(|(ty, inner)| Term::Unmarshal(ty, inner)),
-            "Val" => {
-                let ty = self.types.pop()?;
-                Some(Term::Val(ty, self.values.pop()?))
-            }
-            _ => None,
-        }
+            "Unmarshal" => Term::Unmarshal(self.top_type(), self.boxed_term()?),
+            "Val" => Term::Val(self.top_type(), self.values.pop()?),
+            _ => return None,
+        })
     }
 }

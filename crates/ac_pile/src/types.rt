@@ -1,33 +1,27 @@
 // Types, made of the parts that were read.
 
-use crate::pile::{Pile, several};
+use crate::pile::{Pile, boxed, several, two};
 use ac_types::Ty;
 
 impl Pile {
     /// The type of that form, whose parts are on top.
     pub fn ty(&mut self, form: &str) -> Option<Ty> {
-        match form {
-            "int" => Some(Ty::Int),
-            "bool" => Some(Ty::Bool),
-            "string" => Some(Ty::Str),
-            "unit" => Some(Ty::Unit),
-            "exn" => Some(Ty::Exn),
-            "tuple" => {
-                let count = self.long()?;
-                several(self.alloc, &mut self.types, count).map(Ty::Tuple)
-            }
-            "list" => self.boxed_type().map(Ty::List),
-            "option" => self.boxed_type().map(Ty::Opt),
+        Some(match form {
+            "int" => Ty::Int,
+            "bool" => Ty::Bool,
+            "string" => Ty::Str,
+            "unit" => Ty::Unit,
+            "exn" => Ty::Exn,
+            "tuple" => Ty::Tuple(several(self.alloc, self.long(), &mut self.types)?),
+            "list" => Ty::List(boxed(self.alloc, &mut self.types)?),
+            "option" => Ty::Opt(boxed(self.alloc, &mut self.types)?),
             "fun" => {
-                let from = self.boxed_type()?;
-                Some(Ty::Fun(from, self.boxed_type()?))
+                let (from, to) = two(self.alloc, &mut self.types)?;
+                Ty::Fun(from, to)
             }
-            "abs" => {
-                let name = self.names.pop()?;
-                Some(Ty::Abs(name, self.words.pop()?))
-            }
-            "mine" => self.words.pop().map(Ty::Mine),
-            _ => None,
-        }
+            "abs" => Ty::Abs(self.names.pop()?, self.words.pop()?),
+            "mine" => Ty::Mine(self.words.pop()?),
+            _ => return None,
+        })
     }
 }

@@ -1,41 +1,31 @@
 // Packed values.
 
-use crate::pile::{Pile, several};
+use crate::pile::{Pile, boxed, several};
 use ac_terms::{Exn, Home, PVal};
 
 impl Pile {
     /// The packed value of that form, whose parts are on top.
     pub fn value(&mut self, form: &str) -> Option<PVal> {
-        match form {
-            "vint" => self.numbers.pop().map(PVal::Int),
-            "vbool" => self.truth().map(PVal::Bool),
-            "vstr" => self.texts.pop().map(PVal::Str),
-            "vunit" => Some(PVal::Unit),
-            "vexn" => Some(PVal::Exn(Exn {
-                number: self.small()?,
+        Some(match form {
+            "vint" => PVal::Int(self.number()),
+            "vbool" => PVal::Bool(self.truth()),
+            "vstr" => PVal::Str(self.string()),
+            "vunit" => PVal::Unit,
+            "vexn" => PVal::Exn(Exn {
+                number: self.small(),
                 text: None,
-            })),
-            "vexnof" => {
-                let number = self.small()?;
-                let text = Some(self.texts.pop()?);
-                Some(PVal::Exn(Exn { number, text }))
-            }
-            "vtuple" => {
-                let count = self.long()?;
-                several(self.alloc, &mut self.values, count).map(PVal::Tuple)
-            }
-            "vlist" => {
-                let count = self.long()?;
-                several(self.alloc, &mut self.values, count).map(PVal::List)
-            }
-            "vabsent" => Some(PVal::Absent),
-            "vpresent" => self.boxed_value().map(PVal::Present),
-            "vmain" => self.boxed_term().map(|term| PVal::Fun(Home::Main, term)),
-            "vin" => {
-                let home = Home::In(self.long()?);
-                Some(PVal::Fun(home, self.boxed_term()?))
-            }
-            _ => None,
-        }
+            }),
+            "vexnof" => PVal::Exn(Exn {
+                number: self.small(),
+                text: Some(self.string()),
+            }),
+            "vtuple" => PVal::Tuple(several(self.alloc, self.long(), &mut self.values)?),
+            "vlist" => PVal::List(several(self.alloc, self.long(), &mut self.values)?),
+            "vabsent" => PVal::Absent,
+            "vpresent" => PVal::Present(boxed(self.alloc, &mut self.values)?),
+            "vmain" => PVal::Fun(Home::Main, boxed(self.alloc, &mut self.terms)?),
+            "vin" => PVal::Fun(Home::In(self.long()), boxed(self.alloc, &mut self.terms)?),
+            _ => return None,
+        })
     }
 }
