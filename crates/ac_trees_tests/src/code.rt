@@ -1,6 +1,6 @@
 // A table of blocks, where memory suffices.
 
-use crate::words::one;
+use crate::make::one;
 use ac_code::{Block, CodeId, CodeTable};
 use ac_terms::Home;
 use ac_types::Many;
@@ -25,8 +25,7 @@ fn table(rt: &impl Abort, alloc: Global) -> CodeTable {
 #[test]
 fn blocks_and_fields_are_found(rt: HostRuntime) {
     let table = table(&rt, rt.alloc());
+    let fields = [table.field(2, 0), table.field(1, 0), table.field(2, 1)];
     assert_eq!(rt; table.len(), 1);
-    assert_eq!(rt; table.field(2, 0), Some(CodeId(0)));
-    assert_eq!(rt; table.field(1, 0), None);
-    assert_eq!(rt; table.field(2, 1), None);
+    assert_eq!(rt; fields, [Some(CodeId(0)), None, None]);
 }

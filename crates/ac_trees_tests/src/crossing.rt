@@ -1,5 +1,7 @@
-// Trees whose values may cross to another thread.
+// Trees, and what is read of texts and of words, whose values may cross to another thread.
 
+use ac_command::Command;
+use ac_lexer::Token;
 use ac_terms::{Env, Exn, Home, Packet, Pat, Term};
 use ac_types::{Constraint, Resolve, Sig, Text, Ty, Version};
 
@@ -27,4 +29,10 @@ fn terms_and_environments_cross(_rt: HostRuntime) {
 #[test]
 fn packets_cross(_rt: HostRuntime) {
     crosses::<Packet>();
+}
+
+#[test]
+fn tokens_and_commands_cross(_rt: HostRuntime) {
+    crosses::<Token>();
+    crosses::<Command<'_>>();
 }

@@ -1,6 +1,6 @@
 // Frames of a source: whole, broken off, too long, and after a read that fails.
 
-use crate::words::{one, text};
+use crate::make::{one, text};
 use ac_outside::{FrameGot, Frames, MemoryWorld, Source, SureWorld};
 use ac_types::Many;
 use std::alloc::Global;

@@ -1,72 +1,36 @@
 // Calls that can answer want of memory, where memory suffices.
 
-use crate::words::{boxed, one, text, two, word};
-use ac_terms::{
-    Arm, Def, Entry, Env, Exn, Field, Home, Import, Module, PDef, PVal, Packet, Pat, Seen, Term,
-};
+use crate::make::{boxed, entry, named, one, text, two, word};
+use ac_terms::{Arm, Def, Env, Exn, Home, Import, PDef, PVal, Packet, Pat, Term};
 use ac_types::exceptions::FAILURE;
-use ac_types::{Atom, Constraint, Many, Name, Resolve, Sig, Ty, TyField, Version};
+use ac_types::{Constraint, Many, Name, Resolve, Sig, Ty};
 use std::alloc::Global;
 use std::process::Abort;
 
-fn int_y(rt: &impl Abort, alloc: Global) -> TyField {
-    TyField {
-        name: word(rt, alloc, b"y"),
-        ty: Ty::Int,
-    }
-}
-
-fn six_y(rt: &impl Abort, alloc: Global) -> Field {
-    Field {
-        name: word(rt, alloc, b"y"),
-        ty: Ty::Int,
-        term: Term::Int(6),
-    }
-}
-
-// `module C : sig val y : int end = struct val y : int = 6 end`.
-fn six(rt: &impl Abort, alloc: Global) -> Module {
-    Module {
-        name: word(rt, alloc, b"C"),
-        version: Version {
-            atoms: one(rt, alloc, Atom::MyName),
-        },
-        sig: Sig {
-            types: Many::new(alloc),
-            vals: one(rt, alloc, int_y(rt, alloc)),
-        },
-        types: Many::new(alloc),
-        fields: one(rt, alloc, six_y(rt, alloc)),
-    }
-}
-
-fn entry(def: Def, name: Option<Name>) -> Entry {
-    Entry {
-        def,
-        name,
-        seen: Seen::Own,
-        link: None,
-    }
-}
-
-// A mark and then the module, under a name.
+// A mark and then a module, under a name.
 fn sample(rt: &impl Abort, alloc: Global) -> Env {
     let mark = entry(Def::Mark(text(rt, alloc, b"MK")), None);
-    let module = entry(Def::Module(six(rt, alloc)), Some(Name([7; 32])));
     Env {
-        entries: two(rt, alloc, mark, module),
+        entries: two(rt, alloc, mark, named(rt, alloc, b"C", 6)),
     }
+}
+
+fn copy(rt: &impl Abort, alloc: Global) -> Env {
+    let env = sample(rt, alloc);
+    let copy = env.copy(alloc).expect(rt, "memory");
+    drop(env);
+    copy
 }
 
 #[test]
 fn copies_an_environment(rt: HostRuntime) {
-    let env = sample(&rt, rt.alloc());
-    let copy = env.copy(rt.alloc()).expect(&rt, "memory");
+    let copy = copy(&rt, rt.alloc());
     assert!(rt; copy.entries.len() == 2);
-    assert_eq!(rt; copy.find(&Name([7; 32])), Some(1));
-    assert_eq!(rt; copy.find(&Name([8; 32])), None);
+    assert!(rt; copy.find(&Name([7; 32])) == Some(1));
+    assert!(rt; copy.find(&Name([8; 32])).is_none());
     assert!(rt; copy.entry(1).is_some());
     assert!(rt; copy.entry(2).is_none());
+    drop(copy);
 }
 
 // `import C : sig end version * by Here_Already`.
@@ -101,9 +65,9 @@ fn packet(rt: &impl Abort, alloc: Global) -> Packet {
 fn copies_a_packet(rt: HostRuntime) {
     let packet = packet(&rt, rt.alloc());
     let copy = packet.copy(rt.alloc()).expect(&rt, "memory");
+    drop(packet);
     assert_eq!(rt; copy.defs.len(), 1);
     assert!(rt; matches!(&copy.value, PVal::Exn(_)));
-    drop(packet);
     drop(copy);
 }
 
@@ -126,7 +90,7 @@ fn arms(rt: &impl Abort, alloc: Global) -> PVal {
 fn copies_a_function(rt: HostRuntime) {
     let value = arms(&rt, rt.alloc());
     let copy = value.copy(rt.alloc()).expect(&rt, "memory");
-    assert!(rt; matches!(&copy, PVal::Fun(Home::Main, _)));
     drop(value);
+    assert!(rt; matches!(&copy, PVal::Fun(Home::Main, _)));
     drop(copy);
 }

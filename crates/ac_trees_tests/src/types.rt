@@ -1,6 +1,6 @@
 // Calls that can answer want of memory, where memory suffices.
 
-use crate::words::{boxed, one, text, two, word};
+use crate::make::{boxed, one, text, two, word};
 use ac_types::{
     Atom, Constraint, Range, Resolve, Sig, SigType, Ty, TyField, Version, eq_under, small, ty_eq,
 };
@@ -39,19 +39,22 @@ fn sample_sig(rt: &impl Abort, alloc: Global) -> Sig {
 fn copies_a_type(rt: HostRuntime) {
     let ty = sample(&rt, rt.alloc());
     let copy = ty.copy(rt.alloc()).expect(&rt, "memory");
-    assert!(rt; ty_eq(&ty, &copy));
-    assert!(rt; small(&copy));
-    assert!(rt; !ty_eq(&copy, &Ty::Int));
+    let equal = (ty_eq(&ty, &copy), ty_eq(&copy, &Ty::Int));
     drop(ty);
+    let is_small = small(&copy);
     drop(copy);
+    assert_eq!(rt; equal, (true, false));
+    assert!(rt; is_small);
 }
 
 #[test]
 fn copies_a_signature(rt: HostRuntime) {
     let sig = sample_sig(&rt, rt.alloc());
     let copy = sig.copy(rt.alloc()).expect(&rt, "memory");
-    assert_eq!(rt; copy.types.len(), 2);
-    assert_eq!(rt; copy.vals.len(), 1);
+    drop(sig);
+    let lengths = (copy.types.len(), copy.vals.len());
+    drop(copy);
+    assert_eq!(rt; lengths, (2, 1));
 }
 
 #[test]
@@ -59,6 +62,7 @@ fn copies_a_version(rt: HostRuntime) {
     let atoms = two(&rt, rt.alloc(), Atom::Number(1), Atom::MyName);
     let version = Version { atoms };
     let copy = version.copy(rt.alloc()).expect(&rt, "memory");
+    drop(version);
     assert_eq!(rt; copy.atoms.get(1), Some(&Atom::MyName));
 }
 
@@ -69,38 +73,46 @@ fn copies_a_constraint(rt: HostRuntime) {
         star: true,
     };
     let copy = constraint.copy(rt.alloc()).expect(&rt, "memory");
-    assert!(rt;
-        matches!(
-            &copy,
-            Constraint::Ranges {
-                atoms: _,
-                star: true
-            }
-        )
-    );
     drop(constraint);
+    let has_star = matches!(
+        &copy,
+        Constraint::Ranges {
+            atoms: _,
+            star: true
+        }
+    );
     drop(copy);
+    assert!(rt; has_star);
 }
 
 #[test]
 fn copies_a_resolvespec(rt: HostRuntime) {
     let by = Resolve::Uri(text(&rt, rt.alloc(), b"lib:c"));
     let copy = by.copy(rt.alloc()).expect(&rt, "memory");
-    assert!(rt; matches!(&copy, Resolve::Uri(_)));
     drop(by);
+    let is_uri = matches!(&copy, Resolve::Uri(_));
     drop(copy);
+    assert!(rt; is_uri);
+}
+
+// Whether a type is one for which the own type of that name stands.
+fn stands_for(rt: &impl Abort, alloc: Global, name: &[u8], ty: &Ty) -> bool {
+    let sig = sample_sig(rt, alloc);
+    let own = Ty::Mine(word(rt, alloc, name));
+    let found = eq_under(&sig, &sig, ty, &own);
+    drop(own);
+    drop(sig);
+    found
 }
 
 // An abstract type stands for itself, and a manifest one for what it is.
 #[test]
 fn own_types_stand_for_types(rt: HostRuntime) {
-    let sig = sample_sig(&rt, rt.alloc());
-    let t = Ty::Mine(word(&rt, rt.alloc(), b"t"));
-    assert!(rt; eq_under(&sig, &sig, &t, &t));
-    assert!(rt; !eq_under(&sig, &sig, &Ty::Bool, &t));
+    let alloc = rt.alloc();
+    let t = Ty::Mine(word(&rt, alloc, b"t"));
+    assert!(rt; stands_for(&rt, alloc, b"t", &t));
     drop(t);
-    let u = Ty::Mine(word(&rt, rt.alloc(), b"u"));
-    assert!(rt; eq_under(&sig, &sig, &Ty::Bool, &u));
-    assert!(rt; !eq_under(&sig, &sig, &Ty::Int, &u));
-    drop(u);
+    assert!(rt; !stands_for(&rt, alloc, b"t", &Ty::Bool));
+    assert!(rt; stands_for(&rt, alloc, b"u", &Ty::Bool));
+    assert!(rt; !stands_for(&rt, alloc, b"u", &Ty::Int));
 }

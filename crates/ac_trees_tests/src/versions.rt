@@ -1,8 +1,9 @@
-// Tokens as a text, `m` for `myname`, and behind `=` what they are: numbers, `n..m` for a range, a
+// Tokens as a text, `m` for `myname`, and behind `~` what they are: numbers, `n..m` for a range, a
 // last `*`; `!` where they are nothing.
 
+use crate::rows::{Reader, check_rows};
 use ac_page::Page;
-use ac_types::{Atom, Constraint, Many, Name, Range, Text, Version};
+use ac_types::{Atom, Constraint, Many, Name, Range, Version};
 use ac_version::{
     VToken, VersionFault, constraint_text, meets, read_constraint, read_version, version_text,
 };
@@ -10,67 +11,67 @@ use std::alloc::Global;
 use std::process::Abort;
 
 const VERSIONS: &str = "\
-1 = 1
-1.2.3.4.5.6.7.8 = 1 2 3 4 5 6 7 8
-1.2.3.4.5.6.7.8.9 = !
-m = m
-1.m.3 = 1 m 3
-m.m.m.m.m.m.m.m.m = !
-4294967295 = 4294967295
-4294967296 = !
-1.4294967296 = !
-= !
-.1 = !
-1. = !
-1..2 = !
-1 2 = !
-1-2 = !
-* = !
-1.* = !";
+1 ~ 1
+1.2.3.4.5.6.7.8 ~ 1 2 3 4 5 6 7 8
+1.2.3.4.5.6.7.8.9 ~ !
+m ~ m
+1.m.3 ~ 1 m 3
+m.m.m.m.m.m.m.m.m ~ !
+4294967295 ~ 4294967295
+4294967296 ~ !
+1.4294967296 ~ !
+~ !
+.1 ~ !
+1. ~ !
+1..2 ~ !
+1 2 ~ !
+1-2 ~ !
+* ~ !
+1.* ~ !";
 
 const CONSTRAINTS: &str = "\
-1 = 1
-1.2 = 1 2
-1.--2 = !
-1.2- = 1 2..
-1.-3 = 1 ..3
--3 = ..3
-2- = 2..
-2-4 = 2..4
-4-2 = 4..2
-2-4.* = 2..4 *
--3.* = ..3 *
-2-.* = 2.. *
-1.* = 1 *
-* = *
-1.*.2 = !
-1-.2 = 1.. 2
-1-.-2 = 1.. ..2
-1-2.3-4.-5.6- = 1..2 3..4 ..5 6..
-1.2.3.4.5.6.7.8 = 1 2 3 4 5 6 7 8
-1.2.3.4.5.6.7.8.* = 1 2 3 4 5 6 7 8 *
-1.2.3.4.5.6.7.8.9 = !
-1.2.3.4.5.6.7.8.9.* = !
-4294967295-4294967295 = 4294967295..4294967295
-4294967296 = !
-1-4294967296 = !
--4294967296 = !
-4294967296- = !
-= !
-- = !
---2 = !
-1-- = !
-1--2 = !
-1-2-3 = !
-1-2 3 = !
-1-2- = !
-.1 = !
-1. = !
-1..2 = !
-1* = !
-1.** = !
-*.1 = !
-m = !";
+1 ~ 1
+1.2 ~ 1 2
+1.--2 ~ !
+1.2- ~ 1 2..
+1.-3 ~ 1 ..3
+-3 ~ ..3
+2- ~ 2..
+2-4 ~ 2..4
+4-2 ~ 4..2
+2-4.* ~ 2..4 *
+-3.* ~ ..3 *
+2-.* ~ 2.. *
+1.* ~ 1 *
+* ~ *
+1.*.2 ~ !
+1-.2 ~ 1.. 2
+1-.-2 ~ 1.. ..2
+1-2.3-4.-5.6- ~ 1..2 3..4 ..5 6..
+1.2.3.4.5.6.7.8 ~ 1 2 3 4 5 6 7 8
+1.2.3.4.5.6.7.8.* ~ 1 2 3 4 5 6 7 8 *
+1.2.3.4.5.6.7.8.9 ~ !
+1.2.3.4.5.6.7.8.9.* ~ !
+4294967295-4294967295 ~ 4294967295..4294967295
+4294967296 ~ !
+1-4294967296 ~ !
+-4294967296 ~ !
+4294967296- ~ !
+~ !
+- ~ !
+--2 ~ !
+1-- ~ !
+1--2 ~ !
+1-2-3 ~ !
+1-2 3 ~ !
+1-2- ~ !
+.1 ~ !
+1. ~ !
+1..2 ~ !
+1* ~ !
+1.** ~ !
+*.1 ~ !
+m ~ !";
 
 fn symbol(c: u8) -> Option<VToken> {
     match c {
@@ -127,13 +128,23 @@ fn write_version(page: &mut Page, version: &Version) {
     }
 }
 
-fn version(alloc: Global, tokens: &[VToken]) -> Page {
-    let mut page = Page::new(alloc);
-    match read_version(alloc, tokens) {
-        Ok(version) => write_version(&mut page, &version),
-        Err(fault) => write_fault(&mut page, fault),
+struct VersionReader;
+
+impl Reader for VersionReader {
+    fn read(rt: &impl Abort, alloc: Global, text: &str) -> Page {
+        let mut page = Page::new(alloc);
+        let tokens = tokens(rt, alloc, text.as_bytes());
+        match read_version(alloc, tokens.as_slice()) {
+            Ok(version) => write_version(&mut page, &version),
+            Err(fault) => write_fault(&mut page, fault),
+        }
+        page
     }
-    page
+}
+
+#[test]
+fn versions(rt: HostRuntime) {
+    check_rows::<VersionReader>(&rt, rt.alloc(), VERSIONS);
 }
 
 fn write_range(page: &mut Page, range: Range) {
@@ -170,41 +181,23 @@ fn write_constraint(page: &mut Page, constraint: &Constraint) {
     }
 }
 
-fn constraint(alloc: Global, tokens: &[VToken]) -> Page {
-    let mut page = Page::new(alloc);
-    match read_constraint(alloc, tokens) {
-        Ok(constraint) => write_constraint(&mut page, &constraint),
-        Err(fault) => write_fault(&mut page, fault),
+struct ConstraintReader;
+
+impl Reader for ConstraintReader {
+    fn read(rt: &impl Abort, alloc: Global, text: &str) -> Page {
+        let mut page = Page::new(alloc);
+        let tokens = tokens(rt, alloc, text.as_bytes());
+        match read_constraint(alloc, tokens.as_slice()) {
+            Ok(constraint) => write_constraint(&mut page, &constraint),
+            Err(fault) => write_fault(&mut page, fault),
+        }
+        page
     }
-    page
-}
-
-fn check_version(rt: &impl Abort, alloc: Global, line: &str) {
-    let (text, want) = line.split_once('=').expect(rt, "a row");
-    let tokens = tokens(rt, alloc, text.as_bytes());
-    let page = version(alloc, tokens.as_slice());
-    assert_eq!(rt; page.bytes(), Some(want.as_bytes()));
-}
-
-#[test]
-fn versions(rt: HostRuntime) {
-    for line in VERSIONS.lines() {
-        check_version(&rt, rt.alloc(), line);
-    }
-}
-
-fn check_constraint(rt: &impl Abort, alloc: Global, line: &str) {
-    let (text, want) = line.split_once('=').expect(rt, "a row");
-    let tokens = tokens(rt, alloc, text.as_bytes());
-    let page = constraint(alloc, tokens.as_slice());
-    assert_eq!(rt; page.bytes(), Some(want.as_bytes()));
 }
 
 #[test]
 fn constraints(rt: HostRuntime) {
-    for line in CONSTRAINTS.lines() {
-        check_constraint(&rt, rt.alloc(), line);
-    }
+    check_rows::<ConstraintReader>(&rt, rt.alloc(), CONSTRAINTS);
 }
 
 // A constraint, a version, and whether the version meets it.
@@ -218,8 +211,11 @@ const MEETINGS: [(&[u8], &[u8], bool); 7] = [
     (b"1", b"1.2", false),
 ];
 
-// A constraint or a version, and how it is printed.
-const PRINTED: [(&[u8], &[u8]); 3] = [(b"1.2-4.*", b"1.2-4.*"), (b"-3.4-", b"-3.4-"), (b"*", b"*")];
+// Constraints, and how they are printed.
+const PRINTED: &str = "\
+1.2-4.*~1.2-4.*
+-3.4-~-3.4-
+*~*";
 
 fn read(rt: &impl Abort, alloc: Global, text: &[u8]) -> Constraint {
     read_constraint(alloc, tokens(rt, alloc, text).as_slice()).expect(rt, "a constraint")
@@ -237,26 +233,29 @@ fn is_met(rt: &impl Abort, alloc: Global, wanted: &[u8], had: &[u8]) -> bool {
     met
 }
 
-fn printed(rt: &impl Abort, alloc: Global, text: &[u8]) -> Text {
-    let constraint = read(rt, alloc, text);
-    let printed = constraint_text(alloc, &constraint).expect(rt, "memory");
-    drop(constraint);
-    printed
-}
-
 #[test]
 fn versions_meet_constraints(rt: HostRuntime) {
-    for (wanted, had, holds) in MEETINGS {
-        assert_eq!(rt; is_met(&rt, rt.alloc(), wanted, had), holds);
+    for (wanted, had, holds) in &MEETINGS {
+        assert_eq!(rt; is_met(&rt, rt.alloc(), wanted, had), *holds);
+    }
+}
+
+struct PrintedReader;
+
+impl Reader for PrintedReader {
+    fn read(rt: &impl Abort, alloc: Global, text: &str) -> Page {
+        let mut page = Page::new(alloc);
+        let constraint = read(rt, alloc, text.as_bytes());
+        let printed = constraint_text(alloc, &constraint).expect(rt, "memory");
+        drop(constraint);
+        page.put(printed.as_slice());
+        page
     }
 }
 
 #[test]
 fn prints_constraints(rt: HostRuntime) {
-    for (text, want) in PRINTED {
-        let found = printed(&rt, rt.alloc(), text);
-        assert_eq!(rt; found.as_slice(), want);
-    }
+    check_rows::<PrintedReader>(&rt, rt.alloc(), PRINTED);
 }
 
 #[test]

@@ -1,6 +1,7 @@
 // Texts, and behind `~` their tokens: a letter for the kind, the bytes and `@` with the place; `!`
 // with the place where a text has none.
 
+use crate::rows::{Reader, check_rows};
 use ac_lexer::{LexFault, Token, TokenKind, lex};
 use ac_page::Page;
 use std::alloc::Global;
@@ -128,7 +129,7 @@ fn write_fault(page: &mut Page, fault: LexFault) {
     }
 }
 
-fn answer(alloc: Global, text: &[u8]) -> Page {
+fn page(alloc: Global, text: &[u8]) -> Page {
     let mut page = Page::new(alloc);
     match lex(alloc, text) {
         Ok(tokens) => {
@@ -141,23 +142,24 @@ fn answer(alloc: Global, text: &[u8]) -> Page {
     page
 }
 
-fn check(rt: &impl Abort, alloc: Global, text: &[u8], want: &[u8]) {
-    let page = answer(alloc, text);
-    assert_eq!(rt; page.bytes(), Some(want));
-}
+struct TokenReader;
 
-#[test]
-fn texts_and_their_tokens(rt: HostRuntime) {
-    for line in PLAIN.lines() {
-        let (text, want) = line.split_once('~').expect(&rt, "a row");
-        check(&rt, rt.alloc(), text.as_bytes(), want.as_bytes());
+impl Reader for TokenReader {
+    fn read(_rt: &impl Abort, alloc: Global, text: &str) -> Page {
+        page(alloc, text.as_bytes())
     }
 }
 
 #[test]
+fn texts_and_their_tokens(rt: HostRuntime) {
+    check_rows::<TokenReader>(&rt, rt.alloc(), PLAIN);
+}
+
+#[test]
 fn odd_texts_and_their_tokens(rt: HostRuntime) {
-    for (text, want) in ODD {
-        check(&rt, rt.alloc(), text, want);
+    for (text, want) in &ODD {
+        let page = page(rt.alloc(), text);
+        assert_eq!(rt; page.bytes(), Some(*want));
     }
 }
 

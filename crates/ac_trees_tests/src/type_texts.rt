@@ -1,10 +1,11 @@
 // Types and signatures as texts: each node in parentheses with its place behind `@`, then the
 // number of the token after it; `!` with a place where the text begins with none.
 
+use crate::rows::{Reader, check_rows};
 use ac_lexer::{Token, lex};
 use ac_page::Page;
 use ac_syntax::{ParseFault, SName, SSig, SSpec, SType, STypeKind, deep, parse_sig, parse_type};
-use ac_types::Many;
+use ac_types::{Many, Text};
 use std::alloc::Global;
 use std::process::Abort;
 
@@ -244,6 +245,19 @@ fn write_sig(page: &mut Page, sig: &SSig) {
     page.put(b")");
 }
 
+fn write_fault(page: &mut Page, fault: ParseFault) {
+    match fault {
+        ParseFault::Syntax { at } => {
+            page.put(b"!");
+            page.number(u64::from(at));
+        }
+        ParseFault::TooLong { .. }
+        | ParseFault::Lexical { .. }
+        | ParseFault::TooDeep { .. }
+        | ParseFault::Memory => page.lose(),
+    }
+}
+
 // What is parsed at this token: `Memory` where openers are too deep, which no row has.
 fn type_at(alloc: Global, tokens: &[Token], from: u32) -> Result<(SType, u32), ParseFault> {
     match deep(tokens) {
@@ -262,19 +276,6 @@ fn sig_at(alloc: Global, tokens: &[Token], from: u32) -> Result<(SSig, u32), Par
 fn write_behind(page: &mut Page, number: u32) {
     page.put(b" ");
     page.number(u64::from(number));
-}
-
-fn write_fault(page: &mut Page, fault: ParseFault) {
-    match fault {
-        ParseFault::Syntax { at } => {
-            page.put(b"!");
-            page.number(u64::from(at));
-        }
-        ParseFault::TooLong { .. }
-        | ParseFault::Lexical { .. }
-        | ParseFault::TooDeep { .. }
-        | ParseFault::Memory => page.lose(),
-    }
 }
 
 fn type_page(alloc: Global, tokens: &[Token], from: u32) -> Page {
@@ -301,94 +302,120 @@ fn sig_page(alloc: Global, tokens: &[Token], from: u32) -> Page {
     page
 }
 
-// The tokens of a text of pieces. Want of memory ends the test.
-fn built(rt: &impl Abort, alloc: Global, pieces: &str) -> Many<Token> {
-    let mut text = Vec::new(alloc);
-    for piece in pieces.split('|') {
-        let (times, piece) = piece.split_once('%').expect(rt, "a piece");
-        for _ in 0..times.parse::<u32>().expect(rt, "a number") {
-            text.extend_from_slice(piece.as_bytes())
-                .expect(rt, "memory");
-        }
+fn lexed(rt: &impl Abort, alloc: Global, text: &[u8]) -> Many<Token> {
+    lex(alloc, text).expect(rt, "tokens")
+}
+
+struct TypeReader;
+
+impl Reader for TypeReader {
+    fn read(rt: &impl Abort, alloc: Global, text: &str) -> Page {
+        type_page(alloc, lexed(rt, alloc, text.as_bytes()).as_slice(), 0)
     }
-    lex(alloc, text.as_slice()).expect(rt, "tokens")
-}
-
-fn type_end(alloc: Global, tokens: &[Token]) -> Option<u32> {
-    type_at(alloc, tokens, 0).ok().map(|(_, number)| number)
-}
-
-fn sig_end(alloc: Global, tokens: &[Token]) -> Option<u32> {
-    sig_at(alloc, tokens, 0).ok().map(|(_, number)| number)
-}
-
-fn check_type(rt: &impl Abort, alloc: Global, text: &[u8], from: u32, want: &[u8]) {
-    let tokens = lex(alloc, text).expect(rt, "tokens");
-    let page = type_page(alloc, tokens.as_slice(), from);
-    assert_eq!(rt; page.bytes(), Some(want));
 }
 
 #[test]
 fn types(rt: HostRuntime) {
-    for line in TYPES.lines() {
-        let (text, want) = line.split_once('~').expect(&rt, "a row");
-        check_type(&rt, rt.alloc(), text.as_bytes(), 0, want.as_bytes());
-    }
+    check_rows::<TypeReader>(&rt, rt.alloc(), TYPES);
 }
 
 #[test]
 fn types_behind_other_tokens(rt: HostRuntime) {
-    for (text, from, want) in TYPES_BEHIND {
-        check_type(&rt, rt.alloc(), text, from, want);
+    for (text, from, want) in &TYPES_BEHIND {
+        let tokens = lexed(&rt, rt.alloc(), text);
+        let page = type_page(rt.alloc(), tokens.as_slice(), *from);
+        assert_eq!(rt; page.bytes(), Some(*want));
     }
 }
 
-fn check_sig(rt: &impl Abort, alloc: Global, text: &[u8], from: u32, want: &[u8]) {
-    let tokens = lex(alloc, text).expect(rt, "tokens");
-    let page = sig_page(alloc, tokens.as_slice(), from);
-    assert_eq!(rt; page.bytes(), Some(want));
+struct SignatureReader;
+
+impl Reader for SignatureReader {
+    fn read(rt: &impl Abort, alloc: Global, text: &str) -> Page {
+        sig_page(alloc, lexed(rt, alloc, text.as_bytes()).as_slice(), 0)
+    }
 }
 
 #[test]
 fn signatures(rt: HostRuntime) {
-    for line in SIGNATURES.lines() {
-        let (text, want) = line.split_once('~').expect(&rt, "a row");
-        check_sig(&rt, rt.alloc(), text.as_bytes(), 0, want.as_bytes());
-    }
+    check_rows::<SignatureReader>(&rt, rt.alloc(), SIGNATURES);
 }
 
 #[test]
 fn signatures_behind_other_tokens(rt: HostRuntime) {
-    for (text, from, want) in SIGNATURES_BEHIND {
-        check_sig(&rt, rt.alloc(), text, from, want);
+    for (text, from, want) in &SIGNATURES_BEHIND {
+        let tokens = lexed(&rt, rt.alloc(), text);
+        let page = sig_page(rt.alloc(), tokens.as_slice(), *from);
+        assert_eq!(rt; page.bytes(), Some(*want));
+    }
+}
+
+// Adds as often as it stands in front of `%` what stands behind it.
+fn put_piece(rt: &impl Abort, text: &mut Text, piece: &str) {
+    let (times, piece) = piece.split_once('%').expect(rt, "a piece");
+    for _ in 0..times.parse::<u32>().expect(rt, "a number") {
+        text.extend(piece.as_bytes()).expect(rt, "memory");
+    }
+}
+
+// The tokens of a text of pieces.
+fn built(rt: &impl Abort, alloc: Global, pieces: &str) -> Many<Token> {
+    let mut text = Text::new(alloc);
+    for piece in pieces.split('|') {
+        put_piece(rt, &mut text, piece);
+    }
+    lexed(rt, alloc, text.as_slice())
+}
+
+// A number, or nothing.
+fn number(alloc: Global, number: Option<u32>) -> Page {
+    let mut page = Page::new(alloc);
+    if let Some(number) = number {
+        page.number(u64::from(number));
+    }
+    page
+}
+
+struct HeightReader;
+
+impl Reader for HeightReader {
+    fn read(rt: &impl Abort, alloc: Global, pieces: &str) -> Page {
+        let tokens = built(rt, alloc, pieces);
+        let end = type_at(alloc, tokens.as_slice(), 0).ok();
+        number(alloc, end.map(|(_, number)| number))
     }
 }
 
 #[test]
 fn heights(rt: HostRuntime) {
-    for line in HEIGHTS.lines() {
-        let (pieces, want) = line.split_once('~').expect(&rt, "a row");
-        let tokens = built(&rt, rt.alloc(), pieces);
-        let end = type_end(rt.alloc(), tokens.as_slice());
-        assert_eq!(rt; end, want.parse::<u32>().ok());
+    check_rows::<HeightReader>(&rt, rt.alloc(), HEIGHTS);
+}
+
+struct SignatureHeightReader;
+
+impl Reader for SignatureHeightReader {
+    fn read(rt: &impl Abort, alloc: Global, pieces: &str) -> Page {
+        let tokens = built(rt, alloc, pieces);
+        let end = sig_at(alloc, tokens.as_slice(), 0).ok();
+        number(alloc, end.map(|(_, number)| number))
     }
 }
 
 #[test]
 fn heights_in_signatures(rt: HostRuntime) {
-    for line in SIGNATURE_HEIGHTS.lines() {
-        let (pieces, want) = line.split_once('~').expect(&rt, "a row");
-        let tokens = built(&rt, rt.alloc(), pieces);
-        let end = sig_end(rt.alloc(), tokens.as_slice());
-        assert_eq!(rt; end, want.parse::<u32>().ok());
+    check_rows::<SignatureHeightReader>(&rt, rt.alloc(), SIGNATURE_HEIGHTS);
+}
+
+struct OpenerReader;
+
+impl Reader for OpenerReader {
+    fn read(rt: &impl Abort, alloc: Global, pieces: &str) -> Page {
+        let tokens = built(rt, alloc, pieces);
+        number(alloc, deep(tokens.as_slice()))
     }
 }
 
 #[test]
 fn openers(rt: HostRuntime) {
-    for line in OPENERS.lines() {
-        let (pieces, want) = line.split_once('~').expect(&rt, "a row");
-        let tokens = built(&rt, rt.alloc(), pieces);
-        assert_eq!(rt; deep(tokens.as_slice()), want.parse::<u32>().ok());
-    }
+    check_rows::<OpenerReader>(&rt, rt.alloc(), OPENERS);
 }

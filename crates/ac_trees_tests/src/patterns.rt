@@ -1,6 +1,7 @@
 // Texts, and behind `~` the form of their pattern and how many signs are left behind it; `!` with
 // the signs left where there is none.
 
+use crate::rows::{Reader, check_rows};
 use ac_expressions::pattern;
 use ac_lexer::{Token, lex};
 use ac_page::Page;
@@ -81,24 +82,18 @@ fn write_tokens(alloc: Global, page: &mut Page, tokens: &[Token]) {
     }
 }
 
-fn answer(alloc: Global, text: &[u8]) -> Page {
-    let mut page = Page::new(alloc);
-    match lex(alloc, text) {
-        Ok(tokens) => write_tokens(alloc, &mut page, tokens.as_slice()),
-        Err(_) => page.lose(),
-    }
-    page
-}
+struct PatternReader;
 
-fn check(rt: &impl Abort, alloc: Global, line: &str) {
-    let (text, want) = line.split_once('~').expect(rt, "a row");
-    let page = answer(alloc, text.as_bytes());
-    assert_eq!(rt; page.bytes(), Some(want.as_bytes()));
+impl Reader for PatternReader {
+    fn read(rt: &impl Abort, alloc: Global, text: &str) -> Page {
+        let mut page = Page::new(alloc);
+        let tokens = lex(alloc, text.as_bytes()).expect(rt, "tokens");
+        write_tokens(alloc, &mut page, tokens.as_slice());
+        page
+    }
 }
 
 #[test]
 fn texts_and_their_patterns(rt: HostRuntime) {
-    for line in PATTERNS.lines() {
-        check(&rt, rt.alloc(), line);
-    }
+    check_rows::<PatternReader>(&rt, rt.alloc(), PATTERNS);
 }
