@@ -1,14 +1,11 @@
-// Types of 4,096 parts, and of more. Want of memory ends the test.
+// Types of 4,096 parts, and of more.
 
+use crate::make::boxed;
 use ac_check::{CheckFault, type_of};
 use ac_terms::{Env, Home, Term};
-use ac_types::{Box, Many, Ty, ty_eq};
+use ac_types::{Many, Ty, ty_eq};
 use std::alloc::Global;
 use std::process::Abort;
-
-fn boxed(rt: &impl Abort, alloc: Global, ty: Ty) -> Box<Ty> {
-    Box::new(alloc, ty).expect(rt, "memory")
-}
 
 // The type of functions from a type to itself.
 fn doubled(rt: &impl Abort, alloc: Global, ty: Ty) -> Ty {
@@ -51,6 +48,6 @@ fn more_parts_than_a_type_may_have(rt: HostRuntime) {
     let listed = boxed(&rt, rt.alloc(), wide(&rt, rt.alloc()));
     check_ill_typed(&rt, rt.alloc(), Term::Nil(Ty::List(listed)));
     let nil = Term::Nil(wide(&rt, rt.alloc()));
-    let item = Box::new(rt.alloc(), nil).expect(&rt, "memory");
+    let item = boxed(&rt, rt.alloc(), nil);
     check_ill_typed(&rt, rt.alloc(), Term::Present(item));
 }

@@ -1,2 +1,1 @@
-pub mod SmallPrograms
 pub mod SmallFrames

@@ -1,31 +1,15 @@
 // Journals of sessions.
 
-ghost use Rattle.std.specs.Prelude.{◌≡◌, false, IfOk, IsTrue};
-ghost use Rattle.ac_types.specs.ReadTypes.{typ_of};
-ghost use Rattle.ac_terms.specs.Bounds.{fits_term};
-ghost use Rattle.ac_terms.specs.Read.{environment_of, expr_of};
-ghost use Rattle.ac_meaning.specs.Laws.{IsTypedProgram};
-
-use crate::sessions::program;
+use crate::make::{program, text};
 use ac_outside::SureWorld;
-use ac_rules::Loaded;
 use ac_run::{Crossing, RunEnd, Session};
-use ac_terms::Term;
 use ac_types::exceptions::UNMARSHAL_FAILURE;
-use ac_types::{Box, Many, Memory, Text, Ty};
+use ac_types::{Many, Text};
 use std::alloc::Global;
-use std::test::Fail;
+use std::process::Abort;
 
-// `unmarshal "x" as int`.
-fn unmarshals(alloc: Global) -> Result<Loaded, Memory>
-    ensures typed { IfOk result (λ p. IsTypedProgram (environment_of p.env) (expr_of p.main)
-        (typ_of p.ty)) }
-    ensures bounds { IfOk result (λ p. IsTrue (fits_term false (expr_of p.main))) }
-{
-    let text = Text::from_slice(alloc, b"x")?;
-    let argument = Box::new(alloc, Term::Str(text))?;
-    Ok(program(alloc, Term::Unmarshal(Ty::Int, argument), Ty::Int))
-}
+// It refuses its string.
+const UNMARSHALS: &[u8] = b"unmarshal \"x\" as int";
 
 // The string of a crossing that was read.
 fn read(crossing: &Crossing) -> Option<&[u8]> {
@@ -35,13 +19,15 @@ fn read(crossing: &Crossing) -> Option<&[u8]> {
     }
 }
 
-// Whether the session ends by refusing its string.
-fn refuses(alloc: Global, session: &mut Session) -> bool {
+fn check_refused(rt: &impl Abort, alloc: Global, session: &mut Session) {
     let mut world = SureWorld::new(alloc, Text::new(alloc));
-    match session.run(&mut world) {
+    let end = session.run(&mut world);
+    let refused = match &end {
         RunEnd::Uncaught(exn) => exn.number == UNMARSHAL_FAILURE,
         _ => false,
-    }
+    };
+    drop(end);
+    assert!(rt; refused);
 }
 
 // Whether a journal has this string alone, which was read.
@@ -52,51 +38,41 @@ fn has_read(journal: &Many<Crossing>, text: &[u8]) -> bool {
     }
 }
 
-fn is_noted(alloc: Global) -> Result<bool, Memory> {
-    let mut session = Session::journalled(alloc, unmarshals(alloc)?, 0, false)?;
-    let before = session.journal().len() == 0;
-    let refused = refuses(alloc, &mut session);
-    let after = has_read(session.journal(), b"x");
+#[test]
+fn a_refused_string_was_read(rt: HostRuntime) {
+    let program = program(&rt, rt.alloc(), UNMARSHALS);
+    let mut session = Session::journalled(rt.alloc(), program, 0, false).expect(&rt, "memory");
+    assert!(rt; session.journal().len() == 0);
+    check_refused(&rt, rt.alloc(), &mut session);
+    assert!(rt; has_read(session.journal(), b"x"));
     drop(session);
-    Ok(before && refused && after)
-}
-
-fn is_kept_by_none(alloc: Global) -> Result<bool, Memory> {
-    let mut session = Session::new(alloc, unmarshals(alloc)?, 0, false)?;
-    let refused = refuses(alloc, &mut session);
-    let after = session.journal().len() == 0;
-    drop(session);
-    Ok(refused && after)
 }
 
 #[test]
-fn a_refused_string_was_read(rt: HostRuntime) -> Result<(), Fail> {
-    assert!(rt; is_noted(rt.alloc())?);
-    assert!(rt; is_kept_by_none(rt.alloc())?);
-    Ok(())
+fn a_session_without_a_journal_keeps_none(rt: HostRuntime) {
+    let program = program(&rt, rt.alloc(), UNMARSHALS);
+    let mut session = Session::new(rt.alloc(), program, 0, false).expect(&rt, "memory");
+    check_refused(&rt, rt.alloc(), &mut session);
+    assert!(rt; session.journal().len() == 0);
+    drop(session);
 }
 
-fn copy_is_read(alloc: Global) -> Result<bool, Memory> {
-    let crossing = Crossing::Read(Text::from_slice(alloc, b"x")?);
-    let copy = crossing.copy(alloc)?;
-    let same = read(&copy) == Some(b"x");
-    drop(copy);
+fn check_copy(rt: &impl Abort, alloc: Global, crossing: Crossing, want: Option<&[u8]>) {
+    let copy = crossing.copy(alloc).expect(rt, "memory");
     drop(crossing);
-    Ok(same)
-}
-
-fn copy_is_made(alloc: Global) -> Result<bool, Memory> {
-    let crossing = Crossing::Made(Text::new(alloc));
-    let copy = crossing.copy(alloc)?;
-    let same = read(&copy).is_none();
+    let same = read(&copy) == want;
     drop(copy);
-    drop(crossing);
-    Ok(same)
+    assert!(rt; same);
 }
 
 #[test]
-fn crossings_are_copied(rt: HostRuntime) -> Result<(), Fail> {
-    assert!(rt; copy_is_read(rt.alloc())?);
-    assert!(rt; copy_is_made(rt.alloc())?);
-    Ok(())
+fn crossings_are_copied(rt: HostRuntime) {
+    let alloc = rt.alloc();
+    check_copy(
+        &rt,
+        alloc,
+        Crossing::Read(text(&rt, alloc, b"x")),
+        Some(b"x"),
+    );
+    check_copy(&rt, alloc, Crossing::Made(Text::new(alloc)), None);
 }

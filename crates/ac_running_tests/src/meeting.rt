@@ -6,7 +6,6 @@ use ac_make::make;
 use ac_outside::Gate;
 use ac_types::Many;
 use std::sync::atomic::{AtomicBool, Ordering};
-use std::test::Fail;
 
 const MOST_TURNS: u64 = 1_000_000_000;
 
@@ -38,21 +37,20 @@ impl Gate for Meeting {
 }
 
 #[test]
-fn pieces_run_side_by_side(rt: HostRuntime) -> Result<(), Fail> {
+fn pieces_run_side_by_side(rt: HostRuntime) {
     let alloc = rt.alloc();
     let mut texts = Many::new(alloc);
-    texts.push(make(alloc, 1, 200)?)?;
-    texts.push(make(alloc, 2, 200)?)?;
+    for seed in 1..3 {
+        let text = make(alloc, seed, 200).expect(&rt, "memory");
+        texts.push(text).expect(&rt, "memory");
+    }
     let gate = Meeting {
         first: AtomicBool::new(false),
         second: AtomicBool::new(false),
         missed: AtomicBool::new(false),
     };
-    let verdicts = check_all(&rt, alloc, &texts, &Shelf::empty(alloc), &gate)?;
+    let verdicts = check_all(&rt, alloc, &texts, &Shelf::empty(alloc), &gate);
+    let verdicts = verdicts.expect(&rt, "memory");
     assert!(rt; !gate.missed.load(Ordering::SeqCst));
-    assert_eq!(rt;
-        verdicts.as_slice(),
-        [Verdict::Accepted, Verdict::Accepted].as_slice()
-    );
-    Ok(())
+    assert!(rt; verdicts.as_slice() == [Verdict::Accepted, Verdict::Accepted].as_slice());
 }

@@ -1,9 +1,9 @@
 // The fault between an import and an entry, the first where there are several.
 
-use crate::make::{Asked, EMPTY, Shape, import, module, text};
+use crate::make::{ANY, Asked, EMPTY, Shape, entry, import, module, text};
 use ac_link::{LinkFault, link_ok};
-use ac_terms::{Def, Entry, Env, Seen};
-use ac_types::{Atom, Many, Name, Range};
+use ac_terms::{Def, Env, Seen};
+use ac_types::{Atom, Many, Range};
 use std::alloc::Global;
 use std::process::Abort;
 
@@ -21,8 +21,6 @@ const NAME: u8 = b'7';
 const VERSION: &[Atom] = &[Atom::Number(1), Atom::Number(4)];
 
 const HAS_X: Shape = b":xi";
-
-const ANY: Asked = Asked::Ranges(&[], true);
 
 const TWO: Asked = Asked::Ranges(&[Range::One(2)], false);
 
@@ -65,18 +63,9 @@ fn def(rt: &impl Abort, alloc: Global, (letter, shape): Own) -> Def {
     }
 }
 
-// The definition alone, under its name unless it is a mark.
+// The definition alone.
 fn alone(rt: &impl Abort, alloc: Global, own: Own) -> Env {
-    let entry = Entry {
-        def: def(rt, alloc, own),
-        name: if own.0 == b'!' {
-            None
-        } else {
-            Some(Name([NAME; 32]))
-        },
-        seen: Seen::Own,
-        link: None,
-    };
+    let entry = entry(def(rt, alloc, own), NAME, Seen::Own);
     let mut entries = Many::new(alloc);
     entries.push(entry).expect(rt, "memory");
     Env { entries }
@@ -87,8 +76,10 @@ fn check(rt: &impl Abort, alloc: Global, own: Own, j: u32, (shape, asked): Wante
     let env = alone(rt, alloc, own);
     let import = import(rt, alloc, shape, asked, b"H");
     assert!(rt; import.sig.types.len() < 10 && import.sig.vals.len() < 10);
-    assert_eq!(rt; link_ok(&env, &import, j).err(), want);
+    let found = link_ok(&env, &import, j).err();
     drop(import);
+    drop(env);
+    assert!(rt; found == want);
 }
 
 // An entry without specs, the number to link to, the import, and the fault.
@@ -116,32 +107,42 @@ const FIRST: [(u8, u32, Wanted, Fault); 17] = [
 // name, and by exact name the signature before the name; no range holds `myname`.
 #[test]
 fn kinds_and_names(rt: HostRuntime) {
-    for (letter, j, wanted, want) in FIRST {
-        check(&rt, rt.alloc(), (letter, EMPTY), j, wanted, want);
+    for (letter, j, wanted, want) in &FIRST {
+        check(&rt, rt.alloc(), (*letter, EMPTY), *j, *wanted, *want);
     }
 }
 
-// What is asked, and whether version 1.4 meets it.
-const MEETINGS: [(&[Range], bool, bool); 9] = [
-    (&[Range::One(1), Range::One(4)], false, true),
-    (&[Range::One(1), Range::From(2)], false, true),
-    (&[Range::One(1), Range::UpTo(3)], false, false),
-    (&[Range::UpTo(1), Range::Between(3, 4)], false, true),
-    (&[Range::One(1)], false, false),
-    (&[Range::One(1)], true, true),
-    (&[Range::One(1), Range::One(4)], true, true),
-    (&[Range::One(1), Range::One(4), Range::From(0)], true, false),
-    (&[Range::One(2)], true, false),
+// What is asked of version 1.4, and the faults of an import without specs and of one with a spec
+// that isn't there.
+const MEETINGS: [(&[Range], bool, Fault, Fault); 9] = [
+    (&[Range::One(1), Range::One(4)], false, None, LACKS_0),
+    (&[Range::One(1), Range::From(2)], false, None, LACKS_0),
+    (&[Range::One(1), Range::UpTo(3)], false, UNMET, UNMET),
+    (
+        &[Range::UpTo(1), Range::Between(3, 4)],
+        false,
+        None,
+        LACKS_0,
+    ),
+    (&[Range::One(1)], false, UNMET, UNMET),
+    (&[Range::One(1)], true, None, LACKS_0),
+    (&[Range::One(1), Range::One(4)], true, None, LACKS_0),
+    (
+        &[Range::One(1), Range::One(4), Range::From(0)],
+        true,
+        UNMET,
+        UNMET,
+    ),
+    (&[Range::One(2)], true, UNMET, UNMET),
 ];
 
 // The version comes before the signature.
 #[test]
 fn versions(rt: HostRuntime) {
-    for (ranges, star, met) in MEETINGS {
-        let asked = Asked::Ranges(ranges, star);
-        let (at_best, behind) = if met { (None, LACKS_0) } else { (UNMET, UNMET) };
-        check(&rt, rt.alloc(), (b'M', EMPTY), 0, (EMPTY, asked), at_best);
-        check(&rt, rt.alloc(), (b'M', EMPTY), 0, (HAS_X, asked), behind);
+    for (ranges, star, at_best, behind) in &MEETINGS {
+        let asked = Asked::Ranges(ranges, *star);
+        check(&rt, rt.alloc(), (b'M', EMPTY), 0, (EMPTY, asked), *at_best);
+        check(&rt, rt.alloc(), (b'M', EMPTY), 0, (HAS_X, asked), *behind);
     }
 }
 
@@ -193,16 +194,16 @@ fn types(rt: HostRuntime) {
 // An own type of the import stands for the module's own type, by version also for its manifest
 // type, and never for the type of the module's name.
 const OWN_TYPES: [Pair; 7] = [
-    (b"=t. :xt :yL :zF ~tb", b"=t. :xt :yL :zF ~tb", None, None),
+    (b"=t. :xt :yL :zG ~tb", b"=t. :xt :yL :zG ~tb", None, None),
     (
         b"=tb :xb :yl :zf ~tb",
-        b"=t. :xt :yL :zF ~tb",
+        b"=t. :xt :yL :zG ~tb",
         None,
         LACKS_0,
     ),
     (
         b"=tb :xb :yl :zi ~tb",
-        b"=t. :xt :yL :zF ~tb",
+        b"=t. :xt :yL :zG ~tb",
         LACKS_3,
         LACKS_0,
     ),

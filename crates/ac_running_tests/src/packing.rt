@@ -2,12 +2,11 @@
 // stack as Rattle's own compiler builds them, and strings for which there is just room or none; in
 // programs that print what they meet.
 
-use crate::calls::{one_file, words_of};
-use ac_outside::{OpenGate, SureSink, SureSource};
-use ac_top::{Status, acute};
+use crate::make::{finish, text};
+use ac_outside::{SureSink, SureSource};
 use ac_types::Text;
 use std::alloc::Global;
-use std::test::Fail;
+use std::process::Abort;
 use std::thread::Threads;
 
 // Prints how long the strings of functions are that call a module, or why there is none; with text
@@ -54,62 +53,57 @@ read ("\x00\x01", Str.sub (all, 983010, 15))
 "#;
 
 // The module of this name, whose field nests 499 deeper than the leaf in it.
-fn put_nested(text: &mut Text, name: &[u8], leaf: &[u8]) -> Result<(), Fail> {
-    text.extend(b"module ")?;
-    text.extend(name)?;
-    text.extend(
-        b" : sig val f : unit -> int end = struct val f : unit -> int = fun (u : unit) -> ",
-    )?;
+fn put_nested(rt: &impl Abort, text: &mut Text, name: &[u8], leaf: &[u8]) {
+    put(rt, text, b"module ");
+    put(rt, text, name);
+    let head = b" : sig val f : unit -> int end = struct val f : unit -> int = fun (u : unit) -> ";
+    put(rt, text, head);
     for _ in 0..249 {
-        text.extend(b"let rec g (x : int) : int = ")?;
+        put(rt, text, b"let rec g (x : int) : int = ");
     }
-    text.extend(leaf)?;
+    put(rt, text, leaf);
     for _ in 0..249 {
-        text.extend(b" in 0")?;
+        put(rt, text, b" in 0");
     }
-    text.extend(b" end\n")?;
-    Ok(())
+    put(rt, text, b" end\n");
 }
 
-// Whether a program ends well and prints this.
-fn prints<R: Threads + Sync>(
-    rt: &R,
-    alloc: Global,
-    text: &[u8],
-    printed: &[u8],
-) -> Result<bool, Fail> {
-    let words = words_of(alloc, "run a")?;
-    let mut files = one_file(alloc, "a", text)?;
+fn put(rt: &impl Abort, text: &mut Text, bytes: &[u8]) {
+    text.extend(bytes).expect(rt, "memory");
+}
+
+fn nested(rt: &impl Abort, alloc: Global) -> Text {
+    let mut nested = text(rt, alloc, b"mark \"MK\"\n");
+    put_nested(rt, &mut nested, b"N", b"0");
+    put_nested(rt, &mut nested, b"O", b"0 + 0");
+    put(rt, &mut nested, NESTED);
+    nested
+}
+
+// Checks that a program ends well and prints this.
+fn check_prints<R: Abort + Threads + Sync>(rt: &R, alloc: Global, program: &[u8], printed: &[u8]) {
     let mut input = SureSource::new(Text::new(alloc));
     let mut output = SureSink::new(alloc);
     let mut errors = SureSink::new(alloc);
-    let status = acute(
+    finish(
         rt,
         alloc,
-        &words,
-        &mut files,
+        "run a",
+        program,
         &mut input,
         &mut output,
         &mut errors,
-        &OpenGate,
     );
-    Ok(status == Status::FINISHED && output.bytes().as_slice() == printed)
+    assert!(rt; output.bytes().as_slice() == printed);
 }
 
 #[test]
-fn definitions_that_nest(rt: HostRuntime) -> Result<(), Fail> {
-    let alloc = rt.alloc();
-    let mut text = Text::from_slice(alloc, b"mark \"MK\"\n")?;
-    put_nested(&mut text, b"N", b"0")?;
-    put_nested(&mut text, b"O", b"0 + 0")?;
-    text.extend(NESTED)?;
-    assert!(rt; prints(&rt, alloc, text.as_slice(), OF_NESTED)?);
-    Ok(())
+fn definitions_that_nest(rt: HostRuntime) {
+    let text = nested(&rt, rt.alloc());
+    check_prints(&rt, rt.alloc(), text.as_slice(), OF_NESTED);
 }
 
 #[test]
-fn room_for_one_less(rt: HostRuntime) -> Result<(), Fail> {
-    let alloc = rt.alloc();
-    assert!(rt; prints(&rt, alloc, ROOM, b"accepted\nfull\n")?);
-    Ok(())
+fn room_for_one_less(rt: HostRuntime) {
+    check_prints(&rt, rt.alloc(), ROOM, b"accepted\nfull\n");
 }

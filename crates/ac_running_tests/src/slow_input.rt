@@ -1,9 +1,7 @@
 // The top call over an input that comes in pieces.
-use crate::calls::{one_file, words_of};
-use ac_outside::{Got, OpenGate, Source, SureSink, SureSource};
-use ac_top::{Status, acute};
-use ac_types::Text;
-use std::test::Fail;
+
+use crate::make::{finish, text};
+use ac_outside::{Got, Source, SureSink, SureSource};
 
 // A source that gives a byte a read.
 #[derive(Drop)]
@@ -39,27 +37,15 @@ const TWO: &[u8] =
 const FRAMES: &[u8] = b"\0\0\0\x01a\0\0\0\x02bc";
 
 #[test]
-fn frames_come_byte_by_byte(rt: HostRuntime) -> Result<(), Fail> {
+fn frames_come_byte_by_byte(rt: HostRuntime) {
     let alloc = rt.alloc();
-    let words = words_of(alloc, "run a --in - --out -")?;
-    let mut files = one_file(alloc, "a", TWO)?;
     let mut input = Slow {
-        source: SureSource::new(Text::from_slice(alloc, FRAMES)?),
+        source: SureSource::new(text(&rt, alloc, FRAMES)),
     };
     let mut output = SureSink::new(alloc);
     let mut errors = SureSink::new(alloc);
-    let status = acute(
-        &rt,
-        alloc,
-        &words,
-        &mut files,
-        &mut input,
-        &mut output,
-        &mut errors,
-        &OpenGate,
-    );
-    assert!(rt; status == Status::FINISHED);
+    let line = "run a --in - --out -";
+    finish(&rt, alloc, line, TWO, &mut input, &mut output, &mut errors);
     assert!(rt; output.bytes().as_slice() == FRAMES);
     assert!(rt; errors.bytes().as_slice() == b"abc".as_slice());
-    Ok(())
 }

@@ -1,10 +1,10 @@
 // Packets that are refused, which leave the environment as it was. Of a clash there is no row: it
 // takes two texts of one digest.
 
-use crate::make::{NOTHING, OWN_M1, PAIR, check_fault, own, type_of};
+use crate::packets::{Asked, NOTHING, OWN_M1, PAIR, Row, Want, check, check_all, own};
 use crate::spelled::imports_by_name;
 use ac_admit::AdmitFault;
-use ac_types::{Name, Ty};
+use ac_types::Name;
 
 // The packet of `true` as a bool, and as an int.
 const TRUE: &[u8] = b"ACUP\x01\x00\x00\x02\x02\x01";
@@ -41,44 +41,54 @@ const NO_HOME: &[u8] = b"ACUP\x01\x00\x00\x09\x04\x04\x0A\x00\x01\x0E\x04\x04";
 const IMPORT_HOME: &[u8] =
     b"ACUP\x01\x00\x01\x02\x02M1\x00\x00\x00\x01\x01y\x01\x01\x00\x01\x00\x00\x01\x02\x09\x04\x04\x0A\x00\x01\x0E\x04\x04";
 
+const WRONG: Want = Want::Refused(AdmitFault::WrongType);
+
+const VALUE: Want = Want::Refused(AdmitFault::Value);
+
+// The definition of that number isn't well formed.
+const ILL_0: Want = Want::Refused(AdmitFault::Definition { i: 0 });
+
+const ILL_1: Want = Want::Refused(AdmitFault::Definition { i: 1 });
+
+// The import of that number has no link.
+const OPEN_0: Want = Want::Refused(AdmitFault::Unresolved { i: 0 });
+
+const OPEN_1: Want = Want::Refused(AdmitFault::Unresolved { i: 1 });
+
+const TYPES_AND_VALUES: [Row; 5] = [
+    (TRUE, Asked::Int, WRONG, 0),
+    (TRUE_AS_INT, Asked::Bool, WRONG, 0),
+    (TRUE_AS_INT, Asked::Int, VALUE, 0),
+    (BRINGS_FALSELY, Asked::Int, VALUE, 0),
+    (TRUE, Asked::Bool, Want::Accepted, 0),
+];
+
 #[test]
 fn types_and_values(rt: HostRuntime) {
-    let alloc = rt.alloc();
-    let mut env = own(&rt, alloc, NOTHING);
-    let wrong = Some(AdmitFault::WrongType);
-    let value = Some(AdmitFault::Value);
-    check_fault(&rt, alloc, &mut env, TRUE, Ty::Int, wrong);
-    check_fault(&rt, alloc, &mut env, TRUE_AS_INT, Ty::Bool, wrong);
-    check_fault(&rt, alloc, &mut env, TRUE_AS_INT, Ty::Int, value);
-    check_fault(&rt, alloc, &mut env, BRINGS_FALSELY, Ty::Int, value);
-    check_fault(&rt, alloc, &mut env, TRUE, Ty::Bool, None);
-    assert_eq!(rt; env.entries.len(), 0);
+    check_all(&rt, rt.alloc(), NOTHING, &TYPES_AND_VALUES);
 }
 
 // A definition that isn't well formed comes before an import without a link.
+const DEFINITIONS: [Row; 4] = [
+    (ILL_TYPED, Asked::Unit, ILL_0, 0),
+    (REFERS_ON, Asked::Unit, ILL_0, 0),
+    (TWICE, Asked::Unit, ILL_0, 0),
+    (ILL_TYPED_LATER, Asked::Unit, ILL_1, 0),
+];
+
 #[test]
 fn definitions(rt: HostRuntime) {
-    let alloc = rt.alloc();
-    let mut env = own(&rt, alloc, NOTHING);
-    let ill = Some(AdmitFault::Definition { i: 0 });
-    check_fault(&rt, alloc, &mut env, ILL_TYPED, Ty::Unit, ill);
-    check_fault(&rt, alloc, &mut env, REFERS_ON, Ty::Unit, ill);
-    check_fault(&rt, alloc, &mut env, TWICE, Ty::Unit, ill);
-    let later = Some(AdmitFault::Definition { i: 1 });
-    check_fault(&rt, alloc, &mut env, ILL_TYPED_LATER, Ty::Unit, later);
-    assert_eq!(rt; env.entries.len(), 0);
+    check_all(&rt, rt.alloc(), NOTHING, &DEFINITIONS);
 }
+
+const HOMES: [Row; 2] = [
+    (NO_HOME, Asked::Own, VALUE, 1),
+    (IMPORT_HOME, Asked::Own, VALUE, 1),
+];
 
 #[test]
 fn homes(rt: HostRuntime) {
-    let alloc = rt.alloc();
-    let mut env = own(&rt, alloc, OWN_M1);
-    let value = Some(AdmitFault::Value);
-    let ty = type_of(&rt, alloc, NO_HOME);
-    check_fault(&rt, alloc, &mut env, NO_HOME, ty, value);
-    let ty = type_of(&rt, alloc, NO_HOME);
-    check_fault(&rt, alloc, &mut env, IMPORT_HOME, ty, value);
-    assert_eq!(rt; env.entries.len(), 1);
+    check_all(&rt, rt.alloc(), OWN_M1, &HOMES);
 }
 
 // An import without a link comes before the type.
@@ -86,21 +96,26 @@ fn homes(rt: HostRuntime) {
 fn imports_without_a_link(rt: HostRuntime) {
     let alloc = rt.alloc();
     let mut env = own(&rt, alloc, NOTHING);
-    let open = Some(AdmitFault::Unresolved { i: 0 });
-    check_fault(&rt, alloc, &mut env, PAIR, Ty::Int, open);
+    check(&rt, alloc, &mut env, PAIR, Asked::Int, OPEN_0, 0);
     let named = imports_by_name(&rt, alloc, Name([7; 32]));
-    check_fault(&rt, alloc, &mut env, named.as_slice(), Ty::Unit, open);
-    assert_eq!(rt; env.entries.len(), 0);
+    check(
+        &rt,
+        alloc,
+        &mut env,
+        named.as_slice(),
+        Asked::Unit,
+        OPEN_0,
+        0,
+    );
 }
 
 // The type comes after a link.
+const WITH_A_LINK: [Row; 2] = [
+    (LINKS_TO_NOTHING, Asked::Unit, OPEN_1, 1),
+    (PAIR, Asked::Int, WRONG, 1),
+];
+
 #[test]
 fn imports_with_a_link(rt: HostRuntime) {
-    let alloc = rt.alloc();
-    let mut env = own(&rt, alloc, OWN_M1);
-    let later = Some(AdmitFault::Unresolved { i: 1 });
-    check_fault(&rt, alloc, &mut env, LINKS_TO_NOTHING, Ty::Unit, later);
-    let wrong = Some(AdmitFault::WrongType);
-    check_fault(&rt, alloc, &mut env, PAIR, Ty::Int, wrong);
-    assert_eq!(rt; env.entries.len(), 1);
+    check_all(&rt, rt.alloc(), OWN_M1, &WITH_A_LINK);
 }

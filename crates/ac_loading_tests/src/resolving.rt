@@ -1,9 +1,9 @@
 // What a resolvespec gives, as a program is loaded and in a packet.
 
-use crate::make::{Asked, EMPTY, Shape, import, module, text};
+use crate::make::{ANY, Asked, EMPTY, Shape, entry, import, module, text};
 use ac_link::{When, resolve};
-use ac_terms::{Def, Entry, Env, Import, Seen};
-use ac_types::{Atom, Many, Name, Range};
+use ac_terms::{Def, Env, Import, Seen};
+use ac_types::{Atom, Many, Range};
 use std::alloc::Global;
 use std::process::Abort;
 
@@ -18,8 +18,6 @@ type Given = Option<u32>;
 const NONE: Given = None;
 
 const K: Shape = b":ki";
-
-const ANY: Asked = Asked::Ranges(&[], true);
 
 fn seen(rt: &impl Abort, alloc: Global, letter: u8) -> Seen {
     match letter {
@@ -46,19 +44,12 @@ fn module_of(rt: &impl Abort, alloc: Global, name: u8, version: u8, shape: Shape
 
 fn env(rt: &impl Abort, alloc: Global, letters: &[u8]) -> Env {
     let mut entries = Many::new(alloc);
-    for i in 0..letters.len() / 4 {
-        let (version, ty) = (letters[4 * i + 2], letters[4 * i + 3]);
-        let entry = Entry {
-            def: def(rt, alloc, letters[4 * i + 1], version, ty),
-            name: if ty == b'!' {
-                None
-            } else {
-                Some(Name([version; 32]))
-            },
-            seen: seen(rt, alloc, letters[4 * i]),
-            link: None,
-        };
-        entries.push(entry).expect(rt, "memory");
+    for item in letters.chunks(4) {
+        if let [from, name, version, ty] = item {
+            let def = def(rt, alloc, *name, *version, *ty);
+            let entry = entry(def, *version, seen(rt, alloc, *from));
+            entries.push(entry).expect(rt, "memory");
+        }
     }
     Env { entries }
 }
@@ -76,8 +67,10 @@ fn given(rt: &impl Abort, env: &Env, import: &Import) -> (Given, Given) {
 fn check(rt: &impl Abort, alloc: Global, (entries, by, at_load, in_packet): Case, asked: Asked) {
     let env = env(rt, alloc, entries);
     let import = import(rt, alloc, K, asked, by);
-    assert_eq!(rt; given(rt, &env, &import), (at_load, in_packet));
+    let given = given(rt, &env, &import);
     drop(import);
+    drop(env);
+    assert!(rt; given == (at_load, in_packet));
 }
 
 fn check_all(rt: &impl Abort, alloc: Global, cases: &[Case], asked: Asked) {
@@ -170,8 +163,8 @@ const LATEST: [(&[Range], Given); 5] = [
 
 #[test]
 fn latest_that_meets(rt: HostRuntime) {
-    for (ranges, want) in LATEST {
-        let case: Case = (b"oM1ioM4i", b"H", want, want);
+    for (ranges, want) in &LATEST {
+        let case: Case = (b"oM1ioM4i", b"H", *want, *want);
         check(&rt, rt.alloc(), case, Asked::Ranges(ranges, false));
     }
 }
