@@ -1,17 +1,21 @@
 #!/usr/bin/env python3
-"""Runs the gate and prints what it cost: the rows of the table in docs/STATUS.md, and the sums above it.
+"""Runs the gate and prints what it cost: the rows of the table in docs/COSTS.md, and the sums above it.
 
 usage: perf/gate.py [--kept]
-All is proved anew, or with --kept, where the kit keeps what passed, only what no earlier run on this machine passed. Nothing
-else should be at work beside it.
-The output of the gate goes to the file gate.log of the folder that it names. A row has, of a crate: functions, lines of src,
-specs and proofs, seconds of a processor for the proof, for the tests, and for the edits with the proof that they begin
-with, the number of edits, and GB at the most in one process. Every two seconds it looks at what each process has used.
+All is proved anew, or with --kept, where the kit keeps what passed, only what no earlier run on this machine passed. The
+machine should have nothing else to do.
+Right before and after the gate it proves the crate UNIT alone; the mean of the two is the unit of the last column, so that
+runs on two machines can be compared. The gate's output goes to the file gate.log of the folder that it names. A row has, of
+a crate: functions, lines of src, specs and proofs, seconds of a processor for the proof, for the tests, and for the edits
+with the proof that they begin with, the number of edits, GB at the most in one process, and all its seconds in units. Every
+two seconds it looks at what each process that the gate began has used.
 """
 import collections, functools, os, re, subprocess, sys, tempfile, time
 
 TOP = os.path.dirname(os.path.dirname(os.path.abspath(__file__)))
 TICKS = os.sysconf("SC_CLK_TCK")
+# the crate whose proof alone is the unit of costs
+UNIT = "ac_types"
 
 
 class Process:
@@ -36,12 +40,19 @@ def text_of(file):
         return it.read()
 
 
-def look(seen):
-    """Notes what each process of the prover has used until now, by its number and start."""
+def is_below(number, top):
+    """Returns whether a process was begun by another one, or by one that this began."""
+    while number > 1 and number != top:
+        number = int(text_of(f"/proc/{number}/stat").rpartition(")")[2].split()[1])
+    return number == top
+
+
+def look(seen, top):
+    """Notes what each process of the prover below top has used until now, by its number and start."""
     for number in filter(str.isdigit, os.listdir("/proc")):
         at = f"/proc/{number}"
         try:
-            if text_of(f"{at}/comm") != "rattle\n":
+            if text_of(f"{at}/comm") != "rattle\n" or not is_below(int(number), top):
                 continue
             # behind the name: state, parent, .., seconds in the program and in the kernel, and those of children that ended
             stat = text_of(f"{at}/stat").rpartition(")")[2].split()
@@ -72,7 +83,7 @@ def run_gate(words, log):
     with open(log, "w") as out:
         gate = subprocess.Popen(words, cwd=TOP, stdout=out, stderr=subprocess.STDOUT)
         while gate.poll() is None:
-            look(seen)
+            look(seen, gate.pid)
             most = max(most, memory_used())
             time.sleep(2)
     return gate.returncode, seen, most
@@ -112,12 +123,25 @@ def lines_of(crate, part, ending):
     return sum(text_of(f"{at}/{name}").count("\n") for at, _, names in walked for name in names if name.endswith(ending))
 
 
-def row(crate, functions, seconds, held):
+def unit_of(anew):
+    """Returns the seconds of a processor that the proof of the crate UNIT takes alone, if the kit proves one crate anew."""
+    if not anew:
+        return None
+    status, seen, _ = run_gate(["rt", "ci", *anew, UNIT], os.devnull)
+    return None if status else costs_of(seen)[0][UNIT]["proof"]
+
+
+def row(crate, functions, seconds, held, unit):
     lines = [lines_of(crate, *it) for it in (("src", ".rt"), ("specs", ".antt"), ("proofs", ".antt"))]
     edits = len(os.listdir(folder)) if os.path.isdir(folder := f"{TOP}/crates/{crate}/must-fail") else 0
     proof, tests, tried = (f"{seconds[kind]:.0f}" if seconds[kind] else "" for kind in ("proof", "tests", "edits"))
     tried = f"{tried} ({edits})" if edits else ""
-    return f"| `{crate}` | {functions.get(crate, '')} | {' / '.join(map(str, lines))} | {proof} | {tests} | {tried} | {held / 1e9:.1f} |"
+    told = f"{functions.get(crate, '')} | {' / '.join(map(str, lines))} | {proof} | {tests} | {tried} | {held / 1e9:.1f}"
+    return f"| `{crate}` | {told} | {in_units(sum(seconds.values()), unit)} |"
+
+
+def in_units(seconds, unit):
+    return f"{seconds / unit:.2f}" if unit else ""
 
 
 def longest_chain(crates, seconds):
@@ -131,29 +155,42 @@ def longest_chain(crates, seconds):
     return max(map(up_to, crates))
 
 
-def gate_words(is_kept):
-    """Returns the gate's command. A kit that keeps nothing proves all anew each time, and its help has no flag for that."""
+def anew():
+    """Returns the flag for a run that proves all anew. A kit that keeps nothing does so each time, and its help has no such flag."""
     told = subprocess.run(["rt", "help"], stdout=subprocess.PIPE, stderr=subprocess.STDOUT, text=True, errors="replace").stdout
-    return ["rt", "ci", *(["--anew"] if "--anew" in told and not is_kept else [])]
+    return ["--anew"] if "--anew" in told else []
+
+
+def print_sums(crates, seconds, unit):
+    sums = {kind: sum(seconds[it][kind] for it in crates) for kind in ("proof", "tests", "edits")}
+    told = ", ".join(f"{kind} {it / 60:.0f}" for kind, it in sums.items())
+    print(f"minutes of a processor: {sum(sums.values()) / 60:.0f} ({told})")
+    if unit:
+        told = ", ".join(f"{kind} {in_units(it, unit)}" for kind, it in sums.items())
+        print(f"units of {unit:.0f} seconds: {in_units(sum(sums.values()), unit)} ({told})")
+    longest, chain = longest_chain(crates, seconds)
+    print(f"longest chain of proofs: {longest / 60:.0f} minutes of a processor: {', '.join(chain)}")
 
 
 def main():
-    words = gate_words("--kept" in sys.argv[1:])
+    is_kept = "--kept" in sys.argv[1:]
+    words = ["rt", "ci", *([] if is_kept else anew())]
     log = f"{tempfile.mkdtemp(prefix='gate-')}/gate.log"
     print(f"{' '.join(words)}, with its output in {log}", flush=True)
+    units = [unit_of(anew())]
     begun, taken = time.time(), stolen()
     status, seen, most = run_gate(words, log)
     minutes, taken = (time.time() - begun) / 60, (stolen() - taken) / 60
+    units.append(unit_of(anew()))
+    unit = None if None in units else sum(units) / len(units)
     seconds, held = costs_of(seen)
     crates, functions = below(), functions_of(log)
     for crate in crates:
-        print(row(crate, functions, seconds[crate], held[crate]))
-    sums = {kind: sum(seconds[it][kind] for it in crates) / 60 for kind in ("proof", "tests", "edits")}
-    longest, chain = longest_chain(crates, seconds)
+        print(row(crate, functions, seconds[crate], held[crate], unit))
     print(f"last line: {text_of(log).rstrip().rpartition(chr(10))[2]}")
-    print(f"minutes: {minutes:.0f}, of {os.cpu_count()} processors; at most {most / 1e9:.1f} GB in use on the machine")
-    print(f"minutes of a processor: {sum(sums.values()):.0f} (" + ", ".join(f"{kind} {it:.0f}" for kind, it in sums.items()) + f"); the host gave {taken:.0f} to others")
-    print(f"longest chain of proofs: {longest / 60:.0f} minutes of a processor: {', '.join(chain)}")
+    print(f"minutes: {minutes:.0f}, of {os.cpu_count()} processors; at most {most / 1e9:.1f} GB in use on the machine; the host gave {taken:.0f} minutes of a processor to others")
+    print(f"{UNIT} alone, before and after: {units} seconds of a processor")
+    print_sums(crates, seconds, unit)
     return status
 
 
