@@ -12,91 +12,19 @@ two seconds it looks at what each process that the gate began has used.
 """
 import collections, functools, os, re, subprocess, sys, tempfile, time
 
+from processes import stolen, text_of, watch
+
 TOP = os.path.dirname(os.path.dirname(os.path.abspath(__file__)))
-TICKS = os.sysconf("SC_CLK_TCK")
 # the crate whose proof alone is the unit of costs
 UNIT = "ac_types"
 
 
-class Process:
-    """A check of the prover, as it was when it was last looked at."""
-
-    def __init__(self, folder, words, parent):
-        self.folder, self.words, self.parent = folder, words, parent
-        self.seconds = self.held = 0
-
-    def crate(self):
-        return self.words[self.words.index("--crate-name") + 1] if "--crate-name" in self.words else ""
-
-    def kind(self):
-        """Returns what the check is for: an edit is tried in a folder of its own, and so is the proof that edits begin with."""
-        if os.path.basename(self.folder).startswith("rt-edit"):
-            return "edits"
-        return "tests" if "--test" in self.words else "proof"
-
-
-def text_of(file):
-    with open(file, errors="replace") as it:
-        return it.read()
-
-
-def is_below(number, top):
-    """Returns whether a process was begun by another one, or by one that this began."""
-    while number > 1 and number != top:
-        number = int(text_of(f"/proc/{number}/stat").rpartition(")")[2].split()[1])
-    return number == top
-
-
-def look(seen, top):
-    """Notes what each process of the prover below top has used until now, by its number and start."""
-    for number in filter(str.isdigit, os.listdir("/proc")):
-        at = f"/proc/{number}"
-        try:
-            if text_of(f"{at}/comm") != "rattle\n" or not is_below(int(number), top):
-                continue
-            # behind the name: state, parent, .., seconds in the program and in the kernel, and those of children that ended
-            stat = text_of(f"{at}/stat").rpartition(")")[2].split()
-            key = int(number), stat[19]
-            if key not in seen:
-                words = text_of(f"{at}/cmdline").split("\0")
-                seen[key] = Process(os.readlink(f"{at}/cwd"), words, int(stat[1]))
-            seen[key].seconds = sum(map(int, stat[11:15])) / TICKS
-            seen[key].held = int(re.search(r"VmHWM:\s+(\d+)", text_of(f"{at}/status"))[1]) * 1024
-        except (OSError, TypeError):
-            # (it has ended meanwhile)
-            continue
-
-
-def memory_used():
-    kilobytes = dict(re.findall(r"(\w+):\s+(\d+)", text_of("/proc/meminfo")))
-    return 1024 * (int(kilobytes["MemTotal"]) - int(kilobytes["MemAvailable"]))
-
-
-def stolen():
-    """Returns the seconds of a processor that the host of a virtual machine gave to others."""
-    return int(text_of("/proc/stat").split("\n")[0].split()[8]) / TICKS
-
-
-def run_gate(words, log):
-    """Runs the gate, and returns its status, what its processes used, and the most memory that was in use."""
-    seen, most = {}, 0
-    with open(log, "w") as out:
-        gate = subprocess.Popen(words, cwd=TOP, stdout=out, stderr=subprocess.STDOUT)
-        while gate.poll() is None:
-            look(seen, gate.pid)
-            most = max(most, memory_used())
-            time.sleep(2)
-    return gate.returncode, seen, most
-
-
-def costs_of(seen):
-    """Returns the seconds by crate and kind, and the most memory of one process by crate. What a child used is its parent's too."""
-    provers = {number for number, _ in seen}
+def costs_of(processes):
+    """Returns the seconds by crate and kind, and the most memory of one process by crate."""
     seconds, held = collections.defaultdict(collections.Counter), collections.Counter()
-    for it in seen.values():
+    for it in processes:
         held[it.crate()] = max(held[it.crate()], it.held)
-        if it.parent not in provers:
-            seconds[it.crate()][it.kind()] += it.seconds
+        seconds[it.crate()][it.kind()] += it.seconds
     return seconds, held
 
 
@@ -127,8 +55,8 @@ def unit_of(anew):
     """Returns the seconds of a processor that the proof of the crate UNIT takes alone, if the kit proves one crate anew."""
     if not anew:
         return None
-    status, seen, _ = run_gate(["rt", "ci", *anew, UNIT], os.devnull)
-    return None if status else costs_of(seen)[0][UNIT]["proof"]
+    status, processes, _ = watch(["rt", "ci", *anew, UNIT], TOP, os.devnull)
+    return None if status else costs_of(processes)[0][UNIT]["proof"]
 
 
 def row(crate, functions, seconds, held, unit):
@@ -179,11 +107,11 @@ def main():
     print(f"{' '.join(words)}, with its output in {log}", flush=True)
     units = [unit_of(anew())]
     begun, taken = time.time(), stolen()
-    status, seen, most = run_gate(words, log)
+    status, processes, most = watch(words, TOP, log)
     minutes, taken = (time.time() - begun) / 60, (stolen() - taken) / 60
     units.append(unit_of(anew()))
     unit = None if None in units else sum(units) / len(units)
-    seconds, held = costs_of(seen)
+    seconds, held = costs_of(processes)
     crates, functions = below(), functions_of(log)
     for crate in crates:
         print(row(crate, functions, seconds[crate], held[crate], unit))
