@@ -151,7 +151,8 @@ def main():
     findings = [f"{file} is listed and not used" for file in rows if file not in contract.used]
     findings += [f"{file} is used and not listed" for file in contract.used if file not in rows]
     for file, names in rows.items():
-        findings += [f"{file}: {name} isn't used" for name in names if contract.specs(file).definition(name) not in contract.used.get(file, ())]
+        specs, used = contract.specs(file), contract.used.get(file, ())
+        findings += [f"{file}: {name} isn't used" for name in names if specs.definition(name) not in used]
     print(*sorted(findings), f"{len(contract.used)} files are used", sep="\n")
     return 1 if findings else 0
 
