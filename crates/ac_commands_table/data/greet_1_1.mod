@@ -1,4 +1,5 @@
-(* Its second version: another word, and a value more. *)
+(* Its second version, with another word and one more value:
+   acute run greet.ac --shelf greet_1_1.shelf *)
 module Greet : sig
   val greet : string -> string
   val leave : string -> string

@@ -1,4 +1,5 @@
-(* Its third version, which asks for the language too, and so serves no program of the first. *)
+(* Its third version, which asks for the language too, so it serves no program of the first:
+   acute run greet.ac --shelf greet_2_0.shelf *)
 module Greet : sig val greet : string * string -> string end version 2.0 =
 struct
   val greet : string * string -> string =
