@@ -5,6 +5,8 @@ use ac_outside::{
     Files, Got, MemoryFiles, MemorySink, MemorySource, MemoryWorld, Put, RealFiles, RealSource,
     Sink, Source, SureSink, SureSource, SureWorld, World,
 };
+use std::fs;
+use std::os::unix::fs::symlink;
 
 #[test]
 fn a_sink_keeps_all_but_the_write_that_fails(rt: HostRuntime) {
@@ -57,17 +59,23 @@ fn files_are_made_and_added_to(rt: HostRuntime) {
     assert!(rt; files.bytes("c").is_none());
 }
 
-#[test]
-fn a_missing_file_of_the_system_is_a_failed_read(rt: HostRuntime) {
-    let mut files = RealFiles::new(rt.clone().expect(&rt, "a handle"));
-    let mut buf = [0u8; 1];
-    assert!(rt; files.read("no/such/file", 0, &mut buf) == Got::Failed);
+// The files of the system, where one of this name may be read after the first write.
+fn real<'a>(rt: &'a HostRuntime, later: Option<&'a str>) -> RealFiles<'a, &'a HostRuntime> {
+    RealFiles::new(rt.alloc(), rt, &[], later).expect(rt, "memory")
 }
 
-// Whether what the file `made` has is this.
-fn made_has<F: Files>(files: &mut F, bytes: &[u8]) -> bool {
+#[test]
+fn a_missing_file_of_the_system_is_a_failed_read(rt: HostRuntime) {
+    let mut files = real(&rt, None);
+    let mut buf = [0u8; 1];
+    assert!(rt; files.read("no/such/file", 0, &mut buf) == Got::Failed);
+    assert!(rt; files.create("no/such/file") == Put::Failed);
+}
+
+// Whether what a file of this name has from a place on is this.
+fn has_from<F: Files>(files: &mut F, name: &str, from: u64, bytes: &[u8]) -> bool {
     let mut buf = [0u8; 8];
-    match files.read("made", 0, &mut buf) {
+    match files.read(name, from, &mut buf) {
         Got::Bytes(count) => &buf[..count] == bytes,
         Got::End => bytes.is_empty(),
         Got::Failed => false,
@@ -76,14 +84,67 @@ fn made_has<F: Files>(files: &mut F, bytes: &[u8]) -> bool {
 
 #[test]
 fn files_of_the_system_are_made_and_added_to(rt: HostRuntime) {
-    let mut files = RealFiles::new(rt.clone().expect(&rt, "a handle"));
-    let made = files.create("made") == Put::Done && made_has(&mut files, b"");
+    let mut files = real(&rt, None);
+    let made = files.create("made") == Put::Done && has_from(&mut real(&rt, None), "made", 0, b"");
     let added = files.append("made", b"ab") == Put::Done && files.append("made", b"c") == Put::Done;
-    let whole = made_has(&mut files, b"abc");
-    let emptied = files.create("made") == Put::Done && made_has(&mut files, b"");
-    let unmade = files.create("no/such/file") == Put::Failed;
-    std::fs::remove_file(&rt, "made").expect(&rt, "a file that goes");
-    assert!(rt; made && added && whole && emptied && unmade);
+    let mut again = real(&rt, None);
+    let whole = has_from(&mut again, "made", 1, b"bc") && has_from(&mut again, "made", 0, b"abc");
+    let emptied = files.create("made") == Put::Done && has_from(&mut again, "made", 0, b"");
+    fs::remove_file(&rt, "made").expect(&rt, "a file that goes");
+    assert!(rt; made && added && whole && emptied);
+}
+
+#[test]
+fn a_file_of_the_system_has_one_writer(rt: HostRuntime) {
+    let mut files = real(&rt, None);
+    let made = files.append("one", b"abc") == Put::Done;
+    let mut other = real(&rt, None);
+    let kept = other.create("one") == Put::Failed && other.append("one", b"d") == Put::Failed;
+    let whole = has_from(&mut other, "one", 0, b"abc");
+    drop(files);
+    let free = real(&rt, None).create("one") == Put::Done;
+    fs::remove_file(&rt, "one").expect(&rt, "a file that goes");
+    assert!(rt; made && kept && whole && free);
+}
+
+#[test]
+fn a_file_is_read_and_written_on_where_its_name_moves(rt: HostRuntime) {
+    fs::write(&rt, "old", b"abcdefghij").expect(&rt, "a file");
+    fs::write(&rt, "new", b"0123456789").expect(&rt, "a file");
+    let mut files = real(&rt, None);
+    let front = has_from(&mut files, "old", 0, b"abcdefgh");
+    let written = files.create("out") == Put::Done && files.append("out", b"x") == Put::Done;
+    fs::rename(&rt, "new", "old").expect(&rt, "a name that moves");
+    fs::rename(&rt, "out", "moved").expect(&rt, "a name that moves");
+    let rest = has_from(&mut files, "old", 8, b"ij") && has_from(&mut files, "old", 10, b"");
+    let added = files.append("out", b"y") == Put::Done
+        && fs::exists(&rt, "out").ok() == Some(false);
+    let whole = has_from(&mut files, "moved", 0, b"xy");
+    fs::remove_file(&rt, "old").expect(&rt, "a file that goes");
+    fs::remove_file(&rt, "moved").expect(&rt, "a file that goes");
+    assert!(rt; front && written && rest && added && whole);
+}
+
+// A file that was read and one that will be are kept, under whatever name.
+#[test]
+fn a_file_that_is_read_is_not_emptied(rt: HostRuntime) {
+    fs::write(&rt, "text", b"abc").expect(&rt, "a file");
+    fs::write(&rt, "channel", b"def").expect(&rt, "a file");
+    fs::hard_link(&rt, "text", "hard").expect(&rt, "a link");
+    symlink(&rt, "channel", "soft").expect(&rt, "a link");
+    let mut files = real(&rt, Some("channel"));
+    let read = has_from(&mut files, "text", 0, b"abc");
+    let mut kept = true;
+    for name in ["text", "./text", "hard", "channel", "./channel", "soft"] {
+        kept = kept && files.create(name) == Put::Failed;
+        kept = kept && files.append(name, b"x") == Put::Failed;
+    }
+    let whole = has_from(&mut real(&rt, None), "hard", 0, b"abc")
+        && has_from(&mut real(&rt, None), "soft", 0, b"def");
+    for name in ["text", "hard", "soft", "channel"] {
+        fs::remove_file(&rt, name).expect(&rt, "a file that goes");
+    }
+    assert!(rt; read && kept && whole);
 }
 
 // Whether a source gives these bytes, two at a time, and then its end.

@@ -1,6 +1,7 @@
 //! The program `acute`: the top call over the real files and streams.
 #![tactic(auto)]
 
+use ac_command::{Channel, Command, read_words};
 use ac_outside::{OpenGate, RealFiles, RealSink, RealSource};
 use ac_top::{Status, acute};
 use ac_types::Memory;
@@ -8,6 +9,9 @@ use std::alloc::Global;
 use std::env;
 use std::io::ErrorKind;
 use std::process::ExitCode;
+
+// The name of standard input among the files of the system.
+const STANDARD_INPUT: &str = "/dev/stdin";
 
 fn main(rt: HostRuntime) -> ExitCode {
     let alloc = rt.alloc();
@@ -18,7 +22,10 @@ fn main(rt: HostRuntime) -> ExitCode {
         Ok(words) => words,
         Err(_) => return ExitCode::from(Status::OUT_OF_MEMORY.0),
     };
-    let mut files = RealFiles::new(rt);
+    let mut files = match files_of(alloc, &rt, words.as_slice()) {
+        Ok(files) => files,
+        Err(_) => return ExitCode::from(Status::OUT_OF_MEMORY.0),
+    };
     let Status(status) = acute(
         &rt,
         alloc,
@@ -47,4 +54,26 @@ fn words_of(alloc: Global, rt: &HostRuntime) -> Result<Vec<String>, Memory> {
         Err(_) => {}
     }
     Ok(words)
+}
+
+// The files of the system, for these words.
+fn files_of<'a>(
+    alloc: Global,
+    rt: &'a HostRuntime,
+    words: &'a [String],
+) -> Result<RealFiles<'a, &'a HostRuntime>, Memory> {
+    RealFiles::new(alloc, rt, words, received_from(alloc, words)?)
+}
+
+// The file that a run receives from, which is opened by its first receive.
+fn received_from<'a>(alloc: Global, words: &'a [String]) -> Result<Option<&'a str>, Memory> {
+    let channel = match read_words(alloc, words)? {
+        Some(Command::Run(run)) => run.input,
+        _ => None,
+    };
+    Ok(match channel {
+        Some(Channel::Standard) => Some(STANDARD_INPUT),
+        Some(Channel::File(name)) => Some(name),
+        None => None,
+    })
 }

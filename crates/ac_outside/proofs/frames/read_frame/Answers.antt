@@ -1,4 +1,4 @@
-use Rattle.std.proofs.Common.{◌≡◌, ◌<◌, ◌≤◌, [], length, refl, arith}
+use Rattle.std.proofs.Common.{◌≡◌, ◌<◌, [], length, refl, arith}
 use Rattle.ac_outside.proofs.ReaderLaws.{more_gives, more_goes, rose_on}
 use Rattle.ac_outside.proofs.frames.read_frame.Goals as goal
 

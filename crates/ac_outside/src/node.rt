@@ -1,0 +1,30 @@
+// Which file of the system a name leads to.
+
+use std::fs;
+use std::fs::{Files, Metadata};
+use std::os::unix::fs::MetadataExt;
+
+/// A regular file of the system, whatever names lead to it.
+#[derive(Clone, Copy, PartialEq, Eq)]
+pub struct Node {
+    device: u64,
+    number: u64,
+}
+
+impl Node {
+    /// The regular file that the system tells of, if it is one.
+    pub fn of(told: &Metadata) -> Option<Node> {
+        told.is_file().then_some(Node {
+            device: told.dev(),
+            number: told.ino(),
+        })
+    }
+
+    /// The regular file that a name leads to, if it leads to one.
+    pub fn at<R: Files>(rt: &R, name: &str) -> Option<Node> {
+        match fs::metadata(rt, name) {
+            Ok(told) => Node::of(&told),
+            Err(_) => None,
+        }
+    }
+}
