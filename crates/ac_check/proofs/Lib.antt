@@ -3,3 +3,4 @@ pub mod CapturedLaws
 pub mod CodeTerms
 pub mod ValueForms
 pub mod HoldLaws
+pub mod EndLaws

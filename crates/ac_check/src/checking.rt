@@ -1,16 +1,18 @@
 // The type of a term, and whether a packed value is of a type.
 
-ghost use Rattle.std.specs.Prelude.{◌≡◌, ◌<◌, ◌^◌, IfErr, OnOk, false, length, map};
+ghost use Rattle.std.specs.Prelude.{◌≡◌, ◌<◌, ◌^◌, IfErr, IfOk, OnOk, false, length, map};
 ghost use Rattle.ac_types.specs.ReadTypes.{typ_of};
 ghost use Rattle.ac_terms.specs.Read.{environment_of, home_of, expr_of, value_of};
 ghost use Rattle.ac_rules.specs.Views.{Coloured};
 ghost use Rattle.ac_rules.specs.Typing.{Holds, type_of, holds};
 ghost use Rattle.ac_check.specs.Checking.{Answers, RefusesWhere};
+ghost use Rattle.ac_check.specs.inner.Captured.{captured_hold};
 
 use crate::fault::CheckFault;
+use crate::heads::Heads;
 use crate::holding::{captured_hold, holds};
 use ac_terms::{Env, Home, PVal, Term};
-use ac_types::{Many, Ty};
+use ac_types::{Many, Memory, Ty};
 use ac_typing::declared_type;
 use ac_views::Site;
 use std::alloc::Global;
@@ -41,7 +43,7 @@ pub fn type_of(
     match declared_type(alloc, &site, ctx, t) {
         Err(_) => Err(CheckFault::Memory),
         Ok(None) => Err(CheckFault::IllTyped),
-        Ok(Some(ty)) => match captured_hold(alloc, t, env) {
+        Ok(Some(ty)) => match captures_hold(alloc, t, env) {
             Ok(true) => Ok(ty),
             Ok(false) => {
                 drop(ty);
@@ -55,6 +57,15 @@ pub fn type_of(
     }
 }
 
+// Whether each captured value of a term is of the type beside it.
+fn captures_hold<'a>(alloc: Global, t: &'a Term, env: &'a Env) -> Result<bool, Memory>
+    requires { length env.now.entries < 2 ^ 32 }
+    ensures { IfOk result (λ b. b ≡ captured_hold (environment_of env.now) (expr_of t.now)) }
+{
+    let mut heads = Heads::new(alloc);
+    captured_hold(alloc, t, env, &mut heads)
+}
+
 /// Whether a packed value is of a type: an abstract type is its representation, and nothing of a
 /// type is written out.
 pub fn check_value(alloc: Global, env: &Env, t: &Ty, v: &PVal) -> Result<(), CheckFault>
@@ -64,9 +75,20 @@ pub fn check_value(alloc: Global, env: &Env, t: &Ty, v: &PVal) -> Result<(), Che
     ensures refused { IfErr result (λ f. RefusesWhere f (holds Coloured false
         (environment_of env.now) (value_of v.now) (typ_of t.now))) }
 {
-    match holds(alloc, v, t, env) {
+    match value_holds(alloc, v, t, env) {
         Ok(true) => Ok(()),
         Ok(false) => Err(CheckFault::IllTyped),
         Err(_) => Err(CheckFault::Memory),
     }
+}
+
+// Whether a packed value is of a type. The heads of abstract types are found for this value alone: an
+// entry that comes later may be the first of a name.
+fn value_holds<'a>(alloc: Global, v: &'a PVal, t: &'a Ty, env: &'a Env) -> Result<bool, Memory>
+    requires { length env.now.entries < 2 ^ 32 }
+    ensures { IfOk result (λ b. b ≡ holds Coloured false (environment_of env.now) (value_of v.now)
+        (typ_of t.now)) }
+{
+    let mut heads = Heads::new(alloc);
+    holds(alloc, v, t, env, &mut heads)
 }

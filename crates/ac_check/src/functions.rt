@@ -1,12 +1,12 @@
 // Functions of packed values, and their homes.
 
-ghost use Rattle.std.specs.Prelude.{◌≡◌, ◌<◌, ◌^◌, IfOk, length, map, option_map};
+ghost use Rattle.std.specs.Prelude.{◌≡◌, ◌<◌, ◌^◌, [], IfOk, length, map, option_map};
 ghost use Rattle.ac_types.specs.ReadTypes.{typ_of};
 ghost use Rattle.ac_terms.specs.PrimitiveTypes.{is_exception};
 ghost use Rattle.ac_terms.specs.Read.{environment_of, home_of, expr_of, bytes_of};
 ghost use Rattle.ac_rules.specs.Plain.{may_travel};
 ghost use Rattle.ac_rules.specs.Typing.{fields_of, is_function_home};
-ghost use Rattle.ac_check.specs.inner.Captured.{declared_agrees, travels_with};
+ghost use Rattle.ac_check.specs.inner.Captured.{declared_agrees, travels_as, travels_with};
 
 use ac_terms::{Def, Env, Exn, Home, Term};
 use ac_types::exceptions::has_text;
@@ -104,14 +104,7 @@ pub fn travels_with<'a>(
     ensures { IfOk result (λ b. b ≡ travels_with (environment_of env.now) (home_of home)
         (map typ_of vars.now) (expr_of l.now) (typ_of ty.now)) }
 {
-    let at = head(env, ty);
-    if ends(at).is_none() {
-        return Ok(false);
-    }
-    if !is_function_home(env, home) {
-        return Ok(false);
-    }
-    is_declared_as(alloc, env, home, vars, l, at)
+    travels_as(alloc, env, home, vars, l, head(env, ty))
 }
 
 /// The same where there are no variables around the function.
@@ -126,8 +119,45 @@ pub fn may_travel<'a>(
     ensures { IfOk result (λ b. b ≡ may_travel (environment_of env.now) (home_of home)
         (expr_of l.now) (typ_of ty.now)) }
 {
+    may_travel_as(alloc, env, home, l, head(env, ty))
+}
+
+// Whether a function of a home may travel at a type that is as it is at the top.
+fn travels_as<'a>(
+    alloc: Global,
+    env: &'a Env,
+    home: Home,
+    vars: &'a Many<Ty>,
+    l: &'a Term,
+    at: &'a Ty,
+) -> Result<bool, Memory>
+    requires { length env.now.entries < 2 ^ 32 }
+    ensures { IfOk result (λ b. b ≡ travels_as (environment_of env.now) (home_of home)
+        (map typ_of vars.now) (expr_of l.now) (typ_of at.now)) }
+{
+    if ends(at).is_none() {
+        return Ok(false);
+    }
+    if !is_function_home(env, home) {
+        return Ok(false);
+    }
+    is_declared_as(alloc, env, home, vars, l, at)
+}
+
+/// The same where there are no variables around the function.
+pub fn may_travel_as<'a>(
+    alloc: Global,
+    env: &'a Env,
+    home: Home,
+    l: &'a Term,
+    at: &'a Ty,
+) -> Result<bool, Memory>
+    requires { length env.now.entries < 2 ^ 32 }
+    ensures { IfOk result (λ b. b ≡ travels_as (environment_of env.now) (home_of home) []
+        (expr_of l.now) (typ_of at.now)) }
+{
     let vars = Many::new(alloc);
-    let travels = travels_with(alloc, &*env, home, &vars, &*l, &*ty);
+    let travels = travels_as(alloc, env, home, &vars, l, at);
     drop(vars);
     travels
 }

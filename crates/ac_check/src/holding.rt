@@ -8,76 +8,88 @@ ghost use Rattle.ac_rules.specs.Views.{Coloured};
 ghost use Rattle.ac_rules.specs.Typing.{holds, all_hold, each_holds};
 ghost use Rattle.ac_views.specs.Sites.{typs_of};
 ghost use Rattle.ac_check.specs.inner.Captured.{captured_hold, all_captured_hold, arms_captured_hold};
+ghost use Rattle.ac_check.specs.inner.Heads.{AreHeads};
 
-use crate::functions::{is_exception, may_travel};
+use crate::functions::{is_exception, may_travel_as};
+use crate::heads::Heads;
 use ac_terms::{Arm, Env, PVal, Term};
 use ac_types::{Memory, Ty, both};
-use ac_views::{Base, head, is_base, list_item, option_item, tuple_parts};
+use ac_views::{Base, is_base, list_item, option_item, tuple_parts};
 use std::alloc::Global;
 
 // Each part is looked at (`&`): an `&&` would be one more branch of the proof.
 /// Whether each captured value of a term is of the type beside it.
 #[cycle(hold)]
 #[tactic(auto, using(ac_typing::proofs::TermLaws::typing_laws))]
-pub fn captured_hold<'a>(alloc: Global, t: &'a Term, env: &'a Env) -> Result<bool, Memory>
-    requires { length env.now.entries < 2 ^ 32 }
-    ensures { IfOk result (λ b. b ≡ captured_hold (environment_of env.now) (expr_of t.now)) }
+pub fn captured_hold<'a>(
+    alloc: Global,
+    t: &'a Term,
+    env: &'a Env,
+    heads: &mut Heads<'a>,
+) -> Result<bool, Memory>
+    requires few { length env.now.entries < 2 ^ 32 }
+    requires heads { AreHeads (environment_of env.now) heads.old }
+    ensures heads { AreHeads (environment_of env.now) heads.new }
+    ensures answer { IfOk result (λ b. b ≡ captured_hold (environment_of env.now) (expr_of t.now)) }
 {
     match t {
-        Term::ExnVal(_, Some(text)) => captured_hold(alloc, text, env),
-        Term::Tuple(parts) => all_captured_hold(alloc, parts.as_slice(), env),
-        Term::Present(inner) => captured_hold(alloc, inner, env),
+        Term::ExnVal(_, Some(text)) => captured_hold(alloc, text, env, heads),
+        Term::Tuple(parts) => all_captured_hold(alloc, parts.as_slice(), env, heads),
+        Term::Present(inner) => captured_hold(alloc, inner, env, heads),
         Term::Cons(head, tail) => {
             let (a, b) = both(
-                captured_hold(alloc, head, env),
-                captured_hold(alloc, tail, env),
+                captured_hold(alloc, head, env, heads),
+                captured_hold(alloc, tail, env, heads),
             )?;
             Ok(a & b)
         }
-        Term::Lam(_, body) => captured_hold(alloc, body, env),
-        Term::Rec(_, _, body) => captured_hold(alloc, body, env),
+        Term::Lam(_, body) => captured_hold(alloc, body, env, heads),
+        Term::Rec(_, _, body) => captured_hold(alloc, body, env, heads),
         Term::App(f, a) => {
-            let (a, b) = both(captured_hold(alloc, f, env), captured_hold(alloc, a, env))?;
+            let (a, b) = both(
+                captured_hold(alloc, f, env, heads),
+                captured_hold(alloc, a, env, heads),
+            )?;
             Ok(a & b)
         }
         Term::Let(_, bound, body) => {
             let (a, b) = both(
-                captured_hold(alloc, bound, env),
-                captured_hold(alloc, body, env),
+                captured_hold(alloc, bound, env, heads),
+                captured_hold(alloc, body, env, heads),
             )?;
             Ok(a & b)
         }
         Term::If(test, so, otherwise) => {
-            let first = captured_hold(alloc, test, env);
+            let first = captured_hold(alloc, test, env, heads);
             let sides = both(
-                captured_hold(alloc, so, env),
-                captured_hold(alloc, otherwise, env),
+                captured_hold(alloc, so, env, heads),
+                captured_hold(alloc, otherwise, env, heads),
             );
             let (a, (b, d)) = both(first, sides)?;
             Ok(a & (b & d))
         }
-        Term::Seq(parts) => all_captured_hold(alloc, parts.as_slice(), env),
+        Term::Seq(parts) => all_captured_hold(alloc, parts.as_slice(), env, heads),
         Term::Match(of, cases) => {
-            let cases = arms_captured_hold(alloc, cases.as_slice(), env);
-            let (a, b) = both(captured_hold(alloc, of, env), cases)?;
+            let cases = arms_captured_hold(alloc, cases.as_slice(), env, heads);
+            let (a, b) = both(captured_hold(alloc, of, env, heads), cases)?;
             Ok(a & b)
         }
         Term::Try(of, cases) => {
-            let cases = arms_captured_hold(alloc, cases.as_slice(), env);
-            let (a, b) = both(captured_hold(alloc, of, env), cases)?;
+            let cases = arms_captured_hold(alloc, cases.as_slice(), env, heads);
+            let (a, b) = both(captured_hold(alloc, of, env, heads), cases)?;
             Ok(a & b)
         }
-        Term::Raise(_, inner) => captured_hold(alloc, inner, env),
-        Term::Prim(_, args) => all_captured_hold(alloc, args.as_slice(), env),
+        Term::Raise(_, inner) => captured_hold(alloc, inner, env, heads),
+        Term::Prim(_, args) => all_captured_hold(alloc, args.as_slice(), env, heads),
         Term::Marshal(_, mark, inner) => {
             let (a, b) = both(
-                captured_hold(alloc, mark, env),
-                captured_hold(alloc, inner, env),
+                captured_hold(alloc, mark, env, heads),
+                captured_hold(alloc, inner, env, heads),
             )?;
             Ok(a & b)
         }
-        Term::Unmarshal(_, inner) => captured_hold(alloc, inner, env),
-        Term::Val(ty, v) => holds(alloc, v, ty, env),
+        Term::Unmarshal(_, inner) => captured_hold(alloc, inner, env, heads),
+        Term::Val(ty, v) => holds(alloc, v, ty, env, heads),
         Term::Int(_) => Ok(true),
         Term::Bool(_) => Ok(true),
         Term::Str(_) => Ok(true),
@@ -92,13 +104,20 @@ pub fn captured_hold<'a>(alloc: Global, t: &'a Term, env: &'a Env) -> Result<boo
 }
 
 #[cycle(hold)]
-fn all_captured_hold<'a>(alloc: Global, terms: &'a [Term], env: &'a Env) -> Result<bool, Memory>
-    requires { length env.now.entries < 2 ^ 32 }
-    ensures { IfOk result (λ b. b ≡ all_captured_hold (environment_of env.now)
+fn all_captured_hold<'a>(
+    alloc: Global,
+    terms: &'a [Term],
+    env: &'a Env,
+    heads: &mut Heads<'a>,
+) -> Result<bool, Memory>
+    requires few { length env.now.entries < 2 ^ 32 }
+    requires heads { AreHeads (environment_of env.now) heads.old }
+    ensures heads { AreHeads (environment_of env.now) heads.new }
+    ensures answer { IfOk result (λ b. b ≡ all_captured_hold (environment_of env.now)
         (exprs (map expr_of terms.now))) }
 {
     for t in terms {
-        if !captured_hold(alloc, t, env)? {
+        if !captured_hold(alloc, t, env, heads)? {
             return Ok(false);
         }
     }
@@ -106,13 +125,20 @@ fn all_captured_hold<'a>(alloc: Global, terms: &'a [Term], env: &'a Env) -> Resu
 }
 
 #[cycle(hold)]
-fn arms_captured_hold<'a>(alloc: Global, cases: &'a [Arm], env: &'a Env) -> Result<bool, Memory>
-    requires { length env.now.entries < 2 ^ 32 }
-    ensures { IfOk result (λ b. b ≡ arms_captured_hold (environment_of env.now)
+fn arms_captured_hold<'a>(
+    alloc: Global,
+    cases: &'a [Arm],
+    env: &'a Env,
+    heads: &mut Heads<'a>,
+) -> Result<bool, Memory>
+    requires few { length env.now.entries < 2 ^ 32 }
+    requires heads { AreHeads (environment_of env.now) heads.old }
+    ensures heads { AreHeads (environment_of env.now) heads.new }
+    ensures answer { IfOk result (λ b. b ≡ arms_captured_hold (environment_of env.now)
         (arms (map arm_of cases.now))) }
 {
     for arm in cases {
-        if !captured_hold(alloc, &arm.body, env)? {
+        if !captured_hold(alloc, &arm.body, env, heads)? {
             return Ok(false);
         }
     }
@@ -122,12 +148,20 @@ fn arms_captured_hold<'a>(alloc: Global, cases: &'a [Arm], env: &'a Env) -> Resu
 /// Whether a packed value is of a type, where an abstract type is its representation.
 #[cycle(hold)]
 #[tactic(auto, using(crate::proofs::ValueForms::value_laws))]
-pub fn holds<'a>(alloc: Global, v: &'a PVal, ty: &'a Ty, env: &'a Env) -> Result<bool, Memory>
-    requires { length env.now.entries < 2 ^ 32 }
-    ensures { IfOk result (λ b. b ≡ holds Coloured false (environment_of env.now) (value_of v.now)
+pub fn holds<'a>(
+    alloc: Global,
+    v: &'a PVal,
+    ty: &'a Ty,
+    env: &'a Env,
+    heads: &mut Heads<'a>,
+) -> Result<bool, Memory>
+    requires few { length env.now.entries < 2 ^ 32 }
+    requires heads { AreHeads (environment_of env.now) heads.old }
+    ensures heads { AreHeads (environment_of env.now) heads.new }
+    ensures answer { IfOk result (λ b. b ≡ holds Coloured false (environment_of env.now) (value_of v.now)
         (typ_of ty.now)) }
 {
-    let at = head(env, ty);
+    let at = heads.head(env, ty)?;
     match v {
         PVal::Int(_) => Ok(is_base(at, Base::Int)),
         PVal::Bool(_) => Ok(is_base(at, Base::Bool)),
@@ -136,20 +170,20 @@ pub fn holds<'a>(alloc: Global, v: &'a PVal, ty: &'a Ty, env: &'a Env) -> Result
         PVal::Exn(exn) => Ok(is_base(at, Base::Exn) & is_exception(exn)),
         PVal::Tuple(parts) => match tuple_parts(at) {
             None => Ok(false),
-            Some(types) => all_hold(alloc, parts.as_slice(), types.as_slice(), env),
+            Some(types) => all_hold(alloc, parts.as_slice(), types.as_slice(), env, heads),
         },
         PVal::List(parts) => match list_item(at) {
             None => Ok(false),
-            Some(item) => each_holds(alloc, parts.as_slice(), item, env),
+            Some(item) => each_holds(alloc, parts.as_slice(), item, env, heads),
         },
         PVal::Absent => Ok(option_item(at).is_some()),
         PVal::Present(inner) => match option_item(at) {
             None => Ok(false),
-            Some(item) => holds(alloc, inner, item, env),
+            Some(item) => holds(alloc, inner, item, env, heads),
         },
         PVal::Fun(home, l) => {
-            if may_travel(alloc, env, *home, l, ty)? {
-                captured_hold(alloc, l, env)
+            if may_travel_as(alloc, env, *home, l, at)? {
+                captured_hold(alloc, l, env, heads)
             } else {
                 Ok(false)
             }
@@ -158,16 +192,24 @@ pub fn holds<'a>(alloc: Global, v: &'a PVal, ty: &'a Ty, env: &'a Env) -> Result
 }
 
 #[cycle(hold)]
-fn all_hold<'a>(alloc: Global, vs: &'a [PVal], tys: &'a [Ty], env: &'a Env) -> Result<bool, Memory>
-    requires { length env.now.entries < 2 ^ 32 }
-    ensures { IfOk result (λ b. b ≡ all_hold Coloured false (environment_of env.now)
+fn all_hold<'a>(
+    alloc: Global,
+    vs: &'a [PVal],
+    tys: &'a [Ty],
+    env: &'a Env,
+    heads: &mut Heads<'a>,
+) -> Result<bool, Memory>
+    requires few { length env.now.entries < 2 ^ 32 }
+    requires heads { AreHeads (environment_of env.now) heads.old }
+    ensures heads { AreHeads (environment_of env.now) heads.new }
+    ensures answer { IfOk result (λ b. b ≡ all_hold Coloured false (environment_of env.now)
         (pvalues (map value_of vs.now)) (typs_of tys.now)) }
 {
     if vs.len() != tys.len() {
         return Ok(false);
     }
     for i in 0..vs.len() {
-        if !holds(alloc, &vs[i], &tys[i], env)? {
+        if !holds(alloc, &vs[i], &tys[i], env, heads)? {
             return Ok(false);
         }
     }
@@ -175,13 +217,21 @@ fn all_hold<'a>(alloc: Global, vs: &'a [PVal], tys: &'a [Ty], env: &'a Env) -> R
 }
 
 #[cycle(hold)]
-fn each_holds<'a>(alloc: Global, vs: &'a [PVal], ty: &'a Ty, env: &'a Env) -> Result<bool, Memory>
-    requires { length env.now.entries < 2 ^ 32 }
-    ensures { IfOk result (λ b. b ≡ each_holds Coloured false (environment_of env.now)
+fn each_holds<'a>(
+    alloc: Global,
+    vs: &'a [PVal],
+    ty: &'a Ty,
+    env: &'a Env,
+    heads: &mut Heads<'a>,
+) -> Result<bool, Memory>
+    requires few { length env.now.entries < 2 ^ 32 }
+    requires heads { AreHeads (environment_of env.now) heads.old }
+    ensures heads { AreHeads (environment_of env.now) heads.new }
+    ensures answer { IfOk result (λ b. b ≡ each_holds Coloured false (environment_of env.now)
         (pvalues (map value_of vs.now)) (typ_of ty.now)) }
 {
     for v in vs {
-        if !holds(alloc, v, ty, env)? {
+        if !holds(alloc, v, ty, env, heads)? {
             return Ok(false);
         }
     }

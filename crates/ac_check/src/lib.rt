@@ -5,6 +5,7 @@
 mod checking;
 mod fault;
 mod functions;
+mod heads;
 mod holding;
 
 pub use checking::{check_value, type_of};

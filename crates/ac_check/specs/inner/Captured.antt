@@ -10,9 +10,12 @@ use Rattle.ac_rules.specs.Typing.{type_of, all_of, type_seen, holds, is_function
 abbrev pub declared_agrees : Environment → Home → List Typ → Expr → Typ → Bool
 declared_agrees E h Vs l T = agree (type_of Coloured true E (record (all_of E h) { vars = Vs }) l) (type_seen Coloured true E h T)
 
--- whether a function may travel at a type, where the variables around it are of these types
+-- whether a function may travel at a type that is as it is at the top, and at a type, where the variables around it are of these types
+abbrev pub travels_as : Environment → Home → List Typ → Expr → Typ → Bool
+travels_as E h Vs l H = is_function H && is_function_home E h && declared_agrees E h Vs l H
+
 abbrev pub travels_with : Environment → Home → List Typ → Expr → Typ → Bool
-travels_with E h Vs l T = is_function (head E T) && is_function_home E h && declared_agrees E h Vs l (head E T)
+travels_with E h Vs l T = travels_as E h Vs l (head E T)
 
 -- whether each captured value of a term is of the type beside it
 module _ (E : Environment) where

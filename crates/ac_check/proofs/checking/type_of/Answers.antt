@@ -1,4 +1,4 @@
-use Rattle.std.proofs.Common.{◌≡◌, sym, ap, ap₂, ◌∙◌, Bool, true, map}
+use Rattle.std.proofs.Common.{sym, ap, ap₂, ◌∙◌, Bool, true, map}
 use Rattle.std.specs.Prelude.{option_map}
 use Rattle.ac_types.specs.First.{given}
 use Rattle.ac_types.specs.ReadTypes.{typ_of}
