@@ -1,10 +1,12 @@
 // What a resolvespec gives.
 
-ghost use Rattle.std.specs.Prelude.{◌≡◌, ◌+◌, ◌<◌, ◌^◌, length};
+ghost use Rattle.std.specs.Prelude.{◌≡◌, ◌+◌, ◌<◌, ◌≤◌, ◌^◌, false, length};
 ghost use Rattle.ac_types.specs.Sigs.{HereAlready};
 ghost use Rattle.ac_types.specs.ReadTypes.{constraint_of, resolve_of};
+ghost use Rattle.ac_terms.specs.Defs.{Arrived};
 ghost use Rattle.ac_terms.specs.Read.{import_of_code, environment_of, seen_of};
-ghost use Rattle.ac_rules.specs.Links.{InPacket, is_exact, latest, gives, linked};
+ghost use Rattle.ac_rules.specs.Links.{InPacket, is_exact, last_below, latest, gives, linked};
+ghost use Rattle.ac_link.specs.Fronts.{IsFront};
 ghost use Rattle.ac_link.specs.inner.Candidates.{comes_from, is_candidate};
 ghost use Rattle.ac_link.specs.LinkFaults.{when_of};
 
@@ -20,8 +22,19 @@ pub fn resolve(env: &Env, import: &Import, when: When) -> Option<u32>
     requires specs { length import.now.sig.types + length import.now.sig.vals < 2 ^ 32 }
     ensures { result ≡ linked (environment_of env.now) (import_of_code import.now) (when_of when) }
 {
+    resolve_with_front(env, import, when, env.entries.len())
+}
+
+/// As `resolve`, where all entries behind the first `front` have arrived: own modules and those of
+/// a shelf are looked for among the first `front` alone.
+pub fn resolve_with_front(env: &Env, import: &Import, when: When, front: usize) -> Option<u32>
+    requires entries { length env.now.entries < 2 ^ 32 }
+    requires specs { length import.now.sig.types + length import.now.sig.vals < 2 ^ 32 }
+    requires front { IsFront (environment_of env.now) front }
+    ensures { result ≡ linked (environment_of env.now) (import_of_code import.now) (when_of when) }
+{
     for atom in import.by.as_slice() {
-        if let Some(j) = gives(env, import, when, atom) {
+        if let Some(j) = gives(env, import, when, front, atom) {
             return Some(j);
         }
     }
@@ -29,33 +42,35 @@ pub fn resolve(env: &Env, import: &Import, when: When) -> Option<u32>
 }
 
 // The entry that one atom gives.
-fn gives(env: &Env, import: &Import, when: When, atom: &Resolve) -> Option<u32>
+fn gives(env: &Env, import: &Import, when: When, front: usize, atom: &Resolve) -> Option<u32>
     requires entries { length env.now.entries < 2 ^ 32 }
     requires specs { length import.now.sig.types + length import.now.sig.vals < 2 ^ 32 }
+    requires front { IsFront (environment_of env.now) front }
     ensures { result ≡ gives (environment_of env.now) (import_of_code import.now) (when_of when)
         (resolve_of atom.now) }
 {
     match atom {
         Resolve::StaticLink => match when {
-            When::Load => latest(env, import, Origin::Own),
+            When::Load => latest_in_front(env, import, front, Origin::Own),
             When::Packet => None,
         },
         Resolve::HereAlready => match when {
-            When::Load => latest(env, import, Origin::Own),
-            When::Packet => here_already(env, import),
+            When::Load => latest_in_front(env, import, front, Origin::Own),
+            When::Packet => here_already(env, import, front),
         },
-        Resolve::Uri(uri) => latest(env, import, Origin::Shelf(uri)),
+        Resolve::Uri(uri) => latest_in_front(env, import, front, Origin::Shelf(uri)),
     }
 }
 
 // What is there already as a packet comes: an own module, or by exact name one that has arrived.
-fn here_already(env: &Env, import: &Import) -> Option<u32>
+fn here_already(env: &Env, import: &Import, front: usize) -> Option<u32>
     requires entries { length env.now.entries < 2 ^ 32 }
     requires specs { length import.now.sig.types + length import.now.sig.vals < 2 ^ 32 }
+    requires front { IsFront (environment_of env.now) front }
     ensures { result ≡ gives (environment_of env.now) (import_of_code import.now) InPacket
         HereAlready }
 {
-    if let Some(own) = latest(env, import, Origin::Own) {
+    if let Some(own) = latest_in_front(env, import, front, Origin::Own) {
         return Some(own);
     }
     if is_exact(&import.constraint) {
@@ -73,15 +88,38 @@ enum Origin<'a> {
     Arrived,
 }
 
-// The latest entry of an origin to which the import may link. A signature is compared only where
-// origin, external name and version fit.
+// The latest entry of an origin to which the import may link.
 fn latest(env: &Env, import: &Import, origin: Origin) -> Option<u32>
     requires entries { length env.now.entries < 2 ^ 32 }
     requires specs { length import.now.sig.types + length import.now.sig.vals < 2 ^ 32 }
     ensures { result ≡ latest (comes_from origin.entry) (environment_of env.now)
         (import_of_code import.now) }
 {
-    let mut j = env.entries.len();
+    latest_of_first(env, import, env.entries.len(), origin)
+}
+
+// The same of an origin that no arrived entry has.
+fn latest_in_front(env: &Env, import: &Import, front: usize, origin: Origin) -> Option<u32>
+    requires entries { length env.now.entries < 2 ^ 32 }
+    requires specs { length import.now.sig.types + length import.now.sig.vals < 2 ^ 32 }
+    requires front { IsFront (environment_of env.now) front }
+    requires origin { comes_from origin Arrived ≡ false }
+    ensures { result ≡ latest (comes_from origin.entry) (environment_of env.now)
+        (import_of_code import.now) }
+{
+    latest_of_first(env, import, front, origin)
+}
+
+// The latest of the first entries that has an origin and to which the import may link. A signature
+// is compared only where origin, external name and version fit.
+fn latest_of_first(env: &Env, import: &Import, first: usize, origin: Origin) -> Option<u32>
+    requires entries { length env.now.entries < 2 ^ 32 }
+    requires first { first ≤ length env.now.entries }
+    requires specs { length import.now.sig.types + length import.now.sig.vals < 2 ^ 32 }
+    ensures { result ≡ last_below (is_candidate (comes_from origin.entry) (environment_of env.now)
+        (import_of_code import.now)) first }
+{
+    let mut j = first;
     while j > 0 {
         j -= 1;
         if is_candidate(env, import, origin, j) {

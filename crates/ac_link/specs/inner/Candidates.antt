@@ -15,3 +15,7 @@ comes_from origin.Arrived s = has_arrived s
 -- an entry of a kind to which an import may link
 abbrev pub is_candidate : (Seen → Bool) → Environment → Import → ℕ → Bool
 is_candidate kind E i j = option_map_or (λ (e : Entry). kind e.seen) (slice_get E j) false && is_none (link_fault E i j)
+
+-- whether entry j has arrived
+abbrev pub arrived_at : Environment → ℕ → Bool
+arrived_at E j = option_map_or (λ (e : Entry). has_arrived e.seen) (slice_get E j) false

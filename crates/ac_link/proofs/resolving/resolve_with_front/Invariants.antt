@@ -4,7 +4,7 @@ use Rattle.ac_types.specs.ReadTypes.{resolve_of}
 use Rattle.ac_terms.specs.Read.{import_of_code, environment_of}
 use Rattle.ac_rules.specs.Links.{gives, linked}
 use Rattle.ac_link.specs.LinkFaults.{when_of}
-use Rattle.ac_link.proofs.resolving.resolve.Given as goal
+use Rattle.ac_link.proofs.resolving.resolve_with_front.Given as goal
 
 abbrev pub invariant-loop-atom : goal.invariant-loop-atom
 invariant-loop-atom l =
