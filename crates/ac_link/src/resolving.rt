@@ -1,13 +1,13 @@
 // What a resolvespec gives.
 
-ghost use Rattle.std.specs.Prelude.{◌≡◌, ◌+◌, ◌<◌, ◌≤◌, ◌^◌, false, length};
+ghost use Rattle.std.specs.Prelude.{◌≡◌, ◌+◌, ◌<◌, ◌≤◌, ◌^◌, false, true, None, length};
 ghost use Rattle.ac_types.specs.Sigs.{HereAlready};
 ghost use Rattle.ac_types.specs.ReadTypes.{constraint_of, resolve_of};
 ghost use Rattle.ac_terms.specs.Defs.{Arrived};
 ghost use Rattle.ac_terms.specs.Read.{import_of_code, environment_of, seen_of};
 ghost use Rattle.ac_rules.specs.Links.{InPacket, is_exact, last_below, latest, gives, linked};
 ghost use Rattle.ac_link.specs.Fronts.{IsFront};
-ghost use Rattle.ac_link.specs.inner.Candidates.{comes_from, is_candidate};
+ghost use Rattle.ac_link.specs.inner.Candidates.{comes_from, is_candidate, is_here};
 ghost use Rattle.ac_link.specs.LinkFaults.{when_of};
 
 use crate::fault::When;
@@ -26,26 +26,44 @@ pub fn resolve(env: &Env, import: &Import, when: When) -> Option<u32>
 }
 
 /// As `resolve`, where all entries behind the first `front` have arrived: own modules and those of
-/// a shelf are looked for among the first `front` alone.
+/// a shelf are looked for among the first `front` alone. What is there already is looked for once.
 pub fn resolve_with_front(env: &Env, import: &Import, when: When, front: usize) -> Option<u32>
     requires entries { length env.now.entries < 2 ^ 32 }
     requires specs { length import.now.sig.types + length import.now.sig.vals < 2 ^ 32 }
     requires front { IsFront (environment_of env.now) front }
     ensures { result ≡ linked (environment_of env.now) (import_of_code import.now) (when_of when) }
 {
+    let mut looked = false;
     for atom in import.by.as_slice() {
-        if let Some(j) = gives(env, import, when, front, atom) {
+        if let Some(j) = gives(env, import, when, front, looked, atom) {
             return Some(j);
         }
+        looked |= is_here(atom);
     }
     None
 }
 
-// The entry that one atom gives.
-fn gives(env: &Env, import: &Import, when: When, front: usize, atom: &Resolve) -> Option<u32>
+fn is_here(atom: &Resolve) -> bool
+    ensures { result ≡ is_here (resolve_of atom.now) }
+{
+    matches!(atom, Resolve::HereAlready)
+}
+
+// The entry that one atom gives. Where `looked` is true, what is there already was looked for and
+// not found.
+fn gives(
+    env: &Env,
+    import: &Import,
+    when: When,
+    front: usize,
+    looked: bool,
+    atom: &Resolve,
+) -> Option<u32>
     requires entries { length env.now.entries < 2 ^ 32 }
     requires specs { length import.now.sig.types + length import.now.sig.vals < 2 ^ 32 }
     requires front { IsFront (environment_of env.now) front }
+    requires looked { looked ≡ true → gives (environment_of env.now) (import_of_code import.now)
+        (when_of when) HereAlready ≡ None }
     ensures { result ≡ gives (environment_of env.now) (import_of_code import.now) (when_of when)
         (resolve_of atom.now) }
 {
@@ -54,6 +72,7 @@ fn gives(env: &Env, import: &Import, when: When, front: usize, atom: &Resolve) -
             When::Load => latest_in_front(env, import, front, Origin::Own),
             When::Packet => None,
         },
+        Resolve::HereAlready if looked => None,
         Resolve::HereAlready => match when {
             When::Load => latest_in_front(env, import, front, Origin::Own),
             When::Packet => here_already(env, import, front),
