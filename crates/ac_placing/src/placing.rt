@@ -12,6 +12,7 @@ ghost use Rattle.ac_terms.specs.Read.{environment_of, entry_of, def_of_code, nam
 ghost use Rattle.ac_rules.specs.Coherent.{IsCoherent};
 ghost use Rattle.ac_rules.specs.Links.{linked, InPacket};
 ghost use Rattle.ac_rules.specs.Packets.{put, found_or_put, place_exact, place_ranges, place, places};
+ghost use Rattle.ac_link.specs.Fronts.{IsFront};
 ghost use Rattle.ac_placing.specs.Placed.{state_of, place_number};
 ghost use Rattle.ac_placing.specs.inner.Keys.{is_short, key_bytes};
 ghost use Rattle.ac_placing.specs.inner.Maps.{Key, key_found};
@@ -21,7 +22,7 @@ use crate::finding::{Keys, found, keys_of, note};
 use crate::keys::key_of;
 use crate::names::name_behind;
 use crate::places::{Place, is_resolved};
-use ac_link::{When, resolve};
+use ac_link::{When, front, resolve_with_front};
 use ac_parts::module_renumbered;
 use ac_terms::{Def, Entry, Env, Import, Module, PDef, Seen};
 use ac_types::{Constraint, Many, Memory, Name, Text};
@@ -177,7 +178,14 @@ fn standing(alloc: Global, keys: &Keys, def: &Def, link: Option<u32>) -> Result<
 }
 
 // An import by version.
-fn place_ranges(alloc: Global, env: &Env, p: &mut Placing, i: &Import) -> Result<(), Memory>
+fn place_ranges(
+    alloc: Global,
+    env: &Env,
+    front: usize,
+    p: &mut Placing,
+    i: &Import,
+) -> Result<(), Memory>
+    requires front { IsFront (environment_of env.now) front }
     requires room { length env.now.entries + length p.old.places + 1 < 2 ^ 32 }
     requires sound { IsSound (environment_of env.now) p.old }
     requires fits { IsTrue (fits_def (AnImport (import_of_code i.now))) }
@@ -189,7 +197,7 @@ fn place_ranges(alloc: Global, env: &Env, p: &mut Placing, i: &Import) -> Result
 {
     let copy = i.copy(alloc)?;
     let def = Def::Import(copy);
-    match resolve(env, i, When::Packet) {
+    match resolve_with_front(env, i, When::Packet, front) {
         None => {
             put(alloc, env, p, def, None, true)?;
             Ok(())
@@ -202,7 +210,8 @@ fn place_ranges(alloc: Global, env: &Env, p: &mut Placing, i: &Import) -> Result
 }
 
 // An import by exact name: what it is linked to stands for it.
-fn place_exact(env: &Env, p: &mut Placing, i: &Import) -> Result<(), Memory>
+fn place_exact(env: &Env, front: usize, p: &mut Placing, i: &Import) -> Result<(), Memory>
+    requires front { IsFront (environment_of env.now) front }
     requires room { length env.now.entries + length p.old.places + 1 < 2 ^ 32 }
     requires sound { IsSound (environment_of env.now) p.old }
     requires fits { IsTrue (fits_def (AnImport (import_of_code i.now))) }
@@ -212,7 +221,7 @@ fn place_exact(env: &Env, p: &mut Placing, i: &Import) -> Result<(), Memory>
         (state_of (environment_of env.now) p.old)
         (linked (environment_of env.now) (import_of_code i.now) InPacket)) }
 {
-    match resolve(env, i, When::Packet) {
+    match resolve_with_front(env, i, When::Packet, front) {
         None => {
             stands(p, None, true)?;
             Ok(())
@@ -225,7 +234,14 @@ fn place_exact(env: &Env, p: &mut Placing, i: &Import) -> Result<(), Memory>
 }
 
 // An import.
-fn place_import(alloc: Global, env: &Env, p: &mut Placing, i: &Import) -> Result<(), Memory>
+fn place_import(
+    alloc: Global,
+    env: &Env,
+    front: usize,
+    p: &mut Placing,
+    i: &Import,
+) -> Result<(), Memory>
+    requires front { IsFront (environment_of env.now) front }
     requires room { length env.now.entries + length p.old.places + 1 < 2 ^ 32 }
     requires sound { IsSound (environment_of env.now) p.old }
     requires fits { IsTrue (fits_def (AnImport (import_of_code i.now))) }
@@ -237,11 +253,11 @@ fn place_import(alloc: Global, env: &Env, p: &mut Placing, i: &Import) -> Result
 {
     match &i.constraint {
         Constraint::Ranges { atoms: _, star: _ } => {
-            place_ranges(alloc, env, p, i)?;
+            place_ranges(alloc, env, front, p, i)?;
             Ok(())
         }
         Constraint::Exact(_) => {
-            place_exact(env, p, i)?;
+            place_exact(env, front, p, i)?;
             Ok(())
         }
     }
@@ -269,7 +285,8 @@ fn place_module(alloc: Global, env: &Env, p: &mut Placing, m: &Module) -> Result
     Ok(())
 }
 
-fn place(alloc: Global, env: &Env, p: &mut Placing, def: &PDef) -> Result<(), Memory>
+fn place(alloc: Global, env: &Env, front: usize, p: &mut Placing, def: &PDef) -> Result<(), Memory>
+    requires front { IsFront (environment_of env.now) front }
     requires room { length env.now.entries + length p.old.places + 1 < 2 ^ 32 }
     requires sound { IsSound (environment_of env.now) p.old }
     requires fits { IsTrue (fits_def (pdef_of def.now)) }
@@ -284,7 +301,7 @@ fn place(alloc: Global, env: &Env, p: &mut Placing, def: &PDef) -> Result<(), Me
             Ok(())
         }
         PDef::Import(i) => {
-            place_import(alloc, env, p, i)?;
+            place_import(alloc, env, front, p, i)?;
             Ok(())
         }
     }
@@ -316,9 +333,10 @@ pub fn placed(alloc: Global, env: &Env, defs: &[PDef]) -> Result<Placing, Memory
         (environment_of env.now) (map pdef_of defs.now)).1) }
     ensures few { IfOk result (λ p. length p.more ≤ length defs.now) }
 {
+    let front = front(env);
     let mut p = at_first(alloc, env)?;
     for def in defs {
-        place(alloc, env, &mut p, def)?;
+        place(alloc, env, front, &mut p, def)?;
     }
     Ok(p)
 }

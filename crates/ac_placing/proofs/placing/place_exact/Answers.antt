@@ -7,8 +7,8 @@ use Rattle.ac_placing.proofs.BoundLaws.{few_specs}
 use Rattle.ac_placing.proofs.StateLaws.{stays, stays_state}
 use Rattle.ac_placing.proofs.placing.place_exact.Goals as goal
 
-pub resolve-requires-clause-specs : goal.resolve-requires-clause-specs
-resolve-requires-clause-specs c = few_specs c.args.i.now c.requires.fits
+pub resolve_with_front-requires-clause-specs : goal.resolve_with_front-requires-clause-specs
+resolve_with_front-requires-clause-specs c = few_specs c.args.i.now c.requires.fits
 
 pub returns-in_ok-stands-in-None-clause-sound : goal.returns-in_ok-stands-in-None-clause-sound
 returns-in_ok-stands-in-None-clause-sound c =
@@ -19,7 +19,7 @@ pub returns-in_ok-stands-in-None-clause-placed : goal.returns-in_ok-stands-in-No
 returns-in_ok-stands-in-None-clause-placed c =
     let E = environment_of c.args.env.now in
     let s = c.in_ok-stands-in-None.ensures in
-    stays_state E c.args.p.now c.stands.new.p c.requires.sound None true s.places s.more ∙ sym (ap (place_exact sha256 (state_of E c.args.p.now)) (sym c.resolve.ensures ∙ c.in-None.is))
+    stays_state E c.args.p.now c.stands.new.p c.requires.sound None true s.places s.more ∙ sym (ap (place_exact sha256 (state_of E c.args.p.now)) (sym c.resolve_with_front.ensures ∙ c.in-None.is))
 
 pub returns-in_ok-stands-in-Some-clause-sound : goal.returns-in_ok-stands-in-Some-clause-sound
 returns-in_ok-stands-in-Some-clause-sound c =
@@ -30,4 +30,4 @@ pub returns-in_ok-stands-in-Some-clause-placed : goal.returns-in_ok-stands-in-So
 returns-in_ok-stands-in-Some-clause-placed c =
     let E = environment_of c.args.env.now in
     let s = c.in_ok-stands-in-Some.ensures in
-    stays_state E c.args.p.now c.stands-in-Some.new.p c.requires.sound (Some c.in-Some.j) false s.places s.more ∙ sym (ap (place_exact sha256 (state_of E c.args.p.now)) (sym c.resolve.ensures ∙ c.in-Some.is))
+    stays_state E c.args.p.now c.stands-in-Some.new.p c.requires.sound (Some c.in-Some.j) false s.places s.more ∙ sym (ap (place_exact sha256 (state_of E c.args.p.now)) (sym c.resolve_with_front.ensures ∙ c.in-Some.is))
