@@ -1,15 +1,18 @@
 // The verdicts of texts, each in a thread of its own where one can be had.
 
 ghost use Rattle.std.specs.Prelude.{◌≡◌, ◌<◌, ◌≤◌, length, map, slice_get, IfOk, IfSome};
+ghost use Rattle.std.specs.Arc.{arc_value};
 ghost use Rattle.ac_acceptance.specs.Accepting.{IsShelf};
 ghost use Rattle.ac_load.specs.Loading.{shelf_of};
 ghost use Rattle.ac_batch.specs.Verdicts.{IsVerdict, AreVerdicts};
 
-use crate::verdict::{Verdict, judge};
+use crate::apart::{copied, judge_apart};
+use crate::verdict::Verdict;
 use ac_load::Shelf;
 use ac_outside::Gate;
 use ac_types::{Many, Memory, Text};
 use std::alloc::Global;
+use std::sync::Arc;
 use std::thread;
 use std::thread::Threads;
 
@@ -28,31 +31,34 @@ pub fn check_all<R: Threads + Sync, G: Gate + Sync>(
     ensures { IfOk result (λ vs. AreVerdicts texts.now (shelf_of shelf.now) vs) }
 {
     let texts = texts.as_slice();
+    let shared = Arc::new(alloc, copied(alloc, shelf)?)?;
+    let shelf = &shared;
     let results = thread::map_indices(
         rt,
         alloc,
         texts.len(),
-        &|i| piece(alloc, texts, shelf, gate, i),
+        &|i| piece(rt, alloc, texts, shelf, gate, i),
     )?;
     collected(alloc, results.as_slice())
 }
 
 // The verdict of text `i`, between the gate's `enter` and `leave` of this number.
-fn piece<G: Gate>(
+fn piece<R: Threads, G: Gate>(
+    rt: &R,
     alloc: Global,
     texts: &[Text],
-    shelf: &Shelf,
+    shelf: &Arc<Shelf, Global>,
     gate: &G,
     i: usize,
 ) -> Result<Verdict, Memory>
-    requires few { length shelf.now.0 ≤ 256 }
-    requires shelved { IsShelf (shelf_of shelf.now) }
+    requires few { length (arc_value shelf.now).0 ≤ 256 }
+    requires shelved { IsShelf (shelf_of (arc_value shelf.now)) }
     requires within { i < length texts.now }
-    ensures { IfOk result (λ v.
-        IfSome (slice_get texts.now i) (λ t. IsVerdict t.0 (shelf_of shelf.now) v)) }
+    ensures { IfOk result (λ v. IfSome (slice_get texts.now i)
+        (λ t. IsVerdict t.0 (shelf_of (arc_value shelf.now)) v)) }
 {
     gate.enter(i);
-    let found = judge(alloc, texts[i].as_slice(), shelf);
+    let found = judge_apart(rt, alloc, texts[i].as_slice(), shelf);
     gate.leave(i);
     found
 }

@@ -1,6 +1,7 @@
 //! The verdicts of many texts, in parallel.
 #![tactic(auto)]
 
+mod apart;
 mod batch;
 mod verdict;
 
