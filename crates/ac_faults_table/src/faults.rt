@@ -1,0 +1,49 @@
+// Which call of what a run is handed is to fail.
+
+use ac_types::{Many, Memory};
+use std::alloc::Global;
+
+/// What the calls that are to fail are calls of.
+#[derive(Clone, Copy, PartialEq, Eq)]
+pub enum Place {
+    /// Reads of standard input.
+    Input,
+    /// Reads of files, or of a world.
+    Reads,
+    /// Creates and appends of files, or prints and sends of a world.
+    Writes,
+    /// Writes on output.
+    Output,
+    /// Writes on errors.
+    Errors,
+}
+
+/// The place of that word.
+pub fn place_of(word: &str) -> Option<Place> {
+    match word {
+        "input" => Some(Place::Input),
+        "reads" => Some(Place::Reads),
+        "writes" => Some(Place::Writes),
+        "output" => Some(Place::Output),
+        "errors" => Some(Place::Errors),
+        _ => None,
+    }
+}
+
+/// A call that is to fail: the one of this number, from 0, at this place.
+#[derive(Clone, Copy)]
+pub struct Fault {
+    pub place: Place,
+    pub number: u64,
+}
+
+/// The numbers of the calls at a place that are to fail: that of the fault, if it is there.
+pub fn numbers_at(alloc: Global, fault: Option<Fault>, place: Place) -> Result<Many<u64>, Memory> {
+    let mut numbers = Many::new(alloc);
+    if let Some(fault) = fault
+        && fault.place == place
+    {
+        numbers.push(fault.number)?;
+    }
+    Ok(numbers)
+}
