@@ -8,7 +8,7 @@ a packet and each string that differs from it in one byte as a packet, as a fram
 
 import sys
 
-from packets import Reader, answer, give_names
+from accepting import Reader, answer, give_names
 
 # The answers as they are printed.
 
