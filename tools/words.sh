@@ -75,20 +75,20 @@ tell_file() {
     [ -z "$3" ] || printf "%q can't be %s: %s\n" "$1" "$2" "$3"
 }
 
-# Prints what a file is that neither is read nor written at any place.
+# Prints what a file is that is neither read nor written.
 what_it_is() {
     if [ -d "$1" ]; then
         echo "it is a folder"
-    elif [ -p "$1" ] || [ -S "$1" ]; then
-        echo "it is a pipe, and a file is wanted"
+    elif [ -S "$1" ]; then
+        echo "it is a socket"
     fi
 }
 
-# Prints why a file can't be read, if it can't.
+# Prints why a file can't be read, if it can't. A pipe isn't opened for that, since this might wait.
 why_unread() {
     local why
     why=$(what_it_is "$1")
-    [ -n "$why" ] || why=$({ : <"$1"; } 2>&1)
+    [ -n "$why" ] || [ -p "$1" ] || why=$({ : <"$1"; } 2>&1)
     echo "${why##*: }"
 }
 
@@ -97,7 +97,7 @@ why_unwritten() {
     local why folder
     folder=$(dirname -- "$1")
     why=$(what_it_is "$1")
-    if [ -n "$why" ]; then
+    if [ -n "$why" ] || [ -p "$1" ]; then
         :
     elif [ -e "$1" ]; then
         why=$({ : >>"$1"; } 2>&1)
