@@ -86,7 +86,8 @@ class Desk:
             how = {"stdin": subprocess.DEVNULL, "stdout": subprocess.PIPE, "stderr": subprocess.PIPE}
             ended = subprocess.run([self.program, *call.words.split()], cwd=folder, env={**os.environ, **refusal}, **how)
             written = content_of(f"{folder}/{call.writes}") if call.writes else None
-            return Left(ended.returncode, ended.stdout, ended.stderr, written), content_of(f"{folder}/counted")
+            counted = int.from_bytes(content_of(f"{folder}/counted"), sys.byteorder)
+            return Left(ended.returncode, ended.stdout, ended.stderr, written), counted
 
 
 def content_of(file):
@@ -129,7 +130,7 @@ def try_call(desk, name, call):
     whole, counted = desk.run(call, (0, 0))
     if (whole.status, whole.output.decode(), whole.errors) != (call.status, call.output, b""):
         raise SystemExit(f"{name} with memory: {whole}")
-    numbers, most = range(1, int(counted) + 1), 2**63
+    numbers, most = range(1, counted + 1), 2**63
     one, wrong = tried(desk, call, whole, [(it, it) for it in numbers])
     all_from, worse = tried(desk, call, whole, [(it, most) for it in numbers])
     print(calls.row([f"`{name}`: `{call.words}`", len(numbers), told(one), told(all_from), len(wrong) + len(worse)]), flush=True)
