@@ -7,6 +7,7 @@ use ac_outside::{
 };
 use std::fs;
 use std::os::unix::fs::symlink;
+use std::process::Abort;
 
 #[test]
 fn a_sink_keeps_all_but_the_write_that_fails(rt: HostRuntime) {
@@ -60,13 +61,17 @@ fn files_are_made_and_added_to(rt: HostRuntime) {
 }
 
 // The files of the system, where one of this name may be read after the first write.
-fn real<'a>(rt: &'a HostRuntime, later: Option<&'a str>) -> RealFiles<'a, &'a HostRuntime> {
-    RealFiles::new(rt.alloc(), rt, &[], later).expect(rt, "memory")
+fn real<'a>(
+    abort: &impl Abort,
+    rt: &'a HostRuntime,
+    later: Option<&'a str>,
+) -> RealFiles<'a, &'a HostRuntime> {
+    RealFiles::new(rt.alloc(), rt, &[], later).expect(abort, "memory")
 }
 
 #[test]
 fn a_missing_file_of_the_system_is_a_failed_read(rt: HostRuntime) {
-    let mut files = real(&rt, None);
+    let mut files = real(&rt, &rt, None);
     let mut buf = [0u8; 1];
     assert!(rt; files.read("no/such/file", 0, &mut buf) == Got::Failed);
     assert!(rt; files.create("no/such/file") == Put::Failed);
@@ -84,10 +89,11 @@ fn has_from<F: Files>(files: &mut F, name: &str, from: u64, bytes: &[u8]) -> boo
 
 #[test]
 fn files_of_the_system_are_made_and_added_to(rt: HostRuntime) {
-    let mut files = real(&rt, None);
-    let made = files.create("made") == Put::Done && has_from(&mut real(&rt, None), "made", 0, b"");
+    let mut files = real(&rt, &rt, None);
+    let made = files.create("made") == Put::Done
+        && has_from(&mut real(&rt, &rt, None), "made", 0, b"");
     let added = files.append("made", b"ab") == Put::Done && files.append("made", b"c") == Put::Done;
-    let mut again = real(&rt, None);
+    let mut again = real(&rt, &rt, None);
     let whole = has_from(&mut again, "made", 1, b"bc") && has_from(&mut again, "made", 0, b"abc");
     let emptied = files.create("made") == Put::Done && has_from(&mut again, "made", 0, b"");
     fs::remove_file(&rt, "made").expect(&rt, "a file that goes");
@@ -96,13 +102,13 @@ fn files_of_the_system_are_made_and_added_to(rt: HostRuntime) {
 
 #[test]
 fn a_file_of_the_system_has_one_writer(rt: HostRuntime) {
-    let mut files = real(&rt, None);
+    let mut files = real(&rt, &rt, None);
     let made = files.append("one", b"abc") == Put::Done;
-    let mut other = real(&rt, None);
+    let mut other = real(&rt, &rt, None);
     let kept = other.create("one") == Put::Failed && other.append("one", b"d") == Put::Failed;
     let whole = has_from(&mut other, "one", 0, b"abc");
     drop(files);
-    let free = real(&rt, None).create("one") == Put::Done;
+    let free = real(&rt, &rt, None).create("one") == Put::Done;
     fs::remove_file(&rt, "one").expect(&rt, "a file that goes");
     assert!(rt; made && kept && whole && free);
 }
@@ -111,7 +117,7 @@ fn a_file_of_the_system_has_one_writer(rt: HostRuntime) {
 fn a_file_is_read_and_written_on_where_its_name_moves(rt: HostRuntime) {
     fs::write(&rt, "old", b"abcdefghij").expect(&rt, "a file");
     fs::write(&rt, "new", b"0123456789").expect(&rt, "a file");
-    let mut files = real(&rt, None);
+    let mut files = real(&rt, &rt, None);
     let front = has_from(&mut files, "old", 0, b"abcdefgh");
     let written = files.create("out") == Put::Done && files.append("out", b"x") == Put::Done;
     fs::rename(&rt, "new", "old").expect(&rt, "a name that moves");
@@ -132,15 +138,15 @@ fn a_file_that_is_read_is_not_emptied(rt: HostRuntime) {
     fs::write(&rt, "channel", b"def").expect(&rt, "a file");
     fs::hard_link(&rt, "text", "hard").expect(&rt, "a link");
     symlink(&rt, "channel", "soft").expect(&rt, "a link");
-    let mut files = real(&rt, Some("channel"));
+    let mut files = real(&rt, &rt, Some("channel"));
     let read = has_from(&mut files, "text", 0, b"abc");
     let mut kept = true;
     for name in ["text", "./text", "hard", "channel", "./channel", "soft"] {
         kept = kept && files.create(name) == Put::Failed;
         kept = kept && files.append(name, b"x") == Put::Failed;
     }
-    let whole = has_from(&mut real(&rt, None), "hard", 0, b"abc")
-        && has_from(&mut real(&rt, None), "soft", 0, b"def");
+    let whole = has_from(&mut real(&rt, &rt, None), "hard", 0, b"abc")
+        && has_from(&mut real(&rt, &rt, None), "soft", 0, b"def");
     for name in ["text", "hard", "soft", "channel"] {
         fs::remove_file(&rt, name).expect(&rt, "a file that goes");
     }
