@@ -1,12 +1,14 @@
 // What a resolvespec gives.
 
-ghost use Rattle.std.specs.Prelude.{◌≡◌, ◌+◌, ◌<◌, ◌≤◌, ◌^◌, false, true, None, length};
+ghost use Rattle.std.specs.Prelude.{◌≡◌, ◌+◌, ◌<◌, ◌≤◌, ◌^◌, false, true, None, length, is_some, IsTrue};
 ghost use Rattle.ac_types.specs.Sigs.{HereAlready};
 ghost use Rattle.ac_types.specs.ReadTypes.{constraint_of, resolve_of};
-ghost use Rattle.ac_terms.specs.Defs.{Arrived};
+ghost use Rattle.ac_terms.specs.Defs.{Environment, Arrived};
 ghost use Rattle.ac_terms.specs.Read.{import_of_code, environment_of, seen_of};
+ghost use Rattle.ac_rules.specs.Coherent.{IsCoherent};
 ghost use Rattle.ac_rules.specs.Links.{InPacket, is_exact, last_below, latest, gives, linked};
-ghost use Rattle.ac_link.specs.Fronts.{IsFront};
+ghost use Rattle.ac_rules.specs.Widened.{Widens};
+ghost use Rattle.ac_link.specs.Fronts.{IsFront, DifferInArrived};
 ghost use Rattle.ac_link.specs.inner.Candidates.{comes_from, is_candidate, is_here};
 ghost use Rattle.ac_link.specs.LinkFaults.{when_of};
 
@@ -16,11 +18,19 @@ use ac_terms::{Env, Import, Seen};
 use ac_types::{Constraint, Resolve, Text};
 
 /// The entry that an import's resolvespec gives, that of the first atom which gives one; `None`
-/// exactly where no atom does.
+/// exactly where no atom does. In a packet an import by version is given the same whatever has
+/// arrived, and an import that is given an entry is given one beside further own entries, too.
 pub fn resolve(env: &Env, import: &Import, when: When) -> Option<u32>
     requires entries { length env.now.entries < 2 ^ 32 }
     requires specs { length import.now.sig.types + length import.now.sig.vals < 2 ^ 32 }
-    ensures { result ≡ linked (environment_of env.now) (import_of_code import.now) (when_of when) }
+    ensures linked { result ≡ linked (environment_of env.now) (import_of_code import.now)
+        (when_of when) }
+    ensures rebound { (F : Environment) → DifferInArrived (environment_of env.now) F →
+        when_of when ≡ InPacket → is_exact (import_of_code import.now).constraint ≡ false →
+        result ≡ linked F (import_of_code import.now) InPacket }
+    ensures widened { (F : Environment) → Widens (environment_of env.now) F →
+        IsCoherent (environment_of env.now) → when_of when ≡ InPacket → IsTrue (is_some result) →
+        IsTrue (is_some (linked F (import_of_code import.now) InPacket)) }
 {
     resolve_with_front(env, import, when, env.entries.len())
 }
