@@ -18,7 +18,7 @@ use Rattle.ac_rules.specs.Views.{is_known}
 use Rattle.ac_rules.specs.Typing.{all_of}
 use Rattle.ac_rules.specs.Modules.{are_distinct, has_sound_fields}
 use Rattle.ac_rules.proofs.ArrivalExample.{empty-IsCoherent}
-use Rattle.ac_types.specs.Limits.{is_uri}
+use Rattle.ac_types.specs.Limits.{is_uri, most_definitions}
 use Rattle.ac_rules.specs.Coherent.{IsCoherent, rank, rises, uri_of, mark_of}
 use Rattle.ac_syntax.specs.Trees.{NameAt, Tree, SigTree, FieldTree, DefTree, ModuleDef, ImportDef, MarkDef, ProgramTree}
 use Rattle.ac_syntax.specs.Signs.{Sign}
@@ -29,7 +29,7 @@ use Rattle.ac_scopes.specs.Definitions.{entry_in, after_def}
 use Rattle.ac_scopes.specs.Searches.{least_in}
 use Rattle.ac_scopes.specs.Unbound.{unbound_in_def}
 use Rattle.ac_scopes.specs.Repeated.{repeated_in_def, twice, mark_name}
-use Rattle.ac_scopes.specs.Counts.{definitions_limit, over, large_in_def}
+use Rattle.ac_scopes.specs.Counts.{over, large_in_def}
 use Rattle.ac_scopes.specs.Surfaces.{first_scope, last_scope, surface_main}
 use Rattle.ac_scopes.proofs.AddedEntries.{entries_in, entries_behind}
 use Rattle.ac_acceptance.specs.Causes.{linked_entry, linked_behind, first_at, unlinked, without_likespec, first_clash, added, loaded, main_type, cause}
@@ -99,7 +99,7 @@ module _ (E : Environment) (c : IsCoherent E) (seen : Seen) (p : ProgramTree) (a
   clear : Clear (first_scope E p.expr) p.defs
   clear =
       let repeats = least_none (twice mark_name p.defs) _ tests.distinct in
-      let counts = least_none (over definitions_limit (length p.defs)) _ tests.within in
+      let counts = least_none (over most_definitions (length p.defs)) _ tests.within in
       record {
         bound = (least_none (least_in (after_def sha256) unbound_in_def (first_scope E p.expr) p.defs) _ tests.bound).0;
         distinct = (least_none (least_in (after_def sha256) repeated_in_def (first_scope E p.expr) p.defs) _ repeats.1).0;
@@ -123,7 +123,7 @@ module _ (E : Environment) (c : IsCoherent E) (seen : Seen) (p : ProgramTree) (a
   part_one_text = one_text (E ++ linked_behind seen E entries) (ap first_clash (sym loaded_is) ∙ (sound sha256 E seen p accepted).apart)
 
   few_defs : length p.defs ≤ 4096
-  few_defs = within definitions_limit (length p.defs) (least_none (over definitions_limit (length p.defs)) _ tests.within).0
+  few_defs = within most_definitions (length p.defs) (least_none (over most_definitions (length p.defs)) _ tests.within).0
 
   loaded_long : length (E ++ linked_behind seen E entries) ≡ length E + length p.defs
   loaded_long =
@@ -241,7 +241,7 @@ module _ (E : Environment) (uris : List Bytes) (front : IsFrontOf E uris) (few :
       let scope = front_scope F there (λ t. true) false S (front_of last) in
       let none : length S.fields ≡ 0 = ap length (front_of last).no_fields in
       let unbound_none = (least_none (least_in (after_def sha256) unbound_in_def (scope_behind E) ds) _ q.bound).1 in
-      let counts = least_none (over definitions_limit (length ds)) _ q.within in
+      let counts = least_none (over most_definitions (length ds)) _ q.within in
       let large_none = (least_none (least_in (after_def sha256) large_in_def (scope_behind E) ds) _ counts.1).1 in
       let fine = term_fine F there (λ t. true) S scope (omega (arith, none)) main has.main (unbound_none, large_none) in
       record {

@@ -3,6 +3,7 @@ use Rattle.std.proofs.Common.{◌≡◌, refl, sym, subst, ℕ, suc, true, List,
 use Rattle.std.specs.Prelude.{nat_le}
 use Rattle.std.specs.List.{list_all}
 use Rattle.std.proofs.lemmas.Bool.{le-leb}
+use Rattle.ac_types.specs.Limits.{most_definitions, most_items}
 use Rattle.ac_types.proofs.Same.{both_true, and_true}
 use Rattle.ac_types.specs.Types.{Bytes}
 use Rattle.ac_types.specs.Sigs.{Signature}
@@ -14,7 +15,7 @@ use Rattle.ac_syntax.specs.Trees.{SigTree, DefTree, ModuleDef, ImportDef, MarkDe
 use Rattle.ac_scopes.specs.Scopes.{NameScope, each_in}
 use Rattle.ac_scopes.specs.Definitions.{signature_in, def_in, after_def, after_field, item_type, item_field}
 use Rattle.ac_scopes.specs.Searches.{least_in}
-use Rattle.ac_scopes.specs.Counts.{definitions_limit, items_limit, over, many_in_sig, many_in_struct, many_in_lists, large_in_def}
+use Rattle.ac_scopes.specs.Counts.{over, many_in_sig, many_in_struct, many_in_lists, large_in_def}
 use Rattle.ac_scopes.specs.Surfaces.{first_scope, surface_entries, surface_fault}
 use Rattle.ac_scopes.proofs.AddedEntries.{entries_in, entries_behind}
 use Rattle.ac_acceptance.specs.Causes.{linked_entry, linked_behind}
@@ -57,16 +58,16 @@ coherent_counted E c = each_counted E c.within_bounds
 sig_counted : (S : NameScope) (σ : SigTree) → many_in_sig S σ ≡ None → is_counted_sig (signature_in S σ) ≡ true
 sig_counted S σ h =
     let g = signature_in S σ in
-    let c = least_none (over items_limit (length g.types)) (over items_limit (length g.vals)) h in
-    and_true (le-leb (length g.types) 1024 (within items_limit (length g.types) c.0)) (le-leb (length g.vals) 1024 (within items_limit (length g.vals) c.1))
+    let c = least_none (over most_items (length g.types)) (over most_items (length g.vals)) h in
+    and_true (le-leb (length g.types) 1024 (within most_items (length g.types) c.0)) (le-leb (length g.vals) 1024 (within most_items (length g.vals) c.1))
 
 def_counted : (S : NameScope) (d : DefTree) → large_in_def S d ≡ None → is_counted (def_in S d) ≡ true
 def_counted S (ModuleDef at name σ version fields) h =
     let l = least_none (many_in_lists S (ModuleDef at name σ version fields)) _ h in
     let m = least_none (many_in_sig S σ) (many_in_struct S fields) l.0 in
     let n = length (each_in after_field item_field S fields) in
-    let c = least_none (over items_limit (length (each_in after_field item_type S fields))) (over items_limit n) m.1 in
-    and_true (sig_counted S σ m.0) (le-leb n 1024 (within items_limit n c.1))
+    let c = least_none (over most_items (length (each_in after_field item_type S fields))) (over most_items n) m.1 in
+    and_true (sig_counted S σ m.0) (le-leb n 1024 (within most_items n c.1))
 def_counted S (ImportDef at name σ wants like by) h =
     let l = least_none (many_in_lists S (ImportDef at name σ wants like by)) _ h in
     sig_counted S σ (least_none (many_in_sig S σ) _ l.0).0
@@ -81,7 +82,7 @@ module _ (digest : Bytes → Bytes) where
 
   pub surface_counted : (E : Environment) (seen : Seen) (p : ProgramTree) → list_all has_counted E ≡ true → surface_fault digest E p ≡ None → list_all has_counted (surface_entries digest E p) ≡ true
   surface_counted E seen p h sound =
-      let counts = least_none (over definitions_limit (length p.defs)) _ (scoped digest E seen p sound).within in
+      let counts = least_none (over most_definitions (length p.defs)) _ (scoped digest E seen p sound).within in
       let large = least_none (least_in (after_def digest) large_in_def (first_scope E p.expr) p.defs) _ counts.1 in
       subst (λ (F : Environment). list_all has_counted F ≡ true) (sym (entries_behind digest E p)) (all_append has_counted E _ h (all_counted (first_scope E p.expr) p.defs large.0))
 

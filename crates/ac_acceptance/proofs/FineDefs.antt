@@ -5,6 +5,7 @@ use Rattle.std.specs.List.{list_all, list_any}
 use Rattle.std.specs.Option.{option_map_or}
 use Rattle.std.proofs.lemmas.Bool.{le-leb}
 use mathlib.Core.Bool.{true≢false}
+use Rattle.ac_types.specs.Limits.{most_items, most_resolves, longest_uri}
 use Rattle.ac_types.proofs.FirstLaws.{none≢some, some_eq}
 use Rattle.ac_types.proofs.Same.{both_true, and_true, bytes_refl}
 use Rattle.ac_types.specs.Types.{Bytes, Typ, TMine, same_bytes}
@@ -24,7 +25,7 @@ use Rattle.ac_scopes.specs.Written.{type_in, term_in}
 use Rattle.ac_scopes.specs.Definitions.{after_abbrev, after_spec, after_field, spec_type, spec_value, signature_in, abbrev_type, item_type, item_field, constraint_in, def_in}
 use Rattle.ac_scopes.specs.Searches.{least, least_of, least_in, found, found_in_abbrev, found_in_spec, found_in_field, found_in_sig}
 use Rattle.ac_scopes.specs.Unbound.{unbound_type, unbound, unbound_wants, unbound_in_def}
-use Rattle.ac_scopes.specs.Counts.{over, items_limit, atoms_limit, uri_limit, large_type, large, many_in_sig, many_in_struct, long_uri, many_atoms, many_in_lists, large_in_def}
+use Rattle.ac_scopes.specs.Counts.{over, large_type, large, many_in_sig, many_in_struct, long_uri, many_atoms, many_in_lists, large_in_def}
 use Rattle.ac_acceptance.proofs.Distinct.{least_none}
 use Rattle.ac_acceptance.proofs.DefBounds.{AbbrevHas, SpecHas, FieldHas, EachHas, VersionHas, LikeHas, WantsHas, DefHas}
 use Rattle.ac_acceptance.proofs.OutsideTypes.{IsFine}
@@ -177,9 +178,9 @@ module _ (E : Environment) (coherent : IsCoherent E) where
       let g = signature_in S σ in
       let own = λ (t : Bytes). is_abstract (type_under t g.types) in
       let x = specs_fine E coherent own S (front_scope own true S f) σ.specs h (abstract_own g.types S σ.specs (each_under g.types (both_true _ _ d).0)) n in
-      let c = least_none (over items_limit (length g.types)) (over items_limit (length g.vals)) m in
+      let c = least_none (over most_items (length g.types)) (over most_items (length g.vals)) m in
       record {
-        fits = and_true (and_true (and_true (few_of items_limit (length g.types) _ m) (le-leb (length g.vals) 1024 (within items_limit (length g.vals) c.1))) x.types) x.vals;
+        fits = and_true (and_true (and_true (few_of most_items (length g.types) _ m) (le-leb (length g.vals) 1024 (within most_items (length g.vals) c.1))) x.types) x.vals;
         known = types_speak (sig_types g) (all_append (are_known E) (flat_map (λ (t : Sig_type). option_to_list t.manifest) g.types) (map (λ (v : Typed_name). v.ty) g.vals) x.types_known (vals_known g.vals x.vals_known));
         closed = and_true x.types_closed x.vals_closed;
       }
@@ -217,7 +218,7 @@ module _ (E : Environment) (coherent : IsCoherent E) where
   resolves_fit [] h = refl
   resolves_fit (StaticLink ∷ by) h = resolves_fit by h
   resolves_fit (HereAlready ∷ by) h = resolves_fit by h
-  resolves_fit (Uri u ∷ by) h = let r = least_none (over uri_limit (length u)) _ h in and_true (le-leb (length u) 1024 (within uri_limit (length u) r.0)) (resolves_fit by r.1)
+  resolves_fit (Uri u ∷ by) h = let r = least_none (over longest_uri (length u)) _ h in and_true (le-leb (length u) 1024 (within longest_uri (length u) r.0)) (resolves_fit by r.1)
 
   -- what an import asks for
   wants_fit : (S : NameScope) → IsFront E S → (wants : WantsTree) (like : Option (List AbbrevTree)) → WantsHas wants like → unbound_wants S wants ≡ None → fits_constraint (constraint_in S wants) ≡ true
@@ -244,8 +245,8 @@ module _ (E : Environment) (coherent : IsCoherent E) where
       let lg = least_none (many_in_lists S (ModuleDef at name σ version fields)) _ l in
       let w = both_none (found_in_sig unbound S σ) _ (found_in_sig large S σ) _ (ub, lg.1) in
       let m = least_none (many_in_sig S σ) (many_in_struct S fields) lg.0 in
-      let c = least_none (over items_limit (length (each_in after_field item_type S fields))) (over items_limit (length (each_in after_field item_field S fields))) m.1 in
-      let few = within items_limit (length (each_in after_field item_field S fields)) c.1 in
+      let c = least_none (over most_items (length (each_in after_field item_type S fields))) (over most_items (length (each_in after_field item_field S fields))) m.1 in
+      let few = within most_items (length (each_in after_field item_field S fields)) c.1 in
       let none : length S.fields ≡ 0 = ap length f.no_fields in
       let x = sig_fine S f σ h.1 w.0 m.0 (both_true _ _ (both_true _ _ d).0).0 in
       let y = fields_fine S (front_scope anything false S f) fields h.3 (omega (arith, few, none)) w.1 in
@@ -257,7 +258,7 @@ module _ (E : Environment) (coherent : IsCoherent E) where
       let typed = map (λ (t : Typed_name). OfType t.ty) types in
       let parts = flat_map (λ (x : Field). OfType x.ty ∷ term_parts x.term) (each_in after_field item_field S fields) in
       record {
-        fits = and_true (and_true (and_true (and_true (and_true (and_true (and_true (and_true h.0 v1.0) v1.1) v2.1) x.fits) (le-leb (length types) 1024 (within items_limit (length types) c.0))) y.types) (le-leb (length (each_in after_field item_field S fields)) 1024 few)) y.fit;
+        fits = and_true (and_true (and_true (and_true (and_true (and_true (and_true (and_true h.0 v1.0) v1.1) v2.1) x.fits) (le-leb (length types) 1024 (within most_items (length types) c.0))) y.types) (le-leb (length (each_in after_field item_field S fields)) 1024 few)) y.fit;
         known = mentions_known E (def_parts (def_in S (ModuleDef at name σ version fields))) (all_append (speaks E) (sigs ++ typed) parts (all_append (speaks E) sigs typed x.known (typed_speak types y.types_known)) y.known);
         closed = x.closed;
       }
@@ -266,16 +267,16 @@ module _ (E : Environment) (coherent : IsCoherent E) where
       let lg = least_none (many_in_lists S (ImportDef at name σ wants like by)) _ l in
       let w = both_none (found_in_sig unbound S σ) _ (found_in_sig large S σ) _ (ub.1, lg.1) in
       let m = least_none (many_in_sig S σ) _ lg.0 in
-      let c = least_none (over items_limit (length (unwrap_or like []))) (many_atoms by) m.1 in
-      let a = least_none (over atoms_limit (length by)) (least_of long_uri by) c.1 in
+      let c = least_none (over most_items (length (unwrap_or like []))) (many_atoms by) m.1 in
+      let a = least_none (over most_resolves (length by)) (least_of long_uri by) c.1 in
       let x = sig_fine S f σ h.1 w.0 m.0 (both_true _ _ d).0 in
       let likes = each_in after_abbrev abbrev_type S (unwrap_or like []) in
       let y = abbrevs_fine E coherent anything false S (front_scope anything false S f) (unwrap_or like []) (like_has like h.3) w.1 in
       let sigs = map OfType (sig_types (signature_in S σ)) in
       let typed = map (λ (t : Typed_name). OfType t.ty) likes in
-      let short : nat_le (length likes) 1024 ≡ true = ap (λ (k : ℕ). nat_le k 1024) (same_length S (unwrap_or like [])) ∙ le-leb (length (unwrap_or like [])) 1024 (within items_limit (length (unwrap_or like [])) c.0) in
+      let short : nat_le (length likes) 1024 ≡ true = ap (λ (k : ℕ). nat_le k 1024) (same_length S (unwrap_or like [])) ∙ le-leb (length (unwrap_or like [])) 1024 (within most_items (length (unwrap_or like [])) c.0) in
       record {
-        fits = and_true (and_true (and_true (and_true (and_true (and_true (and_true h.0 x.fits) (wants_fit S f wants like h.2 ub.0)) short) y.fit) (le-leb 1 (length by) h.4)) (le-leb (length by) 16 (within atoms_limit (length by) a.0))) (resolves_fit by a.1);
+        fits = and_true (and_true (and_true (and_true (and_true (and_true (and_true h.0 x.fits) (wants_fit S f wants like h.2 ub.0)) short) y.fit) (le-leb 1 (length by) h.4)) (le-leb (length by) 16 (within most_resolves (length by) a.0))) (resolves_fit by a.1);
         known = mentions_known E (sigs ++ typed) (all_append (speaks E) sigs typed x.known (typed_speak likes y.known));
         closed = x.closed;
       }

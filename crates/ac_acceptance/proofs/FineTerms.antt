@@ -3,6 +3,7 @@ use Rattle.std.proofs.Common.{◌≡◌, ◌∙◌, ◌≤◌, ◌<◌, ◌+◌,
 use Rattle.std.specs.Prelude.{nat_le, is_some, ◌||◌, ◌&&◌, option_map, option_and_then, unwrap_or, slice_get}
 use Rattle.std.specs.List.{list_all}
 use Rattle.std.proofs.lemmas.Bool.{lt-ltb, le-leb}
+use Rattle.ac_types.specs.Limits.{widest_tuple, most_arms, most_variables, longest_text}
 use Rattle.ac_types.specs.First.{or_else}
 use Rattle.ac_types.proofs.FirstLaws.{none≢some, some_eq}
 use Rattle.ac_types.proofs.Same.{both_true, and_true}
@@ -19,14 +20,13 @@ use Rattle.ac_rules.specs.Views.{is_known, are_known}
 use Rattle.ac_rules.specs.Coherent.{IsCoherent}
 use Rattle.ac_rules.proofs.Rules.{map_some, then_some}
 use Rattle.ac_rules.proofs.ViewLaws.{within as place_within}
-use Rattle.ac_lexer.specs.Tokens.{longest_text}
 use Rattle.ac_syntax.specs.Trees.{TypeTree, PatTree, PatWild, PatVar, PatInt, PatBool, PatStr, PatUnit, PatTuple, PatNil, PatCons, PatAbsent, PatPresent, PatExn, PatExnOf, PatTrees, no_pat_trees, pat_tree, Tree, ExInt, ExBool, ExStr, ExUnit, ExExn, ExExnOf, ExTuple, ExNil, ExAbsent, ExPresent, ExCons, ExVar, ExOf, ExFun, ExRec, ExApp, ExLet, ExLetRec, ExIf, ExSeq, ExMatch, ExTry, ExRaise, ExAnd, ExOr, ExOp, ExMarshal, ExUnmarshal, Trees, no_trees, tree, ArmTrees, no_arm_trees, arm_tree}
 use Rattle.ac_scopes.specs.Standard.{NamedPrimitive, beside_name, standard, is_standard, primitive_named}
 use Rattle.ac_scopes.specs.Scopes.{NameScope, own_number, binders_to, definition, before_dot, value_outside, primitive_function, plain_value, dotted_value, with_variables}
 use Rattle.ac_scopes.specs.Written.{type_in, pattern_in, patterns_in, in_function, in_arm, variables, primitive_at, applied_tree, term_in, terms_in, arms_in}
 use Rattle.ac_scopes.specs.Searches.{least, tree_count, arms_written, found, found_in_all, found_in_arms}
 use Rattle.ac_scopes.specs.Unbound.{unbound_type, unbound_pattern, unbound_patterns, unbound}
-use Rattle.ac_scopes.specs.Counts.{over, width_limit, arms_limit, scope_limit, pat_count, large_type, large_pattern, large_patterns, large}
+use Rattle.ac_scopes.specs.Counts.{over, pat_count, large_type, large_pattern, large_patterns, large}
 use Rattle.ac_acceptance.proofs.Distinct.{least_none}
 use Rattle.ac_acceptance.proofs.TreeBounds.{TypeHas, PatHas, PatsHave, TreeHas, TreesHave, ArmsHave}
 use Rattle.ac_acceptance.proofs.OutsideTypes.{IsFine, value_lower}
@@ -139,7 +139,7 @@ module _ (E : Environment) (coherent : IsCoherent E) (own : Bytes → Bool) wher
     pattern_fine S s (PatInt at k) h n = record { fits = h; known = refl }
     pattern_fine S s (PatStr at text) h n = record { fits = h; known = refl }
     pattern_fine S s (PatTuple at parts) h n =
-        let w = least_none (over width_limit (pat_count parts)) (large_patterns S parts) n.1 in
+        let w = least_none (over widest_tuple (pat_count parts)) (large_patterns S parts) n.1 in
         let x = patterns_fine S s parts h.1 (n.0, w.1) in
         record { fits = and_true (ap is_width (patterns_counted S parts) ∙ width_fits (pat_count parts) h.0 w.0) x.fit; known = x.known }
     pattern_fine S s (PatCons at head tail) h n =
@@ -240,8 +240,8 @@ module _ (E : Environment) (coherent : IsCoherent E) (own : Bytes → Bool) wher
   seq_fits : (n : ℕ) → n ≤ longest_text + 1 → is_four n ≡ true
   seq_fits n h = lt-ltb n (2 ^ 32) (omega (arith, h))
 
-  few_arms : (n : ℕ) → over arms_limit n ≡ None → nat_le n 1024 ≡ true
-  few_arms n h = le-leb n 1024 (within arms_limit n h)
+  few_arms : (n : ℕ) → over most_arms n ≡ None → nat_le n 1024 ≡ true
+  few_arms n h = le-leb n 1024 (within most_arms n h)
 
   terms_counted : (S : NameScope) (es : Trees) → term_count (terms_in S es) ≡ tree_count es
   terms_counted S no_trees = refl
@@ -274,7 +274,7 @@ module _ (E : Environment) (coherent : IsCoherent E) (own : Bytes → Bool) wher
     fits : (fits_term false (term_in S a) && fit_arms false (arms_in S arms) && nat_le 1 (arm_count (arms_in S arms)) && nat_le (arm_count (arms_in S arms)) 1024) ≡ true
     known : list_all (speaks E) (term_parts (term_in S a) ++ arm_parts (arms_in S arms)) ≡ true
 
-  cases_fine : (S : NameScope) (a : Tree) (arms : ArmTrees) → 1 ≤ arms_written arms → over arms_limit (arms_written arms) ≡ None → IsFineTerm E (term_in S a) → AreFineArms S arms → IsFineCases S a arms
+  cases_fine : (S : NameScope) (a : Tree) (arms : ArmTrees) → 1 ≤ arms_written arms → over most_arms (arms_written arms) ≡ None → IsFineTerm E (term_in S a) → AreFineArms S arms → IsFineCases S a arms
   cases_fine S a arms some few x y =
       let same = arms_counted S arms in
       record {
@@ -291,7 +291,7 @@ module _ (E : Environment) (coherent : IsCoherent E) (own : Bytes → Bool) wher
     term_fine S s few (ExExn at k) h n = record { fits = h; known = refl }
     term_fine S s few (ExExnOf at k a) h n = let x = term_fine S s few a h.1 n in record { fits = and_true h.0 x.fits; known = x.known }
     term_fine S s few (ExTuple at parts) h n =
-        let w = least_none (over width_limit (tree_count parts)) (found_in_all large S parts) n.1 in
+        let w = least_none (over widest_tuple (tree_count parts)) (found_in_all large S parts) n.1 in
         let m = least_none None (found_in_all unbound S parts) n.0 in
         let x = terms_fine S s few parts h.1 (m.1, w.1) in
         record { fits = and_true (ap is_width (terms_counted S parts) ∙ width_fits (tree_count parts) h.0 w.0) x.fit; known = x.known }
@@ -311,7 +311,7 @@ module _ (E : Environment) (coherent : IsCoherent E) (own : Bytes → Bool) wher
         record { fits = and_true x.fits y.fits; known = join (term_parts (term_in S a)) (term_parts (term_in S b)) x.known y.known }
     term_fine S s few (ExVar at x) h n =
         let v = there_unless (plain_value S x) at n.0 in
-        subst (IsFineTerm E) (sym (ap (λ o. unwrap_or o (Var 0)) v.1)) (plain_fine S few (within scope_limit (length S.variables) n.1) x v.0 v.1)
+        subst (IsFineTerm E) (sym (ap (λ o. unwrap_or o (Var 0)) v.1)) (plain_fine S few (within most_variables (length S.variables) n.1) x v.0 v.1)
     term_fine S s few (ExOf at m x) h n =
         let v = there_behind (is_standard m.word || is_some (definition S m.word)) (dotted_value S m.word x.word) m x n.0 in
         subst (IsFineTerm E) (sym (ap (λ o. unwrap_or o Unit') v.1)) (dotted_fine S s m.word x.word v.0 v.1)
@@ -362,13 +362,13 @@ module _ (E : Environment) (coherent : IsCoherent E) (own : Bytes → Bool) wher
         let same = terms_counted S parts in
         record { fits = and_true (and_true (ap (nat_le 2) same ∙ le-leb 2 (tree_count parts) h.0) (ap is_four same ∙ seq_fits (tree_count parts) h.1)) x.fit; known = x.known }
     term_fine S s few (ExMatch at a arms) h n =
-        let w = least_none (over arms_limit (arms_written arms)) _ n.1 in
+        let w = least_none (over most_arms (arms_written arms)) _ n.1 in
         let m = least_none None (least (found unbound S a) (found_in_arms unbound S arms)) n.0 in
         let v = both_none (found unbound S a) (found_in_arms unbound S arms) (found large S a) (found_in_arms large S arms) (m.1, w.1) in
         let x = cases_fine S a arms h.1 w.0 (term_fine S s few a h.0 v.0) (arms_fine S s few arms h.2 v.1) in
         record { fits = x.fits; known = x.known }
     term_fine S s few (ExTry at a arms) h n =
-        let w = least_none (over arms_limit (arms_written arms)) _ n.1 in
+        let w = least_none (over most_arms (arms_written arms)) _ n.1 in
         let m = least_none None (least (found unbound S a) (found_in_arms unbound S arms)) n.0 in
         let v = both_none (found unbound S a) (found_in_arms unbound S arms) (found large S a) (found_in_arms large S arms) (m.1, w.1) in
         let x = cases_fine S a arms h.1 w.0 (term_fine S s few a h.0 v.0) (arms_fine S s few arms h.2 v.1) in

@@ -3,6 +3,7 @@ use Rattle.std.proofs.Common.{◌≡◌, ◌∙◌, ◌≤◌, refl, sym, ap, ap
 use Rattle.std.specs.Prelude.{nat_le, is_some, option_map, option_and_then, unwrap_or, if◌then◌else◌}
 use Rattle.std.specs.List.{list_all}
 use Rattle.std.proofs.lemmas.Bool.{le-leb, leb-true}
+use Rattle.ac_types.specs.Limits.{widest_tuple}
 use Rattle.ac_types.proofs.FirstLaws.{none≢some}
 use Rattle.ac_types.proofs.Same.{and_true}
 use Rattle.ac_types.specs.Types.{Bytes, Typ, TUnit, TAbs, TMine, Typs, mentions, mentions_of_all, with_mine}
@@ -20,7 +21,7 @@ use Rattle.ac_scopes.specs.Standard.{beside_name}
 use Rattle.ac_scopes.specs.Written.{type_in, types_in}
 use Rattle.ac_scopes.specs.Unbound.{unless, unbound_behind, unbound_type, unbound_types}
 use Rattle.ac_scopes.specs.Counts as counts
-use Rattle.ac_scopes.specs.Counts.{over, width_limit, wide_type, wide_types, large_type}
+use Rattle.ac_scopes.specs.Counts.{over, wide_type, wide_types, large_type}
 use Rattle.ac_acceptance.proofs.Distinct.{least_none}
 use Rattle.ac_acceptance.proofs.TreeBounds.{TypeHas, TypesHave}
 use Rattle.ac_acceptance.proofs.OutsideTypes.{IsFine, outside_fine}
@@ -32,8 +33,8 @@ within limit n h = by (nat_le n limit) refl h where
   by true e h = leb-true n limit e
   by false e h = absurd (none≢some (sym h))
 
-pub width_fits : (n : ℕ) → 2 ≤ n → over width_limit n ≡ None → is_width n ≡ true
-width_fits n some h = and_true (le-leb 2 n some) (le-leb n 16 (within width_limit n h))
+pub width_fits : (n : ℕ) → 2 ≤ n → over widest_tuple n ≡ None → is_width n ≡ true
+width_fits n some h = and_true (le-leb 2 n some) (le-leb n 16 (within widest_tuple n h))
 
 -- what is there where nothing is missing
 pub there_unless : {A : Type 0} (o : Option A) (at : ℕ) → unless o at ≡ None → (a : A) × (o ≡ Some a)
@@ -89,7 +90,7 @@ module _ (E : Environment) (coherent : IsCoherent E) (own : Bytes → Bool) (ins
         let x = there_behind (is_some (before_dot S m.word)) (dotted_type S m.word t.word) m t u in
         subst (IsFine E own inside) (sym (ap (λ o. unwrap_or o TUnit) x.1)) (dotted_fine s (before_dot S m.word) t.word x.0 x.1)
     type_fine S s (TyTuple at parts) h u w =
-        let v = least_none (over width_limit (counts.type_count parts)) (wide_types parts) w in
+        let v = least_none (over widest_tuple (counts.type_count parts)) (wide_types parts) w in
         let x = types_fine S s parts h.1 u v.1 in
         record { known = x.known; mine = x.mine; fits = and_true (ap is_width (types_counted S parts) ∙ width_fits (counts.type_count parts) h.0 v.0) x.fit }
     type_fine S s (TyList at item) h u w = let x = type_fine S s item h u w in record { known = x.known; mine = x.mine; fits = x.fits }

@@ -4,6 +4,7 @@ use Rattle.std.specs.Prelude.{nat_lt, nat_le, not, ◌||◌, ◌==◌, if◌then
 use Rattle.std.specs.List.{list_all}
 use mathlib.Core.Bool.{true≢false}
 use Rattle.std.proofs.lemmas.Bool.{le-leb}
+use Rattle.ac_types.specs.Limits.{longest_text}
 use Rattle.ac_types.specs.Types.{Bytes}
 use Rattle.ac_types.specs.Words.{is_between, is_start, is_part, is_reserved, is_word}
 use Rattle.ac_types.proofs.Same.{both_true, and_true}
@@ -13,7 +14,7 @@ use Rattle.ac_lexer.specs.declared.tokens.TokenKind.{TokenKind}
 use Rattle.ac_lexer.specs.declared.tokens.TokenKind.TheVariants as kind
 use Rattle.ac_lexer.specs.Gaps.{Inside, closed, nested, byte, Gap, separator, comment}
 use Rattle.ac_lexer.specs.Spellings.{Piece, itself, escape, hex, Quoted, quote, more, name_kind, is_identifier, SpellsToken, number, name, symbol, string, is_within_limits}
-use Rattle.ac_lexer.specs.Tokens.{TokenAt, Reads, nothing, gap, token, Tokens, longest_text}
+use Rattle.ac_lexer.specs.Tokens.{TokenAt, Reads, nothing, gap, token, Tokens}
 use Rattle.ac_lexer.proofs.Spelled.{no_empty, first_of_name}
 use Rattle.ac_syntax.specs.Signs.{Sign, Int, Str, Lower, Upper, Fixed, Other, fixed, symbol_of, sign_at, signs}
 use Rattle.ac_syntax.specs.declared.sign.Symbol.{Symbol}

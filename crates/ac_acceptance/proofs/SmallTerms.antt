@@ -3,6 +3,7 @@ use Rattle.std.proofs.Common.{◌≡◌, ◌∙◌, ◌≤◌, refl, ap, ap₂, 
 use Rattle.std.specs.Prelude.{nat_le, option_map, option_and_then, unwrap_or}
 use Rattle.std.specs.List.{list_all}
 use Rattle.std.proofs.lemmas.Bool.{le-leb, leb-true}
+use Rattle.ac_types.specs.Limits.{widest_tuple, highest_type, most_type_parts, most_arms}
 use Rattle.ac_types.specs.First.{given, or_else}
 use Rattle.ac_types.proofs.FirstLaws.{none≢some, some_eq}
 use Rattle.ac_types.proofs.Same.{both_true, and_true}
@@ -22,7 +23,7 @@ use Rattle.ac_scopes.specs.Standard.{NamedPrimitive, primitive_named}
 use Rattle.ac_scopes.specs.Scopes.{NameScope, own_number, binders_to, before_dot, value_outside, primitive_function, dotted_value, with_variables}
 use Rattle.ac_scopes.specs.Written.{type_in, pattern_in, patterns_in, in_function, in_arm, primitive_at, applied_tree, term_in, terms_in, arms_in}
 use Rattle.ac_scopes.specs.Searches.{tree_count, arms_written, found, found_in_all, found_in_arms}
-use Rattle.ac_scopes.specs.Counts.{over, width_limit, height_limit, parts_limit, arms_limit, pat_count, wide_type, large_type, large_pattern, large_patterns, large}
+use Rattle.ac_scopes.specs.Counts.{over, pat_count, wide_type, large_type, large_pattern, large_patterns, large}
 use Rattle.ac_acceptance.proofs.Distinct.{least_none}
 use Rattle.ac_acceptance.proofs.FineTypes.{within}
 use Rattle.ac_acceptance.proofs.FineTerms.{is_primitive}
@@ -119,8 +120,8 @@ parts_small (Captured ∷ ps) h = parts_small ps h
 pub written_small : (S : NameScope) (t : TypeTree) → large_type S t ≡ None → is_small (type_in S t) ≡ true
 written_small S t h =
     let r = least_none (wide_type t) _ h in
-    let q = least_none (over height_limit (height (type_in S t))) (over parts_limit (parts (type_in S t))) r.1 in
-    and_true (le-leb (parts (type_in S t)) 4096 (within parts_limit (parts (type_in S t)) q.1)) (le-leb (height (type_in S t)) 100 (within height_limit (height (type_in S t)) q.0))
+    let q = least_none (over highest_type (height (type_in S t))) (over most_type_parts (parts (type_in S t))) r.1 in
+    and_true (le-leb (parts (type_in S t)) 4096 (within most_type_parts (parts (type_in S t)) q.1)) (le-leb (height (type_in S t)) 100 (within highest_type (height (type_in S t)) q.0))
 
 abbrev pub Small : List Portion → Type 0
 Small ps = list_all is_small_part ps ≡ true
@@ -138,7 +139,7 @@ mapped_append (T ∷ Ts) Us h k = let r = both_true (is_small T) _ h in and_true
 mutual
   pattern_small : (S : NameScope) (p : PatTree) → large_pattern S p ≡ None → Small (map OfType (pattern_types (pattern_in S p)))
   pattern_small S (PatVar at name ty) n = and_true (written_small S ty n) refl
-  pattern_small S (PatTuple at parts) n = patterns_small S parts (least_none (over width_limit (pat_count parts)) (large_patterns S parts) n).1
+  pattern_small S (PatTuple at parts) n = patterns_small S parts (least_none (over widest_tuple (pat_count parts)) (large_patterns S parts) n).1
   pattern_small S (PatCons at head tail) n =
       let w = least_none (large_pattern S head) (large_pattern S tail) n in
       mapped_append (pattern_types (pattern_in S head)) (pattern_types (pattern_in S tail)) (pattern_small S head w.0) (pattern_small S tail w.1)
@@ -206,7 +207,7 @@ module _ (E : Environment) where
     tree_small S (ExExnOf at k a) n Γ T h = let r = rule-ExnOf Coloured E Γ k (term_in S a) T h in tree_small S a n Γ TStr r.1
     tree_small S (ExTuple at ps) n Γ T h =
         let r = rule-Tuple Coloured E Γ (terms_in S ps) T h in
-        trees_small S ps (least_none (over width_limit (tree_count ps)) (found_in_all large S ps) n).1 Γ r.0 r.1
+        trees_small S ps (least_none (over widest_tuple (tree_count ps)) (found_in_all large S ps) n).1 Γ r.0 r.1
     tree_small S (ExNil at A) n Γ T h = and_true (written_small S A (least_none (large_type S A) _ n).0) refl
     tree_small S (ExAbsent at A) n Γ T h = and_true (written_small S A (least_none (large_type S A) _ n).0) refl
     tree_small S (ExPresent at a) n Γ T h = let r = rule-Present Coloured E Γ (term_in S a) T h in tree_small S a n Γ r.0 r.1
@@ -254,12 +255,12 @@ module _ (E : Environment) where
         three (term_parts (term_in S c)) (term_parts (term_in S a)) (term_parts (term_in S b)) (tree_small S c w.0 Γ TBool r.0) (tree_small S a v.0 Γ T r.1) (tree_small S b v.1 Γ T r.2)
     tree_small S (ExSeq at ps) n Γ T h = let r = rule-Seq Coloured E Γ (terms_in S ps) T h in trees_small S ps n Γ r.0 r.1
     tree_small S (ExMatch at a arms) n Γ T h =
-        let w = least_none (over arms_limit (arms_written arms)) _ n in
+        let w = least_none (over most_arms (arms_written arms)) _ n in
         let v = least_none (found large S a) (found_in_arms large S arms) w.1 in
         let r = rule-Match Coloured E Γ (term_in S a) (arms_in S arms) T h in
         join (term_parts (term_in S a)) (arm_parts (arms_in S arms)) (tree_small S a v.0 Γ r.0 r.1) (arms_small S arms v.1 Γ r.0 r.2.0 r.2.1)
     tree_small S (ExTry at a arms) n Γ T h =
-        let w = least_none (over arms_limit (arms_written arms)) _ n in
+        let w = least_none (over most_arms (arms_written arms)) _ n in
         let v = least_none (found large S a) (found_in_arms large S arms) w.1 in
         let r = rule-Try Coloured E Γ (term_in S a) (arms_in S arms) T h in
         join (term_parts (term_in S a)) (arm_parts (arms_in S arms)) (tree_small S a v.0 Γ T r.0) (arms_small S arms v.1 Γ TExn r.1.0 r.1.1)

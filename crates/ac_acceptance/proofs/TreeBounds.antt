@@ -2,11 +2,11 @@
 use Rattle.std.proofs.Common.{◌≡◌, ◌≤◌, ◌+◌, ◌^◌, ℕ, zero, suc, pos, neg_ℤ, true, List, ◌∷◌, length, Some, None, refl, subst, arith}
 use Rattle.std.specs.Prelude.{nat_lt}
 use Rattle.std.proofs.lemmas.Bool.{lt-ltb, ltb-true}
+use Rattle.ac_types.specs.Limits.{longest_text}
 use Rattle.ac_types.proofs.FirstLaws.{some_eq}
 use Rattle.ac_types.specs.Exceptions.{has_text}
 use Rattle.ac_terms.specs.PrimitiveTypes.{is_exception, primitives}
 use Rattle.ac_terms.specs.Bounds.{is_integer, is_string, takes}
-use Rattle.ac_lexer.specs.Tokens.{longest_text}
 use Rattle.ac_syntax.specs.Signs.{Sign, Fixed}
 use Rattle.ac_syntax.specs.Trees.{TypeTree, TyTuple, TyList, TyOpt, TyFun, TypeTrees, no_type_trees, type_tree, PatTree, PatVar, PatInt, PatStr, PatTuple, PatCons, PatPresent, PatExn, PatExnOf, PatTrees, no_pat_trees, pat_tree, Tree, ExInt, ExStr, ExExn, ExExnOf, ExTuple, ExNil, ExAbsent, ExPresent, ExCons, ExFun, ExRec, ExApp, ExLet, ExLetRec, ExIf, ExSeq, ExMatch, ExTry, ExRaise, ExAnd, ExOr, ExOp, ExMarshal, ExUnmarshal, Trees, no_trees, tree, ArmTrees, no_arm_trees, arm_tree}
 use Rattle.ac_syntax.specs.TypeForms as types

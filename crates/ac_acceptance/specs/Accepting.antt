@@ -19,7 +19,7 @@ pub record Shelved : Type 0 where
   pub uri : Bytes
   pub text : Bytes
 
--- URIs of 1 to 1,024 bytes, each once
+-- each URI is one, and stands once
 pub record IsShelf (shelf : List Shelved) : Type 0 where
   pub uris : IsTrue (list_all (λ (s : Shelved). is_uri s.uri) shelf)
   pub distinct : IsTrue (are_distinct (map (λ (s : Shelved). s.uri) shelf))

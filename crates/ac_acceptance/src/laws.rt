@@ -2,6 +2,7 @@
 
 ghost use Rattle.std.specs.Prelude.{◌≡◌, ◌≤◌, ℕ, List, length};
 ghost use Rattle.sha2.specs.Sha256.{sha256};
+ghost use Rattle.ac_types.specs.Limits.{most_shelf_entries};
 ghost use Rattle.ac_types.specs.Types.{Bytes, Typ};
 ghost use Rattle.ac_terms.specs.Terms.{Expr};
 ghost use Rattle.ac_terms.specs.Defs.{Environment};
@@ -13,7 +14,8 @@ ghost use Rattle.ac_acceptance.specs.Ready.{IsWellLoaded};
 /// typed over them, within the bounds of its spelling, and mentions known types alone.
 pub fn accepted_ready()
     ensures { (text : Bytes) (shelf : List Shelved) (F : Environment) (e : Expr) (T : Typ) →
-        IsShelf shelf → length shelf ≤ 256 → Accepted sha256 text shelf F e T → IsWellLoaded F e T }
+        IsShelf shelf → length shelf ≤ most_shelf_entries →
+        Accepted sha256 text shelf F e T → IsWellLoaded F e T }
 {}
 
 /// It has one list of entries, one term and one type.

@@ -3,6 +3,7 @@
 ghost use Rattle.std.specs.Prelude.{◌≡◌, ◌++◌, map, is_none, nat_le, IfOk, IfErr, OnOk, OnErr, IsTrue};
 ghost use Rattle.std.specs.List.{list_all};
 ghost use Rattle.sha2.specs.Sha256.{sha256};
+ghost use Rattle.ac_types.specs.Limits.{deepest_nesting};
 ghost use Rattle.ac_types.specs.ReadTypes.{typ_of};
 ghost use Rattle.ac_terms.specs.Bounds.{fits_packet};
 ghost use Rattle.ac_terms.specs.Defs.{Environment, Entry};
@@ -87,7 +88,7 @@ pub fn admit(
         IsTrue (list_all (λ (e : Entry). is_none (mark_of e)) more)) }
     ensures packable { IfOk result (λ a. IsPackable (environment_of env.new)
         (typ_of expected.now) (value_of a.value) ×
-        IsTrue (nat_le (value_nesting (value_of a.value)) 500)) }
+        IsTrue (nat_le (value_nesting (value_of a.value)) deepest_nesting)) }
     ensures widened { OnOk result ((F : Environment) → Widens (environment_of env.old) F →
         IsCoherent F → IsKept (cause sha256 F (packet_of p.now) (typ_of expected.now))) }
 {

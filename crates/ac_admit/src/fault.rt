@@ -19,7 +19,7 @@ pub enum AdmitFault {
         /// definitions.
         j: u32,
     },
-    /// The environment would have more than 65,535 entries.
+    /// The environment would have more than `MOST_ENTRIES` entries.
     Full {
         /// How many it would have.
         count: u32,

@@ -4,6 +4,7 @@
 ghost use Rattle.std.specs.Prelude.{◌≡◌, ◌<◌, ◌+◌, ◌^◌, None, Some, true, length, map, nat_lt, option_map, position, IfOk, IfErr, OnOk, IsTrue};
 ghost use Rattle.std.specs.List.{list_all};
 ghost use Rattle.sha2.specs.Sha256.{sha256};
+ghost use Rattle.ac_types.specs.Limits.{most_entries};
 ghost use Rattle.ac_types.specs.First.{first_wrong, given};
 ghost use Rattle.ac_types.specs.ReadTypes.{typ_of};
 ghost use Rattle.ac_types.specs.Types.{same};
@@ -25,11 +26,9 @@ use ac_clashes::clash;
 use ac_formed::{alone, ill_formed};
 use ac_placing::{Place, Placing, placed};
 use ac_terms::{Env, Packet};
+use ac_types::limits::MOST_ENTRIES;
 use ac_types::{Ty, same_types};
 use std::alloc::Global;
-
-// The most entries of an environment.
-const MOST_ENTRIES: usize = 65_535;
 
 // Nothing where each definition is well formed among them.
 fn formed(alloc: Global, own: &Env) -> Result<(), AdmitFault>
@@ -63,7 +62,7 @@ fn unclashed(alloc: Global, env: &Env, own: &Env) -> Result<(), AdmitFault>
 fn has_room(env: &Env, more: usize) -> Result<(), AdmitFault>
     requires { length env.now.entries + more < 2 ^ 32 }
     ensures { let n = length env.now.entries + more in
-        Judges result (given (nat_lt 65535 n) (Some (PacketCause.Full n))) }
+        Judges result (given (nat_lt most_entries n) (Some (PacketCause.Full n))) }
 {
     let count = env.entries.len() + more;
     if count > MOST_ENTRIES {

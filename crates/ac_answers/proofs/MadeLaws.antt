@@ -3,7 +3,7 @@ use Rattle.std.proofs.Common.{◌≡◌, ◌∙◌, ℕ, suc, Bool, true, false,
 use Rattle.ac_types.specs.Types.{Bytes, Typ}
 use Rattle.ac_terms.specs.Terms.{Expr, Value}
 use Rattle.ac_terms.specs.Defs.{Environment}
-use Rattle.ac_terms.specs.declared.term.Exn.{Exn}
+use Rattle.ac_types.specs.declared.exceptions.Exn.{Exn}
 use Rattle.ac_rules.specs.Views.{Mode}
 use Rattle.ac_meaning.specs.Worlds.{Exception}
 use Rattle.ac_meaning.specs.Acts.{Outcome, Returned, Raised, Spent, Stuck, writes_of}

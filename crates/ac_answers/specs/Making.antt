@@ -1,6 +1,7 @@
 -- What `make` gives.
 use Rattle.std.specs.Prelude.{◌≡◌, ℕ, Bool, true, false, [], ◌++◌, length, codes}
 use Rattle.std.specs.Fmt.{decimal}
+use Rattle.ac_types.specs.Limits.{default_steps}
 use Rattle.ac_types.specs.Types.{Bytes}
 use Rattle.ac_rules.specs.Views.{Mode}
 use Rattle.ac_meaning.specs.Writes.{Console, written}
@@ -8,10 +9,6 @@ use Rattle.ac_make.specs.ProgramText.{program_text}
 use Rattle.ac_answers.specs.declared.status.TheConstants.Status.{FINISHED}
 use Rattle.ac_answers.specs.Answers.{ShownAnswer, printing, telling}
 use Rattle.ac_answers.specs.Meaning.{CommandAnswer, Means}
-
--- the applications that a program may make where the words name none
-abbrev pub default_steps : ℕ
-default_steps = 1000000
 
 -- how many modules a program has, how many bytes, and how many bytes it printed
 abbrev pub run_lines : ℕ → ℕ → ℕ → Bytes

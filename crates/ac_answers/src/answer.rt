@@ -9,8 +9,7 @@ ghost use Rattle.ac_answers.specs.Lines.{refusal_line, uncaught_line, spent_line
 use crate::line::{refusal_line, spent_line, uncaught_line};
 use crate::status::Status;
 use ac_load::Refusal;
-use ac_terms::Exn;
-use ac_types::{Memory, Text};
+use ac_types::{Exn, Memory, Text};
 use std::alloc::Global;
 
 /// What a command gives where nothing fails.

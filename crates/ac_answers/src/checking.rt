@@ -1,6 +1,7 @@
 // What is said of texts that are checked.
 ghost use Rattle.std.specs.Prelude.{◌≡◌, ◌≤◌, ◌++◌, IfOk, OnOk, length, map};
 ghost use Rattle.std.specs.List.{list_all};
+ghost use Rattle.ac_types.specs.Limits.{most_shelf_entries};
 ghost use Rattle.ac_acceptance.specs.Accepting.{IsShelf};
 ghost use Rattle.ac_load.specs.Loading.{shelf_of};
 ghost use Rattle.ac_answers.specs.Answers.{answer_of};
@@ -16,8 +17,8 @@ use ac_types::{Many, Memory, Text};
 use std::alloc::Global;
 use std::thread::Threads;
 
-/// Checks each text, in a thread of its own where one can be had, beside a shelf of at most 256
-/// texts, each under a URI of its own of 1 to 1,024 bytes. The texts have these names, one each.
+/// Checks each text, in a thread of its own where one can be had, beside a shelf of at most
+/// `MOST_SHELF_ENTRIES` texts, each under a URI of its own. The texts have these names, one each.
 /// `Err` for want of memory.
 pub fn check<R: Threads + Sync, G: Gate + Sync>(
     rt: &R,
@@ -27,7 +28,7 @@ pub fn check<R: Threads + Sync, G: Gate + Sync>(
     shelf: &Shelf,
     gate: &G,
 ) -> Result<Answer, Memory>
-    requires few { length shelf.now.0 ≤ 256 }
+    requires few { length shelf.now.0 ≤ most_shelf_entries }
     requires shelved { IsShelf (shelf_of shelf.now) }
     requires each { length names.now ≡ length texts.now }
     ensures { IfOk result

@@ -6,9 +6,7 @@ ghost use Rattle.ac_answers.specs.Lines.{refusal_line, uncaught_line, spent_line
 use crate::reason::put_reason;
 use ac_literals::{put_literal, put_number};
 use ac_load::{Kind, Refusal};
-use ac_terms::Exn;
-use ac_types::exceptions::exception_name;
-use ac_types::{Memory, Text};
+use ac_types::{Exn, Memory, Text};
 use std::alloc::Global;
 
 /// The line that says why a text is refused. `Err` for want of memory, also where the refusal tells
@@ -37,8 +35,8 @@ pub fn uncaught_line(alloc: Global, exn: &Exn) -> Result<Text, Memory>
     ensures { IfOk result (λ line. line.0 ≡ uncaught_line (exn_of exn.now)) }
 {
     let mut line = Text::from_slice(alloc, b"uncaught: ")?;
-    line.extend(exception_name(exn.number))?;
-    if let Some(text) = &exn.text {
+    line.extend(exn.kind().name())?;
+    if let Some(text) = exn.text() {
         line.extend(b" ")?;
         put_literal(&mut line, text.as_slice())?;
     }

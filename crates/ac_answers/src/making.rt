@@ -15,11 +15,9 @@ use ac_load::{Shelf, load};
 use ac_outside::SureWorld;
 use ac_rules::Loaded;
 use ac_run::{RunEnd, Session};
+use ac_types::limits::DEFAULT_STEPS;
 use ac_types::{Memory, Text};
 use std::alloc::Global;
-
-// The applications that a program may make.
-const STEPS: u64 = 1_000_000;
 
 /// Makes the program of a seed with so many modules, and prints it or runs it. A run has no shelf,
 /// no input and no channel, and its console is kept in memory. `Err` for want of memory.
@@ -28,7 +26,7 @@ pub fn make(alloc: Global, seed: u64, modules: u32, runs: bool) -> Result<Answer
 {
     let text = ac_make::make(alloc, seed, modules)?;
     if runs {
-        run_made(alloc, STEPS, modules, text.as_slice())
+        run_made(alloc, DEFAULT_STEPS, modules, text.as_slice())
     } else {
         Ok(Answer::printing(alloc, Status::FINISHED, text))
     }

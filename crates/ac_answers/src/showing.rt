@@ -1,5 +1,6 @@
 // What is shown of a program.
 ghost use Rattle.std.specs.Prelude.{◌≡◌, ◌≤◌, ◌<◌, ◌^◌, IfOk, length};
+ghost use Rattle.ac_types.specs.Limits.{most_shelf_entries};
 ghost use Rattle.ac_terms.specs.Read.{environment_of, expr_of};
 ghost use Rattle.ac_acceptance.specs.Accepting.{IsShelf};
 ghost use Rattle.ac_load.specs.Loading.{shelf_of};
@@ -23,10 +24,10 @@ pub enum Showing {
     Code,
 }
 
-/// Shows that of the program of a text, beside a shelf of at most 256 texts, each under a URI of its
-/// own of 1 to 1,024 bytes. `Err` for want of memory.
+/// Shows that of the program of a text, beside a shelf of at most `MOST_SHELF_ENTRIES` texts, each
+/// under a URI of its own. `Err` for want of memory.
 pub fn show(alloc: Global, what: Showing, text: &[u8], shelf: &Shelf) -> Result<Answer, Memory>
-    requires few { length shelf.now.0 ≤ 256 }
+    requires few { length shelf.now.0 ≤ most_shelf_entries }
     requires shelved { IsShelf (shelf_of shelf.now) }
     ensures { IfOk result (λ a. Shows what text.now (shelf_of shelf.now) (answer_of a)) }
 {

@@ -2,6 +2,7 @@
 
 ghost use Rattle.std.specs.Prelude.{◌≡◌, ◌≤◌, length, IfOk};
 ghost use Rattle.std.specs.Arc.{arc_value};
+ghost use Rattle.ac_types.specs.Limits.{most_shelf_entries};
 ghost use Rattle.ac_acceptance.specs.Accepting.{IsShelf};
 ghost use Rattle.ac_load.specs.Loading.{shelf_of};
 ghost use Rattle.ac_batch.specs.Verdicts.{IsVerdict};
@@ -36,7 +37,7 @@ pub fn judge_apart<R: Threads>(
     text: &[u8],
     shelf: &Arc<Shelf, Global>,
 ) -> Result<Verdict, Memory>
-    requires few { length (arc_value shelf.now).0 ≤ 256 }
+    requires few { length (arc_value shelf.now).0 ≤ most_shelf_entries }
     requires shelved { IsShelf (shelf_of (arc_value shelf.now)) }
     ensures { IfOk result (λ v. IsVerdict text.now (shelf_of (arc_value shelf.now)) v) }
 {
@@ -50,7 +51,7 @@ pub fn judge_apart<R: Threads>(
         rt,
         promise,
         move || -> Result<Verdict, Memory>
-            requires few { length (arc_value its).0 ≤ 256 }
+            requires few { length (arc_value its).0 ≤ most_shelf_entries }
             requires shelved { IsShelf (shelf_of (arc_value its)) }
             ensures { IfOk result (λ v. IsVerdict own.0 (shelf_of (arc_value its)) v) }
         { judge(alloc, own.as_slice(), &its) },

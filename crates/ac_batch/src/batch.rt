@@ -2,6 +2,7 @@
 
 ghost use Rattle.std.specs.Prelude.{◌≡◌, ◌<◌, ◌≤◌, length, map, slice_get, IfOk, IfSome};
 ghost use Rattle.std.specs.Arc.{arc_value};
+ghost use Rattle.ac_types.specs.Limits.{most_shelf_entries};
 ghost use Rattle.ac_acceptance.specs.Accepting.{IsShelf};
 ghost use Rattle.ac_load.specs.Loading.{shelf_of};
 ghost use Rattle.ac_batch.specs.Verdicts.{IsVerdict, AreVerdicts};
@@ -16,9 +17,9 @@ use std::sync::Arc;
 use std::thread;
 use std::thread::Threads;
 
-/// The verdict of each text, in their order, beside a shelf of at most 256 texts, each under a URI
-/// of its own of 1 to 1,024 bytes. The piece of a text is between one `enter` and one `leave` of
-/// its number, from 0. `Err` for want of memory in any piece.
+/// The verdict of each text, in their order, beside a shelf of at most `MOST_SHELF_ENTRIES` texts,
+/// each under a URI of its own. The piece of a text is between one `enter` and one `leave` of its
+/// number, from 0. `Err` for want of memory in any piece.
 pub fn check_all<R: Threads + Sync, G: Gate + Sync>(
     rt: &R,
     alloc: Global,
@@ -26,7 +27,7 @@ pub fn check_all<R: Threads + Sync, G: Gate + Sync>(
     shelf: &Shelf,
     gate: &G,
 ) -> Result<Many<Verdict>, Memory>
-    requires few { length shelf.now.0 ≤ 256 }
+    requires few { length shelf.now.0 ≤ most_shelf_entries }
     requires shelved { IsShelf (shelf_of shelf.now) }
     ensures { IfOk result (λ vs. AreVerdicts texts.now (shelf_of shelf.now) vs) }
 {
@@ -51,7 +52,7 @@ fn piece<R: Threads, G: Gate>(
     gate: &G,
     i: usize,
 ) -> Result<Verdict, Memory>
-    requires few { length (arc_value shelf.now).0 ≤ 256 }
+    requires few { length (arc_value shelf.now).0 ≤ most_shelf_entries }
     requires shelved { IsShelf (shelf_of (arc_value shelf.now)) }
     requires within { i < length texts.now }
     ensures { IfOk result (λ v. IfSome (slice_get texts.now i)

@@ -1,6 +1,7 @@
 // What a text comes to.
 
 ghost use Rattle.std.specs.Prelude.{◌≤◌, length, IfOk};
+ghost use Rattle.ac_types.specs.Limits.{most_shelf_entries};
 ghost use Rattle.ac_acceptance.specs.Accepting.{IsShelf};
 ghost use Rattle.ac_load.specs.Loading.{shelf_of};
 ghost use Rattle.ac_batch.specs.Verdicts.{IsVerdict};
@@ -20,7 +21,7 @@ pub enum Verdict {
 
 /// The verdict of a text beside a shelf.
 pub fn judge(alloc: Global, text: &[u8], shelf: &Shelf) -> Result<Verdict, Memory>
-    requires few { length shelf.now.0 ≤ 256 }
+    requires few { length shelf.now.0 ≤ most_shelf_entries }
     requires shelved { IsShelf (shelf_of shelf.now) }
     ensures { IfOk result (λ v. IsVerdict text.now (shelf_of shelf.now) v) }
 {

@@ -12,7 +12,7 @@ use crate::sigs::{put_constraint, put_sig, put_typed_names, put_version};
 use crate::spelling::{ByName, Spelling};
 use crate::terms::put_term;
 use ac_bytes::Out;
-use ac_terms::{Def, Env, Field, Import, Module};
+use ac_terms::{Def, Env, Field, Import, Module, tags};
 use ac_types::{Constraint, Memory, Text};
 use std::alloc::Global;
 
@@ -75,7 +75,7 @@ pub fn put_module<S: Spelling>(out: &mut Out, spelling: &S, m: &Module) -> Resul
     ensures { OnOk result (out.new ≡ out.old ++ module_bytes (S.spelled_type spelling.now)
         (S.spelled_reference spelling.now) (module_of_code m.now)) }
 {
-    out.put_u8(0x01)?;
+    out.put_u8(tags::DEF_MODULE)?;
     put_word(out, &m.name)?;
     put_version(out, m.version.atoms.as_slice())?;
     put_sig(out, spelling, &m.sig)?;
@@ -89,7 +89,7 @@ pub fn put_import<S: Spelling>(out: &mut Out, spelling: &S, import: &Import) -> 
     ensures { OnOk result (out.new ≡ out.old ++ import_bytes (S.spelled_type spelling.now)
         (import_of_code import.now)) }
 {
-    out.put_u8(0x02)?;
+    out.put_u8(tags::DEF_IMPORT)?;
     put_word(out, &import.name)?;
     put_sig(out, spelling, &import.sig)?;
     put_constraint(out, &import.constraint)?;

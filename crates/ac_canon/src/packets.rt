@@ -8,6 +8,7 @@ use crate::counts::{put_count_u8, put_count_u16, put_str};
 use crate::spelling::Spelling;
 use crate::types::put_type;
 use ac_bytes::Out;
+use ac_terms::tags;
 use ac_types::{Memory, Resolve, Ty};
 
 /// The spelling of packets: types in full, and a reference by the number of its definition.
@@ -34,10 +35,10 @@ fn put_resolve(out: &mut Out, by: &Resolve) -> Result<(), Memory>
     ensures { OnOk result (out.new ≡ out.old ++ resolve_bytes (resolve_of by.now)) }
 {
     match by {
-        Resolve::StaticLink => out.put_u8(0x01),
-        Resolve::HereAlready => out.put_u8(0x02),
+        Resolve::StaticLink => out.put_u8(tags::RESOLVE_STATIC_LINK),
+        Resolve::HereAlready => out.put_u8(tags::RESOLVE_HERE_ALREADY),
         Resolve::Uri(uri) => {
-            out.put_u8(0x03)?;
+            out.put_u8(tags::RESOLVE_URI)?;
             put_str(out, uri)
         }
     }

@@ -8,7 +8,7 @@ ghost use Rattle.ac_terms.specs.SpelledBy.{pattern_bytes, all_pattern_bytes};
 use crate::counts::{put_bool, put_byte, put_count_u8, put_int, put_string};
 use crate::spelling::Spelling;
 use ac_bytes::Out;
-use ac_terms::Pat;
+use ac_terms::{Pat, tags};
 use ac_types::Memory;
 
 /// Puts a pattern.
@@ -18,38 +18,36 @@ pub fn put_pattern<S: Spelling>(out: &mut Out, spelling: &S, pat: &Pat) -> Resul
         pattern_bytes (S.spelled_type spelling.now) (pattern_of pat.now)) }
 {
     match pat {
-        Pat::Wild => out.put_u8(0x01),
+        Pat::Wild => out.put_u8(tags::PATTERN_WILD),
         Pat::Var(ty) => {
-            out.put_u8(0x02)?;
+            out.put_u8(tags::PATTERN_VAR)?;
             spelling.put_type(out, ty)
         }
-        Pat::Int(n) => put_int(out, 0x03, *n),
-        Pat::Bool(b) => put_bool(out, 0x04, *b),
-        Pat::Str(text) => put_string(out, 0x05, text),
-        Pat::Unit => out.put_u8(0x06),
+        Pat::Int(n) => put_int(out, tags::PATTERN_INT, *n),
+        Pat::Bool(b) => put_bool(out, tags::PATTERN_BOOL, *b),
+        Pat::Str(text) => put_string(out, tags::PATTERN_STR, text),
+        Pat::Unit => out.put_u8(tags::PATTERN_UNIT),
         Pat::Tuple(parts) => {
-            out.put_u8(0x07)?;
+            out.put_u8(tags::PATTERN_TUPLE)?;
             put_count_u8(out, parts.len())?;
             put_patterns(out, spelling, parts.as_slice())
         }
-        Pat::Nil => out.put_u8(0x08),
+        Pat::Nil => out.put_u8(tags::PATTERN_NIL),
         Pat::Cons(head, tail) => {
-            out.put_u8(0x09)?;
+            out.put_u8(tags::PATTERN_CONS)?;
             put_pattern(out, spelling, head)?;
             put_pattern(out, spelling, tail)
         }
-        Pat::Absent => out.put_u8(0x0A),
+        Pat::Absent => out.put_u8(tags::PATTERN_ABSENT),
         Pat::Present(inner) => {
-            out.put_u8(0x0B)?;
+            out.put_u8(tags::PATTERN_PRESENT)?;
             put_pattern(out, spelling, inner)
         }
-        Pat::Exn(number, text) => match text {
-            None => put_byte(out, 0x0C, *number),
-            Some(text) => {
-                put_byte(out, 0x0C, *number)?;
-                put_pattern(out, spelling, text)
-            }
-        },
+        Pat::Exn(exn) => put_byte(out, tags::PATTERN_EXN, exn.number()),
+        Pat::ExnOf(exn, text) => {
+            put_byte(out, tags::PATTERN_EXN, exn.number())?;
+            put_pattern(out, spelling, text)
+        }
     }
 }
 

@@ -8,6 +8,7 @@ ghost use Rattle.ac_terms.specs.SpelledBy.{manifest_bytes, sig_type_bytes, typed
 use crate::counts::{put_count_u8, put_count_u16, put_truth, put_word};
 use crate::spelling::Spelling;
 use ac_bytes::Out;
+use ac_terms::tags;
 use ac_types::{Atom, Constraint, Memory, Range, Sig, SigType, Ty, TyField};
 
 // Puts a part of a version.
@@ -17,10 +18,10 @@ fn put_atom(out: &mut Out, atom: Atom) -> Result<(), Memory>
 {
     match atom {
         Atom::Number(n) => {
-            out.put_u8(0x01)?;
+            out.put_u8(tags::ATOM_NUMBER)?;
             out.put_u32(n)
         }
-        Atom::MyName => out.put_u8(0x02),
+        Atom::MyName => out.put_u8(tags::ATOM_MY_NAME),
     }
 }
 
@@ -44,20 +45,20 @@ fn put_range(out: &mut Out, range: Range) -> Result<(), Memory>
 {
     match range {
         Range::One(n) => {
-            out.put_u8(0x01)?;
+            out.put_u8(tags::RANGE_ONE)?;
             out.put_u32(n)
         }
         Range::Between(n, m) => {
-            out.put_u8(0x02)?;
+            out.put_u8(tags::RANGE_BETWEEN)?;
             out.put_u32(n)?;
             out.put_u32(m)
         }
         Range::UpTo(n) => {
-            out.put_u8(0x03)?;
+            out.put_u8(tags::RANGE_UP_TO)?;
             out.put_u32(n)
         }
         Range::From(n) => {
-            out.put_u8(0x04)?;
+            out.put_u8(tags::RANGE_FROM)?;
             out.put_u32(n)
         }
     }
@@ -83,12 +84,12 @@ pub fn put_constraint(out: &mut Out, constraint: &Constraint) -> Result<(), Memo
 {
     match constraint {
         Constraint::Ranges { atoms, star } => {
-            out.put_u8(0x01)?;
+            out.put_u8(tags::CONSTRAINT_RANGES)?;
             put_ranges(out, atoms.as_slice())?;
             put_truth(out, *star)
         }
         Constraint::Exact(name) => {
-            out.put_u8(0x02)?;
+            out.put_u8(tags::CONSTRAINT_EXACT)?;
             out.put_bytes(name.0.as_slice())
         }
     }
@@ -105,9 +106,9 @@ fn put_manifest<S: Spelling>(
         manifest_bytes (S.spelled_type spelling.now) (option_map typ_of manifest.now)) }
 {
     match manifest {
-        None => out.put_u8(0x00),
+        None => out.put_u8(tags::SIG_ABSTRACT),
         Some(ty) => {
-            out.put_u8(0x01)?;
+            out.put_u8(tags::SIG_MANIFEST)?;
             spelling.put_type(out, ty)
         }
     }

@@ -1,11 +1,13 @@
 // The bytes of terms, arms and packed values.
 
 ghost use Rattle.std.specs.Prelude.{◌≡◌, ◌++◌, ◌∷◌, map, length, OnOk, IfOk};
+ghost use Rattle.ac_types.specs.ReadNumbers.{primitive_number};
 ghost use Rattle.ac_types.specs.ReadTypes.{typ_of};
 ghost use Rattle.ac_terms.specs.Terms.{exprs, arms, pvalues};
 ghost use Rattle.ac_terms.specs.Read.{environment_of, bytes_of, expr_of, arm_of, value_of};
 ghost use Rattle.ac_terms.specs.Spelling.{one_written, two_written, four_written, word, term_count, value_count, term_bytes};
 ghost use Rattle.ac_terms.specs.SpelledBy.{pattern_bytes, term_bytes as term_by, all_term_bytes, arm_bytes, value_bytes, all_value_bytes};
+ghost use Rattle.ac_terms.specs.Tags.{term_ref, term_rec, term_tuple, term_seq, term_prim, term_val, value_tuple, value_list};
 ghost use Rattle.ac_canon.specs.Canon.{kept};
 
 use crate::counts::{
@@ -16,8 +18,8 @@ use crate::patterns::put_pattern;
 use crate::spelling::{ByName, Spelling};
 use crate::values::{put_exn, put_home};
 use ac_bytes::Out;
-use ac_terms::{Arm, Env, PVal, Term};
-use ac_types::{Memory, Text, Ty, Word};
+use ac_terms::{Arm, Env, PVal, Term, tags};
+use ac_types::{Memory, Primitive, Text, Ty, Word};
 use std::alloc::Global;
 
 /// The bytes of a term, its references spelled by the names that their entries keep.
@@ -38,59 +40,57 @@ pub fn put_term<S: Spelling>(out: &mut Out, spelling: &S, term: &Term) -> Result
         (expr_of term.now)) }
 {
     match term {
-        Term::Int(n) => put_int(out, 0x01, *n),
-        Term::Bool(b) => put_bool(out, 0x02, *b),
-        Term::Str(text) => put_string(out, 0x03, text),
-        Term::Unit => out.put_u8(0x04),
-        Term::ExnVal(number, text) => match text {
-            None => put_byte(out, 0x05, *number),
-            Some(text) => {
-                put_byte(out, 0x05, *number)?;
-                put_term(out, spelling, text)
-            }
-        },
+        Term::Int(n) => put_int(out, tags::TERM_INT, *n),
+        Term::Bool(b) => put_bool(out, tags::TERM_BOOL, *b),
+        Term::Str(text) => put_string(out, tags::TERM_STR, text),
+        Term::Unit => out.put_u8(tags::TERM_UNIT),
+        Term::ExnVal(exn) => put_byte(out, tags::TERM_EXN, exn.number()),
+        Term::ExnOf(exn, text) => {
+            put_byte(out, tags::TERM_EXN, exn.number())?;
+            put_term(out, spelling, text)
+        }
         Term::Tuple(parts) => put_tuple(out, spelling, parts.as_slice()),
-        Term::Nil(ty) => put_tagged_type(out, spelling, 0x07, ty),
-        Term::Empty(ty) => put_tagged_type(out, spelling, 0x08, ty),
-        Term::Present(inner) => put_one(out, spelling, 0x09, inner),
+        Term::Nil(ty) => put_tagged_type(out, spelling, tags::TERM_NIL, ty),
+        Term::Empty(ty) => put_tagged_type(out, spelling, tags::TERM_EMPTY, ty),
+        Term::Present(inner) => put_one(out, spelling, tags::TERM_PRESENT, inner),
         Term::Cons(head, tail) => {
-            put_one(out, spelling, 0x0A, head)?;
+            put_one(out, spelling, tags::TERM_CONS, head)?;
             put_term(out, spelling, tail)
         }
-        Term::Var(i) => put_number(out, 0x0B, *i),
-        Term::Own(field) => put_number(out, 0x0C, *field),
+        Term::Var(i) => put_number(out, tags::TERM_VAR, *i),
+        Term::Own(field) => put_number(out, tags::TERM_OWN, *field),
         Term::Ref(entry, field) => put_field_of(out, spelling, *entry, field),
-        Term::Lam(ty, body) => put_typed(out, spelling, 0x0E, body, ty),
+        Term::Lam(ty, body) => put_typed(out, spelling, tags::TERM_LAM, body, ty),
         Term::Rec(from, to, body) => put_recursive(out, spelling, body, from, to),
         Term::App(function, argument) => {
-            put_one(out, spelling, 0x10, function)?;
+            put_one(out, spelling, tags::TERM_APP, function)?;
             put_term(out, spelling, argument)
         }
         Term::Let(ty, bound, body) => {
-            put_typed(out, spelling, 0x11, bound, ty)?;
+            put_typed(out, spelling, tags::TERM_LET, bound, ty)?;
             put_term(out, spelling, body)
         }
         Term::If(test, so, otherwise) => {
-            put_one(out, spelling, 0x12, test)?;
+            put_one(out, spelling, tags::TERM_IF, test)?;
             put_term(out, spelling, so)?;
             put_term(out, spelling, otherwise)
         }
         Term::Seq(parts) => put_sequence(out, spelling, parts.as_slice()),
         Term::Match(of, cases) => {
-            put_one(out, spelling, 0x14, of)?;
+            put_one(out, spelling, tags::TERM_MATCH, of)?;
             put_cases(out, spelling, cases.as_slice())
         }
         Term::Try(of, cases) => {
-            put_one(out, spelling, 0x15, of)?;
+            put_one(out, spelling, tags::TERM_TRY, of)?;
             put_cases(out, spelling, cases.as_slice())
         }
-        Term::Raise(ty, inner) => put_typed(out, spelling, 0x16, inner, ty),
-        Term::Prim(number, args) => put_primitive(out, spelling, *number, args.as_slice()),
+        Term::Raise(ty, inner) => put_typed(out, spelling, tags::TERM_RAISE, inner, ty),
+        Term::Prim(primitive, args) => put_primitive(out, spelling, *primitive, args.as_slice()),
         Term::Marshal(ty, mark, inner) => {
-            put_typed(out, spelling, 0x18, mark, ty)?;
+            put_typed(out, spelling, tags::TERM_MARSHAL, mark, ty)?;
             put_term(out, spelling, inner)
         }
-        Term::Unmarshal(ty, inner) => put_typed(out, spelling, 0x19, inner, ty),
+        Term::Unmarshal(ty, inner) => put_typed(out, spelling, tags::TERM_UNMARSHAL, inner, ty),
         Term::Val(ty, value) => put_captured(out, spelling, value, ty),
     }
 }
@@ -113,10 +113,10 @@ fn put_field_of<S: Spelling>(
     entry: u32,
     field: &Word,
 ) -> Result<(), Memory>
-    ensures { OnOk result (out.new ≡ out.old ++ (0x0D ∷
+    ensures { OnOk result (out.new ≡ out.old ++ (term_ref ∷
         S.spelled_reference spelling.now entry ++ word field.now)) }
 {
-    out.put_u8(0x0D)?;
+    out.put_u8(tags::TERM_REF)?;
     spelling.put_reference(out, entry)?;
     put_word(out, field)
 }
@@ -159,13 +159,13 @@ fn put_recursive<S: Spelling>(
     from: &Ty,
     to: &Ty,
 ) -> Result<(), Memory>
-    ensures { OnOk result (out.new ≡ out.old ++ (0x0F ∷
+    ensures { OnOk result (out.new ≡ out.old ++ (term_rec ∷
         S.spelled_type spelling.now (typ_of from.now) ++
         S.spelled_type spelling.now (typ_of to.now) ++
         term_by (S.spelled_type spelling.now) (S.spelled_reference spelling.now)
         (expr_of body.now))) }
 {
-    put_tagged_type(out, spelling, 0x0F, from)?;
+    put_tagged_type(out, spelling, tags::TERM_REC, from)?;
     spelling.put_type(out, to)?;
     put_term(out, spelling, body)
 }
@@ -173,12 +173,12 @@ fn put_recursive<S: Spelling>(
 // Puts a tuple.
 #[cycle(term)]
 fn put_tuple<S: Spelling>(out: &mut Out, spelling: &S, parts: &[Term]) -> Result<(), Memory>
-    ensures { OnOk result (out.new ≡ out.old ++ (0x06 ∷ one_written
+    ensures { OnOk result (out.new ≡ out.old ++ (term_tuple ∷ one_written
         (term_count (exprs (map expr_of parts.now))) ++
         all_term_bytes (S.spelled_type spelling.now) (S.spelled_reference spelling.now)
         (exprs (map expr_of parts.now)))) }
 {
-    out.put_u8(0x06)?;
+    out.put_u8(tags::TERM_TUPLE)?;
     put_count_u8(out, parts.len())?;
     put_terms(out, spelling, parts)
 }
@@ -186,12 +186,12 @@ fn put_tuple<S: Spelling>(out: &mut Out, spelling: &S, parts: &[Term]) -> Result
 // Puts a sequence.
 #[cycle(term)]
 fn put_sequence<S: Spelling>(out: &mut Out, spelling: &S, parts: &[Term]) -> Result<(), Memory>
-    ensures { OnOk result (out.new ≡ out.old ++ (0x13 ∷ four_written
+    ensures { OnOk result (out.new ≡ out.old ++ (term_seq ∷ four_written
         (term_count (exprs (map expr_of parts.now))) ++
         all_term_bytes (S.spelled_type spelling.now) (S.spelled_reference spelling.now)
         (exprs (map expr_of parts.now)))) }
 {
-    out.put_u8(0x13)?;
+    out.put_u8(tags::TERM_SEQ)?;
     put_count_u32(out, parts.len())?;
     put_terms(out, spelling, parts)
 }
@@ -201,14 +201,14 @@ fn put_sequence<S: Spelling>(out: &mut Out, spelling: &S, parts: &[Term]) -> Res
 fn put_primitive<S: Spelling>(
     out: &mut Out,
     spelling: &S,
-    number: u8,
+    primitive: Primitive,
     args: &[Term],
 ) -> Result<(), Memory>
-    ensures { OnOk result (out.new ≡ out.old ++ 0x17 ∷ number ∷
+    ensures { OnOk result (out.new ≡ out.old ++ term_prim ∷ primitive_number primitive ∷
         all_term_bytes (S.spelled_type spelling.now) (S.spelled_reference spelling.now)
         (exprs (map expr_of args.now))) }
 {
-    put_byte(out, 0x17, number)?;
+    put_byte(out, tags::TERM_PRIM, primitive.number())?;
     put_terms(out, spelling, args)
 }
 
@@ -271,12 +271,12 @@ fn put_captured<S: Spelling>(
     value: &PVal,
     ty: &Ty,
 ) -> Result<(), Memory>
-    ensures { OnOk result (out.new ≡ out.old ++ (0x1A ∷
+    ensures { OnOk result (out.new ≡ out.old ++ (term_val ∷
         S.spelled_type spelling.now (typ_of ty.now) ++
         value_bytes (S.spelled_type spelling.now) (S.spelled_reference spelling.now)
         (value_of value.now))) }
 {
-    put_tagged_type(out, spelling, 0x1A, ty)?;
+    put_tagged_type(out, spelling, tags::TERM_VAL, ty)?;
     put_value(out, spelling, value)
 }
 
@@ -288,16 +288,16 @@ pub fn put_value<S: Spelling>(out: &mut Out, spelling: &S, value: &PVal) -> Resu
         (value_of value.now)) }
 {
     match value {
-        PVal::Int(n) => put_int(out, 0x01, *n),
-        PVal::Bool(b) => put_bool(out, 0x02, *b),
-        PVal::Str(text) => put_string(out, 0x03, text),
-        PVal::Unit => out.put_u8(0x04),
+        PVal::Int(n) => put_int(out, tags::VALUE_INT, *n),
+        PVal::Bool(b) => put_bool(out, tags::VALUE_BOOL, *b),
+        PVal::Str(text) => put_string(out, tags::VALUE_STR, text),
+        PVal::Unit => out.put_u8(tags::VALUE_UNIT),
         PVal::Exn(exn) => put_exn(out, exn),
         PVal::Tuple(parts) => put_value_tuple(out, spelling, parts.as_slice()),
         PVal::List(parts) => put_value_list(out, spelling, parts.as_slice()),
-        PVal::Absent => out.put_u8(0x08),
+        PVal::Absent => out.put_u8(tags::VALUE_ABSENT),
         PVal::Present(inner) => {
-            out.put_u8(0x09)?;
+            out.put_u8(tags::VALUE_PRESENT)?;
             put_value(out, spelling, inner)
         }
         PVal::Fun(home, function) => {
@@ -310,12 +310,12 @@ pub fn put_value<S: Spelling>(out: &mut Out, spelling: &S, value: &PVal) -> Resu
 // Puts a tuple of packed values.
 #[cycle(term)]
 fn put_value_tuple<S: Spelling>(out: &mut Out, spelling: &S, parts: &[PVal]) -> Result<(), Memory>
-    ensures { OnOk result (out.new ≡ out.old ++ (0x06 ∷ one_written
+    ensures { OnOk result (out.new ≡ out.old ++ (value_tuple ∷ one_written
         (value_count (pvalues (map value_of parts.now))) ++
         all_value_bytes (S.spelled_type spelling.now) (S.spelled_reference spelling.now)
         (pvalues (map value_of parts.now)))) }
 {
-    out.put_u8(0x06)?;
+    out.put_u8(tags::VALUE_TUPLE)?;
     put_count_u8(out, parts.len())?;
     put_values(out, spelling, parts)
 }
@@ -323,12 +323,12 @@ fn put_value_tuple<S: Spelling>(out: &mut Out, spelling: &S, parts: &[PVal]) -> 
 // Puts a list of packed values.
 #[cycle(term)]
 fn put_value_list<S: Spelling>(out: &mut Out, spelling: &S, parts: &[PVal]) -> Result<(), Memory>
-    ensures { OnOk result (out.new ≡ out.old ++ (0x07 ∷ four_written
+    ensures { OnOk result (out.new ≡ out.old ++ (value_list ∷ four_written
         (value_count (pvalues (map value_of parts.now))) ++
         all_value_bytes (S.spelled_type spelling.now) (S.spelled_reference spelling.now)
         (pvalues (map value_of parts.now)))) }
 {
-    out.put_u8(0x07)?;
+    out.put_u8(tags::VALUE_LIST)?;
     put_count_u32(out, parts.len())?;
     put_values(out, spelling, parts)
 }

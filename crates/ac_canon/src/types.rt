@@ -8,6 +8,7 @@ ghost use Rattle.ac_terms.specs.Spelling.{type_bytes, all_type_bytes};
 
 use crate::counts::{put_count_u8, put_word};
 use ac_bytes::Out;
+use ac_terms::tags;
 use ac_types::{Memory, Text, Ty};
 use std::alloc::Global;
 
@@ -26,36 +27,36 @@ pub fn put_type(out: &mut Out, ty: &Ty) -> Result<(), Memory>
     ensures { OnOk result (out.new ≡ out.old ++ type_bytes (typ_of ty.now)) }
 {
     match ty {
-        Ty::Int => out.put_u8(0x01),
-        Ty::Bool => out.put_u8(0x02),
-        Ty::Str => out.put_u8(0x03),
-        Ty::Unit => out.put_u8(0x04),
-        Ty::Exn => out.put_u8(0x05),
+        Ty::Int => out.put_u8(tags::TYPE_INT),
+        Ty::Bool => out.put_u8(tags::TYPE_BOOL),
+        Ty::Str => out.put_u8(tags::TYPE_STR),
+        Ty::Unit => out.put_u8(tags::TYPE_UNIT),
+        Ty::Exn => out.put_u8(tags::TYPE_EXN),
         Ty::Tuple(parts) => {
-            out.put_u8(0x06)?;
+            out.put_u8(tags::TYPE_TUPLE)?;
             put_count_u8(out, parts.len())?;
             put_types(out, parts.as_slice())
         }
         Ty::List(item) => {
-            out.put_u8(0x07)?;
+            out.put_u8(tags::TYPE_LIST)?;
             put_type(out, item)
         }
         Ty::Opt(item) => {
-            out.put_u8(0x08)?;
+            out.put_u8(tags::TYPE_OPT)?;
             put_type(out, item)
         }
         Ty::Fun(from, to) => {
-            out.put_u8(0x09)?;
+            out.put_u8(tags::TYPE_FUN)?;
             put_type(out, from)?;
             put_type(out, to)
         }
         Ty::Abs(name, word) => {
-            out.put_u8(0x0A)?;
+            out.put_u8(tags::TYPE_ABS)?;
             out.put_bytes(name.0.as_slice())?;
             put_word(out, word)
         }
         Ty::Mine(word) => {
-            out.put_u8(0x0B)?;
+            out.put_u8(tags::TYPE_MINE)?;
             put_word(out, word)
         }
     }

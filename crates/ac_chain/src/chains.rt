@@ -1,6 +1,7 @@
 // Chains of programs.
 
 ghost use Rattle.std.specs.Prelude.{◌≡◌, ◌<◌, ◌≤◌, ◌^◌, [], IfOk, IfErr, OnErr, IsErrOf, length};
+ghost use Rattle.ac_types.specs.Limits.{most_shelf_entries};
 ghost use Rattle.ac_rules.specs.Views.{Mode};
 ghost use Rattle.ac_outside.specs.Outside.{Rose};
 ghost use Rattle.ac_acceptance.specs.Accepting.{IsShelf};
@@ -21,10 +22,10 @@ use ac_types::{Many, Text};
 use std::alloc::Global;
 use std::collections::BTreeSet;
 
-/// Loads all programs, beside a shelf of at most 256 texts, each under a URI of its own of 1 to
-/// 1,024 bytes, and runs them one after the other, each with so many applications at most. Each
-/// reads what the one before it sent, and the first has nothing to read; what they print goes to
-/// the console as they run.
+/// Loads all programs, beside a shelf of at most `MOST_SHELF_ENTRIES` texts, each under a URI of
+/// its own, and runs them one after the other, each with so many applications at most. Each reads
+/// what the one before it sent, and the first has nothing to read; what they print goes to the
+/// console as they run.
 pub fn chain<C: Sink>(
     alloc: Global,
     programs: &Many<Text>,
@@ -33,7 +34,7 @@ pub fn chain<C: Sink>(
     console: &mut C,
 ) -> Result<Chained, ChainFault>
     requires many { length programs.now < 2 ^ 32 }
-    requires few { length shelf.now.0 ≤ 256 }
+    requires few { length shelf.now.0 ≤ most_shelf_entries }
     requires shelved { IsShelf (shelf_of shelf.now) }
     // Where the chain has run: what its texts mean in each mode.
     ensures ran { IfOk result (λ c. (mode : Mode) → HasRun (texts_of programs.now)

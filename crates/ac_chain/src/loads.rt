@@ -1,6 +1,7 @@
 // The programs of a chain's texts.
 
 ghost use Rattle.std.specs.Prelude.{◌≡◌, ◌<◌, ◌≤◌, ◌^◌, length, IfOk, IfErr};
+ghost use Rattle.ac_types.specs.Limits.{most_shelf_entries};
 ghost use Rattle.ac_acceptance.specs.Accepting.{IsShelf};
 ghost use Rattle.ac_load.specs.Loading.{shelf_of};
 ghost use Rattle.ac_chain.specs.ChainTexts.{texts_of, programs_of, LoadAs};
@@ -15,7 +16,7 @@ use std::alloc::Global;
 /// The programs of texts beside a shelf, or the first text that is refused.
 pub fn load_all(alloc: Global, texts: &[Text], shelf: &Shelf) -> Result<Many<Loaded>, ChainFault>
     requires many { length texts.now < 2 ^ 32 }
-    requires few { length shelf.now.0 ≤ 256 }
+    requires few { length shelf.now.0 ≤ most_shelf_entries }
     requires shelved { IsShelf (shelf_of shelf.now) }
     ensures load { IfOk result (λ ls. LoadAs (texts_of texts.now) (shelf_of shelf.now)
         (programs_of ls)) }

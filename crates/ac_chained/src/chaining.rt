@@ -1,5 +1,6 @@
 // The call of a chain, and the answer that it gives.
 ghost use Rattle.std.specs.Prelude.{◌≡◌, ◌<◌, ◌≤◌, ◌^◌, IfOk, length};
+ghost use Rattle.ac_types.specs.Limits.{most_shelf_entries};
 ghost use Rattle.ac_acceptance.specs.Accepting.{IsShelf};
 ghost use Rattle.ac_load.specs.Loading.{shelf_of};
 ghost use Rattle.ac_chain.specs.ChainTexts.{texts_of};
@@ -24,10 +25,11 @@ pub enum Halt {
     Memory,
 }
 
-/// Loads the programs of fewer than 2^32 texts beside a shelf of at most 256 texts, each under a
-/// URI of its own of 1 to 1,024 bytes, and runs them in a chain, each with so many applications at
-/// most. What they print goes to the console as they run; the answer has what is printed behind
-/// that, and the line and the status.
+/// Loads the programs of fewer than 2^32 texts beside a shelf of at most `MOST_SHELF_ENTRIES`
+/// texts, each under a URI of its own, and runs them in a chain, each with so many applications at
+/// most.
+/// What they print goes to the console as they run; the answer has what is printed behind that, and
+/// the line and the status.
 pub fn run_chain<C: Sink>(
     alloc: Global,
     texts: &Many<Text>,
@@ -36,7 +38,7 @@ pub fn run_chain<C: Sink>(
     console: &mut C,
 ) -> Result<Answer, Halt>
     requires many { length texts.now < 2 ^ 32 }
-    requires few { length shelf.now.0 ≤ 256 }
+    requires few { length shelf.now.0 ≤ most_shelf_entries }
     requires shelved { IsShelf (shelf_of shelf.now) }
     ensures gives { GivesChain (texts_of texts.now) (shelf_of shelf.now) steps
         (printed C.told C.written C.faults console.old console.new) result }

@@ -7,9 +7,10 @@ use Rattle.ac_terms.specs.declared.term.PVal.TheVariants as value
 use Rattle.ac_terms.specs.declared.term.PVal.TheViews.{the_lemmas}
 use Rattle.ac_terms.specs.Terms.{KFun}
 use Rattle.ac_terms.specs.Read.{home_of, expr_of, value_of}
+use Rattle.ac_terms.proofs.ExceptionLaws.{exception_laws}
 use Rattle.ac_terms.proofs.ValueForms.{value_out, value_of-Tuple, value_of-List, value_of-Fun}
 
 pub fun_form : (v : PVal) (h : code_home.Home) (l x : Term) → v ≡ value.Fun h l → x ≡ l → value_of v ≡ KFun (home_of h) (expr_of x)
 fun_form v h l x e p = ap value_of e ∙ value_of-Fun h l ∙ ap (λ (u : Term). KFun (home_of h) (expr_of u)) (sym p)
 
-pub ruleset value_laws = (value_out, value_of-Tuple, value_of-List, the_lemmas)
+pub ruleset value_laws = (value_out, value_of-Tuple, value_of-List, the_lemmas, exception_laws)

@@ -1,29 +1,17 @@
 // Functions of packed values, and their homes.
 
-ghost use Rattle.std.specs.Prelude.{◌≡◌, ◌<◌, ◌^◌, [], IfOk, length, map, option_map};
+ghost use Rattle.std.specs.Prelude.{◌≡◌, ◌<◌, ◌^◌, [], IfOk, length, map};
 ghost use Rattle.ac_types.specs.ReadTypes.{typ_of};
-ghost use Rattle.ac_terms.specs.PrimitiveTypes.{is_exception};
-ghost use Rattle.ac_terms.specs.Read.{environment_of, home_of, expr_of, bytes_of};
+ghost use Rattle.ac_terms.specs.Read.{environment_of, home_of, expr_of};
 ghost use Rattle.ac_rules.specs.Plain.{may_travel};
 ghost use Rattle.ac_rules.specs.Typing.{fields_of, is_function_home};
 ghost use Rattle.ac_check.specs.inner.Captured.{declared_agrees, travels_as, travels_with};
 
-use ac_terms::{Def, Env, Exn, Home, Term};
-use ac_types::exceptions::has_text;
+use ac_terms::{Def, Env, Home, Term};
 use ac_types::{Many, Memory, Ty};
-use ac_typing::{declared_type, is_bare};
+use ac_typing::declared_type;
 use ac_views::{Site, ends, head, is_seen_as};
 use std::alloc::Global;
-
-/// Whether an exception has a text exactly where its number asks for one.
-pub fn is_exception(exn: &Exn) -> bool
-    ensures { result ≡ is_exception exn.now.number (option_map bytes_of exn.now.text) }
-{
-    match &exn.text {
-        None => is_bare(exn.number),
-        Some(_) => has_text(exn.number),
-    }
-}
 
 // How many fields a home has.
 #[tactic(auto, using(ac_terms::proofs::EnvLaws::env_laws))]

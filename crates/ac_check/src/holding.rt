@@ -10,7 +10,7 @@ ghost use Rattle.ac_views.specs.Sites.{typs_of};
 ghost use Rattle.ac_check.specs.inner.Captured.{captured_hold, all_captured_hold, arms_captured_hold};
 ghost use Rattle.ac_check.specs.inner.Heads.{AreHeads};
 
-use crate::functions::{is_exception, may_travel_as};
+use crate::functions::may_travel_as;
 use crate::heads::Heads;
 use ac_terms::{Arm, Env, PVal, Term};
 use ac_types::{Memory, Ty, both};
@@ -33,7 +33,7 @@ pub fn captured_hold<'a>(
     ensures answer { IfOk result (λ b. b ≡ captured_hold (environment_of env.now) (expr_of t.now)) }
 {
     match t {
-        Term::ExnVal(_, Some(text)) => captured_hold(alloc, text, env, heads),
+        Term::ExnOf(_, text) => captured_hold(alloc, text, env, heads),
         Term::Tuple(parts) => all_captured_hold(alloc, parts.as_slice(), env, heads),
         Term::Present(inner) => captured_hold(alloc, inner, env, heads),
         Term::Cons(head, tail) => {
@@ -94,7 +94,7 @@ pub fn captured_hold<'a>(
         Term::Bool(_) => Ok(true),
         Term::Str(_) => Ok(true),
         Term::Unit => Ok(true),
-        Term::ExnVal(_, None) => Ok(true),
+        Term::ExnVal(_) => Ok(true),
         Term::Nil(_) => Ok(true),
         Term::Empty(_) => Ok(true),
         Term::Var(_) => Ok(true),
@@ -167,7 +167,7 @@ pub fn holds<'a>(
         PVal::Bool(_) => Ok(is_base(at, Base::Bool)),
         PVal::Str(_) => Ok(is_base(at, Base::Str)),
         PVal::Unit => Ok(is_base(at, Base::Unit)),
-        PVal::Exn(exn) => Ok(is_base(at, Base::Exn) & is_exception(exn)),
+        PVal::Exn(_) => Ok(is_base(at, Base::Exn)),
         PVal::Tuple(parts) => match tuple_parts(at) {
             None => Ok(false),
             Some(types) => all_hold(alloc, parts.as_slice(), types.as_slice(), env, heads),

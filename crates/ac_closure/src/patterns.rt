@@ -26,8 +26,8 @@ pub fn add_pattern(set: &mut [bool], names: &Names, pat: &Pat)
             add_pattern(set, names, tail);
         }
         Pat::Present(inner) => add_pattern(set, names, inner),
-        Pat::Exn(_, Some(inner)) => add_pattern(set, names, inner),
-        Pat::Exn(_, None) => {}
+        Pat::ExnOf(_, inner) => add_pattern(set, names, inner),
+        Pat::Exn(_) => {}
         Pat::Wild => {}
         Pat::Int(_) => {}
         Pat::Bool(_) => {}

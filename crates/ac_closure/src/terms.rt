@@ -25,8 +25,8 @@ pub fn add_term(set: &mut [bool], names: &Names, term: &Term)
         Term::Bool(_) => {}
         Term::Str(_) => {}
         Term::Unit => {}
-        Term::ExnVal(_, None) => {}
-        Term::ExnVal(_, Some(text)) => add_term(set, names, text),
+        Term::ExnVal(_) => {}
+        Term::ExnOf(_, text) => add_term(set, names, text),
         Term::Tuple(parts) => add_terms(set, names, parts.as_slice()),
         Term::Nil(ty) => add_type(set, names, ty),
         Term::Empty(ty) => add_type(set, names, ty),

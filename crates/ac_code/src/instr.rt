@@ -1,7 +1,7 @@
 // The instructions of the machine.
 
 use ac_terms::Pat;
-use ac_types::{Text, Ty, Word};
+use ac_types::{ExnKind, Primitive, Text, Ty, Word};
 
 /// The number of a block in its table.
 #[derive(Clone, Copy, Debug, PartialEq, Eq)]
@@ -15,7 +15,7 @@ pub enum Instr {
     PushUnit,
     PushNil,
     PushNone,
-    MakeExn(u8),
+    MakeExn(ExnKind),
     MakeSome,
     MakeCons,
     MakeTuple(usize),
@@ -35,7 +35,7 @@ pub enum Instr {
     JumpIfNot(usize),
     Test(Pat, usize),
     NoMatch,
-    Prim(u8),
+    Prim(Primitive),
     Try(usize),
     EndTry,
     Raise,

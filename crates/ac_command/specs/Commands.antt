@@ -3,6 +3,7 @@ use Rattle.std.specs.Prelude.{ℕ, Bool, true, false, List, [], ◌∷◌, lengt
 use Rattle.std.specs.Prelude.{Option, Some, None, is_some, if◌then◌else◌, option_and_then, option_map}
 use Rattle.std.specs.List.{list_all}
 use Rattle.std.specs.Str.{bytes_eq}
+use Rattle.ac_types.specs.Limits.{most_checked, most_chained, most_steps_digits, most_steps, default_steps, most_modules}
 use Rattle.ac_command.specs.Form.{Form, Given, Text, given_of}
 use Rattle.ac_command.specs.WordValues.{all_in, first_in, is_file, number_in}
 use Rattle.ac_command.specs.declared.command.Channel.{Channel}
@@ -82,18 +83,18 @@ files_form most options = record {
   places = record { number = 1; name = codes "FILE"; most = Some most } ∷ [];
 }
 
--- check FILE.. [--shelf FILE], of 1 to 256 FILEs
+-- check FILE.. [--shelf FILE], of 1 to `most_checked` FILEs
 abbrev pub check_form : Form
-check_form = files_form 256 ((codes "shelf", true) ∷ [])
+check_form = files_form most_checked ((codes "shelf", true) ∷ [])
 
--- chain FILE.. [--shelf FILE] [--steps N], of 1 to 16 FILEs
+-- chain FILE.. [--shelf FILE] [--steps N], of 1 to `most_chained` FILEs
 abbrev pub chain_form : Form
-chain_form = files_form 16 ((codes "shelf", true) ∷ (codes "steps", true) ∷ [])
+chain_form = files_form most_chained ((codes "shelf", true) ∷ (codes "steps", true) ∷ [])
 
--- N: 1 to 10 digits, at most 1,000,000,000; where it isn't given, 1,000,000
+-- N: a digit and no more than `most_steps_digits`, at most `most_steps`; where it isn't given, `default_steps`
 abbrev pub steps_in : Option Text → Option ℕ
-steps_in None = Some 1000000
-steps_in (Some text) = if nat_le (length text) 10 then number_in 0 1000000000 text else None
+steps_in None = Some default_steps
+steps_in (Some text) = if nat_le (length text) most_steps_digits then number_in 0 most_steps text else None
 
 -- CH: `-`, or the name of a file
 abbrev pub channel_named : Text → Option ChannelName
@@ -132,9 +133,9 @@ run_by p steps from to = run_with p (steps_in steps) (channel_in from) (channel_
 abbrev pub seed_in : Text → Option ℕ
 seed_in text = number_in 0 18446744073709551615 text
 
--- MODULES: from 1 to 1,000
+-- MODULES: from 1 to `most_modules`
 abbrev pub modules_in : Text → Option ℕ
-modules_in text = number_in 1 1000 text
+modules_in text = number_in 1 most_modules text
 
 -- a `make` of both numbers
 abbrev pub make_with : Bool → Option ℕ → Option ℕ → Option Request

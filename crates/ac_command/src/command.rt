@@ -36,7 +36,7 @@ pub struct Run<'a> {
 pub struct Make {
     /// The seed of the numbers that are drawn for it.
     pub seed: u64,
-    /// How many modules it has, from 1 to 1,000.
+    /// How many modules it has, from 1 to `MOST_MODULES`.
     pub modules: u32,
     /// Whether it is run, in place of printed.
     pub runs: bool,
@@ -45,7 +45,7 @@ pub struct Make {
 /// Loads programs, each by itself, and says whether they are accepted.
 #[derive(Drop)]
 pub struct Check<'a> {
-    /// The programs' files, of which there is at least one and at most 256.
+    /// The programs' files, of which there is at least one and at most `MOST_CHECKED`.
     pub files: Vec<&'a str>,
     /// The file of the list of their shelf, if they have one.
     pub shelf: Option<&'a str>,
@@ -54,7 +54,7 @@ pub struct Check<'a> {
 /// Loads programs and runs them one after the other; each reads what the one before it sent.
 #[derive(Drop)]
 pub struct Chain<'a> {
-    /// The programs' files, of which there is at least one and at most 16.
+    /// The programs' files, of which there is at least one and at most `MOST_CHAINED`.
     pub files: Vec<&'a str>,
     /// The file of the list of their shelf, if they have one.
     pub shelf: Option<&'a str>,

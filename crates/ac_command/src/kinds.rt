@@ -8,6 +8,7 @@ ghost use Rattle.ac_command.specs.inner.Rules.{ReadsForm};
 
 use crate::arguments::{Argument, command_with};
 use ac_types::Memory;
+use ac_types::limits::{MOST_CHAINED, MOST_CHECKED};
 use std::alloc::Global;
 
 /// What a command does.
@@ -62,12 +63,12 @@ pub(crate) fn command_in<'a>(alloc: Global, kind: Kind) -> Result<clap::Command<
             command_with(alloc, "make", &arguments)
         }
         Kind::Check => {
-            let arguments = [Argument::Files(256), Argument::Value("shelf")];
+            let arguments = [Argument::Files(MOST_CHECKED), Argument::Value("shelf")];
             command_with(alloc, "check", &arguments)
         }
         Kind::Chain => {
             let arguments = [
-                Argument::Files(16),
+                Argument::Files(MOST_CHAINED),
                 Argument::Value("shelf"),
                 Argument::Value("steps"),
             ];

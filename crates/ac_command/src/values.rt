@@ -7,18 +7,8 @@ ghost use Rattle.ac_command.specs.WordValues.{is_file, number_in};
 
 use crate::command::Channel;
 use ac_types::Memory;
+use ac_types::limits::{DEFAULT_STEPS, MOST_MODULES, MOST_STEPS, MOST_STEPS_DIGITS};
 use std::alloc::Global;
-
-// The steps of a command that names none.
-const DEFAULT_STEPS: u64 = 1_000_000;
-
-// The most steps that a command may name, and the most digits that it may name them by.
-const MOST_STEPS: u64 = 1_000_000_000;
-
-const MOST_DIGITS: usize = 10;
-
-// The most modules of a program that is made.
-const MOST_MODULES: u64 = 1000;
 
 // Whether a plus stands first, which `parse` takes.
 fn has_plus(text: &str) -> bool
@@ -56,7 +46,7 @@ pub(crate) fn steps_of(text: Option<&str>) -> Option<u64>
     match text {
         None => Some(DEFAULT_STEPS),
         Some(text) => {
-            if text.len() > MOST_DIGITS {
+            if text.len() > MOST_STEPS_DIGITS {
                 return None;
             }
             number_of(text, 0, MOST_STEPS)

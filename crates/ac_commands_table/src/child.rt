@@ -1,7 +1,8 @@
 // This process as the program `acute`, over the real files and streams.
 
 use ac_command::{Channel, Command, read_words};
-use ac_outside::{OpenGate, RealFiles, RealSink, RealSource};
+use ac_outside::OpenGate;
+use ac_outside_system::{RealFiles, RealSink, RealSource};
 use ac_top::{Status, acute};
 use ac_types::Memory;
 use std::alloc::Global;

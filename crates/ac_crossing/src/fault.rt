@@ -2,8 +2,7 @@
 
 ghost use Rattle.std.specs.Prelude.{◌≡◌};
 
-use ac_terms::Exn;
-use ac_types::Memory;
+use ac_types::{Exn, Memory};
 
 /// Why nothing crosses.
 #[derive(Drop)]

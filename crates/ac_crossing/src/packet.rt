@@ -1,7 +1,7 @@
 // The bytes of a packet.
 
 ghost use Rattle.std.specs.Prelude.{◌≡◌, ◌≤◌, ◌++◌, None, length, MatchResult};
-ghost use Rattle.ac_types.specs.Limits.{longest_packet};
+ghost use Rattle.ac_types.specs.Limits.{longest_packet, deepest_nesting, most_entries};
 ghost use Rattle.ac_types.specs.Types.{Bytes};
 ghost use Rattle.ac_types.specs.ReadTypes.{typ_of};
 ghost use Rattle.ac_terms.specs.Heads.{packed_heads};
@@ -38,10 +38,10 @@ pub fn bytes(
     value: Value,
     ty: &Ty,
 ) -> Result<Text, Stop>
-    requires few { length env.now.entries ≤ 65535 }
-    requires short { length chosen.now ≤ 65535 }
+    requires few { length env.now.entries ≤ most_entries }
+    requires short { length chosen.now ≤ most_entries }
     requires below { AllBelow (length env.now.entries) chosen.now }
-    requires sound { first_fault 500 longest_packet 0 (packed_heads (typ_of ty.now)
+    requires sound { first_fault deepest_nesting longest_packet 0 (packed_heads (typ_of ty.now)
         (bare_packed (environment_of env.now)
         (stands (table_code table.now) (stands_as store.now value.0)) (typ_of ty.now))) ≡ None }
     ensures { IsWhole result (packet_bytes (packet_of_entries (environment_of env.now) mark
@@ -74,10 +74,10 @@ fn numbered(
     value: Value,
     ty: &Ty,
 ) -> Result<Text, Stop>
-    requires few { length env.now.entries ≤ 65535 }
+    requires few { length env.now.entries ≤ most_entries }
     requires below { AllBelow (length env.now.entries) chosen.now }
     requires placed { number_for numbers.now ≡ place_in chosen.now }
-    requires sound { first_fault 500 longest_packet 0 (packed_heads (typ_of ty.now)
+    requires sound { first_fault deepest_nesting longest_packet 0 (packed_heads (typ_of ty.now)
         (bare_packed (environment_of env.now)
         (stands (table_code table.now) (stands_as store.now value.0)) (typ_of ty.now))) ≡ None }
     ensures { IsWhole result (packet_bytes (packet_of_entries (environment_of env.now) mark

@@ -1,7 +1,7 @@
 // Packing.
 
 ghost use Rattle.std.specs.Prelude.{◌≡◌, ◌≤◌, Some, None, Err, length, MatchResult};
-ghost use Rattle.ac_types.specs.Limits.{longest_packet};
+ghost use Rattle.ac_types.specs.Limits.{longest_packet, deepest_nesting, most_entries};
 ghost use Rattle.ac_types.specs.ReadTypes.{typ_of};
 ghost use Rattle.ac_terms.specs.Heads.{packed_heads};
 ghost use Rattle.ac_terms.specs.Read.{environment_of};
@@ -101,7 +101,7 @@ fn marked(
     value: Value,
     ty: &Ty,
 ) -> Result<Text, PackFault>
-    requires few { length env.now.entries ≤ 65535 }
+    requires few { length env.now.entries ≤ most_entries }
     requires marked { mark_at (environment_of env.now) mark.now.0 ≡ Some at }
     ensures { Packed (marshalled (environment_of env.now) mark.now.0 (typ_of ty.now)
         (bare_packed (environment_of env.now)
@@ -126,7 +126,7 @@ fn chosen(
     value: Value,
     ty: &Ty,
 ) -> Result<Many<u32>, PackFault>
-    requires few { length env.now.entries ≤ 65535 }
+    requires few { length env.now.entries ≤ most_entries }
     requires marked { mark_at (environment_of env.now) mark.now.0 ≡ Some at }
     ensures { let v : PValue = bare_packed (environment_of env.now)
         (stands (table_code table.now) (stands_as store.now value.0)) (typ_of ty.now) in
@@ -156,10 +156,10 @@ fn whole(
     value: Value,
     ty: &Ty,
 ) -> Result<Text, PackFault>
-    requires few { length env.now.entries ≤ 65535 }
-    requires short { length chosen.now ≤ 65535 }
+    requires few { length env.now.entries ≤ most_entries }
+    requires short { length chosen.now ≤ most_entries }
     requires below { AllBelow (length env.now.entries) chosen.now }
-    requires sound { first_fault 500 longest_packet 0 (packed_heads (typ_of ty.now)
+    requires sound { first_fault deepest_nesting longest_packet 0 (packed_heads (typ_of ty.now)
         (bare_packed (environment_of env.now)
         (stands (table_code table.now) (stands_as store.now value.0)) (typ_of ty.now))) ≡ None }
     ensures { let p : Packet = packet_of_entries (environment_of env.now) mark chosen.now

@@ -1,6 +1,7 @@
 // The exceptions of faults.
 
 ghost use Rattle.std.specs.Prelude.{◌≡◌, [], Some, MatchOption, codes, option_map, unwrap_or, slice_get};
+ghost use Rattle.ac_types.specs.ReadNumbers.{texted_number};
 ghost use Rattle.ac_terms.specs.Read.{packet_of};
 ghost use Rattle.ac_meaning.specs.Worlds.{exception};
 ghost use Rattle.ac_meaning.specs.Packing.{of_fault, of_cause, import_name, unmarshal_failure_exn};
@@ -9,9 +10,8 @@ ghost use Rattle.ac_crossing.specs.inner.Landed.{IsRaised, fault_told, cause_tol
 use crate::fault::CrossFault;
 use crate::packing::PackFault;
 use ac_admit::AdmitFault;
-use ac_terms::{Exn, PDef, Packet};
-use ac_types::Text;
-use ac_types::exceptions::{MARSHAL_FAILURE, RESOLVE_FAILURE, UNMARSHAL_FAILURE};
+use ac_terms::{PDef, Packet};
+use ac_types::{Exn, Text, TextExn};
 use std::alloc::Global;
 
 /// The exception of why a value is not packed.
@@ -20,10 +20,10 @@ pub fn of_packing(alloc: Global, fault: PackFault) -> CrossFault
         (λ f. IsRaised (of_fault f) result) }
 {
     match fault {
-        PackFault::Mark => raise(alloc, MARSHAL_FAILURE, b"mark"),
-        PackFault::Function => raise(alloc, MARSHAL_FAILURE, b"function"),
-        PackFault::Depth => raise(alloc, MARSHAL_FAILURE, b"depth"),
-        PackFault::Size => raise(alloc, MARSHAL_FAILURE, b"size"),
+        PackFault::Mark => raise(alloc, TextExn::MarshalFailure, b"mark"),
+        PackFault::Function => raise(alloc, TextExn::MarshalFailure, b"function"),
+        PackFault::Depth => raise(alloc, TextExn::MarshalFailure, b"depth"),
+        PackFault::Size => raise(alloc, TextExn::MarshalFailure, b"size"),
         PackFault::Memory => CrossFault::Memory,
     }
 }
@@ -32,7 +32,7 @@ pub fn of_packing(alloc: Global, fault: PackFault) -> CrossFault
 pub fn of_format(alloc: Global) -> CrossFault
     ensures { IsRaised (unmarshal_failure_exn (codes "format")) result }
 {
-    raise(alloc, UNMARSHAL_FAILURE, b"format")
+    raise(alloc, TextExn::UnmarshalFailure, b"format")
 }
 
 /// The exception of why a packet is refused.
@@ -41,12 +41,12 @@ pub fn of_admission(alloc: Global, packet: &Packet, fault: AdmitFault) -> CrossF
         (λ c. IsRaised (of_cause (packet_of packet.now).defs c) result) }
 {
     match fault {
-        AdmitFault::Definition { .. } => raise(alloc, UNMARSHAL_FAILURE, b"definition"),
-        AdmitFault::Clash { .. } => raise(alloc, UNMARSHAL_FAILURE, b"clash"),
-        AdmitFault::Full { .. } => raise(alloc, UNMARSHAL_FAILURE, b"full"),
-        AdmitFault::Unresolved { i } => raise(alloc, RESOLVE_FAILURE, imported(packet, i)),
-        AdmitFault::WrongType => raise(alloc, UNMARSHAL_FAILURE, b"type"),
-        AdmitFault::Value => raise(alloc, UNMARSHAL_FAILURE, b"value"),
+        AdmitFault::Definition { .. } => raise(alloc, TextExn::UnmarshalFailure, b"definition"),
+        AdmitFault::Clash { .. } => raise(alloc, TextExn::UnmarshalFailure, b"clash"),
+        AdmitFault::Full { .. } => raise(alloc, TextExn::UnmarshalFailure, b"full"),
+        AdmitFault::Unresolved { i } => raise(alloc, TextExn::ResolveFailure, imported(packet, i)),
+        AdmitFault::WrongType => raise(alloc, TextExn::UnmarshalFailure, b"type"),
+        AdmitFault::Value => raise(alloc, TextExn::UnmarshalFailure, b"value"),
         AdmitFault::Memory => CrossFault::Memory,
     }
 }
@@ -62,15 +62,12 @@ fn imported(packet: &Packet, i: u32) -> &[u8]
     }
 }
 
-// An exception of that number with a text.
-fn raise(alloc: Global, number: u8, why: &[u8]) -> CrossFault
-    ensures { IsRaised (exception number (Some why.now)) result }
+// An exception with a text.
+fn raise(alloc: Global, exn: TextExn, why: &[u8]) -> CrossFault
+    ensures { IsRaised (exception (texted_number exn) (Some why.now)) result }
 {
     match Text::from_slice(alloc, why) {
-        Ok(text) => CrossFault::Raise(Exn {
-            number,
-            text: Some(text),
-        }),
+        Ok(text) => CrossFault::Raise(Exn::Text(exn, text)),
         Err(_) => CrossFault::Memory,
     }
 }

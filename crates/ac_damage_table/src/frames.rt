@@ -9,8 +9,7 @@ use ac_load::{Kind, Shelf, load};
 use ac_outside::SureWorld;
 use ac_rules::Loaded;
 use ac_run::{RunEnd, Session};
-use ac_types::exceptions::END_OF_FILE;
-use ac_types::{Memory, Text};
+use ac_types::{BareExn, Exn, Memory, Text};
 use std::alloc::Global;
 
 // Each frame takes one.
@@ -65,10 +64,7 @@ pub fn received(alloc: Global, text: &[u8], strings: &[Text]) -> Result<Vec<Text
 }
 
 fn is_end_of_file(end: &RunEnd) -> bool {
-    match end {
-        RunEnd::Uncaught(exn) => exn.number == END_OF_FILE,
-        _ => false,
-    }
+    matches!(end, RunEnd::Uncaught(Exn::Bare(BareExn::EndOfFile)))
 }
 
 // The frames of strings, each of which is shorter than a frame may be.

@@ -8,4 +8,5 @@ pub mod Ontos
 pub mod Cycles
 pub mod Decoding
 pub mod Integers
+pub mod Named
 pub mod NoEntry

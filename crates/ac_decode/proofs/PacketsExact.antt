@@ -1,6 +1,6 @@
 -- Definitions and packets are read exactly: what is read of all bytes is what they spell.
 use Rattle.std.proofs.Common.{◌≡◌, refl, ap, sym, subst, ◌∙◌, ℕ, Bool, true, false, ◌&&◌, List, [], ◌∷◌, ◌++◌, length, map, Some}
-use Rattle.std.specs.Prelude.{nat_le, nat_eq, codes}
+use Rattle.std.specs.Prelude.{nat_le, nat_eq}
 use Rattle.std.specs.List.{list_all}
 use native.Mathlib.Omega.{arith}
 use mathlib.Core.Bool.{true≢false}
@@ -18,6 +18,7 @@ use Rattle.ac_terms.specs.PacketReading.{ReadsPart, one, pair, nothing, a_module
 use Rattle.ac_terms.proofs.Back.{Back, back_one, back_after}
 use Rattle.ac_terms.proofs.BoundsLaws.{module_bounds, import_bounds, packet_bounds}
 use Rattle.ac_terms.proofs.TestLaws.{le_true, le_is, eq_true}
+use Rattle.ac_terms.specs.Tags.{packet_front, packet_mark, packet_in_full}
 use Rattle.ac_pieces.specs.ExactReading.{in_limits, exact_upper, exact_version, exact_constraint, exact_resolves}
 use Rattle.ac_pieces.specs.ExactTypes.{exact_type, exact_all_typed, exact_sig}
 use Rattle.ac_pieces.proofs.Exact.{Took, IsExact, Once, once, twice, exact_passing, exact_list, exact_two_parts, AllOf, each_passes, of_all, all_to}
@@ -25,7 +26,7 @@ use Rattle.ac_pieces.proofs.Tables.{table_sound, sound_nothing, sound_one}
 use Rattle.ac_pieces.proofs.Pieces.{Is, byte_is_exact, four_is_exact, two_is_exact, lower_is_exact, upper_is_exact, long_count_is_exact, version_is_exact, constraint_is_exact, resolves_is_exact}
 use Rattle.ac_pieces.proofs.TypesExact.{SmallType, SmallAll, SmallSig, type_is_exact, all_typed_is_exact, sig_is_exact}
 use Rattle.ac_decode.specs.inner.ExactTerms.{exact_value}
-use Rattle.ac_decode.specs.inner.ExactPackets.{mark_of_packets, field_made, exact_mark, exact_first, exact_head, exact_field, exact_fields, exact_module, exact_import, exact_def, exact_defs, exact_packet}
+use Rattle.ac_decode.specs.inner.ExactPackets.{field_made, exact_mark, exact_first, exact_head, exact_field, exact_fields, exact_module, exact_import, exact_def, exact_defs, exact_packet}
 use Rattle.ac_decode.proofs.PartsSmall.{small_join, small_left, small_right}
 use Rattle.ac_decode.proofs.TermsExact.{ProperValue, term_is_exact, value_is_exact}
 use Rattle.ac_decode.proofs.DefBounds.{few, few_from, sig_fits, sig_small, sig_from, typed_parts, typed_fits, typed_small, typed_from, ProperField, fits_field, field_parts, fields_fit, fields_nest, fields_small, fields_from}
@@ -177,20 +178,20 @@ defs_are_exact = exact_list def_is_exact two_is_exact
 
 -- what a packet begins with
 abbrev head_bytes : Bytes
-head_bytes = codes "ACUP" ++ 0x01 ∷ []
+head_bytes = packet_front ++ packet_in_full ∷ []
 
 abbrev IsHead : ℕ × ℕ → Type 0
-IsHead h = ((is_four h.0 ≡ true) × (nat_eq mark_of_packets h.0 ≡ true)) × (Unit {0} × (nat_eq 1 h.1 ≡ true))
+IsHead h = ((is_four h.0 ≡ true) × (nat_eq packet_mark h.0 ≡ true)) × (Unit {0} × (nat_eq packet_in_full h.1 ≡ true))
 
 abbrev head_spelled : ℕ × ℕ → Bytes
 head_spelled h = four_written h.0 ++ byte h.1
 
 head_is_exact : IsExact exact_head IsHead head_spelled
 unfolding exact_mark exact_first
-head_is_exact = exact_pair (exact_passing (nat_eq mark_of_packets) four_is_exact) (exact_passing (nat_eq 1) byte_is_exact)
+head_is_exact = exact_pair (exact_passing (nat_eq packet_mark) four_is_exact) (exact_passing (nat_eq packet_in_full) byte_is_exact)
 
 head_is : (h : ℕ × ℕ) → IsHead h → head_spelled h ≡ head_bytes
-head_is h a = ap (λ n. four_written n ++ byte h.1) (sym (eq_true mark_of_packets h.0 a.0.1)) ∙ ap (λ n. four_written mark_of_packets ++ byte n) (sym (eq_true 1 h.1 a.1.1))
+head_is h a = ap (λ n. four_written n ++ byte h.1) (sym (eq_true packet_mark h.0 a.0.1)) ∙ ap (λ n. four_written packet_mark ++ byte n) (sym (eq_true packet_in_full h.1 a.1.1))
 
 -- the rest of a packet
 abbrev Packed : (List Def × Typ) × PValue → Type 0
@@ -245,4 +246,4 @@ packet_sound bs p rest e =
 pub packet_back : (p : Packet) → fits_packet p ≡ true → Back (exact_packet read_type) (packet_bytes p) p
 unfolding exact_packet
 packet_back p w =
-    record { reads = (back_after (λ head. one a_packet body) (head_is_exact.back (mark_of_packets, 1) ((refl, refl), (tt, refl))) (back_one a_packet (body_is_exact.back ((p.defs, p.ty), p.value) (packed_parts p w)))).reads }
+    record { reads = (back_after (λ head. one a_packet body) (head_is_exact.back (packet_mark, packet_in_full) ((refl, refl), (tt, refl))) (back_one a_packet (body_is_exact.back ((p.defs, p.ty), p.value) (packed_parts p w)))).reads }

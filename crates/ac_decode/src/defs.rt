@@ -13,12 +13,10 @@ use ac_pieces::{
     Fault, Types, all_typed, byte, constraint, joined, long_count, lower, resolves, sig, two,
     upper, version,
 };
-use ac_terms::{Field, Import, Module, PDef};
+use ac_terms::{Field, Import, Module, PDef, tags};
 use ac_types::Many;
+use ac_types::limits::{DEEPEST_NESTING, MOST_ITEMS};
 use std::alloc::Global;
-
-/// How far terms and values nest at most.
-pub const DEEPEST: u32 = 500;
 
 // A field.
 #[tactic(auto, unfolding(crate::specs::inner::ExactPackets::exact_field))]
@@ -28,7 +26,7 @@ fn field<T: Types>(alloc: Global, cursor: &mut Cursor<'_>, types: &T) -> Result<
 {
     let name = lower(alloc, cursor)?;
     let head = joined(name, types.read_type(alloc, cursor, false))?;
-    let ((name, ty), term) = joined(head, term(alloc, cursor, types, false, DEEPEST))?;
+    let ((name, ty), term) = joined(head, term(alloc, cursor, types, false, DEEPEST_NESTING))?;
     Ok(Field { name, ty, term })
 }
 
@@ -56,7 +54,7 @@ fn fields<T: Types>(alloc: Global, cursor: &mut Cursor<'_>, types: &T) -> Result
     ensures { ReadsAs (map field_of) result
         (exact_fields (T.reads_type types.now) cursor.old.left) cursor.new.left }
 {
-    let count = long_count(cursor, 0, 1024)?;
+    let count = long_count(cursor, 0, MOST_ITEMS)?;
     some_fields(alloc, cursor, types, count)
 }
 
@@ -122,8 +120,8 @@ fn def_behind<T: Types>(
         (slice_get (def_table (T.reads_type types.now)) tag)) cursor.new.left }
 {
     match tag {
-        0x01 => Ok(PDef::Module(module(alloc, cursor, types)?)),
-        0x02 => Ok(PDef::Import(import(alloc, cursor, types)?)),
+        tags::DEF_MODULE => Ok(PDef::Module(module(alloc, cursor, types)?)),
+        tags::DEF_IMPORT => Ok(PDef::Import(import(alloc, cursor, types)?)),
         _ => Err(Fault::Misfit { at }),
     }
 }

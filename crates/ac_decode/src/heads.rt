@@ -1,11 +1,12 @@
 // Terms, patterns and packed values by their tags, and what stands behind a tag but for inner
 // trees.
 
-ghost use Rattle.std.specs.Prelude.{◌≡◌, ℕ, Bool, true, false, Some, None, option_and_then, slice_get, MatchOption, IfOk};
+ghost use Rattle.std.specs.Prelude.{◌≡◌, ℕ, Bool, true, false, Some, None, option_and_then, slice_get, MatchOption};
 ghost use Rattle.ac_terms.specs.Terms.{Pattern, PInt, PExn, PExnOf, Expr, Int, Exn as ExnAlone, ExnOf, Ref, Rec, PValue, KInt, KExn};
-ghost use Rattle.ac_types.specs.Exceptions.{has_text};
+ghost use Rattle.ac_types.specs.Limits.{longest_string};
+ghost use Rattle.ac_types.specs.ReadNumbers.{primitive_number, kind_number};
 ghost use Rattle.ac_terms.specs.PrimitiveTypes.{primitives};
-ghost use Rattle.ac_terms.specs.Read.{pattern_of, expr_of, home_of, value_of};
+ghost use Rattle.ac_terms.specs.Read.{bytes_of, pattern_of, expr_of, home_of, value_of};
 ghost use Rattle.ac_terms.specs.PacketReading.{ReadsPart, one, two_parts_read, three, argument_count};
 ghost use Rattle.ac_pieces.specs.ExactReading.{exact_two, exact_eight, exact_lower, exact_text};
 ghost use Rattle.ac_pieces.specs.Readers.{ReadsAs, ReadsOn};
@@ -14,17 +15,10 @@ ghost use Rattle.ac_decode.specs.inner.Follows.{pattern_follows, term_follows, v
 
 use ac_bytes::Cursor;
 use ac_pieces::{Fault, Types, byte, eight, four, joined, lower, text, truth, two, width};
-use ac_terms::{Exn, Home, PVal, Pat, Term};
-use ac_types::Ty;
-use ac_types::exceptions::{RESOLVE_FAILURE, has_text};
-use ac_types::primitives::{
-    ADD, CONCAT, DIV, EQ, LENGTH, LT, MUL, NEG, NOT, OF_INT, PRINT_INT, PRINT_STRING, RECEIVE, REM,
-    SEND, SUB, SUB_STRING,
-};
+use ac_terms::{Home, PVal, Pat, Term, tags};
+use ac_types::limits::LONGEST_STRING;
+use ac_types::{Exn, ExnKind, Primitive, Text, TextExn, Ty};
 use std::alloc::Global;
-
-// The most bytes of a string.
-const LONGEST: u32 = 1_048_576;
 
 /// A pattern by its tag.
 #[derive(Drop)]
@@ -37,15 +31,15 @@ pub enum PatHead {
     Cons,
     /// `Some`.
     Present,
-    /// The exception of that number, with a pattern for its text.
-    Exn(u8),
+    /// An exception, with a pattern for its text.
+    Exn(TextExn),
 }
 
 /// What one term stands in.
 #[derive(Drop)]
 pub enum Around {
-    /// The exception of that number.
-    Exn(u8),
+    /// An exception.
+    Exn(TextExn),
     /// `Some`.
     Present,
     /// A function.
@@ -78,8 +72,8 @@ pub enum Row {
     Tuple,
     /// A sequence.
     Seq,
-    /// The primitive of that number.
-    Prim(u8),
+    /// A primitive.
+    Prim(Primitive),
 }
 
 /// What arms follow.
@@ -125,44 +119,44 @@ pub enum ValueHead {
     Fun(Home),
 }
 
-// The number of an exception.
+// An exception by its number.
 #[tactic(auto, unfolding(crate::specs::inner::ExactTerms::exact_exn))]
-fn exn(cursor: &mut Cursor<'_>) -> Result<u8, Fault>
-    ensures { ReadsAs (λ (n : ℕ). n) result (exact_exn cursor.old.left) cursor.new.left }
+fn exn(cursor: &mut Cursor<'_>) -> Result<ExnKind, Fault>
+    ensures { ReadsAs kind_number result (exact_exn cursor.old.left) cursor.new.left }
 {
     let at = cursor.place();
     let number = byte(cursor)?;
-    if number > RESOLVE_FAILURE {
-        return Err(Fault::Misfit { at });
-    }
-    Ok(number)
-}
-
-// How many arguments the primitive of that number takes, `None` where there is none.
-fn arity(number: u8) -> Option<u8>
-    ensures { MatchOption result (names_primitive number ≡ false)
-        (λ n. (names_primitive number ≡ true) × (n ≡ argument_count primitives number)) }
-{
-    match number {
-        ADD | SUB | MUL | DIV | REM | EQ | LT | CONCAT => Some(2),
-        NEG | NOT | PRINT_INT | PRINT_STRING | SEND | RECEIVE => Some(1),
-        LENGTH | SUB_STRING | OF_INT => Some(1),
-        _ => None,
-    }
-}
-
-// The number of a primitive.
-#[tactic(auto, unfolding(crate::specs::inner::ExactTerms::exact_primitive))]
-fn primitive(cursor: &mut Cursor<'_>) -> Result<(u8, u8), Fault>
-    ensures number { ReadsAs (λ (p : ℕ × ℕ). p.0) result (exact_primitive cursor.old.left)
-        cursor.new.left }
-    ensures arguments { IfOk result (λ p. p.1 ≡ argument_count primitives p.0) }
-{
-    let at = cursor.place();
-    let number = byte(cursor)?;
-    match arity(number) {
+    match ExnKind::from_number(number) {
         None => Err(Fault::Misfit { at }),
-        Some(arguments) => Ok((number, arguments)),
+        Some(kind) => Ok(kind),
+    }
+}
+
+// The primitive of that number, `None` where there is none.
+fn numbered(number: u8) -> Option<Primitive>
+    ensures { MatchOption result (names_primitive number ≡ false)
+        (λ p. (names_primitive number ≡ true) × (number ≡ primitive_number p)) }
+{
+    Primitive::from_number(number)
+}
+
+// How many arguments a primitive takes.
+fn arguments(primitive: Primitive) -> u8
+    ensures { result ≡ argument_count primitives (primitive_number primitive) }
+{
+    primitive.arity()
+}
+
+// A primitive by its number.
+#[tactic(auto, unfolding(crate::specs::inner::ExactTerms::exact_primitive))]
+fn primitive(cursor: &mut Cursor<'_>) -> Result<Primitive, Fault>
+    ensures { ReadsAs primitive_number result (exact_primitive cursor.old.left) cursor.new.left }
+{
+    let at = cursor.place();
+    let number = byte(cursor)?;
+    match numbered(number) {
+        None => Err(Fault::Misfit { at }),
+        Some(primitive) => Ok(primitive),
     }
 }
 
@@ -190,6 +184,14 @@ fn several(cursor: &mut Cursor<'_>) -> Result<u32, Fault>
     Ok(n)
 }
 
+// A string.
+fn string(alloc: Global, cursor: &mut Cursor<'_>) -> Result<Text, Fault>
+    ensures { ReadsAs bytes_of result (exact_text longest_string cursor.old.left)
+        cursor.new.left }
+{
+    text(alloc, cursor, LONGEST_STRING as u32)
+}
+
 /// The head of a pattern behind its tag, which stands at that place.
 #[tactic(auto, using(ac_terms::proofs::PatternForms::pattern_forms))]
 pub fn pattern_head<T: Types>(
@@ -204,33 +206,31 @@ pub fn pattern_head<T: Types>(
         (slice_get (exact_pattern_table (T.reads_type types.now) f) tag)) }
 {
     match tag {
-        0x01 => Ok(PatHead::Leaf(Pat::Wild)),
-        0x02 => Ok(PatHead::Leaf(Pat::Var(types.read_type(alloc, cursor, false)?))),
-        0x03 => pattern_int(cursor),
-        0x04 => Ok(PatHead::Leaf(Pat::Bool(truth(cursor)?))),
-        0x05 => Ok(PatHead::Leaf(Pat::Str(text(alloc, cursor, LONGEST)?))),
-        0x06 => Ok(PatHead::Leaf(Pat::Unit)),
-        0x07 => Ok(PatHead::Tuple(width(cursor)?)),
-        0x08 => Ok(PatHead::Leaf(Pat::Nil)),
-        0x09 => Ok(PatHead::Cons),
-        0x0A => Ok(PatHead::Leaf(Pat::Absent)),
-        0x0B => Ok(PatHead::Present),
-        0x0C => pattern_exn(cursor),
+        tags::PATTERN_WILD => Ok(PatHead::Leaf(Pat::Wild)),
+        tags::PATTERN_VAR => Ok(PatHead::Leaf(Pat::Var(types.read_type(alloc, cursor, false)?))),
+        tags::PATTERN_INT => pattern_int(cursor),
+        tags::PATTERN_BOOL => Ok(PatHead::Leaf(Pat::Bool(truth(cursor)?))),
+        tags::PATTERN_STR => Ok(PatHead::Leaf(Pat::Str(string(alloc, cursor)?))),
+        tags::PATTERN_UNIT => Ok(PatHead::Leaf(Pat::Unit)),
+        tags::PATTERN_TUPLE => Ok(PatHead::Tuple(width(cursor)?)),
+        tags::PATTERN_NIL => Ok(PatHead::Leaf(Pat::Nil)),
+        tags::PATTERN_CONS => Ok(PatHead::Cons),
+        tags::PATTERN_ABSENT => Ok(PatHead::Leaf(Pat::Absent)),
+        tags::PATTERN_PRESENT => Ok(PatHead::Present),
+        tags::PATTERN_EXN => pattern_exn(cursor),
         _ => Err(Fault::Misfit { at }),
     }
 }
 
 // That of an exception.
-#[tactic(auto, using(ac_terms::proofs::PatternForms::pattern_forms))]
+#[tactic(auto, using(ac_terms::proofs::PatternForms::pattern_forms, ac_types::proofs::NumberLaws::exception_laws))]
 fn pattern_exn(cursor: &mut Cursor<'_>) -> Result<PatHead, Fault>
     ensures { (f : ReadsPart Pattern) → ReadsOn (λ h. pattern_follows f h cursor.new.left) result
         (exact_with_text PExn PExnOf f cursor.old.left) }
 {
-    let number = exn(cursor)?;
-    if has_text(number) {
-        Ok(PatHead::Exn(number))
-    } else {
-        Ok(PatHead::Leaf(Pat::Exn(number, None)))
+    match exn(cursor)? {
+        ExnKind::Bare(exn) => Ok(PatHead::Leaf(Pat::Exn(exn))),
+        ExnKind::Text(exn) => Ok(PatHead::Exn(exn)),
     }
 }
 
@@ -250,35 +250,39 @@ pub fn term_head<T: Types>(
         (slice_get (exact_term_table (T.reads_type types.now) within p f g) tag)) }
 {
     match tag {
-        0x01 => term_int(cursor),
-        0x02 => Ok(Head::Leaf(Term::Bool(truth(cursor)?))),
-        0x03 => Ok(Head::Leaf(Term::Str(text(alloc, cursor, LONGEST)?))),
-        0x04 => Ok(Head::Leaf(Term::Unit)),
-        0x05 => term_exn(cursor),
-        0x06 => Ok(Head::Row(Row::Tuple, width(cursor)? as u32)),
-        0x07 => Ok(Head::Leaf(Term::Nil(types.read_type(alloc, cursor, false)?))),
-        0x08 => Ok(Head::Leaf(Term::Empty(types.read_type(alloc, cursor, false)?))),
-        0x09 => Ok(Head::Around(Around::Present)),
-        0x0A => Ok(Head::Joint(Joint::Cons)),
-        0x0B => Ok(Head::Leaf(Term::Var(two(cursor)?))),
-        0x0C => Ok(Head::Leaf(Term::Own(two(cursor)?))),
-        0x0D => field_of(alloc, cursor),
-        0x0E => Ok(Head::Around(Around::Lam(types.read_type(alloc, cursor, false)?))),
-        0x0F => recursive(alloc, cursor, types),
-        0x10 => Ok(Head::Joint(Joint::App)),
-        0x11 => Ok(Head::Joint(Joint::Let(types.read_type(alloc, cursor, false)?))),
-        0x12 => Ok(Head::Choice),
-        0x13 => Ok(Head::Row(Row::Seq, several(cursor)?)),
-        0x14 => Ok(Head::Cases(Cases::Match)),
-        0x15 => Ok(Head::Cases(Cases::Try)),
-        0x16 => Ok(Head::Around(Around::Raise(types.read_type(alloc, cursor, false)?))),
-        0x17 => {
-            let (number, arguments) = primitive(cursor)?;
-            Ok(Head::Row(Row::Prim(number), arguments as u32))
+        tags::TERM_INT => term_int(cursor),
+        tags::TERM_BOOL => Ok(Head::Leaf(Term::Bool(truth(cursor)?))),
+        tags::TERM_STR => Ok(Head::Leaf(Term::Str(string(alloc, cursor)?))),
+        tags::TERM_UNIT => Ok(Head::Leaf(Term::Unit)),
+        tags::TERM_EXN => term_exn(cursor),
+        tags::TERM_TUPLE => Ok(Head::Row(Row::Tuple, width(cursor)? as u32)),
+        tags::TERM_NIL => Ok(Head::Leaf(Term::Nil(types.read_type(alloc, cursor, false)?))),
+        tags::TERM_EMPTY => Ok(Head::Leaf(Term::Empty(types.read_type(alloc, cursor, false)?))),
+        tags::TERM_PRESENT => Ok(Head::Around(Around::Present)),
+        tags::TERM_CONS => Ok(Head::Joint(Joint::Cons)),
+        tags::TERM_VAR => Ok(Head::Leaf(Term::Var(two(cursor)?))),
+        tags::TERM_OWN => Ok(Head::Leaf(Term::Own(two(cursor)?))),
+        tags::TERM_REF => field_of(alloc, cursor),
+        tags::TERM_LAM => Ok(Head::Around(Around::Lam(types.read_type(alloc, cursor, false)?))),
+        tags::TERM_REC => recursive(alloc, cursor, types),
+        tags::TERM_APP => Ok(Head::Joint(Joint::App)),
+        tags::TERM_LET => Ok(Head::Joint(Joint::Let(types.read_type(alloc, cursor, false)?))),
+        tags::TERM_IF => Ok(Head::Choice),
+        tags::TERM_SEQ => Ok(Head::Row(Row::Seq, several(cursor)?)),
+        tags::TERM_MATCH => Ok(Head::Cases(Cases::Match)),
+        tags::TERM_TRY => Ok(Head::Cases(Cases::Try)),
+        tags::TERM_RAISE => Ok(Head::Around(Around::Raise(types.read_type(alloc, cursor, false)?))),
+        tags::TERM_PRIM => {
+            let primitive = primitive(cursor)?;
+            Ok(Head::Row(Row::Prim(primitive), arguments(primitive) as u32))
         }
-        0x18 => Ok(Head::Joint(Joint::Marshal(types.read_type(alloc, cursor, false)?))),
-        0x19 => Ok(Head::Around(Around::Unmarshal(types.read_type(alloc, cursor, false)?))),
-        0x1A => {
+        tags::TERM_MARSHAL => Ok(Head::Joint(Joint::Marshal(types.read_type(
+            alloc, cursor, false,
+        )?))),
+        tags::TERM_UNMARSHAL => Ok(Head::Around(Around::Unmarshal(types.read_type(
+            alloc, cursor, false,
+        )?))),
+        tags::TERM_VAL => {
             if !within {
                 return Err(Fault::Misfit { at });
             }
@@ -289,17 +293,15 @@ pub fn term_head<T: Types>(
 }
 
 // That of an exception.
-#[tactic(auto, using(ac_terms::proofs::TermForms::term_forms))]
+#[tactic(auto, using(ac_terms::proofs::TermForms::term_forms, ac_types::proofs::NumberLaws::exception_laws))]
 fn term_exn(cursor: &mut Cursor<'_>) -> Result<Head, Fault>
     ensures { (p : ReadsPart Pattern) (f : ReadsPart Expr) (g : ReadsPart PValue) →
         ReadsOn (λ h. term_follows p f g h cursor.new.left) result
         (exact_with_text ExnAlone ExnOf f cursor.old.left) }
 {
-    let number = exn(cursor)?;
-    if has_text(number) {
-        Ok(Head::Around(Around::Exn(number)))
-    } else {
-        Ok(Head::Leaf(Term::ExnVal(number, None)))
+    match exn(cursor)? {
+        ExnKind::Bare(exn) => Ok(Head::Leaf(Term::ExnVal(exn))),
+        ExnKind::Text(exn) => Ok(Head::Around(Around::Exn(exn))),
     }
 }
 
@@ -341,34 +343,35 @@ pub fn value_head(
         (slice_get (exact_value_table f g) tag)) }
 {
     match tag {
-        0x01 => value_int(cursor),
-        0x02 => Ok(ValueHead::Leaf(PVal::Bool(truth(cursor)?))),
-        0x03 => Ok(ValueHead::Leaf(PVal::Str(text(alloc, cursor, LONGEST)?))),
-        0x04 => Ok(ValueHead::Leaf(PVal::Unit)),
-        0x05 => value_exn(alloc, cursor),
-        0x06 => Ok(ValueHead::Tuple(width(cursor)?)),
-        0x07 => Ok(ValueHead::List(four(cursor)?)),
-        0x08 => Ok(ValueHead::Leaf(PVal::Absent)),
-        0x09 => Ok(ValueHead::Present),
-        0x0A => Ok(ValueHead::Fun(home(cursor)?)),
+        tags::VALUE_INT => value_int(cursor),
+        tags::VALUE_BOOL => Ok(ValueHead::Leaf(PVal::Bool(truth(cursor)?))),
+        tags::VALUE_STR => Ok(ValueHead::Leaf(PVal::Str(string(alloc, cursor)?))),
+        tags::VALUE_UNIT => Ok(ValueHead::Leaf(PVal::Unit)),
+        tags::VALUE_EXN => value_exn(alloc, cursor),
+        tags::VALUE_TUPLE => Ok(ValueHead::Tuple(width(cursor)?)),
+        tags::VALUE_LIST => Ok(ValueHead::List(four(cursor)?)),
+        tags::VALUE_ABSENT => Ok(ValueHead::Leaf(PVal::Absent)),
+        tags::VALUE_PRESENT => Ok(ValueHead::Present),
+        tags::VALUE_FUN => Ok(ValueHead::Fun(home(cursor)?)),
         _ => Err(Fault::Misfit { at }),
     }
 }
 
 // That of an exception.
-#[tactic(auto, using(ac_terms::proofs::ValueForms::value_forms))]
+#[tactic(auto, using(ac_terms::proofs::ValueForms::value_forms, ac_types::proofs::NumberLaws::exception_laws))]
 fn value_exn(alloc: Global, cursor: &mut Cursor<'_>) -> Result<ValueHead, Fault>
     ensures { (f : ReadsPart Expr) (g : ReadsPart PValue) →
         ReadsOn (λ h. value_follows f g h cursor.new.left) result
-        (exact_with_text (λ k. KExn k None) (λ k s. KExn k (Some s)) (exact_text 1048576)
+        (exact_with_text (λ k. KExn k None) (λ k s. KExn k (Some s)) (exact_text longest_string)
         cursor.old.left) }
 {
-    let number = exn(cursor)?;
-    if !has_text(number) {
-        return Ok(ValueHead::Leaf(PVal::Exn(Exn { number, text: None })));
+    match exn(cursor)? {
+        ExnKind::Bare(exn) => Ok(ValueHead::Leaf(PVal::Exn(Exn::Bare(exn)))),
+        ExnKind::Text(exn) => {
+            let text = string(alloc, cursor)?;
+            Ok(ValueHead::Leaf(PVal::Exn(Exn::Text(exn, text))))
+        }
     }
-    let text = Some(text(alloc, cursor, LONGEST)?);
-    Ok(ValueHead::Leaf(PVal::Exn(Exn { number, text })))
 }
 
 // The head of a pattern that is an int.

@@ -1,6 +1,7 @@
 // Trees made of their parts, where those were read.
 
 ghost use Rattle.std.specs.Prelude.{◌≡◌, List, map};
+ghost use Rattle.ac_types.specs.ReadNumbers.{texted_number};
 ghost use Rattle.ac_types.specs.ReadTypes.{typ_of};
 ghost use Rattle.ac_terms.specs.Terms.{Pattern, Expr, Arms, patterns, PTuple, PCons, PPresent, PExnOf, exprs, arms, If, Val, pvalues, KTuple, KList, KPresent, KFun};
 ghost use Rattle.ac_terms.specs.Read.{pattern_of, expr_of, arm_of, value_of, home_of};
@@ -10,7 +11,7 @@ ghost use Rattle.ac_decode.specs.inner.Follows.{put_around, put_joint, put_row, 
 use crate::heads::{Around, Cases, Joint, Row};
 use ac_pieces::Fault;
 use ac_terms::{Arm, Home, PVal, Pat, Term};
-use ac_types::{Box, Many, Ty};
+use ac_types::{Box, Many, TextExn, Ty};
 
 /// A tuple.
 #[tactic(auto, using(ac_canon::proofs::PatternForms::pattern_laws))]
@@ -44,11 +45,11 @@ pub fn pat_present(inner: Result<Box<Pat>, Fault>) -> Result<Pat, Fault>
 
 /// An exception with its text.
 #[tactic(auto, using(ac_canon::proofs::PatternForms::pattern_laws))]
-pub fn pat_exn(number: u8, inner: Result<Box<Pat>, Fault>) -> Result<Pat, Fault>
-    ensures { MadeOfRead pattern_of pattern_of (PExnOf number) inner result }
+pub fn pat_exn(exn: TextExn, inner: Result<Box<Pat>, Fault>) -> Result<Pat, Fault>
+    ensures { MadeOfRead pattern_of pattern_of (PExnOf (texted_number exn)) inner result }
 {
     let inner = inner?;
-    Ok(Pat::Exn(number, Some(inner)))
+    Ok(Pat::ExnOf(exn, inner))
 }
 
 /// A term around one.
@@ -70,7 +71,7 @@ fn put_around(kind: Around, inner: Box<Term>) -> Term
     ensures { expr_of result ≡ put_around kind (expr_of inner) }
 {
     match kind {
-        Around::Exn(number) => Term::ExnVal(number, Some(inner)),
+        Around::Exn(exn) => Term::ExnOf(exn, inner),
         Around::Present => Term::Present(inner),
         Around::Lam(ty) => Term::Lam(ty, inner),
         Around::Rec(from, to) => Term::Rec(from, to, inner),
@@ -128,7 +129,7 @@ pub fn row(kind: Row, parts: Result<Many<Term>, Fault>) -> Result<Term, Fault>
     match kind {
         Row::Tuple => Ok(Term::Tuple(parts)),
         Row::Seq => Ok(Term::Seq(parts)),
-        Row::Prim(number) => Ok(Term::Prim(number, parts)),
+        Row::Prim(primitive) => Ok(Term::Prim(primitive, parts)),
     }
 }
 

@@ -10,19 +10,14 @@ ghost use Rattle.ac_decode.specs.inner.ExactPackets.{exact_mark, exact_first, ex
 ghost use Rattle.ac_decode.specs.inner.Ends.{to_the_end};
 ghost use Rattle.ac_decode.specs.Decoding.{OnFormat};
 
-use crate::defs::{DEEPEST, defs};
+use crate::defs::defs;
 use crate::terms::value;
 use ac_bytes::Cursor;
 use ac_pieces::{Fault, InFull, Types, byte, four, joined};
-use ac_terms::Packet;
+use ac_terms::{Packet, tags};
 use ac_types::Memory;
+use ac_types::limits::{DEEPEST_NESTING, LONGEST_PACKET};
 use std::alloc::Global;
-
-// The most bytes of a packet.
-const LONGEST_PACKET: usize = 1_048_576;
-
-// What a packet begins with: `ACUP` as a number.
-const MARK: u32 = 0x41435550;
 
 /// Why bytes are not read as a packet.
 #[derive(Clone, Copy, Debug, PartialEq, Eq)]
@@ -43,7 +38,7 @@ fn mark(cursor: &mut Cursor<'_>) -> Result<u32, Fault>
 {
     let at = cursor.place();
     let n = four(cursor)?;
-    if n != MARK {
+    if n != tags::PACKET_MARK {
         return Err(Fault::Misfit { at });
     }
     Ok(n)
@@ -56,7 +51,7 @@ fn first(cursor: &mut Cursor<'_>) -> Result<u8, Fault>
 {
     let at = cursor.place();
     let n = byte(cursor)?;
-    if n != 1 {
+    if n != tags::PACKET_IN_FULL {
         return Err(Fault::Misfit { at });
     }
     Ok(n)
@@ -72,7 +67,7 @@ fn packet<T: Types>(alloc: Global, cursor: &mut Cursor<'_>, types: &T) -> Result
     let _version = first(cursor)?;
     let defs = defs(alloc, cursor, types)?;
     let front = joined(defs, types.read_type(alloc, cursor, false))?;
-    let ((defs, ty), value) = joined(front, value(alloc, cursor, types, DEEPEST))?;
+    let ((defs, ty), value) = joined(front, value(alloc, cursor, types, DEEPEST_NESTING))?;
     Ok(Packet { defs, ty, value })
 }
 

@@ -38,7 +38,7 @@ pub fn pattern<T: Types>(
         PatHead::Tuple(n) => pat_tuple(all_patterns(alloc, cursor, types, n, inner)),
         PatHead::Cons => pat_cons(two_patterns(alloc, cursor, types, inner)),
         PatHead::Present => pat_present(boxed_pattern(alloc, cursor, types, inner)),
-        PatHead::Exn(number) => pat_exn(number, boxed_pattern(alloc, cursor, types, inner)),
+        PatHead::Exn(exn) => pat_exn(exn, boxed_pattern(alloc, cursor, types, inner)),
     }
 }
 

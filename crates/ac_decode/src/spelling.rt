@@ -10,7 +10,7 @@ use ac_bytes::Out;
 use ac_canon::{
     ByNumber, put_count_u16, put_import, put_module, put_resolves, put_type, put_value,
 };
-use ac_terms::{PDef, Packet};
+use ac_terms::{PDef, Packet, tags};
 use ac_types::{Memory, Text};
 use std::alloc::Global;
 
@@ -47,7 +47,8 @@ fn bytes_of_packet(alloc: Global, packet: &Packet) -> Result<Text, Memory>
     ensures { IfOk result (λ text. bytes_of text ≡ packet_bytes (packet_of packet.now)) }
 {
     let mut out = Out::new(alloc);
-    out.put_bytes(&[0x41, 0x43, 0x55, 0x50, 0x01])?;
+    out.put_u32(tags::PACKET_MARK)?;
+    out.put_u8(tags::PACKET_IN_FULL)?;
     put_defs(&mut out, packet.defs.as_slice())?;
     put_type(&mut out, &packet.ty)?;
     put_value(&mut out, &ByNumber, &packet.value)?;

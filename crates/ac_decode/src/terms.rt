@@ -19,6 +19,7 @@ use crate::shapes::lambda;
 use ac_bytes::Cursor;
 use ac_pieces::{Fault, Types, byte, joined, long_count};
 use ac_terms::{Arm, PVal, Term};
+use ac_types::limits::MOST_ARMS;
 use ac_types::{Box, Many};
 use std::alloc::Global;
 
@@ -156,7 +157,7 @@ fn counted_arms<T: Types>(
         (exact_cases (exact_pattern (T.reads_type types.now) depth)
         (exact_term (T.reads_type types.now) within depth) cursor.old.left) cursor.new.left }
 {
-    let count = long_count(cursor, 1, 1024)?;
+    let count = long_count(cursor, 1, MOST_ARMS)?;
     all_arms(alloc, cursor, types, within, count, depth)
 }
 

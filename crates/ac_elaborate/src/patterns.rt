@@ -37,9 +37,9 @@ pub fn pattern(alloc: Global, tree: &SPat, scope: &Scope) -> Result<Pat, Memory>
         }
         SPatKind::Absent => Ok(Pat::Absent),
         SPatKind::Present(item) => boxed(alloc, item, scope).map(Pat::Present),
-        SPatKind::Exn(number, None) => Ok(Pat::Exn(*number, None)),
-        SPatKind::Exn(number, Some(item)) => {
-            boxed(alloc, item, scope).map(|item| Pat::Exn(*number, Some(item)))
+        SPatKind::Exn(exn) => Ok(Pat::Exn(*exn)),
+        SPatKind::ExnOf(exn, item) => {
+            boxed(alloc, item, scope).map(|item| Pat::ExnOf(*exn, item))
         }
     }
 }
@@ -95,8 +95,8 @@ fn add_variables(alloc: Global, tree: &SPat, found: Many<SName>) -> Result<Many<
         }
         SPatKind::Absent => Ok(found),
         SPatKind::Present(item) => add_variables(alloc, item, found),
-        SPatKind::Exn(_, None) => Ok(found),
-        SPatKind::Exn(_, Some(item)) => add_variables(alloc, item, found),
+        SPatKind::Exn(_) => Ok(found),
+        SPatKind::ExnOf(_, item) => add_variables(alloc, item, found),
     }
 }
 

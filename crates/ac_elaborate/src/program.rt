@@ -4,6 +4,7 @@ ghost use Rattle.std.specs.Prelude.{◌≡◌, ◌<◌, ◌≤◌, ◌+◌, ◌^
 ghost use Rattle.std.specs.Option.{option_map_or};
 ghost use Rattle.std.specs.List.{list_all};
 ghost use Rattle.sha2.specs.Sha256.{sha256};
+ghost use Rattle.ac_types.specs.Limits.{most_definitions};
 ghost use Rattle.ac_terms.specs.Terms.{Unit'};
 ghost use Rattle.ac_terms.specs.Read.{environment_of, expr_of};
 ghost use Rattle.ac_syntax.specs.ReadTrees.{tree_of, def_tree_of, surface_of};
@@ -38,14 +39,14 @@ pub struct RawProgram {
 /// front of it.
 pub fn build(alloc: Global, surface: &Surface, env: Env) -> Result<RawProgram, Memory>
     requires names { IsTrue (list_all keeps_name (environment_of env)) }
-    requires few { length (environment_of env) + 4096 < 2 ^ 32 }
+    requires few { length (environment_of env) + most_definitions < 2 ^ 32 }
     requires sound { surface_fault sha256 (environment_of env) (surface_of surface.now) ≡ None }
     ensures elaborated { IfOk result (λ r. Elaborates sha256 (environment_of env)
         (surface_of surface.now)
         (environment_of r.env) (expr_of r.main)) }
     ensures names { IfOk result (λ r. IsTrue (list_all keeps_name (environment_of r.env))) }
     ensures counted { IfOk result (λ r. length (environment_of r.env)
-        ≤ length (environment_of env) + 4096) }
+        ≤ length (environment_of env) + most_definitions) }
 {
     let ahead = first(alloc, env, &surface.expr)?;
     let trees = surface.defs.as_slice();

@@ -1,6 +1,7 @@
 // Structs.
 
-ghost use Rattle.std.specs.Prelude.{◌≡◌, ◌∷◌, ◌++◌, ◌<◌, ◌≤◌, [], length, map, None, IfOk};
+ghost use Rattle.std.specs.Prelude.{◌≡◌, ◌∷◌, ◌++◌, ◌<◌, ◌≤◌, [], length, map, None, IfOk, ◌^◌};
+ghost use Rattle.ac_types.specs.Limits.{most_items};
 ghost use Rattle.ac_types.specs.ReadTypes.{typed_of};
 ghost use Rattle.ac_terms.specs.Read.{expr_of, field_of};
 ghost use Rattle.ac_syntax.specs.Trees.{ValField};
@@ -49,7 +50,7 @@ impl<'a> Items<'a> {
     fn with(self, alloc: Global, item: &SField) -> Result<Items<'a>, Memory>
         requires crowd { found_in_field crowd (outer_of self.abbrevs.outer) (field_tree_of
             item.now) ≡ None }
-        requires few { length (outer_of self.abbrevs.outer).fields < 65536 }
+        requires few { length (outer_of self.abbrevs.outer).fields < 2 ^ 16 }
         ensures outer { IfOk result (λ r. outer_of r.abbrevs.outer ≡
             after_field (outer_of self.entry.abbrevs.outer) (field_tree_of item.now)) }
         ensures types { IfOk result (λ r. map typed_of r.abbrevs.types ≡
@@ -87,7 +88,7 @@ impl<'a> Items<'a> {
         body: &SExpr,
     ) -> Result<Items<'a>, Memory>
         requires crowd { found crowd (outer_of self.abbrevs.outer) (tree_of body.now) ≡ None }
-        requires few { length (outer_of self.abbrevs.outer).fields < 65536 }
+        requires few { length (outer_of self.abbrevs.outer).fields < 2 ^ 16 }
         ensures outer { IfOk result (λ r. outer_of r.abbrevs.outer ≡
             with_field (name_of name.now) (outer_of self.entry.abbrevs.outer)) }
         ensures types { IfOk result (λ r. r.abbrevs.types ≡ self.entry.abbrevs.types) }
@@ -146,7 +147,7 @@ pub fn contents(
     requires crowd { least_in after_field (found_in_field crowd) (front_of front.now)
         (map field_tree_of trees.now) ≡ None }
     requires few { length (each_in after_field item_field (front_of front.now)
-        (map field_tree_of trees.now)) ≤ 1024 }
+        (map field_tree_of trees.now)) ≤ most_items }
     ensures types { IfOk result (λ r. map typed_of r.0 ≡
         each_in after_field item_type (front_of front.now) (map field_tree_of trees.now)) }
     ensures fields { IfOk result (λ r. map field_of r.1 ≡

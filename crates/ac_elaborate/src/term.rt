@@ -14,7 +14,7 @@ ghost use Rattle.ac_elaborate.specs.inner.Crowd.{crowd};
 ghost use Rattle.ac_elaborate.specs.inner.Joining.{RecOf, AppliedOf, ChoiceOf, LetOf, MarshalOf};
 
 use crate::patterns::{pattern, variables};
-use ac_outer::{Primitive, Scope, fun_ty, named, ty};
+use ac_outer::{NamedPrimitive, Scope, fun_ty, named, ty};
 use ac_syntax::{SArm, SExpr, SExprKind, SName, SType};
 use ac_terms::{Arm, Term};
 use ac_types::{Box, Many, Memory, Ty, both};
@@ -22,7 +22,7 @@ use std::alloc::Global;
 
 // The primitive that a tree names.
 #[tactic(auto, using(ac_syntax::proofs::ReadLaws::expr_laws))]
-fn primitive_at(tree: &SExpr) -> Option<Primitive>
+fn primitive_at(tree: &SExpr) -> Option<NamedPrimitive>
     ensures { option_map read_primitive result ≡ primitive_at (tree_of tree.now) }
 {
     match &tree.kind {
@@ -35,7 +35,7 @@ fn primitive_at(tree: &SExpr) -> Option<Primitive>
 #[tactic(auto, using(crate::proofs::TermLaws::made_laws))]
 fn applied(
     alloc: Global,
-    primitive: Option<Primitive>,
+    primitive: Option<NamedPrimitive>,
     function: Result<Box<Term>, Memory>,
     argument: Result<Box<Term>, Memory>,
 ) -> Result<Term, Memory>
@@ -103,9 +103,9 @@ pub fn term<'a>(alloc: Global, tree: &'a SExpr, scope: &'a Scope<'a>) -> Result<
         SExprKind::Bool(b) => Ok(Term::Bool(*b)),
         SExprKind::Str(text) => text.copy(alloc).map(Term::Str),
         SExprKind::Unit => Ok(Term::Unit),
-        SExprKind::Exn(number, None) => Ok(Term::ExnVal(*number, None)),
-        SExprKind::Exn(number, Some(argument)) => {
-            boxed(alloc, argument, scope).map(|argument| Term::ExnVal(*number, Some(argument)))
+        SExprKind::Exn(exn) => Ok(Term::ExnVal(*exn)),
+        SExprKind::ExnOf(exn, argument) => {
+            boxed(alloc, argument, scope).map(|argument| Term::ExnOf(*exn, argument))
         }
         SExprKind::Tuple(parts) => all(alloc, parts.as_slice(), scope).map(Term::Tuple),
         SExprKind::Nil(tree) => ty(alloc, tree, scope).map(Term::Nil),
@@ -174,8 +174,8 @@ pub fn term<'a>(alloc: Global, tree: &'a SExpr, scope: &'a Scope<'a>) -> Result<
             Box::new(alloc, Term::Bool(true)),
             boxed(alloc, right, scope),
         ),
-        SExprKind::Op(number, parts) => {
-            all(alloc, parts.as_slice(), scope).map(|parts| Term::Prim(*number, parts))
+        SExprKind::Op(primitive, parts) => {
+            all(alloc, parts.as_slice(), scope).map(|parts| Term::Prim(*primitive, parts))
         }
         SExprKind::Marshal(mark, value, tree) => marshal(
             ty(alloc, tree, scope),

@@ -1,6 +1,6 @@
 // Types with names: abbreviations, and the specs of signatures.
 
-ghost use Rattle.std.specs.Prelude.{◌≡◌, ◌∷◌, ◌++◌, ◌<◌, [], length, map, None, Some, IfOk};
+ghost use Rattle.std.specs.Prelude.{◌≡◌, ◌∷◌, ◌++◌, ◌<◌, [], length, map, None, Some, IfOk, ◌^◌};
 ghost use Rattle.ac_types.specs.Types.{TMine};
 ghost use Rattle.ac_types.specs.ReadTypes.{typ_of, typed_of, sig_type_of, sig_of};
 ghost use Rattle.ac_syntax.specs.ReadTrees.{name_of, type_of, abbrev_of, abbrevs_of, spec_of, sig_tree_of};
@@ -67,7 +67,7 @@ impl<'a> Abbrevs<'a> {
 
     /// With one more field in scope.
     pub fn with_field(self, alloc: Global, name: &SName) -> Result<Abbrevs<'a>, Memory>
-        requires { length (outer_of self.outer).fields < 65536 }
+        requires { length (outer_of self.outer).fields < 2 ^ 16 }
         ensures outer { IfOk result (λ r. outer_of r.outer ≡
             with_field (name_of name.now) (outer_of self.entry.outer)) }
         ensures types { IfOk result (λ r. r.types ≡ self.entry.types) }

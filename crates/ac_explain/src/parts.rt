@@ -120,7 +120,7 @@ fn bound(alloc: Global, pat: &Pat, vars: Many<Ty>) -> Result<Many<Ty>, Memory> {
             let vars = bound(alloc, head, vars)?;
             bound(alloc, tail, vars)
         }
-        Pat::Present(inner) | Pat::Exn(_, Some(inner)) => bound(alloc, inner, vars),
+        Pat::Present(inner) | Pat::ExnOf(_, inner) => bound(alloc, inner, vars),
         _ => Ok(vars),
     }
 }
@@ -163,7 +163,7 @@ fn add_plain<'a>(
     vars: &Many<Ty>,
 ) -> Result<(), Memory> {
     match (kind, term) {
-        (SExprKind::Exn(_, Some(a)), Term::ExnVal(_, Some(x)))
+        (SExprKind::ExnOf(_, a), Term::ExnOf(_, x))
         | (SExprKind::Present(a), Term::Present(x))
         | (SExprKind::Raise(a, _), Term::Raise(_, x))
         | (SExprKind::Unmarshal(a, _), Term::Unmarshal(_, x)) => add(alloc, parts, a, x, vars),

@@ -15,6 +15,7 @@ use ac_parser::parse_program;
 use ac_surfaces::elaborate;
 use ac_syntax::{SDefKind, SExpr, SExprKind, SField, Surface};
 use ac_terms::{Def, Env, Field, Home, Term};
+use ac_types::limits::{HIGHEST_TYPE, LONGEST_TEXT, MOST_OPENERS, MOST_TYPE_PARTS};
 use ac_types::{Many, Memory, Ty};
 use std::alloc::Global;
 
@@ -84,11 +85,19 @@ fn write_name(page: &mut Page, text: &[u8], at: u32, said: &[u8]) {
 // Adds why a text is refused, in a sentence.
 fn write_reason(page: &mut Page, text: &[u8], kind: Kind) {
     match kind {
-        Kind::TooLong { .. } => page.put(b"a text has at most 1,048,576 bytes\n"),
+        Kind::TooLong { .. } => {
+            page.put(b"a text has at most ");
+            page.number(LONGEST_TEXT as u64);
+            page.put(b" bytes\n");
+        }
         Kind::Lexical { .. } => page.put(
             b"here begins no token, no separator and no whole comment\n",
         ),
-        Kind::TooDeep { .. } => page.put(b"here more than 200 are open\n"),
+        Kind::TooDeep { .. } => {
+            page.put(b"here more than ");
+            page.number(u64::from(MOST_OPENERS));
+            page.put(b" are open\n");
+        }
         Kind::Syntax { at } if at as usize >= text.len() => {
             page.put(b"here the text ends, and the program doesn't\n");
         }
@@ -144,11 +153,22 @@ fn write_fact(page: &mut Page, what: &[u8], ty: &Ty) {
     page.put(b"\n");
 }
 
+// Adds how large a type may be.
+fn write_size(page: &mut Page) {
+    page.put(b"a type has at most ");
+    page.number(u64::from(MOST_TYPE_PARTS));
+    page.put(b" parts and a height of at most ");
+    page.number(u64::from(HIGHEST_TYPE));
+}
+
 // Adds the part that has no type, what is asked of it, and the types of its parts.
 fn write_untyped(alloc: Global, page: &mut Page, file: &str, text: &[u8], found: &Untyped) {
     write_place(page, file, text, found.tree.at);
     page.put(b"this has no type: ");
-    page.put(wants(&found.tree.kind));
+    match wants(&found.tree.kind) {
+        Some(asked) => page.put(asked),
+        None => write_size(page),
+    }
     page.put(b"\n");
     if let Some(ty) = written(found.term) {
         write_fact(page, b"written", ty);

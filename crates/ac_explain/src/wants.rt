@@ -1,14 +1,13 @@
 // What is asked of each form, so that it has a type.
 
 use ac_syntax::SExprKind;
-use ac_types::primitives::{CONCAT, EQ, LT, NOT};
+use ac_types::Primitive;
 
-const TOO_LARGE: &[u8] = b"a type has at most 4,096 parts and a height of at most 100";
-
-/// What the form is, and what is asked of its parts.
-pub fn wants(kind: &SExprKind) -> &'static [u8] {
-    match kind {
-        SExprKind::Exn(_, _) => b"the string of an exception is a string",
+/// What the form is, and what is asked of its parts. `None` of one that has a type with any parts,
+/// where it isn't too large.
+pub fn wants(kind: &SExprKind) -> Option<&'static [u8]> {
+    let asked: &'static [u8] = match kind {
+        SExprKind::ExnOf(_, _) => b"the string of an exception is a string",
         SExprKind::Nil(_) => b"the type of `[]` is a list",
         SExprKind::Absent(_) => b"the type of `None` is an option",
         SExprKind::Cons(_, _) => b"`::` joins an element and a list of such elements",
@@ -28,20 +27,35 @@ pub fn wants(kind: &SExprKind) -> &'static [u8] {
         }
         SExprKind::Raise(_, _) => b"what is raised is an exn",
         SExprKind::And(_, _) | SExprKind::Or(_, _) => b"both sides of `&&` and `||` are bools",
-        SExprKind::Op(number, _) => operator(*number),
+        SExprKind::Op(primitive, _) => return operator(*primitive),
         SExprKind::Marshal(_, _, _) => {
             b"a mark is a string, and what is marshalled has the type that is written"
         }
         SExprKind::Unmarshal(_, _) => b"what is unmarshalled is a string",
-        _ => TOO_LARGE,
-    }
+        _ => return None,
+    };
+    Some(asked)
 }
 
-fn operator(number: u8) -> &'static [u8] {
-    match number {
-        EQ | LT => b"both sides of `=` and `<` have one type, which is int, bool or string",
-        CONCAT => b"both sides of `^` are strings",
-        NOT => b"`not` stands in front of a bool",
-        _ => b"arithmetic is done on ints",
+fn operator(primitive: Primitive) -> Option<&'static [u8]> {
+    match primitive {
+        Primitive::Eq | Primitive::Lt => {
+            Some(b"both sides of `=` and `<` have one type, which is int, bool or string")
+        }
+        Primitive::Concat => Some(b"both sides of `^` are strings"),
+        Primitive::Not => Some(b"`not` stands in front of a bool"),
+        Primitive::Add
+        | Primitive::Sub
+        | Primitive::Mul
+        | Primitive::Div
+        | Primitive::Rem
+        | Primitive::Neg => Some(b"arithmetic is done on ints"),
+        Primitive::PrintInt
+        | Primitive::PrintString
+        | Primitive::Send
+        | Primitive::Receive
+        | Primitive::Length
+        | Primitive::SubString
+        | Primitive::OfInt => None,
     }
 }

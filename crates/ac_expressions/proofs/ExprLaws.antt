@@ -1,10 +1,12 @@
 -- The reading of expressions that the code makes.
-use Rattle.std.proofs.Common.{◌≡◌, ◌∙◌, ap, ℕ, ℤ, List, Some}
+use Rattle.std.proofs.Common.{◌≡◌, ◌∙◌, ap, ℕ, ℤ, List}
+use Rattle.ac_types.specs.ReadNumbers.{texted_number}
+use Rattle.ac_types.specs.declared.exceptions.TextExn.{TextExn}
 use Rattle.ac_types.specs.declared.text.Text.{Text}
 use Rattle.ac_syntax.specs.declared.surface.SName.{SName}
 use Rattle.ac_syntax.specs.declared.surface.SPat.{SPat}
 use Rattle.ac_syntax.specs.declared.surface.SExpr.{SExpr}
-use Rattle.ac_syntax.specs.declared.surface.SExprKind.{SExprKind, Int, Str, Var, Of, Exn}
+use Rattle.ac_syntax.specs.declared.surface.SExprKind.{SExprKind, Int, Str, Var, Of, ExnOf}
 use Rattle.ac_syntax.specs.declared.surface.SExprKind.TheFolds.{fold-roll-SExpr, fold-roll-SArm}
 use Rattle.ac_syntax.specs.declared.surface.SExprKind.TheViews.{roll-SExpr, roll-SArm}
 use Rattle.ac_syntax.specs.declared.surface.SExprKind.TheVariants as variants
@@ -34,8 +36,8 @@ pub arm_tree_of-made : (p : SPat) (e : SExpr) → arm_tree_of (roll-SArm (record
 unfolding tree_of expr_kind_of arm_tree_of fun_of
 arm_tree_of-made p e = fold-roll-SArm (ℕ → Tree) (PatTree × Tree) Tree FunTree expr_kind_layer arm_tree_layer expr_tree_layer fun_layer (record { pat = p; body = e })
 
-pub expr_kind_of-ExnOf : (at n : ℕ) (e : SExpr) → expr_kind_of (Exn n (Some e)) at ≡ ExExnOf at n (tree_of e)
-expr_kind_of-ExnOf at n e = ap (λ f. f at) (expr_kind_out (Exn n (Some e))) ∙ ap (kind_at at) (variants.outs-Exn n (Some e))
+pub expr_kind_of-ExnOf : (at : ℕ) (x : TextExn) (e : SExpr) → expr_kind_of (ExnOf x e) at ≡ ExExnOf at (texted_number x) (tree_of e)
+expr_kind_of-ExnOf at x e = ap (λ f. f at) (expr_kind_out (ExnOf x e)) ∙ ap (kind_at at) (variants.outs-ExnOf x e)
 
 -- the forms that hold a list
 pub ruleset list_laws = (expr_kind_of-Tuple, expr_kind_of-Seq, expr_kind_of-Op)

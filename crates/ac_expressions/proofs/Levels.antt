@@ -15,6 +15,7 @@ use Rattle.ac_expressions.specs.declared.front.Prefix.{Prefix}
 use Rattle.ac_expressions.specs.declared.front.Prefix.TheVariants as prefix
 use Rattle.ac_expressions.specs.inner.Pieces.{LoneNumber, NoLoneNumber, IsPrefix, PrefixAt, NoPrefix}
 use Rattle.ac_expressions.specs.inner.Forms.{Same, NoTree, prefixed, OperatorAt, NoOperator}
+use Rattle.ac_expressions.proofs.PatSteps.{found}
 use Rattle.ac_expressions.proofs.Readers.{One}
 
 -- heights
@@ -198,7 +199,7 @@ record Applied (ts : List Sign) (e : Tree) (s : List Sign) : Type 0 where
 
 applied_of : {j : Ending} {ts s : List Sign} {e : Tree} → NoPrefix ts → Parses App j ts e s → Applied ts e s
 applied_of none' (some {p = a} q) = absurd (none' prefix.Present a _ (record { symbol = SomeWord; is = refl; prefix = refl }))
-applied_of none' (exn_with_string {p = a} {k = k} {t = t} e q) = absurd (none' (prefix.Exn k) a _ (record { symbol = t; is = refl; prefix = e }))
+applied_of none' (exn_with_string {p = a} {t = t} e q) = let f = found t e in absurd (none' (prefix.Exn f.0) a _ (record { symbol = t; is = refl; prefix = f.1 }))
 applied_of none' (applied p q) = record { f = _; r = _; first = p; later = q }
 
 pub applied_none : (D : ℕ) (ts : List Sign) → NoTree D Atom ts → NoPrefix ts → NoTree D App ts

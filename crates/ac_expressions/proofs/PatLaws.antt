@@ -1,8 +1,10 @@
 -- The equations of the reading of patterns.
-use Rattle.std.proofs.Common.{◌≡◌, ◌∙◌, ap, ℕ, List, map, Some, ℤ}
+use Rattle.std.proofs.Common.{◌≡◌, ◌∙◌, ap, ℕ, List, map, ℤ}
+use Rattle.ac_types.specs.ReadNumbers.{texted_number}
+use Rattle.ac_types.specs.declared.exceptions.TextExn.{TextExn}
 use Rattle.ac_types.specs.declared.text.Text.{Text}
 use Rattle.ac_syntax.specs.declared.surface.SPat.{SPat}
-use Rattle.ac_syntax.specs.declared.surface.SPatKind.{SPatKind, Unit, Tuple, Int, Str, Nil, Exn}
+use Rattle.ac_syntax.specs.declared.surface.SPatKind.{SPatKind, Unit, Tuple, Int, Str, Nil, ExnOf}
 use Rattle.ac_syntax.specs.declared.surface.SPatKind.TheOpen.{SPatKind-F, SPat-F}
 use Rattle.ac_syntax.specs.declared.surface.SPatKind.TheFolds.{map-SPat, map-SPatKind, fold_out-SPat, fold_out-SPatKind, fold-roll-SPat}
 use Rattle.ac_syntax.specs.declared.surface.SPatKind.TheViews.{out-SPat, out-SPatKind, roll-SPat, the_lemmas}
@@ -53,5 +55,5 @@ pat_of-Nil at = pat_of-kind at Nil ∙ ap (λ f. f at) (pat_kind_out Nil) ∙ ap
 pub pat_of-Unit : (at : ℕ) → pat_of (roll-SPat (record { at = at; kind = Unit })) ≡ PatUnit at
 pat_of-Unit at = pat_of-kind at Unit ∙ ap (λ f. f at) (pat_kind_out Unit) ∙ ap (kind_at at) variants.outs-Unit
 
-pub pat_of-ExnOf : (at n : ℕ) (p : SPat) → pat_of (roll-SPat (record { at = at; kind = Exn n (Some p) })) ≡ PatExnOf at n (pat_of p)
-pat_of-ExnOf at n p = pat_of-kind at (Exn n (Some p)) ∙ ap (λ f. f at) (pat_kind_out (Exn n (Some p))) ∙ ap (kind_at at) (variants.outs-Exn n (Some p))
+pub pat_of-ExnOf : (at : ℕ) (x : TextExn) (p : SPat) → pat_of (roll-SPat (record { at = at; kind = ExnOf x p })) ≡ PatExnOf at (texted_number x) (pat_of p)
+pat_of-ExnOf at x p = pat_of-kind at (ExnOf x p) ∙ ap (λ f. f at) (pat_kind_out (ExnOf x p)) ∙ ap (kind_at at) (variants.outs-ExnOf x p)

@@ -3,6 +3,9 @@ use Rattle.std.proofs.Common.{◌≡◌, ◌<◌, ◌≤◌, ◌+◌, ◌-◌, �
 use Rattle.std.specs.Prelude.{pos, neg_ℤ}
 use Rattle.ac_types.proofs.FirstLaws.{some_eq}
 use Rattle.ac_types.specs.Types.{Bytes}
+use Rattle.ac_types.specs.ReadNumbers.{texted_number}
+use Rattle.ac_types.specs.declared.exceptions.TextExn.{TextExn}
+use Rattle.ac_types.specs.declared.exceptions.TextExn.TheVariants as texted
 use Rattle.ac_syntax.specs.Signs.{Sign, Int, Str, Lower, Upper, Fixed, Other, here}
 use Rattle.ac_syntax.specs.Trees.{NameAt, TypeTree, PatTree, PatWild, PatVar, PatInt, PatBool, PatStr, PatUnit, PatTuple, PatNil, PatCons, PatAbsent, PatPresent, PatExn, PatExnOf, PatTrees, pat_tree, pat_trees, pat_height, highest_pat}
 use Rattle.ac_syntax.specs.Patterns.{exception_sign, exception_with_string, PatLevel, Pattern, Prefixed, Single, ParsesPat, ParsesPats, no_cons, cons, some, exn_with_string, single, wild, var, number, negative, string, true_, false_, unit, nil, none, exn, parens, tuple, last_pat, more_pats, pat_front, PatStops, IsPatTree}
@@ -137,6 +140,16 @@ with_string_begins_none t e b = nothing_there e
 single_not : {P : Type 0} {ts r : List Sign} {p : PatTree} → ParsesPat Single ts p r → begins_single ts ≡ false → P
 single_not p e = apart (sym e ∙ single_begins p)
 
+-- the exception that takes a string and has this number
+pub found : {k : ℕ} (t : Symbol) → exception_with_string t ≡ Some k → (x : TextExn) × (exception_with_string t ≡ Some (texted_number x))
+found Failure e = (texted.Failure, refl)
+found InvalidArgument e = (texted.InvalidArgument, refl)
+found SysError e = (texted.SysError, refl)
+found MarshalFailure e = (texted.MarshalFailure, refl)
+found UnmarshalFailure e = (texted.UnmarshalFailure, refl)
+found ResolveFailure e = (texted.ResolveFailure, refl)
+found t e = nothing_there e
+
 record PrefixedPat (x : Prefix) (at : ℕ) (ts : List Sign) (p : PatTree) (r : List Sign) : Type 0 where
   item : PatTree
   parses : ParsesPat Single ts item r
@@ -179,7 +192,7 @@ module _ (D : ℕ) (x : Prefix) (at : ℕ) (ts behind : List Sign) (w : PrefixAt
 
 unprefixed : {ts r : List Sign} {p : PatTree} → NoPrefix ts → ParsesPat Prefixed ts p r → ParsesPat Single ts p r
 unprefixed none' (some {a = a} q) = absurd (none' prefix.Present a _ (record { symbol = SomeWord; is = refl; prefix = refl }))
-unprefixed none' (exn_with_string {a = a} {k = k} {t = t} e q) = absurd (none' (prefix.Exn k) a _ (record { symbol = t; is = refl; prefix = e }))
+unprefixed none' (exn_with_string {a = a} {t = t} e q) = let f = found t e in absurd (none' (prefix.Exn f.0) a _ (record { symbol = t; is = refl; prefix = f.1 }))
 unprefixed none' (single q) = q
 
 pub single_tree : (D : ℕ) (ts r : List Sign) (p : PatTree) → IsPatTree D Single ts p r → IsPatTree D Prefixed ts p r

@@ -8,7 +8,8 @@ ghost use Rattle.ac_syntax.specs.PartParsing.{OnSyntax};
 ghost use Rattle.ac_expressions.specs.inner.Pieces.{Nothing, Behind, Before, IsAscribed, IsTypedBinder, IsArgument, IsHead, IsLastType, binder_of, head_of};
 
 use crate::front::{ends_part, expect, name};
-use ac_syntax::{HIGHEST_TYPE, SName, SType, Sign, Stop, Symbol, refused_at, whole_type};
+use ac_syntax::{SName, SType, Sign, Stop, Symbol, refused_at, whole_type};
+use ac_types::limits::HIGHEST_WRITTEN_TYPE;
 use std::alloc::Global;
 
 /// A name with its type.
@@ -79,7 +80,7 @@ fn type_before<'s, 't>(
     ensures none { IfErr result (λ e. OnSyntax e
         (Nothing (Before symbol IsType) (read_signs signs.now))) }
 {
-    let (ty, behind) = whole_type(alloc, HIGHEST_TYPE, signs)?;
+    let (ty, behind) = whole_type(alloc, HIGHEST_WRITTEN_TYPE, signs)?;
     match expect(symbol, behind) {
         Ok(rest) => Ok((ty.tree, rest)),
         Err(stop) => {
@@ -164,7 +165,7 @@ fn last_type<'s, 't>(alloc: Global, signs: &'s [Sign<'t>]) -> Result<(SType, &'s
     ensures shorter { IfOk result (λ x. length x.1.now < length signs.now) }
     ensures none { IfErr result (λ e. OnSyntax e (Nothing IsLastType (read_signs signs.now))) }
 {
-    let (ty, rest) = whole_type(alloc, HIGHEST_TYPE, signs)?;
+    let (ty, rest) = whole_type(alloc, HIGHEST_WRITTEN_TYPE, signs)?;
     if ends_part(rest) {
         Ok((ty.tree, rest))
     } else {

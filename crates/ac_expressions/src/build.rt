@@ -1,6 +1,7 @@
 // Trees of expressions with their heights, and what is left behind them.
 
 ghost use Rattle.std.specs.Prelude.{◌≡◌, ◌<◌, ◌-◌, ◌^◌, ◌∷◌, [], ◌++◌, true, false, max, length, map, neg_ℤ, pos, IfOk, IfErr, option_map};
+ghost use Rattle.ac_types.specs.ReadNumbers.{primitive_number};
 ghost use Rattle.ac_syntax.specs.Trees.{ExInt, ExUnit, ExNil, ExAbsent, ExApp, ExOp, ExSeq, ExTuple, ExMatch, ExTry, tree, no_trees, trees, arm_trees, height, highest, highest_arm};
 ghost use Rattle.ac_syntax.specs.Expressions.{begins_atom, operator_of, operator_tree};
 ghost use Rattle.ac_syntax.specs.ReadSigns.{read_signs};
@@ -12,8 +13,7 @@ ghost use Rattle.ac_expressions.specs.inner.Forms.{measured, prefixed, operator_
 use crate::binders::{Binder, Head};
 use crate::front::{Prefix, begins_atom, expect, negated};
 use ac_syntax::{SArm, SExpr, SExprKind, SFun, SType, Sign, Stop, Symbol, refused_at};
-use ac_types::primitives::{ADD, CONCAT, DIV, EQ, LT, MUL, REM, SUB};
-use ac_types::{Box, Many, Memory};
+use ac_types::{Box, Many, Memory, Primitive};
 use std::alloc::Global;
 
 /// An expression, and its height.
@@ -31,10 +31,10 @@ pub struct Choice {
     pub height: u32,
 }
 
-/// An operator between two sides: a primitive by its number, or one that is a form of its own.
+/// An operator between two sides: a primitive, or one that is a form of its own.
 #[derive(Clone, Copy)]
 pub enum Operator {
-    Prim(u8),
+    Prim(Primitive),
     Consing,
     Both,
     Either,
@@ -45,15 +45,15 @@ pub fn operator_of(symbol: Symbol) -> Option<(u32, Operator)>
     ensures { operator_of symbol ≡ option_map (λ x. (x.0, operator_read x.1)) result }
 {
     match symbol {
-        Symbol::Star => Some((1, Operator::Prim(MUL))),
-        Symbol::Slash => Some((1, Operator::Prim(DIV))),
-        Symbol::Mod => Some((1, Operator::Prim(REM))),
-        Symbol::Plus => Some((2, Operator::Prim(ADD))),
-        Symbol::Minus => Some((2, Operator::Prim(SUB))),
-        Symbol::Caret => Some((2, Operator::Prim(CONCAT))),
+        Symbol::Star => Some((1, Operator::Prim(Primitive::Mul))),
+        Symbol::Slash => Some((1, Operator::Prim(Primitive::Div))),
+        Symbol::Mod => Some((1, Operator::Prim(Primitive::Rem))),
+        Symbol::Plus => Some((2, Operator::Prim(Primitive::Add))),
+        Symbol::Minus => Some((2, Operator::Prim(Primitive::Sub))),
+        Symbol::Caret => Some((2, Operator::Prim(Primitive::Concat))),
         Symbol::Cons => Some((3, Operator::Consing)),
-        Symbol::Equals => Some((4, Operator::Prim(EQ))),
-        Symbol::Less => Some((4, Operator::Prim(LT))),
+        Symbol::Equals => Some((4, Operator::Prim(Primitive::Eq))),
+        Symbol::Less => Some((4, Operator::Prim(Primitive::Lt))),
         Symbol::And => Some((5, Operator::Both)),
         Symbol::Or => Some((6, Operator::Either)),
         _ => None,
@@ -100,7 +100,7 @@ pub fn join<'s, 't>(
 {
     let height = left.height.max(right.height) + 1;
     let kind = match operator {
-        Operator::Prim(number) => SExprKind::Op(number, two(alloc, left, right)?),
+        Operator::Prim(primitive) => SExprKind::Op(primitive, two(alloc, left, right)?),
         Operator::Consing => SExprKind::Cons(left.tree, right.tree),
         Operator::Both => SExprKind::And(left.tree, right.tree),
         Operator::Either => SExprKind::Or(left.tree, right.tree),
@@ -154,8 +154,8 @@ pub fn prefixed_by<'s, 't>(
     let item = item.tree;
     match prefix {
         Prefix::Present => made(alloc, at, SExprKind::Present(item), height, rest),
-        Prefix::Exn(number) => {
-            let kind = SExprKind::Exn(number, Some(item));
+        Prefix::Exn(exn) => {
+            let kind = SExprKind::ExnOf(exn, item);
             made(alloc, at, kind, height, rest)
         }
     }
@@ -375,13 +375,13 @@ pub fn raise<'s, 't>(
 pub fn operation<'s, 't>(
     alloc: Global,
     at: u32,
-    number: u8,
+    primitive: Primitive,
     operand: Parsed,
     rest: &'s [Sign<'t>],
 ) -> Result<(Parsed, &'s [Sign<'t>]), Stop>
     requires low { operand.height < 2 ^ 32 - 1 }
     requires operand { measured operand }
-    ensures tree { IfOk result (λ x. (tree_of x.0.tree ≡ ExOp at number (tree
+    ensures tree { IfOk result (λ x. (tree_of x.0.tree ≡ ExOp at (primitive_number primitive) (tree
         (tree_of operand.tree) no_trees)) ×
         (x.1.now ≡ rest.now)) }
     ensures height { IfOk result (λ x. measured x.0) }
@@ -389,7 +389,7 @@ pub fn operation<'s, 't>(
 {
     let height = operand.height + 1;
     let parts = with_part(Many::new(alloc), operand)?;
-    made(alloc, at, SExprKind::Op(number, parts), height, rest)
+    made(alloc, at, SExprKind::Op(primitive, parts), height, rest)
 }
 
 /// A sequence of parts, of which the highest has this height.

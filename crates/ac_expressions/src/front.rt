@@ -8,17 +8,14 @@ ghost use Rattle.ac_syntax.specs.PartParsing.{OnSyntax, SymbolAt, NoSymbol};
 ghost use Rattle.ac_expressions.specs.inner.Pieces.{Nothing, IsName, NumberAt, NoNumber, LoneNumber, NoLoneNumber, begins_lower, IsPrefix, PrefixAt, NoPrefix};
 
 use ac_syntax::{SName, Sign, SignKind, Stop, Symbol, after, next, next_name, refused_at};
-use ac_types::Memory;
-use ac_types::exceptions::{
-    FAILURE, INVALID_ARGUMENT, MARSHAL_FAILURE, RESOLVE_FAILURE, SYS_ERROR, UNMARSHAL_FAILURE,
-};
+use ac_types::{Memory, TextExn};
 use std::alloc::Global;
 
-/// A word that takes one argument: `Some`, or an exception with a string, by its number.
+/// A word that takes one argument: `Some`, or an exception with a string.
 #[derive(Clone, Copy)]
 pub enum Prefix {
     Present,
-    Exn(u8),
+    Exn(TextExn),
 }
 
 /// What stands behind this symbol, which must stand here.
@@ -194,12 +191,12 @@ fn prefix_of(symbol: Symbol) -> Option<Prefix>
 {
     match symbol {
         Symbol::SomeWord => Some(Prefix::Present),
-        Symbol::Failure => Some(Prefix::Exn(FAILURE)),
-        Symbol::InvalidArgument => Some(Prefix::Exn(INVALID_ARGUMENT)),
-        Symbol::SysError => Some(Prefix::Exn(SYS_ERROR)),
-        Symbol::MarshalFailure => Some(Prefix::Exn(MARSHAL_FAILURE)),
-        Symbol::UnmarshalFailure => Some(Prefix::Exn(UNMARSHAL_FAILURE)),
-        Symbol::ResolveFailure => Some(Prefix::Exn(RESOLVE_FAILURE)),
+        Symbol::Failure => Some(Prefix::Exn(TextExn::Failure)),
+        Symbol::InvalidArgument => Some(Prefix::Exn(TextExn::InvalidArgument)),
+        Symbol::SysError => Some(Prefix::Exn(TextExn::SysError)),
+        Symbol::MarshalFailure => Some(Prefix::Exn(TextExn::MarshalFailure)),
+        Symbol::UnmarshalFailure => Some(Prefix::Exn(TextExn::UnmarshalFailure)),
+        Symbol::ResolveFailure => Some(Prefix::Exn(TextExn::ResolveFailure)),
         _ => None,
     }
 }

@@ -13,8 +13,7 @@ use crate::binders::ascribed;
 use crate::build::{self, Parsed};
 use crate::front::{constant, expect, name};
 use ac_syntax::{SExpr, SExprKind, SName, Sign, SignKind, Stop, Symbol, next, refused_at};
-use ac_types::exceptions::{DIVISION_BY_ZERO, END_OF_FILE, MATCH_FAILURE, NOT_FOUND};
-use ac_types::{Box, Word};
+use ac_types::{BareExn, Box, Word};
 use std::alloc::Global;
 
 #[tactic(auto, using(ac_syntax::proofs::ReadLaws::expr_laws))]
@@ -25,10 +24,10 @@ fn base_kind(symbol: Symbol) -> Option<SExprKind>
     match symbol {
         Symbol::True => Some(SExprKind::Bool(true)),
         Symbol::False => Some(SExprKind::Bool(false)),
-        Symbol::NotFound => Some(SExprKind::Exn(NOT_FOUND, None)),
-        Symbol::DivisionByZero => Some(SExprKind::Exn(DIVISION_BY_ZERO, None)),
-        Symbol::MatchFailure => Some(SExprKind::Exn(MATCH_FAILURE, None)),
-        Symbol::EndOfFile => Some(SExprKind::Exn(END_OF_FILE, None)),
+        Symbol::NotFound => Some(SExprKind::Exn(BareExn::NotFound)),
+        Symbol::DivisionByZero => Some(SExprKind::Exn(BareExn::DivisionByZero)),
+        Symbol::MatchFailure => Some(SExprKind::Exn(BareExn::MatchFailure)),
+        Symbol::EndOfFile => Some(SExprKind::Exn(BareExn::EndOfFile)),
         _ => None,
     }
 }

@@ -14,7 +14,7 @@ use crate::expressions::app;
 use crate::front::lone_number;
 use crate::keywords::operator;
 use ac_syntax::{Sign, Stop, Symbol, after, here, refused_at};
-use ac_types::primitives;
+use ac_types::Primitive;
 use std::alloc::Global;
 
 // What stands behind a `-`.
@@ -37,7 +37,7 @@ fn minus<'s, 't>(
         return build::negative(alloc, at, n, rest);
     }
     let (operand, rest) = unary(alloc, depth - 1, signs)?;
-    build::operation(alloc, at, primitives::NEG, operand, rest)
+    build::operation(alloc, at, Primitive::Neg, operand, rest)
 }
 
 // A `-` or a `not` with its operand, or an application.
@@ -65,7 +65,7 @@ fn unary<'s, 't>(
             return Err(refused_at(signs));
         }
         let (operand, rest) = unary(alloc, depth - 1, behind)?;
-        return build::operation(alloc, at, primitives::NOT, operand, rest);
+        return build::operation(alloc, at, Primitive::Not, operand, rest);
     }
     app(alloc, depth, signs)
 }

@@ -17,12 +17,9 @@ use crate::front::{
     Prefix, begins_name, constant, expect, followed, negated, next_number, next_prefix,
 };
 use ac_syntax::{SPat, SPatKind, Sign, SignKind, Stop, Symbol, after, here, next, refused_at};
-use ac_types::exceptions::{DIVISION_BY_ZERO, END_OF_FILE, MATCH_FAILURE, NOT_FOUND};
-use ac_types::{Box, Many, Memory, both};
+use ac_types::limits::HIGHEST_PATTERN;
+use ac_types::{BareExn, Box, Many, Memory, both};
 use std::alloc::Global;
-
-// How high a pattern by itself may be.
-const HIGHEST_PATTERN: u32 = 500;
 
 /// A pattern, and its height.
 pub struct ParsedPat {
@@ -97,8 +94,8 @@ fn prefixed_by<'s, 't>(
             let tree = SPat { at, kind };
             Ok((ParsedPat { tree, height }, rest))
         }
-        Prefix::Exn(number) => {
-            let kind = SPatKind::Exn(number, Some(item));
+        Prefix::Exn(exn) => {
+            let kind = SPatKind::ExnOf(exn, item);
             let tree = SPat { at, kind };
             Ok((ParsedPat { tree, height }, rest))
         }
@@ -175,10 +172,10 @@ fn base_kind(symbol: Symbol) -> Option<SPatKind>
         Symbol::True => Some(SPatKind::Bool(true)),
         Symbol::False => Some(SPatKind::Bool(false)),
         Symbol::NoneWord => Some(SPatKind::Absent),
-        Symbol::NotFound => Some(SPatKind::Exn(NOT_FOUND, None)),
-        Symbol::DivisionByZero => Some(SPatKind::Exn(DIVISION_BY_ZERO, None)),
-        Symbol::MatchFailure => Some(SPatKind::Exn(MATCH_FAILURE, None)),
-        Symbol::EndOfFile => Some(SPatKind::Exn(END_OF_FILE, None)),
+        Symbol::NotFound => Some(SPatKind::Exn(BareExn::NotFound)),
+        Symbol::DivisionByZero => Some(SPatKind::Exn(BareExn::DivisionByZero)),
+        Symbol::MatchFailure => Some(SPatKind::Exn(BareExn::MatchFailure)),
+        Symbol::EndOfFile => Some(SPatKind::Exn(BareExn::EndOfFile)),
         _ => None,
     }
 }
@@ -415,7 +412,7 @@ fn whole<'s, 't>(
 }
 
 /// The pattern at the front, taken as long as it can be, and what is left. It has a height of at
-/// most 500.
+/// most `HIGHEST_PATTERN`.
 /// `Syntax` where no pattern stands there.
 pub fn pattern<'s, 't>(alloc: Global, signs: &'s [Sign<'t>]) -> Result<(SPat, &'s [Sign<'t>]), Stop>
     ensures tree { IfOk result (λ x. IsPattern (read_signs signs.now) (pat_of x.0)

@@ -9,13 +9,11 @@ ghost use Rattle.ac_expressions.specs.ExpressionParsing.{NoExpr};
 
 use crate::expressions::expr;
 use ac_syntax::{SExpr, Sign, Stop};
+use ac_types::limits::HIGHEST_EXPRESSION;
 use std::alloc::Global;
 
-// How high an expression may be.
-const HIGHEST: u32 = 500;
-
 /// The expression at the front, taken as long as it can be, and what is left. It has a height of at
-/// most 500.
+/// most `HIGHEST_EXPRESSION`.
 /// `Syntax` where no expression stands there.
 pub fn expression<'s, 't>(
     alloc: Global,
@@ -26,6 +24,6 @@ pub fn expression<'s, 't>(
     ensures shorter { IfOk result (λ x. length x.1.now < length signs.now) }
     ensures none { IfErr result (λ e. OnSyntax e (NoExpr (read_signs signs.now))) }
 {
-    let (parsed, rest) = expr(alloc, HIGHEST, signs)?;
+    let (parsed, rest) = expr(alloc, HIGHEST_EXPRESSION, signs)?;
     Ok((parsed.tree.into_inner(), rest))
 }

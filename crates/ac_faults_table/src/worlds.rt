@@ -1,6 +1,7 @@
 // Runs of programs in worlds.
 
 ghost use Rattle.std.specs.Prelude.{◌≤◌, length};
+ghost use Rattle.ac_types.specs.Limits.{most_shelf_entries};
 ghost use Rattle.ac_types.specs.ReadTypes.{typ_of};
 ghost use Rattle.ac_terms.specs.Read.{environment_of, expr_of};
 ghost use Rattle.ac_acceptance.specs.Accepting.{IsShelf};
@@ -51,7 +52,7 @@ fn run_texts(
     pace: Pace,
     fault: Option<Fault>,
 ) -> Result<Outcome, Memory>
-    requires few { length texts.now.shelf.0 ≤ 256 }
+    requires few { length texts.now.shelf.0 ≤ most_shelf_entries }
     requires shelved { IsShelf (shelf_of texts.now.shelf) }
 {
     match load(alloc, texts.program.as_slice(), &texts.shelf) {

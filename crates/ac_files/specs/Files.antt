@@ -1,5 +1,6 @@
 -- Files before some calls and after them.
 use Rattle.std.specs.Prelude.{◌≡◌, ℕ, Bool, IsTrue, List, take, Option, Some}
+use Rattle.ac_types.specs.Limits.{longest_read}
 use Rattle.ac_outside.specs.Outside.{Contents, NeverFall}
 
 -- what files have and count
@@ -22,9 +23,9 @@ pub record Reading : Type 0 where
 abbrev pub files_read : Bool → FilesSeen → FilesSeen → List ℕ → Reading
 files_read told old new name = record { told = told; bytes = old.contents name; before = old.read_faults name; after = new.read_faults name }
 
--- the text is what is read of the file: all, or its first 1,048,577 bytes
+-- the text is what is read of the file: all, or its first `longest_read` bytes
 abbrev pub IsTextOf : Reading → List ℕ → Type 0
-IsTextOf file text = IsTrue file.told → (bytes : List ℕ) × (file.bytes ≡ Some bytes) × (text ≡ take 1048577 bytes)
+IsTextOf file text = IsTrue file.told → (bytes : List ℕ) × (file.bytes ≡ Some bytes) × (text ≡ take longest_read bytes)
 
 -- files since a call began: they have what they had, and no count has fallen
 pub record Since (told : Bool) (start now : FilesSeen) : Type 0 where

@@ -4,7 +4,7 @@ use Rattle.std.specs.List.{before_first, after_first, concat, flat_map, list_all
 use Rattle.std.specs.Str.{is_utf8}
 use Rattle.ac_types.specs.Types.{Bytes}
 use Rattle.ac_rules.specs.Modules.{are_distinct}
-use Rattle.ac_types.specs.Limits.{is_uri}
+use Rattle.ac_types.specs.Limits.{is_uri, longest_shelf_list, most_shelf_entries}
 use Rattle.ac_files.specs.declared.list.ShelfLine as code_line
 
 -- a URI, and the name of the file that has its text
@@ -66,9 +66,9 @@ entries_of_lines ls = flat_map entry_of_line ls
 abbrev pub listed_uris : List Listed → List Bytes
 listed_uris xs = map (λ (x : Listed). x.uri) xs
 
--- lines that may begin a list: each has its form, they have 65,536 bytes and 256 entries at most, and no URI twice
+-- lines that may begin a list: each has its form, they have neither too many bytes nor too many entries, and no URI twice
 abbrev pub are_good : List Bytes → Bool
-are_good ls = list_all has_form ls && (nat_le (length (concat ls)) 65536 && (nat_le (length (entries_of_lines ls)) 256 && are_distinct (listed_uris (entries_of_lines ls))))
+are_good ls = list_all has_form ls && (nat_le (length (concat ls)) longest_shelf_list && (nat_le (length (entries_of_lines ls)) most_shelf_entries && are_distinct (listed_uris (entries_of_lines ls))))
 
 -- lines behind good ones: the first that isn't good with those in front of it is bad
 abbrev pub answer_behind : List Bytes → List Bytes → ShelfAnswer

@@ -5,6 +5,8 @@ ghost use Rattle.std.specs.List.{before_first, after_first, list_any, position, 
 ghost use Rattle.ac_types.specs.Limits.{is_uri};
 ghost use Rattle.ac_files.specs.ShelfLists.{is_space, is_listed_file, lines, pair_of, without_feed};
 
+use ac_types::limits::LONGEST_URI;
+
 // The place of the first such byte.
 fn first_place(byte: u8, text: &[u8]) -> Option<usize>
     ensures { result ≡ position (λ b. b == byte) text.now }
@@ -61,7 +63,7 @@ pub fn pair_in<'a>(line: &'a [u8]) -> Option<(&'a [u8], &'a str)>
 fn is_uri(uri: &[u8]) -> bool
     ensures { result ≡ is_uri uri.now }
 {
-    1 <= uri.len() && uri.len() <= 1024
+    1 <= uri.len() && uri.len() <= LONGEST_URI as usize
 }
 
 // The FILE of these bytes.

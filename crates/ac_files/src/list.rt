@@ -3,18 +3,15 @@
 ghost use Rattle.std.specs.Prelude.{◌≡◌, ◌≤◌, [], ◌∷◌, ◌++◌, ℕ, IsTrue, IfOk, IsErrOf, length, map, true};
 ghost use Rattle.std.specs.List.{list_all, list_any};
 ghost use Rattle.ac_rules.specs.Modules.{are_distinct};
-ghost use Rattle.ac_types.specs.Limits.{is_uri};
+ghost use Rattle.ac_types.specs.Limits.{is_uri, most_shelf_entries};
 ghost use Rattle.ac_types.specs.Types.{same_bytes};
 ghost use Rattle.ac_files.specs.ShelfLists.{Lists, BadLine, Listed, shelf_answer, line_has, had_of, listed_of, listed_uris};
 ghost use Rattle.ac_files.specs.inner.Behind.{are_few, fits_behind};
 
 use crate::line::{next_line, pair_in, without_feed};
+use ac_types::limits::{LONGEST_SHELF_LIST, MOST_SHELF_ENTRIES};
 use ac_types::{Many, Memory, Text};
 use std::alloc::Global;
-
-const MOST_BYTES: usize = 65_536;
-
-const MOST_ENTRIES: usize = 256;
 
 /// A URI, and the name of the file that has its text.
 #[derive(Drop)]
@@ -38,7 +35,7 @@ pub enum ShelfFault {
 pub fn shelf_list(alloc: Global, text: &[u8]) -> Result<Many<ShelfLine>, ShelfFault>
     ensures lists { IfOk result (λ l. shelf_answer text.now ≡ Lists (map listed_of l)) }
     ensures bad { (n : ℕ) → IsErrOf result (ShelfFault.Line n) → shelf_answer text.now ≡ BadLine n }
-    ensures few { IfOk result (λ l. length l ≤ 256) }
+    ensures few { IfOk result (λ l. length l ≤ most_shelf_entries) }
     ensures uris { IfOk result (λ l.
         IsTrue (list_all (λ (x : Listed). is_uri x.uri) (map listed_of l))) }
     ensures distinct { IfOk result (λ l. IsTrue (are_distinct (listed_uris (map listed_of l)))) }
@@ -49,7 +46,7 @@ pub fn shelf_list(alloc: Global, text: &[u8]) -> Result<Many<ShelfLine>, ShelfFa
     let mut place = 0usize;
     while !rest.is_empty() {
         let (line, behind) = next_line(rest);
-        if line.len() > MOST_BYTES - place {
+        if line.len() > LONGEST_SHELF_LIST - place {
             return Err(ShelfFault::Line(number + 1));
         }
         match add_line(alloc, &mut entries, without_feed(line)) {
@@ -94,7 +91,7 @@ fn add_entry(
         map listed_of entries.new ≡ map listed_of entries.old ++
         record { uri = uri.now; file = file.now } ∷ []) }
 {
-    if entries.len() >= MOST_ENTRIES {
+    if entries.len() >= MOST_SHELF_ENTRIES {
         return Ok(false);
     }
     if has_uri(entries, uri) {

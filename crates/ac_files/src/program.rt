@@ -1,5 +1,6 @@
 // The texts of a program and of its shelf.
 ghost use Rattle.std.specs.Prelude.{◌≡◌, ◌≤◌, ℕ, None, IsTrue, IfOk, IsErrOf, length, option_map};
+ghost use Rattle.ac_types.specs.Limits.{most_shelf_entries};
 ghost use Rattle.ac_outside.specs.Outside.{NeverFall, Rose};
 ghost use Rattle.ac_acceptance.specs.Accepting.{IsShelf};
 ghost use Rattle.ac_load.specs.Loading.{shelf_of};
@@ -18,7 +19,7 @@ use std::alloc::Global;
 pub struct ProgramTexts {
     /// The texts of its shelf.
     pub shelf: Shelf,
-    /// Its own text, or the first 1,048,577 bytes of it.
+    /// Its own text, or the first `LONGEST_READ` bytes of it.
     pub program: Text,
 }
 
@@ -37,7 +38,7 @@ pub fn read_program<F: Files>(
     ensures program { IfOk result (λ t. IsTextOf (files_read F.told
         (files_seen F.contents F.read_faults F.write_faults files.old)
         (files_seen F.contents F.read_faults F.write_faults files.new) program.now) t.program.0) }
-    ensures few { IfOk result (λ t. length t.shelf.0 ≤ 256) }
+    ensures few { IfOk result (λ t. length t.shelf.0 ≤ most_shelf_entries) }
     ensures shelved { IfOk result (λ t. IsShelf (shelf_of t.shelf)) }
     ensures line { (n : ℕ) → IsErrOf result (TextsFault.Line n) → HasBadLine (files_read F.told
         (files_seen F.contents F.read_faults F.write_faults files.old)

@@ -1,5 +1,6 @@
 // The texts of a shelf.
 ghost use Rattle.std.specs.Prelude.{◌≡◌, ◌≤◌, ℕ, None, Some, IsTrue, IfOk, IsErrOf, length, map, option_map};
+ghost use Rattle.ac_types.specs.Limits.{most_shelf_entries};
 ghost use Rattle.ac_outside.specs.Outside.{NeverFall, Rose};
 ghost use Rattle.ac_files.specs.ShelfLists.{Lists, BadLine, listed_of, shelf_answer};
 ghost use Rattle.ac_acceptance.specs.Accepting.{IsShelf};
@@ -36,7 +37,7 @@ pub fn read_shelf<F: Files>(
         (files_seen F.contents F.read_faults F.write_faults files.old)
         (files_seen F.contents F.read_faults F.write_faults files.new))
         (option_map (λ s. s.now) list.entry) (shelf_of shelf)) }
-    ensures few { IfOk result (λ shelf. length shelf.0 ≤ 256) }
+    ensures few { IfOk result (λ shelf. length shelf.0 ≤ most_shelf_entries) }
     ensures shelved { IfOk result (λ shelf. IsShelf (shelf_of shelf)) }
     ensures line { (n : ℕ) → IsErrOf result (TextsFault.Line n) → HasBadLine (files_read F.told
         (files_seen F.contents F.read_faults F.write_faults files.old)
@@ -63,7 +64,7 @@ fn read_listed<F: Files>(alloc: Global, files: &mut F, list: &str) -> Result<She
         (files_seen F.contents F.read_faults F.write_faults files.old)
         (files_seen F.contents F.read_faults F.write_faults files.new))
         (Some list.now) (shelf_of shelf)) }
-    ensures few { IfOk result (λ shelf. length shelf.0 ≤ 256) }
+    ensures few { IfOk result (λ shelf. length shelf.0 ≤ most_shelf_entries) }
     ensures shelved { IfOk result (λ shelf. IsShelf (shelf_of shelf)) }
     ensures line { (n : ℕ) → IsErrOf result (TextsFault.Line n) → HasBadLine (files_read F.told
         (files_seen F.contents F.read_faults F.write_faults files.old)
@@ -87,7 +88,7 @@ fn read_lines<F: Files>(alloc: Global, files: &mut F, text: &[u8]) -> Result<She
     ensures shelf { IfOk result (λ shelf. LinesGive (files_read F.told
         (files_seen F.contents F.read_faults F.write_faults files.old)
         (files_seen F.contents F.read_faults F.write_faults files.new)) text.now (shelf_of shelf)) }
-    ensures few { IfOk result (λ shelf. length shelf.0 ≤ 256) }
+    ensures few { IfOk result (λ shelf. length shelf.0 ≤ most_shelf_entries) }
     ensures shelved { IfOk result (λ shelf. IsShelf (shelf_of shelf)) }
     ensures line { (n : ℕ) → IsErrOf result (TextsFault.Line n) →
         shelf_answer text.now ≡ BadLine n }

@@ -4,6 +4,7 @@ ghost use Rattle.ac_outside.specs.Outside.{Rose, NeverFall, ReadsFrom};
 ghost use Rattle.ac_files.specs.inner.Fronts.{IsFrontOf, Begins};
 
 use ac_outside::{Files, Got};
+use ac_types::limits::LONGEST_READ;
 use ac_types::{Memory, Text};
 use std::alloc::Global;
 
@@ -16,11 +17,10 @@ pub enum ReadFault {
     Memory,
 }
 
-const MAX_READ: usize = 1_048_577;
-
+// How many bytes one read takes at most.
 const PIECE: usize = 4096;
 
-/// The bytes of a file, the first 1,048,577 at most.
+/// The bytes of a file, the first `LONGEST_READ` at most.
 pub fn read_text<F: Files>(alloc: Global, files: &mut F, name: &str) -> Result<Text, ReadFault>
     ensures text { IsTrue F.told → IfOk result
         (λ text. IsFrontOf (F.contents files.old name.now) text.0) }
@@ -33,9 +33,9 @@ pub fn read_text<F: Files>(alloc: Global, files: &mut F, name: &str) -> Result<T
 {
     let mut text = Text::new(alloc);
     let mut len = 0usize;
-    while len < MAX_READ {
+    while len < LONGEST_READ {
         let mut piece = [0u8; PIECE];
-        let room = (MAX_READ - len).min(PIECE);
+        let room = (LONGEST_READ - len).min(PIECE);
         let part = &mut piece[..room];
         match files.read(name, len as u64, part) {
             Got::Bytes(count) => match text.extend(&part[..count]) {

@@ -1,5 +1,6 @@
 // The texts of several files, and of a shelf beside them.
 ghost use Rattle.std.specs.Prelude.{◌≡◌, ◌≤◌, ℕ, None, IsTrue, IfOk, IsErrOf, length, map, option_map};
+ghost use Rattle.ac_types.specs.Limits.{most_shelf_entries};
 ghost use Rattle.ac_outside.specs.Outside.{NeverFall};
 ghost use Rattle.ac_acceptance.specs.Accepting.{IsShelf};
 ghost use Rattle.ac_load.specs.Loading.{shelf_of};
@@ -20,7 +21,7 @@ use std::alloc::Global;
 pub struct ManyTexts {
     /// The texts of the shelf.
     pub shelf: Shelf,
-    /// The text of each file, or the first 1,048,577 bytes of it.
+    /// The text of each file, or the first `LONGEST_READ` bytes of it.
     pub texts: Many<Text>,
 }
 
@@ -40,7 +41,7 @@ pub fn read_texts<F: Files>(
         (files_seen F.contents F.read_faults F.write_faults files.old)
         (files_seen F.contents F.read_faults F.write_faults files.new))
         (map (λ s. s.now) names.now) t.texts) }
-    ensures few { IfOk result (λ t. length t.shelf.0 ≤ 256) }
+    ensures few { IfOk result (λ t. length t.shelf.0 ≤ most_shelf_entries) }
     ensures shelved { IfOk result (λ t. IsShelf (shelf_of t.shelf)) }
     ensures line { (n : ℕ) → IsErrOf result (TextsFault.Line n) → HasBadLine (files_read F.told
         (files_seen F.contents F.read_faults F.write_faults files.old)

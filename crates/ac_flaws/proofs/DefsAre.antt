@@ -1,6 +1,7 @@
 -- What is wrong with definitions by what is known is what is wrong with them in the scope.
 use Rattle.std.proofs.Common.{◌≡◌, ◌∙◌, ap, refl, sym, suc, ℕ, Bool, true, false, List, [], ◌∷◌, map, length, Option, Some, None}
 use Rattle.std.specs.Prelude.{is_some, flat_map, if◌then◌else◌, unwrap_or}
+use Rattle.ac_types.specs.Limits.{most_items}
 use Rattle.ac_types.specs.Types.{Bytes, same_bytes}
 use Rattle.ac_syntax.specs.Trees.{Tree, AbbrevTree, FieldTree, AbbrevField, ValField, WantsTree, WantsVersion, WantsName, DefTree, ModuleDef, ImportDef, MarkDef}
 use Rattle.ac_scopes.specs.Scopes.{NameScope, own_number, definition, each_in}
@@ -8,7 +9,7 @@ use Rattle.ac_scopes.specs.Definitions.{after_abbrev, after_field, item_type, it
 use Rattle.ac_scopes.specs.Searches.{least, least_in, found_in_abbrev, found_in_field}
 use Rattle.ac_scopes.specs.Unbound.{unless, unbound, unbound_wants, unbound_in_def}
 use Rattle.ac_scopes.specs.Repeated.{repeated, repeated_in_def, repeated_in_sig, repeated_in_like, repeated_in_lists, standard_name, spec_type_name, spec_value_name, field_type_name, field_value_name}
-use Rattle.ac_scopes.specs.Counts.{over, items_limit, many_in_sig, many_in_struct, many_atoms, large, large_in_def}
+use Rattle.ac_scopes.specs.Counts.{over, many_in_sig, many_in_struct, many_atoms, large, large_in_def}
 use Rattle.ac_signatures.specs.declared.flaws.Flaws.{Flaws}
 use Rattle.ac_signatures.specs.Joined.{missing, counts, flaws_joined}
 use Rattle.ac_signatures.specs.KnownScopes.{KnownScope, Members, known_outside, updated}
@@ -79,7 +80,7 @@ like-length : (xs : List AbbrevTree) → length (map abbrev_name xs) ≡ length 
 like-length [] = refl
 like-length (x ∷ xs) = ap suc (like-length xs)
 
-struct_counts : (S : NameScope) (xs : List FieldTree) → least (over items_limit (length (flat_map field_type_name xs))) (over items_limit (length (flat_map field_value_name xs))) ≡ many_in_struct S xs
+struct_counts : (S : NameScope) (xs : List FieldTree) → least (over most_items (length (flat_map field_type_name xs))) (over most_items (length (flat_map field_value_name xs))) ≡ many_in_struct S xs
 struct_counts S xs = over_both _ _ _ _ (field_types-length S xs) (field_values-length S xs)
 
 -- two lists, each with what is walked through, behind what is wrong with the name
@@ -107,7 +108,7 @@ module _ (outer : Bytes → Option Members) (S : NameScope) (k : KnowsOuter oute
       regrouped (name_flaws name) (flaws_joined (list_flaws (flat_map spec_type_name σ.specs)) (list_flaws (flat_map spec_value_name σ.specs))) (flaws_in past_spec spec_flaws (known_outside outer) σ.specs)
       (flaws_joined (list_flaws (flat_map field_type_name fields)) (list_flaws (flat_map field_value_name fields))) (flaws_in past_field field_flaws (known_outside outer) fields)
       ∙ both_joined _ _ _ _
-      (ap (λ c. three None (repeated_in_lists (ModuleDef at name σ version fields)) (least c (least (over items_limit (length (flat_map field_type_name fields))) (over items_limit (length (flat_map field_value_name fields)))))) (sig_counts S σ)
+      (ap (λ c. three None (repeated_in_lists (ModuleDef at name σ version fields)) (least c (least (over most_items (length (flat_map field_type_name fields))) (over most_items (length (flat_map field_value_name fields)))))) (sig_counts S σ)
       ∙ ap (λ c. three None (repeated_in_lists (ModuleDef at name σ version fields)) (least (many_in_sig S σ) c)) (struct_counts S fields))
       (both_joined _ _ _ _ (specs-are (known_outside outer) S σ.specs begun) (fields-are (known_outside outer) S fields s.variables begun))
   def-is (ImportDef at name σ wants like by) =
@@ -116,8 +117,8 @@ module _ (outer : Bytes → Option Members) (S : NameScope) (k : KnowsOuter oute
       regrouped (demand_flaws outer name wants by) lists (flaws_in past_spec spec_flaws (known_outside outer) σ.specs) (list_flaws (map abbrev_name xs)) (flaws_in past_abbrev abbrev_flaws (known_outside outer) xs)
       ∙ both_joined _ _ _ _
       (ap (λ w. flaws_joined (flaws_joined (name_flaws name) (flaws_joined w (counts (many_atoms by)))) (flaws_joined lists (list_flaws (map abbrev_name xs)))) (wants-is outer S wants k)
-      ∙ import_lists (standard_name name) (repeated_in_sig σ) (repeated_in_like xs) (unbound_wants S wants) (least (over items_limit (length (flat_map spec_type_name σ.specs))) (over items_limit (length (flat_map spec_value_name σ.specs)))) (over items_limit (length (map abbrev_name xs))) (many_atoms by)
-      ∙ ap (λ c. three (unbound_wants S wants) (least (standard_name name) (least (repeated_in_sig σ) (repeated_in_like xs))) (least c (least (over items_limit (length (map abbrev_name xs))) (many_atoms by)))) (sig_counts S σ)
-      ∙ ap (λ n. three (unbound_wants S wants) (least (standard_name name) (least (repeated_in_sig σ) (repeated_in_like xs))) (least (many_in_sig S σ) (least (over items_limit n) (many_atoms by)))) (like-length xs))
+      ∙ import_lists (standard_name name) (repeated_in_sig σ) (repeated_in_like xs) (unbound_wants S wants) (least (over most_items (length (flat_map spec_type_name σ.specs))) (over most_items (length (flat_map spec_value_name σ.specs)))) (over most_items (length (map abbrev_name xs))) (many_atoms by)
+      ∙ ap (λ c. three (unbound_wants S wants) (least (standard_name name) (least (repeated_in_sig σ) (repeated_in_like xs))) (least c (least (over most_items (length (map abbrev_name xs))) (many_atoms by)))) (sig_counts S σ)
+      ∙ ap (λ n. three (unbound_wants S wants) (least (standard_name name) (least (repeated_in_sig σ) (repeated_in_like xs))) (least (many_in_sig S σ) (least (over most_items n) (many_atoms by)))) (like-length xs))
       (both_joined _ _ _ _ (specs-are (known_outside outer) S σ.specs begun) (like-are (known_outside outer) S xs begun))
   def-is (MarkDef at text_at text) = refl

@@ -1,6 +1,7 @@
 -- What is wrong with expressions by what is known is what is wrong with them in the scope.
 use Rattle.std.proofs.Common.{◌≡◌, ◌∙◌, ap, refl, ℕ, List, [], ◌∷◌, Option, Some, None}
 use Rattle.std.specs.Prelude.{is_some, ◌||◌, option_map}
+use Rattle.ac_types.specs.Limits.{widest_tuple, most_arms}
 use Rattle.ac_types.specs.First.{or_else}
 use Rattle.ac_types.specs.Types.{Bytes}
 use Rattle.ac_terms.specs.Terms.{Var, Own}
@@ -11,7 +12,7 @@ use Rattle.ac_scopes.specs.Written.{variables}
 use Rattle.ac_scopes.specs.Searches.{tree_count, arms_written, found, found_in_all, found_in_arms}
 use Rattle.ac_scopes.specs.Unbound.{unless, unbound_behind, unbound_pattern, unbound}
 use Rattle.ac_scopes.specs.Repeated.{repeated_name, repeated}
-use Rattle.ac_scopes.specs.Counts.{over, width_limit, arms_limit, large_pattern, large}
+use Rattle.ac_scopes.specs.Counts.{over, large_pattern, large}
 use Rattle.ac_signatures.specs.declared.flaws.Flaws.{Flaws}
 use Rattle.ac_signatures.specs.Joined.{counts, repeats, flaws_joined}
 use Rattle.ac_signatures.specs.KnownScopes.{KnownScope}
@@ -68,7 +69,7 @@ module _ (K : KnownScope) (S : NameScope) (k : Knows K S) where
     flaws-are names (ExUnit at) = refl
     flaws-are names (ExExn at number) = refl
     flaws-are names (ExExnOf at number a) = flaws-are names a
-    flaws-are names (ExTuple at es) = ap (flaws_joined (counts (over width_limit (tree_count es)))) (all-are names es)
+    flaws-are names (ExTuple at es) = ap (flaws_joined (counts (over widest_tuple (tree_count es)))) (all-are names es)
     flaws-are names (ExNil at T) = ap (λ f. flaws_joined f (leaf_flaws names)) (type-is names T)
     flaws-are names (ExAbsent at T) = ap (λ f. flaws_joined f (leaf_flaws names)) (type-is names T)
     flaws-are names (ExPresent at a) = flaws-are names a
@@ -83,8 +84,8 @@ module _ (K : KnownScope) (S : NameScope) (k : Knows K S) where
         both_joined _ _ _ _ (type-is names T) (both_joined _ _ _ _ (type-is names U) (both_joined _ _ _ _ (flaws-are (x.word ∷ f.word ∷ names) a) (flaws-are (f.word ∷ names) b)))
     flaws-are names (ExIf at c a b) = both_joined _ _ _ _ (flaws-are names c) (both_joined _ _ _ _ (flaws-are names a) (flaws-are names b))
     flaws-are names (ExSeq at es) = all-are names es
-    flaws-are names (ExMatch at a arms) = ap (flaws_joined (counts (over arms_limit (arms_written arms)))) (both_joined _ _ _ _ (flaws-are names a) (arms-are names arms))
-    flaws-are names (ExTry at a arms) = ap (flaws_joined (counts (over arms_limit (arms_written arms)))) (both_joined _ _ _ _ (flaws-are names a) (arms-are names arms))
+    flaws-are names (ExMatch at a arms) = ap (flaws_joined (counts (over most_arms (arms_written arms)))) (both_joined _ _ _ _ (flaws-are names a) (arms-are names arms))
+    flaws-are names (ExTry at a arms) = ap (flaws_joined (counts (over most_arms (arms_written arms)))) (both_joined _ _ _ _ (flaws-are names a) (arms-are names arms))
     flaws-are names (ExRaise at a T) = both_joined _ _ _ _ (type-is names T) (flaws-are names a)
     flaws-are names (ExAnd at a b) = both_joined _ _ _ _ (flaws-are names a) (flaws-are names b)
     flaws-are names (ExOr at a b) = both_joined _ _ _ _ (flaws-are names a) (flaws-are names b)

@@ -1,9 +1,10 @@
 -- What is wrong with patterns by what is known is what is wrong with them in the scope.
 use Rattle.std.proofs.Common.{◌≡◌, ap, refl, None}
+use Rattle.ac_types.specs.Limits.{widest_tuple}
 use Rattle.ac_syntax.specs.Trees.{PatTree, PatWild, PatVar, PatInt, PatBool, PatStr, PatUnit, PatTuple, PatNil, PatCons, PatAbsent, PatPresent, PatExn, PatExnOf, PatTrees, no_pat_trees, pat_tree}
 use Rattle.ac_scopes.specs.Scopes.{NameScope}
 use Rattle.ac_scopes.specs.Unbound.{unbound_pattern, unbound_patterns}
-use Rattle.ac_scopes.specs.Counts.{over, width_limit, large_pattern, large_patterns, pat_count}
+use Rattle.ac_scopes.specs.Counts.{over, large_pattern, large_patterns, pat_count}
 use Rattle.ac_signatures.specs.declared.flaws.Flaws.{Flaws}
 use Rattle.ac_signatures.specs.Joined.{counts, flaws_joined}
 use Rattle.ac_signatures.specs.KnownScopes.{KnownScope}
@@ -28,7 +29,7 @@ module _ (K : KnownScope) (S : NameScope) (k : Knows K S) where
     pat_flaws-are (PatBool at b) = refl
     pat_flaws-are (PatStr at text) = refl
     pat_flaws-are (PatUnit at) = refl
-    pat_flaws-are (PatTuple at ps) = ap (flaws_joined (counts (over width_limit (pat_count ps)))) (pats_flaws-are ps)
+    pat_flaws-are (PatTuple at ps) = ap (flaws_joined (counts (over widest_tuple (pat_count ps)))) (pats_flaws-are ps)
     pat_flaws-are (PatNil at) = refl
     pat_flaws-are (PatCons at p q) = both_joined _ _ _ _ (pat_flaws-are p) (pat_flaws-are q)
     pat_flaws-are (PatAbsent at) = refl

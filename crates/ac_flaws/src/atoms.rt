@@ -7,18 +7,13 @@ ghost use Rattle.ac_signatures.specs.Joined.{counts};
 
 use ac_signatures::Flaws;
 use ac_types::Resolve;
-
-// The most atoms of a resolvespec.
-const ATOMS_LIMIT: u32 = 16;
-
-// The most bytes of a URI in it.
-const URI_LIMIT: u32 = 1024;
+use ac_types::limits::{LONGEST_URI, MOST_RESOLVES};
 
 /// What is wrong with the atoms of a resolvespec.
 pub fn atom_flaws(by: &[Resolve]) -> Flaws
     ensures { result ≡ counts (many_atoms (map resolve_of by.now)) }
 {
-    let mut found = Flaws::counted(ATOMS_LIMIT, by.len());
+    let mut found = Flaws::counted(MOST_RESOLVES as u32, by.len());
     for resolve in by {
         let here = uri_flaws(resolve);
         found = found.join(here);
@@ -32,6 +27,6 @@ fn uri_flaws(resolve: &Resolve) -> Flaws
     match resolve {
         Resolve::StaticLink => Flaws::none(),
         Resolve::HereAlready => Flaws::none(),
-        Resolve::Uri(uri) => Flaws::counted(URI_LIMIT, uri.as_slice().len()),
+        Resolve::Uri(uri) => Flaws::counted(LONGEST_URI, uri.as_slice().len()),
     }
 }

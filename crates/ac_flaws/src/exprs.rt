@@ -16,23 +16,18 @@ ghost use Rattle.ac_flaws.specs.inner.Variables.{variables_in};
 use crate::joining::{behind, join};
 use crate::patterns::{pat_flaws, variables};
 use crate::scope::{Scope, depth, is_bound};
-use ac_signatures::{Flaws, Named, Scan, WIDTH_LIMIT, dotted_flaws, repeated_name, type_flaws};
+use ac_signatures::{Flaws, Named, Scan, dotted_flaws, repeated_name, type_flaws};
 use ac_syntax::{SArm, SExpr, SExprKind, SName, SPat, SType};
+use ac_types::limits::{MOST_ARMS, MOST_VARIABLES, WIDEST_TUPLE};
 use ac_types::{Memory, Word};
 use std::alloc::Global;
-
-// The most arms of a match or a try.
-const ARMS_LIMIT: u32 = 1024;
-
-// The most variables in scope at one place.
-const SCOPE_LIMIT: u32 = 65535;
 
 // What is wrong with a leaf: too many variables may be in scope.
 #[tactic(auto, using(ac_signatures::proofs::Counted::over_laws))]
 fn leaf(scope: &Scope) -> Flaws
     ensures { result ≡ leaf_flaws (variables_in scope.now) }
 {
-    Flaws::counted(SCOPE_LIMIT, depth(scope))
+    Flaws::counted(MOST_VARIABLES, depth(scope))
 }
 
 // What is wrong with a variable or a field.
@@ -62,10 +57,10 @@ pub fn flaws<'s, 'a>(
         SExprKind::Bool(_) => Ok(leaf(scope)),
         SExprKind::Str(_) => Ok(leaf(scope)),
         SExprKind::Unit => Ok(leaf(scope)),
-        SExprKind::Exn(_, None) => Ok(leaf(scope)),
-        SExprKind::Exn(_, Some(argument)) => flaws(alloc, argument, scan, scope),
+        SExprKind::Exn(_) => Ok(leaf(scope)),
+        SExprKind::ExnOf(_, argument) => flaws(alloc, argument, scan, scope),
         SExprKind::Tuple(parts) => {
-            let width = Flaws::counted(WIDTH_LIMIT, parts.len());
+            let width = Flaws::counted(WIDEST_TUPLE as u32, parts.len());
             behind(width, all(alloc, parts.as_slice(), scan, scope))
         },
         SExprKind::Nil(ty) => Ok(type_flaws(ty, scan).join(leaf(scope))),
@@ -117,14 +112,14 @@ pub fn flaws<'s, 'a>(
                 flaws(alloc, of, scan, scope),
                 arms(alloc, cases.as_slice(), scan, scope),
             );
-            behind(Flaws::counted(ARMS_LIMIT, cases.len()), inner)
+            behind(Flaws::counted(MOST_ARMS as u32, cases.len()), inner)
         }
         SExprKind::Try(of, cases) => {
             let inner = join(
                 flaws(alloc, of, scan, scope),
                 arms(alloc, cases.as_slice(), scan, scope),
             );
-            behind(Flaws::counted(ARMS_LIMIT, cases.len()), inner)
+            behind(Flaws::counted(MOST_ARMS as u32, cases.len()), inner)
         }
         SExprKind::Raise(exception, ty) => {
             behind(type_flaws(ty, scan), flaws(alloc, exception, scan, scope))

@@ -7,9 +7,10 @@ ghost use Rattle.ac_scopes.specs.Written.{variables, variables_of_all};
 ghost use Rattle.ac_flaws.specs.inner.PatFlaws.{pat_flaws, pats_flaws};
 ghost use Rattle.ac_signatures.specs.Reads.{known_in, named};
 
-use ac_signatures::{Flaws, Named, Scan, WIDTH_LIMIT, type_flaws, with_name};
+use ac_signatures::{Flaws, Named, Scan, type_flaws, with_name};
 use ac_syntax::{SPat, SPatKind};
 use ac_types::Memory;
+use ac_types::limits::WIDEST_TUPLE;
 use std::alloc::Global;
 
 /// What is wrong with a pattern, but for its repetitions.
@@ -26,15 +27,15 @@ pub fn pat_flaws<'a>(tree: &'a SPat, scan: &Scan<'_, 'a>) -> Flaws
         SPatKind::Str(_) => Flaws::none(),
         SPatKind::Unit => Flaws::none(),
         SPatKind::Tuple(parts) => {
-            let width = Flaws::counted(WIDTH_LIMIT, parts.len());
+            let width = Flaws::counted(WIDEST_TUPLE as u32, parts.len());
             width.join(pats_flaws(parts.as_slice(), scan))
         }
         SPatKind::Nil => Flaws::none(),
         SPatKind::Cons(head, tail) => pat_flaws(head, scan).join(pat_flaws(tail, scan)),
         SPatKind::Absent => Flaws::none(),
         SPatKind::Present(item) => pat_flaws(item, scan),
-        SPatKind::Exn(_, None) => Flaws::none(),
-        SPatKind::Exn(_, Some(item)) => pat_flaws(item, scan),
+        SPatKind::Exn(_) => Flaws::none(),
+        SPatKind::ExnOf(_, item) => pat_flaws(item, scan),
     }
 }
 
@@ -79,8 +80,8 @@ fn add_variables<'a>(tree: &'a SPat, found: Vec<Named<'a>>) -> Result<Vec<Named<
         }
         SPatKind::Absent => Ok(found),
         SPatKind::Present(item) => add_variables(item, found),
-        SPatKind::Exn(_, None) => Ok(found),
-        SPatKind::Exn(_, Some(item)) => add_variables(item, found),
+        SPatKind::Exn(_) => Ok(found),
+        SPatKind::ExnOf(_, item) => add_variables(item, found),
     }
 }
 

@@ -1,7 +1,8 @@
 // The variables in scope.
 
-ghost use Rattle.std.specs.Prelude.{◌≡◌, min, is_some, length};
+ghost use Rattle.std.specs.Prelude.{◌≡◌, min, is_some, length, ◌+◌};
 ghost use Rattle.std.specs.List.{list_any};
+ghost use Rattle.ac_types.specs.Limits.{most_variables};
 ghost use Rattle.ac_types.specs.Types.{same_bytes};
 ghost use Rattle.ac_scopes.specs.Scopes.{binders_to};
 ghost use Rattle.ac_signatures.specs.declared.named.Named.{Named};
@@ -10,6 +11,7 @@ ghost use Rattle.ac_flaws.specs.inner.Variables.{variables_in};
 use ac_signatures::Named;
 use ac_syntax::SName;
 use ac_types::Word;
+use ac_types::limits::MOST_VARIABLES;
 
 /// The variables in scope, the newest first.
 #[derive(Clone, Copy)]
@@ -22,18 +24,18 @@ pub enum Scope<'s, 'a> {
     Arm(&'s Scope<'s, 'a>, &'s [Named<'a>]),
 }
 
-// Past this number no variable is counted.
-const MOST: usize = 65536;
+// How many variables are counted: one past the limit.
+const COUNTED: usize = MOST_VARIABLES as usize + 1;
 
-/// How many variables are in scope, at most 65,536.
+/// How many variables are in scope, counted up to one past the limit.
 #[tactic(auto, using(crate::proofs::Scoping::scope_laws))]
 pub fn depth(scope: &Scope) -> usize
-    ensures { result ≡ min (length (variables_in scope.now)) 65536 }
+    ensures { result ≡ min (length (variables_in scope.now)) (most_variables + 1) }
 {
     match scope {
         Scope::Empty => 0,
-        Scope::Inner(outer, _) => (depth(outer) + 1).min(MOST),
-        Scope::Arm(outer, names) => (depth(outer) + names.len()).min(MOST),
+        Scope::Inner(outer, _) => (depth(outer) + 1).min(COUNTED),
+        Scope::Arm(outer, names) => (depth(outer) + names.len()).min(COUNTED),
     }
 }
 

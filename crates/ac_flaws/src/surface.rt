@@ -18,11 +18,9 @@ use ac_signatures::{Externals, Flaws, Scan, entries_in_front, repeated_name};
 use ac_syntax::{SDef, SExpr, Surface};
 use ac_terms::{Entry, Env};
 use ac_types::Memory;
+use ac_types::limits::MOST_DEFINITIONS;
 use std::alloc::Global;
 use std::collections::BTreeMap;
-
-// The most definitions of a program.
-const DEFINITIONS_LIMIT: u32 = 4096;
 
 /// Why a program, or a module by itself, is refused behind the entries in front of it, for a name
 /// that isn't in scope, a repetition, or a count that passes its limit: the first of these that
@@ -71,7 +69,7 @@ fn defs_flaws(alloc: Global, defs: &[SDef]) -> Result<Flaws, Memory>
 {
     let names = marks(alloc, defs)?;
     let repeated = repeated_name(alloc, names.as_slice())?;
-    let counted = Flaws::counted(DEFINITIONS_LIMIT, defs.len());
+    let counted = Flaws::counted(MOST_DEFINITIONS, defs.len());
     Ok(Flaws {
         unbound: None,
         repeated,

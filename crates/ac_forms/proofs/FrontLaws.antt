@@ -1,6 +1,6 @@
 -- The definitions of a packet, entry by entry.
 use Rattle.std.proofs.Common.{◌≡◌, refl, sym, ap, ap₂, ◌∙◌, ℕ, zero, suc, ◌<◌, Bool, true, arith, List, [], ◌∷◌, ◌++◌, map, length, append_assoc, Option, Some, None}
-use Rattle.std.specs.Prelude.{◌&&◌, nat_le, flat_map, codes, slice_get}
+use Rattle.std.specs.Prelude.{◌&&◌, nat_le, flat_map, slice_get}
 use Rattle.std.specs.List.{list_all}
 use Rattle.ac_types.specs.Types.{Bytes}
 use Rattle.ac_terms.specs.Defs.{Environment, Entry, Field, Def, AModule, AnImport, AMark}
@@ -8,6 +8,7 @@ use Rattle.ac_terms.specs.Nesting.{nesting}
 use Rattle.ac_terms.specs.Bounds.{nests_little}
 use Rattle.ac_terms.specs.Renumbered.{field_renumbered, def_renumbered}
 use Rattle.ac_terms.specs.Spelling.{two_written, def_bytes}
+use Rattle.ac_terms.specs.Tags.{packet_front, packet_in_full}
 use Rattle.ac_rules.specs.Needed.{packet_form}
 use Rattle.ac_rules.proofs.RenumberedBounds.{nests_alike}
 use Rattle.ac_forms.specs.Forms.{AllBelow, forms, front_bytes}
@@ -50,8 +51,8 @@ module _ (f : ℕ → ℕ) where
         by rest (Some x) e = ap suc rest
 
 -- what a packet begins with, and its definitions behind it
-pub front_joined : (n : ℕ) (ds : List Def) (text : Bytes) → length ds ≡ n → text ≡ codes "ACUP" ++ 0x01 ∷ two_written n → text ++ flat_map def_bytes ds ≡ front_bytes ds
+pub front_joined : (n : ℕ) (ds : List Def) (text : Bytes) → length ds ≡ n → text ≡ packet_front ++ packet_in_full ∷ two_written n → text ++ flat_map def_bytes ds ≡ front_bytes ds
 front_joined n ds text e t =
     ap (λ xs. xs ++ flat_map def_bytes ds) t
-    ∙ append_assoc (codes "ACUP") (0x01 ∷ two_written n) (flat_map def_bytes ds)
-    ∙ ap (λ m. codes "ACUP" ++ 0x01 ∷ (two_written m ++ flat_map def_bytes ds)) (sym e)
+    ∙ append_assoc packet_front (packet_in_full ∷ two_written n) (flat_map def_bytes ds)
+    ∙ ap (λ m. packet_front ++ packet_in_full ∷ (two_written m ++ flat_map def_bytes ds)) (sym e)

@@ -1,10 +1,11 @@
 -- The definitions of a packet, in the forms in which entries travel, and their bytes.
-use Rattle.std.specs.Prelude.{◌≡◌, ℕ, ◌<◌, List, [], ◌∷◌, ◌++◌, length, flat_map, codes, Some, None, slice_get}
+use Rattle.std.specs.Prelude.{◌≡◌, ℕ, ◌<◌, List, [], ◌∷◌, ◌++◌, length, flat_map, Some, None, slice_get}
 use Rattle.ac_types.specs.Limits.{longest_packet}
 use Rattle.ac_types.specs.Types.{Bytes}
 use Rattle.ac_terms.specs.Defs.{Environment, Def}
 use Rattle.ac_terms.specs.Renumbered.{def_renumbered}
 use Rattle.ac_terms.specs.Spelling.{two_written, listed, def_bytes}
+use Rattle.ac_terms.specs.Tags.{packet_front, packet_in_full}
 use Rattle.ac_rules.specs.Needed.{packet_form}
 use Rattle.ac_rules.specs.Faults.{Fault, Size}
 use Rattle.ac_heads.specs.declared.stop.Stop.{Stop}
@@ -25,7 +26,7 @@ forms E mark f is = flat_map (form_at E mark f) is
 
 -- the bytes of a packet in front of its type and value
 abbrev pub front_bytes : List Def → Bytes
-front_bytes ds = codes "ACUP" ++ 0x01 ∷ listed two_written def_bytes ds
+front_bytes ds = packet_front ++ packet_in_full ∷ listed two_written def_bytes ds
 
 -- a fault at which writing these bytes stops is their size
 abbrev pub IsLong : Stop → Bytes → Type 0

@@ -1,11 +1,12 @@
 // The definitions of a packet.
 
-ghost use Rattle.std.specs.Prelude.{◌≡◌, ◌≤◌, ◌++◌, ◌∷◌, ℕ, length, codes, flat_map, IfOk, MatchResult};
+ghost use Rattle.std.specs.Prelude.{◌≡◌, ◌≤◌, ◌++◌, ◌∷◌, ℕ, length, flat_map, IfOk, MatchResult};
 ghost use Rattle.std.specs.List.{list_all};
 ghost use Rattle.ac_types.specs.Limits.{longest_packet};
 ghost use Rattle.ac_terms.specs.Bounds.{nests_little};
 ghost use Rattle.ac_terms.specs.Read.{environment_of};
 ghost use Rattle.ac_terms.specs.Spelling.{two_written, def_bytes};
+ghost use Rattle.ac_terms.specs.Tags.{packet_front, packet_in_full};
 ghost use Rattle.ac_parts.specs.Numbers.{number_for};
 ghost use Rattle.ac_forms.specs.Forms.{AllBelow, form_at, forms, front_bytes, IsLong};
 ghost use Rattle.ac_forms.specs.inner.Passing.{nests_at};
@@ -15,12 +16,10 @@ use crate::numbers::wide;
 use ac_bytes::Out;
 use ac_canon::put_count_u16;
 use ac_heads::Stop;
-use ac_terms::Env;
+use ac_terms::{Env, tags};
+use ac_types::limits::LONGEST_PACKET;
 use ac_types::{Memory, Text};
 use std::alloc::Global;
-
-// The most bytes of a packet.
-const LONGEST: usize = 1_048_576;
 
 /// Whether the forms of some entries nest little, whatever their numbers.
 pub fn forms_nest(env: &Env, mark: usize, chosen: &[u32]) -> bool
@@ -73,10 +72,11 @@ pub fn front(
 
 // What a packet begins with: its mark and version, and how many definitions it has.
 fn begun(alloc: Global, count: usize) -> Result<Text, Memory>
-    ensures { IfOk result (λ text. text.0 ≡ codes "ACUP" ++ 0x01 ∷ two_written count) }
+    ensures { IfOk result (λ text. text.0 ≡ packet_front ++ packet_in_full ∷ two_written count) }
 {
     let mut out = Out::new(alloc);
-    out.put_bytes(&[0x41, 0x43, 0x55, 0x50, 0x01])?;
+    out.put_u32(tags::PACKET_MARK)?;
+    out.put_u8(tags::PACKET_IN_FULL)?;
     put_count_u16(&mut out, count)?;
     Ok(out.into_text())
 }
@@ -120,7 +120,7 @@ pub fn put(text: &mut Text, bytes: &[u8]) -> Result<(), Stop>
         (λ e. IsLong e (text.old.0 ++ bytes.now)) }
 {
     let len = text.as_slice().len();
-    if len > LONGEST || bytes.len() > LONGEST - len {
+    if len > LONGEST_PACKET || bytes.len() > LONGEST_PACKET - len {
         return Err(Stop::Size);
     }
     text.extend(bytes)?;

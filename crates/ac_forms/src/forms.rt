@@ -2,6 +2,7 @@
 
 ghost use Rattle.std.specs.Prelude.{◌≡◌, ◌++◌, ◌∷◌, ℕ, nat_le, map, OnOk, IfOk};
 ghost use Rattle.std.specs.List.{list_all};
+ghost use Rattle.ac_types.specs.Limits.{deepest_nesting};
 ghost use Rattle.ac_types.specs.Sigs.{HereAlready};
 ghost use Rattle.ac_types.specs.ReadTypes.{resolve_of};
 ghost use Rattle.ac_terms.specs.Defs.{Field as FieldOf, AModule, AnImport};
@@ -18,11 +19,9 @@ use ac_bytes::Out;
 use ac_canon::{ByNumber, put_import, put_module, put_resolves};
 use ac_parts::module_renumbered;
 use ac_terms::{Def, Entry, Field, Import, Module, Seen};
+use ac_types::limits::DEEPEST_NESTING;
 use ac_types::{Constraint, Many, Memory, Name, Resolve, Text, both};
 use std::alloc::Global;
-
-// How far the terms of a packet may nest.
-const DEEPEST: u32 = 500;
 
 /// Whether the form of an entry nests little. It stands before the mark or not.
 pub fn form_nests(entry: &Entry, before: bool) -> bool
@@ -41,11 +40,11 @@ pub fn form_nests(entry: &Entry, before: bool) -> bool
 
 // Whether the terms of some fields nest little.
 fn fields_nest(fields: &[Field]) -> bool
-    ensures { result ≡ list_all (λ (n : ℕ). nat_le n 500)
+    ensures { result ≡ list_all (λ (n : ℕ). nat_le n deepest_nesting)
         (map (λ (f : FieldOf). nesting f.term) (map field_of fields.now)) }
 {
     for field in fields {
-        if !term_nests(&field.term, DEEPEST) {
+        if !term_nests(&field.term, DEEPEST_NESTING) {
             return false;
         }
     }

@@ -30,10 +30,8 @@ fn pattern_nests(pat: &Pat, most: u32) -> bool
         Pat::Cons(head, tail) => pattern_nests(head, under) & pattern_nests(tail, under),
         Pat::Absent => true,
         Pat::Present(inner) => pattern_nests(inner, under),
-        Pat::Exn(_, text) => match text {
-            None => true,
-            Some(text) => pattern_nests(text, under),
-        },
+        Pat::Exn(_) => true,
+        Pat::ExnOf(_, text) => pattern_nests(text, under),
     }
 }
 
@@ -65,10 +63,8 @@ pub fn term_nests(term: &Term, most: u32) -> bool
         Term::Bool(_) => true,
         Term::Str(_) => true,
         Term::Unit => true,
-        Term::ExnVal(_, text) => match text {
-            None => true,
-            Some(text) => term_nests(text, under),
-        },
+        Term::ExnVal(_) => true,
+        Term::ExnOf(_, text) => term_nests(text, under),
         Term::Tuple(parts) => terms_nest(parts.as_slice(), under),
         Term::Nil(_) => true,
         Term::Empty(_) => true,

@@ -1,6 +1,6 @@
 // The numbers that entries have in a packet.
 
-ghost use Rattle.std.specs.Prelude.{◌≡◌, ◌≤◌, IfOk, length, slice_set};
+ghost use Rattle.std.specs.Prelude.{◌≡◌, ◌≤◌, IfOk, length, slice_set, ◌^◌};
 ghost use Rattle.ac_rules.specs.Needed.{place_in};
 ghost use Rattle.ac_parts.specs.Numbers.{number_for};
 ghost use Rattle.ac_forms.specs.Forms.{AllBelow};
@@ -11,7 +11,7 @@ use std::alloc::Global;
 
 /// The place of each entry among the chosen ones, 0 for one that isn't chosen.
 pub fn places(alloc: Global, entries: usize, chosen: &[u32]) -> Result<Vec<u16>, Memory>
-    requires few { length chosen.now ≤ 65536 }
+    requires few { length chosen.now ≤ 2 ^ 16 }
     requires below { AllBelow entries chosen.now }
     ensures { IfOk result (λ ns. number_for ns.items ≡ place_in chosen.now) }
 {
@@ -22,7 +22,7 @@ pub fn places(alloc: Global, entries: usize, chosen: &[u32]) -> Result<Vec<u16>,
 
 // Puts the place of each of the chosen ones, from the last to the first.
 fn put_places(numbers: &mut [u16], chosen: &[u32])
-    requires few { length chosen.now ≤ 65536 }
+    requires few { length chosen.now ≤ 2 ^ 16 }
     requires below { AllBelow (length numbers.old) chosen.now }
     ensures { numbers.new ≡ numbered numbers.old 0 chosen.now }
 {

@@ -42,8 +42,6 @@ not_lambda : (h : Home) (t : Term) (d : Draft) → ((ty : Ty) (b : Term) → t �
 unfolding wrote_value
 not_lambda h t d nl nr (code.Lam ty b) is = absurd (nl ty b (expr_of-injective t (term.Lam ty b) (expr_out t ∙ ap (λ x. expr_layer (read_parts x)) is ∙ sym (expr_of-Lam ty b))))
 not_lambda h t d nl nr (code.Rec ty u b) is = absurd (nr ty u b (expr_of-injective t (term.Rec ty u b) (expr_out t ∙ ap (λ x. expr_layer (read_parts x)) is ∙ sym (expr_of-Rec ty u b))))
-not_lambda h t d nl nr (code.ExnVal k None) is = draft.nothing_more d
-not_lambda h t d nl nr (code.ExnVal k (Some a)) is = draft.nothing_more d
 not_lambda h t d nl nr x is = draft.nothing_more d
 
 pub plain_written : (h : Home) (t : Term) (d : Draft) → ((ty : Ty) (b : Term) → t ≡ term.Lam ty b → ⊥) → ((ty u : Ty) (b : Term) → t ≡ term.Rec ty u b → ⊥) → d ≡ wrote_value (KFun h (expr_of t)) d

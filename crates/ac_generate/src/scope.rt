@@ -91,10 +91,8 @@ fn add_variables(alloc: Global, pat: &Pat, types: &mut Vec<Ty>) -> Result<(), Me
             add_variables(alloc, tail, types)
         }
         Pat::Present(inner) => add_variables(alloc, inner, types),
-        Pat::Exn(_, inner) => match inner {
-            None => Ok(()),
-            Some(inner) => add_variables(alloc, inner, types),
-        },
+        Pat::ExnOf(_, inner) => add_variables(alloc, inner, types),
+        Pat::Exn(_) => Ok(()),
         Pat::Wild => Ok(()),
         Pat::Int(_) => Ok(()),
         Pat::Bool(_) => Ok(()),

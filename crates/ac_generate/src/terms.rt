@@ -12,7 +12,7 @@ use crate::scope::{Scope, function_type, variables};
 use crate::writer::Writer;
 use ac_code::{CodeId, Instr};
 use ac_terms::{Arm, Home, PVal, Term};
-use ac_types::{Memory, Ty};
+use ac_types::{ExnKind, Memory, Ty};
 
 impl Writer {
     /// Writes the code of a term, and the blocks of its lambdas.
@@ -27,12 +27,10 @@ impl Writer {
             Term::Bool(b) => self.put(Instr::PushBool(*b)),
             Term::Str(text) => self.text(text),
             Term::Unit => self.put(Instr::PushUnit),
-            Term::ExnVal(number, text) => {
-                match text {
-                    None => {}
-                    Some(text) => self.term(home, scope, text)?,
-                }
-                self.put(Instr::MakeExn(*number))
+            Term::ExnVal(exn) => self.put(Instr::MakeExn(ExnKind::Bare(*exn))),
+            Term::ExnOf(exn, text) => {
+                self.term(home, scope, text)?;
+                self.put(Instr::MakeExn(ExnKind::Text(*exn)))
             }
             Term::Tuple(parts) => {
                 self.all(home, scope, parts.as_slice())?;
@@ -110,9 +108,9 @@ impl Writer {
                 self.term(home, scope, inner)?;
                 self.put(Instr::Raise)
             }
-            Term::Prim(number, args) => {
+            Term::Prim(primitive, args) => {
                 self.all(home, scope, args.as_slice())?;
-                self.put(Instr::Prim(*number))
+                self.put(Instr::Prim(*primitive))
             }
             Term::Marshal(ty, mark, inner) => {
                 self.term(home, scope, mark)?;

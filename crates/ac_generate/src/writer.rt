@@ -1,6 +1,7 @@
 // A block that is being written, and the blocks that are finished.
 
-ghost use Rattle.std.specs.Prelude.{◌≡◌, ◌+◌, ◌++◌, ◌∷◌, [], map, set, replicate, OnOk, IfOk, option_map};
+ghost use Rattle.std.specs.Prelude.{◌≡◌, ◌+◌, ◌++◌, ◌∷◌, [], map, set, replicate, OnOk, IfOk};
+ghost use Rattle.ac_types.specs.ReadNumbers.{exn_number, exn_text};
 ghost use Rattle.ac_terms.specs.Terms.{KExn};
 ghost use Rattle.ac_types.specs.ReadTypes.{typ_of};
 ghost use Rattle.ac_terms.specs.Read.{home_of, expr_of, pattern_of, bytes_of};
@@ -13,8 +14,8 @@ ghost use Rattle.ac_generate.specs.inner.Drafts.{draft_of, address, count, put, 
 
 use crate::scope::{Scope, context};
 use ac_code::{Block, CodeId, Instr};
-use ac_terms::{Exn, Home, Pat, Term};
-use ac_types::{Many, Memory, Text, Ty, Word};
+use ac_terms::{Home, Pat, Term};
+use ac_types::{Exn, ExnKind, Many, Memory, Text, Ty, Word};
 use std::alloc::Global;
 use std::mem;
 
@@ -154,12 +155,15 @@ impl Writer {
     #[tactic(auto, using(crate::proofs::DraftLaws::value_laws))]
     pub fn exception(&mut self, exn: &Exn) -> Result<(), Memory>
         ensures { OnOk result (draft_of self.new ≡ wrote_value
-            (KExn exn.now.number (option_map bytes_of exn.now.text)) (draft_of self.old)) }
+            (KExn (exn_number exn.now) (exn_text exn.now)) (draft_of self.old)) }
     {
-        if let Some(text) = &exn.text {
-            self.text(text)?;
+        match exn {
+            Exn::Bare(exn) => self.put(Instr::MakeExn(ExnKind::Bare(*exn))),
+            Exn::Text(exn, text) => {
+                self.text(text)?;
+                self.put(Instr::MakeExn(ExnKind::Text(*exn)))
+            }
         }
-        self.put(Instr::MakeExn(exn.number))
     }
 
     /// Writes what puts some values before a list.

@@ -1,6 +1,6 @@
 -- What writing some parts comes to.
 use Rattle.std.specs.Prelude.{◌≡◌, ◌+◌, List, [], ◌∷◌, ◌++◌, length, Option, Some, None, Result, MatchResult}
-use Rattle.ac_types.specs.Limits.{longest_packet}
+use Rattle.ac_types.specs.Limits.{longest_packet, deepest_nesting}
 use Rattle.ac_types.specs.Types.{Bytes}
 use Rattle.ac_terms.specs.Heads.{Head}
 use Rattle.ac_rules.specs.Faults.{Fault, Depth, Function, Size, part_fault}
@@ -20,7 +20,7 @@ unless_fault (Some f) o = Stopped f
 -- these bytes with those of some parts behind them, up to the first part that fails
 unfoldable pub walk_end : Bytes → List Head → WalkEnd
 walk_end bs [] = On bs
-walk_end bs (h ∷ hs) = unless_fault (part_fault 500 longest_packet (length bs + length h.bytes) h) (walk_end (bs ++ h.bytes) hs)
+walk_end bs (h ∷ hs) = unless_fault (part_fault deepest_nesting longest_packet (length bs + length h.bytes) h) (walk_end (bs ++ h.bytes) hs)
 
 -- the fault at which a walk stops; want of memory is none
 abbrev pub fault_in : Stop → Option Fault

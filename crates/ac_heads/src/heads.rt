@@ -6,12 +6,8 @@ ghost use Rattle.ac_terms.specs.Heads.{next_head};
 ghost use Rattle.ac_heads.specs.Outcomes.{Puts};
 
 use crate::stop::Stop;
+use ac_types::limits::{DEEPEST_NESTING, LONGEST_PACKET};
 use ac_types::{Text, Word};
-
-/// The greatest nesting of a part.
-pub const DEEPEST: u32 = 500;
-// The most bytes of a packet.
-const LONGEST: usize = 1_048_576;
 
 /// Writes the head of a part that nests so deep. Stops where it nests too far, or where too much is
 /// written then.
@@ -19,11 +15,11 @@ const LONGEST: usize = 1_048_576;
 pub fn head(text: &mut Text, nesting: u32, bytes: &[u8]) -> Result<(), Stop>
     ensures { Puts result (next_head nesting bytes.now) text.old.0 text.new.0 }
 {
-    if nesting > DEEPEST {
+    if nesting > DEEPEST_NESTING {
         return Err(Stop::Depth);
     }
     text.extend(bytes)?;
-    if text.as_slice().len() > LONGEST {
+    if text.as_slice().len() > LONGEST_PACKET {
         return Err(Stop::Size);
     }
     Ok(())

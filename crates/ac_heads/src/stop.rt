@@ -5,7 +5,7 @@ use ac_types::Memory;
 /// Why a walk stops before its end.
 #[derive(Clone, Copy, Debug, PartialEq, Eq)]
 pub enum Stop {
-    /// A part nests over 500.
+    /// A part nests over `DEEPEST_NESTING`.
     Depth,
     /// A function can't travel.
     Function,

@@ -4,10 +4,13 @@ ghost use Rattle.std.specs.Prelude.{◌≡◌, ◌∷◌, [], suc, false, IfOk};
 ghost use Rattle.ac_types.specs.Types.{Bytes};
 ghost use Rattle.ac_terms.specs.Spelling.{four_written};
 ghost use Rattle.ac_terms.specs.Heads.{next_head};
+ghost use Rattle.ac_terms.specs.Tags.{value_list};
 ghost use Rattle.ac_heads.specs.Outcomes.{StopsWalk};
 
-use crate::heads::{DEEPEST, count};
+use crate::heads::count;
 use crate::stop::Stop;
+use ac_terms::tags;
+use ac_types::limits::DEEPEST_NESTING;
 use ac_types::{Memory, Text};
 
 /// Why a walk stops at what can't travel.
@@ -16,7 +19,7 @@ pub fn stays(nesting: u32) -> Stop
     ensures { (text bytes : Bytes) → StopsWalk result text
         (record { nesting = nesting; travels = false; bytes = bytes } ∷ []) }
 {
-    if nesting > DEEPEST {
+    if nesting > DEEPEST_NESTING {
         Stop::Depth
     } else {
         Stop::Function
@@ -26,13 +29,13 @@ pub fn stays(nesting: u32) -> Stop
 /// Why it stops at a list of so many items, the first of which can't travel.
 pub fn lost(text: &mut Text, nesting: u32, items: usize) -> Stop
     ensures { (bytes : Bytes) → StopsWalk result text.old.0
-        (next_head nesting (0x07 ∷ four_written items) ∷
+        (next_head nesting (value_list ∷ four_written items) ∷
         record { nesting = suc nesting; travels = false; bytes = bytes } ∷ []) }
 {
     let Ok(under) = deeper(nesting) else {
         return Stop::Memory;
     };
-    match count(text, nesting, 0x07, items) {
+    match count(text, nesting, tags::VALUE_LIST, items) {
         Ok(()) => stays(under),
         Err(stop) => stop,
     }

@@ -1,6 +1,7 @@
 -- Which bytes spell which token. A quote is 34, a backslash 92, a line feed 10, a small x 120.
-use Rattle.std.specs.Prelude.{◌≡◌, ℕ, ◌+◌, ◌-◌, ◌*◌, ◌^◌, ◌==◌, ◌<◌, ◌≤◌, ◌&&◌, ◌||◌, not, Bool, true, false, List, [], ◌∷◌, take, Option, Some, None, if◌then◌else◌, nat_le, nat_lt, length, slice_index, fold, codes, bytes_eq}
+use Rattle.std.specs.Prelude.{◌≡◌, ℕ, ◌+◌, ◌-◌, ◌*◌, ◌==◌, ◌<◌, ◌≤◌, ◌&&◌, ◌||◌, not, Bool, true, false, List, [], ◌∷◌, take, Option, Some, None, if◌then◌else◌, nat_le, nat_lt, length, slice_index, fold, codes, bytes_eq}
 use Rattle.std.specs.List.{list_any, list_all}
+use Rattle.ac_types.specs.Limits.{longest_word, literals_end}
 use Rattle.ac_types.specs.Words.{is_between, is_start, is_part, is_reserved}
 use Rattle.ac_lexer.specs.declared.tokens.TokenKind.{TokenKind}
 use Rattle.ac_lexer.specs.declared.tokens.TokenKind.TheVariants.{Lower, Upper, Int, Str, Fixed}
@@ -78,10 +79,10 @@ pub data SpellsToken : List ℕ → TokenKind → Type 0 where
   symbol : {bytes : List ℕ} → is_symbol bytes ≡ true → SpellsToken bytes (Fixed (record { 0 = bytes }))
   string : {bytes content : List ℕ} → Quoted bytes content [] → SpellsToken (34 ∷ bytes) (Str (record { 0 = content }))
 
--- a number has at most 63 bits, and an identifier at most 255 bytes
+-- a number is below `literals_end`, and an identifier has at most `longest_word` bytes
 abbrev pub is_within_limits : TokenKind → Bool
-is_within_limits (Lower word) = nat_le (length word) 255
-is_within_limits (Upper word) = nat_le (length word) 255
-is_within_limits (Int n) = nat_lt n (2 ^ 63)
+is_within_limits (Lower word) = nat_le (length word) longest_word
+is_within_limits (Upper word) = nat_le (length word) longest_word
+is_within_limits (Int n) = nat_lt n literals_end
 is_within_limits (Str _) = true
 is_within_limits (Fixed _) = true

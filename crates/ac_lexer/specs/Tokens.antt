@@ -1,5 +1,6 @@
 -- The tokens of a text, with their places.
 use Rattle.std.specs.Prelude.{◌≡◌, ℕ, ◌-◌, ◌<◌, ◌≤◌, true, false, List, [], ◌∷◌, ◌++◌, length}
+use Rattle.ac_types.specs.Limits.{longest_text}
 use Rattle.ac_lexer.specs.declared.tokens.Token.{Token}
 use Rattle.ac_lexer.specs.declared.tokens.TokenKind.{TokenKind}
 use Rattle.ac_lexer.specs.declared.tokens.LexFault.{LexFault}
@@ -51,10 +52,6 @@ pub record FailsAt (text : List ℕ) (at : ℕ) : Type 0 where
   pub some : 0 < length rest
   pub nothing_begins : NothingBegins rest
   pub here : at ≡ place_of_rest text rest
-
--- how many bytes a text may have
-abbrev pub longest_text : ℕ
-longest_text = 1048576
 
 -- a text is refused where it is too long, and at the place where nothing begins; for any that is not too long memory may run out
 abbrev pub IsFault : List ℕ → LexFault → Type 0

@@ -1,17 +1,17 @@
 // From bytes to tokens.
 
 ghost use Rattle.std.specs.Prelude.{◌≡◌, ◌<◌, ◌≤◌, length, List, ℕ, IfSome, IfOk, IfErr, MatchOption};
+ghost use Rattle.ac_types.specs.Limits.{longest_text};
 ghost use Rattle.ac_lexer.specs.declared.tokens.Token.{Token};
-ghost use Rattle.ac_lexer.specs.Tokens.{TokenAt, NoToken, Tokens, IsFault, OnLexical, longest_text};
+ghost use Rattle.ac_lexer.specs.Tokens.{TokenAt, NoToken, Tokens, IsFault, OnLexical};
 
 use crate::gaps::{behind_gap, opens};
 use crate::quoted::string;
 use crate::tokens::{LexFault, Token, TokenKind};
 use crate::words::{is_digit, is_start, name, number, symbol};
+use ac_types::limits::LONGEST_TEXT;
 use ac_types::{Many, Memory};
 use std::alloc::Global;
-
-const LONGEST_TEXT: usize = 1_048_576;
 
 // The token that the text begins with, and what is behind it.
 fn first_token(alloc: Global, text: &[u8]) -> Result<Option<(TokenKind, &[u8])>, Memory>
@@ -36,7 +36,7 @@ fn first_token(alloc: Global, text: &[u8]) -> Result<Option<(TokenKind, &[u8])>,
     symbol(alloc, text)
 }
 
-/// The tokens of a text of at most 1,048,576 bytes, with the places of their first bytes.
+/// The tokens of a text of at most `LONGEST_TEXT` bytes, with the places of their first bytes.
 pub fn lex(alloc: Global, text: &[u8]) -> Result<Many<Token>, LexFault>
     ensures tokens { IfOk result (λ tokens. (length text.now ≤ longest_text) ×
         Tokens text.now tokens) }

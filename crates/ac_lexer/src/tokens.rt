@@ -38,7 +38,7 @@ impl Drop for Token {
 /// Why a text gives no tokens.
 #[derive(Clone, Copy, Debug, PartialEq, Eq)]
 pub enum LexFault {
-    /// The text has more than 1,048,576 bytes: its length.
+    /// The text has more than `LONGEST_TEXT` bytes: its length.
     TooLong { len: u64 },
     /// The place of the first byte at which no token, separator or whole comment begins.
     Lexical { at: u32 },

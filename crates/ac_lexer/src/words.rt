@@ -1,19 +1,17 @@
 // Numbers, names and symbols.
 
-ghost use Rattle.std.specs.Prelude.{◌≡◌, ◌<◌, ◌≤◌, ◌^◌, length, take, List, ℕ, IfSome, IfOk, MatchOption, slice_index, true, false, bytes_eq};
+ghost use Rattle.std.specs.Prelude.{◌≡◌, ◌<◌, ◌≤◌, length, take, List, ℕ, IfSome, IfOk, MatchOption, slice_index, true, false, bytes_eq};
 ghost use Rattle.std.specs.List.{prefix_len, list_any};
+ghost use Rattle.ac_types.specs.Limits.{literals_end};
 ghost use Rattle.ac_types.specs.Words.{is_start, is_part};
 ghost use Rattle.ac_lexer.specs.Gaps.{begins_comment};
 ghost use Rattle.ac_lexer.specs.Spellings.{is_digit, value, is_identifier, name_kind, is_within_limits, is_symbol, SymbolBegins};
 ghost use Rattle.ac_lexer.specs.Tokens.{TokenAt, NoToken};
 
 use crate::tokens::TokenKind;
+use ac_types::limits::{LITERALS_END, LONGEST_WORD};
 use ac_types::{Memory, Text, Word};
 use std::alloc::Global;
-
-const LONGEST_NAME: usize = 255;
-
-const LARGEST_INT: u64 = 9_223_372_036_854_775_807;
 
 pub(crate) fn is_digit(c: u8) -> bool
     ensures { result ≡ is_digit c }
@@ -51,15 +49,15 @@ fn count_parts(text: &[u8]) -> usize
 
 // The number that digits write, if it has at most 63 bits.
 fn value(digits: &[u8]) -> Option<u64>
-    ensures { MatchOption result (2 ^ 63 ≤ value digits.now) (λ n. (n ≡ value digits.now) ×
-        (value digits.now < 2 ^ 63)) }
+    ensures { MatchOption result (literals_end ≤ value digits.now) (λ n. (n ≡ value digits.now) ×
+        (value digits.now < literals_end)) }
 {
     let mut value = 0u64;
     for digit in digits {
         let digit = u64::from(digit.saturating_sub(b'0'));
         value = value.checked_mul(10)?.checked_add(digit)?;
     }
-    if value <= LARGEST_INT {
+    if value < LITERALS_END {
         Some(value)
     } else {
         None
@@ -83,7 +81,7 @@ fn name_kind(alloc: Global, name: &[u8]) -> Result<Option<TokenKind>, Memory>
     ensures { IfOk result (λ o. MatchOption o (is_within_limits (name_kind name.now) ≡ false)
         (λ kind. (kind ≡ name_kind name.now) × (is_within_limits kind ≡ true))) }
 {
-    if name.len() > LONGEST_NAME {
+    if name.len() > LONGEST_WORD {
         return Ok(None);
     }
     let Some(word) = Word::new(Text::from_slice(alloc, name)?) else {

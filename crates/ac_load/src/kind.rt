@@ -9,11 +9,11 @@ use ac_types::Memory;
 /// the text, entries among all that are there.
 #[derive(Clone, Copy, Debug, PartialEq, Eq)]
 pub enum Kind {
-    /// It has more than 1,048,576 bytes: its length.
+    /// It has more than `LONGEST_TEXT` bytes: its length.
     TooLong { len: u64 },
     /// The place of the first byte at which no token, separator or whole comment begins.
     Lexical { at: u32 },
-    /// The place of the first opener at which more than 200 are unclosed.
+    /// The place of the first opener at which more than `MOST_OPENERS` are unclosed.
     TooDeep { at: u32 },
     /// Its tokens have no tree: the place of a token, or the text's length.
     Syntax { at: u32 },

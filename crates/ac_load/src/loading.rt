@@ -2,6 +2,7 @@
 
 ghost use Rattle.std.specs.Prelude.{◌≤◌, length, IfOk, IfErr, IsTrue};
 ghost use Rattle.std.specs.List.{list_all};
+ghost use Rattle.ac_types.specs.Limits.{most_shelf_entries};
 ghost use Rattle.ac_types.specs.Types.{Typ};
 ghost use Rattle.ac_types.specs.ReadTypes.{typ_of};
 ghost use Rattle.ac_terms.specs.Terms.{Expr};
@@ -27,10 +28,10 @@ use ac_terms::{Env, Seen};
 use ac_types::{Many, Text};
 use std::alloc::Global;
 
-/// The program of a text beside a shelf of at most 256 texts, each under a URI of its own of 1 to
-/// 1,024 bytes; or the first part that is refused, and why.
+/// The program of a text beside a shelf of at most `MOST_SHELF_ENTRIES` texts, each under a URI of
+/// its own; or the first part that is refused, and why.
 pub fn load(alloc: Global, program: &[u8], shelf: &Shelf) -> Result<Loaded, Refusal>
-    requires few { length shelf.now.0 ≤ 256 }
+    requires few { length shelf.now.0 ≤ most_shelf_entries }
     requires shelved { IsShelf (shelf_of shelf.now) }
     ensures accepted { IfOk result (λ l.
         Loads program.now (shelf_of shelf.now) (environment_of l.env) (expr_of l.main)
@@ -59,7 +60,7 @@ pub fn load(alloc: Global, program: &[u8], shelf: &Shelf) -> Result<Loaded, Refu
 
 // The entries with the module of a text of the shelf behind them.
 fn module_behind(alloc: Global, env: Env, entry: &ShelfEntry) -> Result<Env, Kind>
-    requires few { length env.entries ≤ 256 }
+    requires few { length env.entries ≤ most_shelf_entries }
     requires names { IsTrue (list_all keeps_name (environment_of env)) }
     requires counted { IsTrue (list_all has_counted (environment_of env)) }
     ensures taken { IfOk result (λ e. IsModuleTaken (environment_of env) (shelved entry.now)
@@ -75,7 +76,7 @@ fn module_behind(alloc: Global, env: Env, entry: &ShelfEntry) -> Result<Env, Kin
 
 // The entries with those of a tree of the shelf behind them.
 fn entries_behind(alloc: Global, env: Env, surface: &Surface, uri: &Text) -> Result<Env, Kind>
-    requires few { length env.entries ≤ 256 }
+    requires few { length env.entries ≤ most_shelf_entries }
     requires names { IsTrue (list_all keeps_name (environment_of env)) }
     requires counted { IsTrue (list_all has_counted (environment_of env)) }
     ensures taken { IfOk result (λ e. (f : Expr) × (T : Typ) × IsTaken (environment_of env)
@@ -100,7 +101,7 @@ fn entries_behind(alloc: Global, env: Env, surface: &Surface, uri: &Text) -> Res
 
 // The program of a text behind these entries.
 fn program_behind(alloc: Global, env: Env, text: &[u8]) -> Result<Loaded, Kind>
-    requires few { length env.entries ≤ 256 }
+    requires few { length env.entries ≤ most_shelf_entries }
     requires names { IsTrue (list_all keeps_name (environment_of env)) }
     requires counted { IsTrue (list_all has_counted (environment_of env)) }
     ensures taken { IfOk result (λ l. IsProgramTaken (environment_of env) text.now

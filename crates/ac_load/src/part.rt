@@ -2,6 +2,7 @@
 
 ghost use Rattle.std.specs.Prelude.{◌≡◌, ◌<◌, ◌≤◌, ◌^◌, length, Some, None, IfOk, IfErr, IsTrue};
 ghost use Rattle.std.specs.List.{list_all};
+ghost use Rattle.ac_types.specs.Limits.{most_shelf_entries};
 ghost use Rattle.ac_types.specs.ReadTypes.{typ_of};
 ghost use Rattle.ac_terms.specs.Read.{environment_of, seen_of, expr_of};
 ghost use Rattle.ac_outer.specs.Entries.{keeps_name};
@@ -23,7 +24,7 @@ use std::alloc::Global;
 /// The entries, the term and its type of a tree from `seen`, behind these entries; or the first
 /// cause why it has none.
 pub fn part(alloc: Global, env: Env, surface: &Surface, seen: &Seen) -> Result<Loaded, Kind>
-    requires few { length env.entries ≤ 256 }
+    requires few { length env.entries ≤ most_shelf_entries }
     requires names { IsTrue (list_all keeps_name (environment_of env)) }
     requires counted { IsTrue (list_all has_counted (environment_of env)) }
     ensures taken { IfOk result (λ l. IsTaken (environment_of env) (seen_of seen.now)

@@ -1,7 +1,8 @@
 -- A machine as callers see it.
-use Rattle.std.specs.Prelude.{Bool, List, Option, Some, None, option_map}
+use Rattle.std.specs.Prelude.{Bool, List, Option, Some, None}
+use Rattle.ac_types.specs.ReadNumbers.{exn_number, exn_text}
 use Rattle.ac_types.specs.ReadTypes.{typ_of}
-use Rattle.ac_terms.specs.Read.{home_of, bytes_of}
+use Rattle.ac_terms.specs.Read.{home_of}
 use Rattle.ac_values.specs.declared.node.Node.{Node}
 use Rattle.ac_values.specs.Values.{stands_as}
 use Rattle.ac_machine.specs.declared.engine.Engine.{Engine}
@@ -29,7 +30,7 @@ abbrev pub stands_at : code_stand.Stand → Core → Standing
 stands_at code_stand.Stand.Running c = At (Run c)
 stands_at (code_stand.Stand.Waiting w) c = Waits (wait_of w) c
 stands_at code_stand.Stand.Done c = At (Paused AskDone c)
-stands_at (code_stand.Stand.Raised e) c = At (Paused (AskRaised e.number (option_map bytes_of e.text)) c)
+stands_at (code_stand.Stand.Raised e) c = At (Paused (AskRaised (exn_number e) (exn_text e)) c)
 stands_at code_stand.Stand.Spent c = At (Paused AskSpent c)
 
 -- what the machine stands at
@@ -44,6 +45,6 @@ ask_of ns code_pause.Pause.Receive = Some AskReceive
 ask_of ns (code_pause.Pause.Marshal mark value ty home) = Some (AskMarshal mark.0 (stands_as ns value.0) (typ_of ty) (home_of home))
 ask_of ns (code_pause.Pause.Unmarshal text ty) = Some (AskUnmarshal text.0 (typ_of ty))
 ask_of ns code_pause.Pause.Done = Some AskDone
-ask_of ns (code_pause.Pause.Raised e) = Some (AskRaised e.number (option_map bytes_of e.text))
+ask_of ns (code_pause.Pause.Raised e) = Some (AskRaised (exn_number e) (exn_text e))
 ask_of ns code_pause.Pause.Spent = Some AskSpent
 ask_of ns code_pause.Pause.Memory = None

@@ -1,3 +1,4 @@
+pub mod Found
 pub mod Going
 pub mod Meant
 pub mod Steps

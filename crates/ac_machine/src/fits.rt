@@ -2,6 +2,7 @@
 
 ghost use Rattle.std.specs.Prelude.{◌<◌, length, IfOk, map};
 ghost use Rattle.std.specs.List.{All};
+ghost use Rattle.ac_types.specs.ReadNumbers.{bare_number};
 ghost use Rattle.ac_terms.specs.Terms.{PInt, PBool, PStr, PExn, patterns};
 ghost use Rattle.ac_terms.specs.Read.{pattern_of};
 ghost use Rattle.ac_values.specs.Values.{stands_as, values, values_at};
@@ -9,7 +10,7 @@ ghost use Rattle.ac_values.specs.inner.Fitting.{Fitted, Tested};
 ghost use Rattle.ac_values.specs.Fits.{bound, all_bound};
 
 use ac_terms::Pat;
-use ac_types::{Memory, Text};
+use ac_types::{BareExn, Memory, Text};
 use ac_values::read::{
     bool_in, cons_in, exn_with, exn_without, int_in, is_absent, is_nil, is_unit, present_in,
     text_in, tuple_in,
@@ -47,12 +48,12 @@ fn is_text(store: &Store, v: Value, text: &Text) -> bool
     }
 }
 
-fn is_exn(store: &Store, v: Value, number: u8) -> bool
-    ensures { Tested (bound (PExn number) (stands_as store.now v.0)) result }
+fn is_exn(store: &Store, v: Value, exn: BareExn) -> bool
+    ensures { Tested (bound (PExn (bare_number exn)) (stands_as store.now v.0)) result }
 {
     match exn_without(store, v) {
         None => false,
-        Some(k) => number == k,
+        Some(other) => exn.number() == other.number(),
     }
 }
 
@@ -101,11 +102,11 @@ pub fn fits(store: &Store, pat: &Pat, v: Value, found: &mut Vec<Value>) -> Resul
                 Ok(fit)
             }
         },
-        Pat::Exn(number, None) => Ok(is_exn(store, v, *number)),
-        Pat::Exn(number, Some(inner)) => match exn_with(store, v) {
+        Pat::Exn(exn) => Ok(is_exn(store, v, *exn)),
+        Pat::ExnOf(exn, inner) => match exn_with(store, v) {
             None => Ok(false),
             Some((of, value)) => {
-                if *number != of {
+                if exn.number() != of.number() {
                     return Ok(false);
                 }
                 let fit = fits(store, inner, value, found)?;

@@ -1,21 +1,27 @@
 // Handlers and raised exceptions.
 
-ghost use Rattle.std.specs.Prelude.{◌≡◌, ◌∷◌, [], ◌<◌, length, get_or, IfOk, MatchOption, option_map};
-ghost use Rattle.std.specs.Option.{option_copied};
-ghost use Rattle.ac_terms.specs.Read.{bytes_of};
+ghost use Rattle.std.specs.Prelude.{◌≡◌, ◌∷◌, [], ◌<◌, length, get_or, IfOk, MatchOption};
+ghost use Rattle.ac_types.specs.ReadNumbers.{exn_number, exn_text};
 ghost use Rattle.ac_values.specs.Values.{stands_as};
 ghost use Rattle.ac_machine.specs.States.{Run};
 ghost use Rattle.ac_machine.specs.Machine.{tries, ends_try, raises, exn_raised, exn_value, exn_in};
 ghost use Rattle.ac_machine.specs.Held.{core, Sound, AreHandlers};
+ghost use Rattle.ac_machine.specs.inner.Found.{exn_found};
 ghost use Rattle.ac_machine.specs.inner.Steps.{Does, Grown, handling};
 
 use crate::engine::{Engine, Handler, Step};
 use crate::pause::Pause;
-use ac_terms::Exn;
-use ac_types::{Memory, Text};
+use ac_types::{BareExn, Exn, Memory, Text, TextExn};
 use ac_values::read::{exn_with, exn_without, text_in};
 use ac_values::{Node, Store, Value};
 use std::alloc::Global;
+
+// An exception in a store.
+#[derive(Clone, Copy)]
+enum Found<'a> {
+    Bare(BareExn),
+    Text(TextExn, &'a Text),
+}
 
 impl Engine {
     /// Keeps a handler at address `a` of the block that runs.
@@ -58,12 +64,12 @@ impl Engine {
         let Some((v, rest)) = self.newest(self.at.stack) else {
             return Ok(Step::Wrong);
         };
-        let Some((number, text)) = exn_in(&self.store, v) else {
+        let Some(found) = exn_in(&self.store, v) else {
             return Ok(Step::Wrong);
         };
         match self.handlers.top(self.at.handlers) {
             None => {
-                let exn = exn_of(self.alloc, number, text)?;
+                let exn = exn_of(self.alloc, found)?;
                 self.at.stack = rest;
                 self.pausing(Pause::Raised(exn))
             }
@@ -75,7 +81,7 @@ impl Engine {
     pub fn raise_exn(&mut self, exn: Exn) -> Result<Step, Memory>
         requires sound { Sound self.old }
         ensures { IfOk result (λ s. Does self.new s
-            (exn_raised exn.number (option_map bytes_of exn.text) (core self.old)
+            (exn_raised (exn_number exn) (exn_text exn) (core self.old)
             (core self.old).handlers)) }
     {
         match self.handlers.top(self.at.handlers) {
@@ -91,14 +97,13 @@ impl Engine {
     fn add_exn(&mut self, exn: Exn) -> Result<Value, Memory>
         requires sound { Sound self.old }
         ensures { IfOk result (λ v. Grown self.old self.new v
-            (exn_value exn.number (option_map bytes_of exn.text))) }
+            (exn_value (exn_number exn) (exn_text exn))) }
     {
-        let Exn { number, text } = exn;
-        match text {
-            None => self.add(Node::Exn(number, None)),
-            Some(text) => {
+        match exn {
+            Exn::Bare(exn) => self.add(Node::Exn(exn)),
+            Exn::Text(exn, text) => {
                 let text = self.add(Node::Str(text))?;
-                self.add(Node::Exn(number, Some(text)))
+                self.add(Node::ExnOf(exn, text))
             }
         }
     }
@@ -124,30 +129,29 @@ impl Engine {
     }
 }
 
-// The number and the text of the exception that a value is.
-fn exn_in<'a>(store: &'a Store, v: Value) -> Option<(u8, Option<&'a Text>)>
+// The exception that a value is.
+fn exn_in<'a>(store: &'a Store, v: Value) -> Option<Found<'a>>
     ensures { MatchOption result (exn_in (stands_as store.now v.0) ≡ None)
-        (λ p. exn_in (stands_as store.now v.0) ≡ Some
-        (p.0, option_map bytes_of (option_copied p.1))) }
+        (λ x. exn_in (stands_as store.now v.0) ≡ Some (exn_found x)) }
 {
-    if let Some(number) = exn_without(store, v) {
-        return Some((number, None));
+    if let Some(exn) = exn_without(store, v) {
+        return Some(Found::Bare(exn));
     }
-    let (number, inner) = exn_with(store, v)?;
+    let (exn, inner) = exn_with(store, v)?;
     let text = text_in(store, inner)?;
-    Some((number, Some(text)))
+    Some(Found::Text(exn, text))
 }
 
 // An exception with a text of its own.
-fn exn_of(alloc: Global, number: u8, text: Option<&Text>) -> Result<Exn, Memory>
-    ensures { IfOk result (λ e. (e.number ≡ number) ×
-        (option_map bytes_of e.text ≡ option_map bytes_of (option_copied text.entry))) }
+fn exn_of(alloc: Global, found: Found<'_>) -> Result<Exn, Memory>
+    ensures { IfOk result (λ e. (exn_number e ≡ (exn_found found.entry).0) ×
+        (exn_text e ≡ (exn_found found.entry).1)) }
 {
-    match text {
-        None => Ok(Exn { number, text: None }),
-        Some(text) => {
-            let text = Some(text.copy(alloc)?);
-            Ok(Exn { number, text })
+    match found {
+        Found::Bare(exn) => Ok(Exn::Bare(exn)),
+        Found::Text(exn, text) => {
+            let text = text.copy(alloc)?;
+            Ok(Exn::Text(exn, text))
         }
     }
 }

@@ -1,7 +1,8 @@
 // The machine as callers have it.
 
-ghost use Rattle.std.specs.Prelude.{◌≡◌, false, true, option_map, ◌<◌, length, IfOk, OnOk, OnErr, MatchOption, List};
-ghost use Rattle.ac_terms.specs.Read.{environment_of, bytes_of};
+ghost use Rattle.std.specs.Prelude.{◌≡◌, false, true, ◌<◌, length, IfOk, OnOk, OnErr, MatchOption, List};
+ghost use Rattle.ac_types.specs.ReadNumbers.{exn_number, exn_text};
+ghost use Rattle.ac_terms.specs.Read.{environment_of};
 ghost use Rattle.ac_code.specs.ReadCode.{table_code};
 ghost use Rattle.ac_values.specs.declared.node.Node.{Node};
 ghost use Rattle.ac_values.specs.Below.{Below};
@@ -17,8 +18,8 @@ ghost use Rattle.ac_machine.specs.declared.pause.Pause.TheVariants as answers;
 use crate::engine::{EMPTY, Engine, Step};
 use crate::pause::{Pause, Stand, Wait};
 use ac_code::{CodeId, CodeTable};
-use ac_terms::{Env, Exn};
-use ac_types::{Memory, Text};
+use ac_terms::Env;
+use ac_types::{Exn, Memory, Text};
 use ac_values::{Node, Store};
 use std::alloc::Global;
 use std::marker::Model;
@@ -167,7 +168,7 @@ impl Machine {
     pub fn resume_raise(&mut self, e: Exn) -> Result<(), Memory>
         requires { self.old.lost ≡ false → awaits takes_raise (standing self.old) ≡ true }
         ensures ok { OnOk result ((self.old.lost ≡ false) × (self.new.lost ≡ false) ×
-            (standing self.new ≡ resumed (with_raise e.number (option_map bytes_of e.text))
+            (standing self.new ≡ resumed (with_raise (exn_number e) (exn_text e))
             (standing self.old))) }
         ensures err { OnErr result (self.new.lost ≡ true) }
     {
@@ -240,7 +241,7 @@ fn stand_at(alloc: Global, pause: &Pause) -> Result<Stand, Memory>
 fn raised(engine: &mut Engine, e: Exn) -> Result<Stand, Memory>
     requires { Sound engine.old }
     ensures { IfOk result (λ d. Sound engine.new ×
-        (stands_at d (core engine.new) ≡ At (with_raise e.number (option_map bytes_of e.text)
+        (stands_at d (core engine.new) ≡ At (with_raise (exn_number e) (exn_text e)
         (core engine.old)))) }
 {
     match engine.raise_exn(e) {

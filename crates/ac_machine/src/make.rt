@@ -1,17 +1,16 @@
 // Instructions that push constants and make values.
 
 ghost use Rattle.std.specs.Prelude.{◌≡◌, ◌<◌, length, IfOk, None, Some};
-ghost use Rattle.ac_types.specs.Exceptions.{has_text};
+ghost use Rattle.ac_types.specs.ReadNumbers.{texted_number, kind_number};
 ghost use Rattle.ac_values.specs.Values.{MStr, MClosure, MEnd, stands_as};
 ghost use Rattle.ac_machine.specs.States.{Run, push_value};
-ghost use Rattle.ac_machine.specs.Machine.{makes_exn, makes_some, makes_cons, makes_tuple};
+ghost use Rattle.ac_machine.specs.Machine.{makes_exn, makes_exn_of, makes_some, makes_cons, makes_tuple};
 ghost use Rattle.ac_machine.specs.Held.{core, Sound};
 ghost use Rattle.ac_machine.specs.inner.Steps.{Does, Grown};
 
 use crate::engine::{EMPTY, Engine, Step};
 use ac_code::CodeId;
-use ac_types::exceptions::has_text;
-use ac_types::{Many, Memory, Text};
+use ac_types::{ExnKind, Many, Memory, Text, TextExn};
 use ac_values::read::text_in;
 use ac_values::{Node, Value};
 
@@ -66,14 +65,24 @@ impl Engine {
         Ok(function)
     }
 
-    /// Pushes an exception, with the string on the stack where its number asks for one.
-    pub fn make_exn(&mut self, number: u8) -> Result<Step, Memory>
+    /// Pushes an exception, with the string on the stack where it has one.
+    pub fn make_exn(&mut self, kind: ExnKind) -> Result<Step, Memory>
         requires sound { Sound self.old }
-        ensures { IfOk result (λ s. Does self.new s (makes_exn number (core self.old))) }
+        ensures { IfOk result (λ s. Does self.new s (makes_exn (kind_number kind)
+            (core self.old))) }
     {
-        if !has_text(number) {
-            return self.push_node(Node::Exn(number, None));
+        match kind {
+            ExnKind::Bare(exn) => self.push_node(Node::Exn(exn)),
+            ExnKind::Text(exn) => self.make_exn_of(exn),
         }
+    }
+
+    // Pushes an exception with the string on the stack.
+    fn make_exn_of(&mut self, exn: TextExn) -> Result<Step, Memory>
+        requires sound { Sound self.old }
+        ensures { IfOk result (λ s. Does self.new s (makes_exn_of (texted_number exn)
+            (core self.old))) }
+    {
         let Some((text, rest)) = self.newest(self.at.stack) else {
             return Ok(Step::Wrong);
         };
@@ -81,7 +90,7 @@ impl Engine {
             return Ok(Step::Wrong);
         };
         self.at.stack = rest;
-        self.push_node(Node::Exn(number, Some(text)))
+        self.push_node(Node::ExnOf(exn, text))
     }
 
     /// Makes a present option of the newest value.

@@ -1,6 +1,7 @@
 // The instruction of a primitive.
 
 ghost use Rattle.std.specs.Prelude.{IfOk};
+ghost use Rattle.ac_types.specs.ReadNumbers.{primitive_number};
 ghost use Rattle.ac_code.specs.Constants.{meaning, One, Two};
 ghost use Rattle.ac_machine.specs.States.{state_given};
 ghost use Rattle.ac_machine.specs.Machine.{performs, answers};
@@ -11,24 +12,22 @@ ghost use Rattle.ac_machine.specs.inner.Steps.{Does};
 use crate::engine::{Engine, Step};
 use crate::pause::Pause;
 use crate::primitive::{
-    Answer, Binary, Primitive, Unary, combined, constant_in, primitive_of, turned,
+    Answer, Binary, Operation, Unary, combined, constant_in, operation_of, turned,
 };
-use ac_terms::Exn;
-use ac_types::exceptions::{DIVISION_BY_ZERO, INVALID_ARGUMENT};
-use ac_types::{Memory, Text};
+use ac_types::{BareExn, Exn, Memory, Primitive, TextExn};
 use ac_values::Node;
 
 impl Engine {
     /// Takes the arguments of a primitive from the stack and pushes its answer, raises or pauses.
-    pub fn primitive(&mut self, number: u8) -> Result<Step, Memory>
+    pub fn primitive(&mut self, primitive: Primitive) -> Result<Step, Memory>
         requires sound { Sound self.old }
         ensures { IfOk result (λ s. Does self.new s
-            (state_given (meaning number) (λ m. performs m (core self.old)))) }
+            (state_given (meaning (primitive_number primitive)) (λ m. performs m
+            (core self.old)))) }
     {
-        match primitive_of(number) {
-            None => Ok(Step::Wrong),
-            Some(Primitive::One(unary)) => self.turn(unary),
-            Some(Primitive::Two(operator)) => self.combine(operator),
+        match operation_of(primitive) {
+            Operation::One(unary) => self.turn(unary),
+            Operation::Two(operator) => self.combine(operator),
         }
     }
 
@@ -83,14 +82,8 @@ impl Engine {
             Answer::Print(text) => self.pausing(Pause::Print(text)),
             Answer::Send(text) => self.pausing(Pause::Send(text)),
             Answer::Receive => self.pausing(Pause::Receive),
-            Answer::Invalid(text) => self.raise_exn(Exn {
-                number: INVALID_ARGUMENT,
-                text: Some(text),
-            }),
-            Answer::ByZero => self.raise_exn(Exn {
-                number: DIVISION_BY_ZERO,
-                text: None,
-            }),
+            Answer::Invalid(text) => self.raise_exn(Exn::Text(TextExn::InvalidArgument, text)),
+            Answer::ByZero => self.raise_exn(Exn::Bare(BareExn::DivisionByZero)),
             Answer::NoSense => Ok(Step::Wrong),
         }
     }

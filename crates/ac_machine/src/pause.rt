@@ -1,7 +1,7 @@
 // Why the machine pauses or stops.
 
-use ac_terms::{Exn, Home};
-use ac_types::{Text, Ty};
+use ac_terms::Home;
+use ac_types::{Exn, Text, Ty};
 use ac_values::Value;
 
 /// Why the machine stands still.

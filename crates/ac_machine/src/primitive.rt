@@ -2,17 +2,14 @@
 
 ghost use Rattle.std.specs.Prelude.{◌≡◌, ◌<◌, length, IfOk, MatchOption, Some, None};
 ghost use Rattle.std.specs.Fmt.{signed_decimal};
+ghost use Rattle.ac_types.specs.ReadNumbers.{primitive_number};
 ghost use Rattle.ac_code.specs.Constants.{CInt, CBool, CStr, CUnit, CPart, comes_before, meaning, concatenated, quotient, remainder, bytes_between, raise_invalid_argument};
 ghost use Rattle.ac_values.specs.Values.{stands_as, values, values_at};
 ghost use Rattle.ac_machine.specs.Machine.{const_in, part_in};
 ghost use Rattle.ac_machine.specs.inner.Meant.{constant_meant, answer_meant, of_binary, of_unary, meant};
 
 use ac_types::limits::LONGEST_STRING;
-use ac_types::primitives::{
-    ADD, CONCAT, DIV, EQ, LENGTH, LT, MUL, NEG, NOT, OF_INT, PRINT_INT, PRINT_STRING, RECEIVE, REM,
-    SEND, SUB, SUB_STRING,
-};
-use ac_types::{Many, Memory, Text};
+use ac_types::{Many, Memory, Primitive, Text};
 use ac_values::read::{int_in, text_in};
 use ac_values::{Node, Store, Value};
 use std::alloc::Global;
@@ -69,37 +66,36 @@ pub enum Unary {
     OfInt,
 }
 
-/// A primitive.
+/// A primitive by how many arguments it takes.
 #[derive(Clone, Copy)]
-pub enum Primitive {
+pub enum Operation {
     One(Unary),
     Two(Binary),
 }
 
-/// The primitive of that number.
+/// What a primitive does.
 #[inline(always)]
-pub fn primitive_of(number: u8) -> Option<Primitive>
-    ensures { MatchOption result (meaning number ≡ None) (λ p. meaning number ≡ Some (meant p)) }
+pub fn operation_of(primitive: Primitive) -> Operation
+    ensures { meaning (primitive_number primitive) ≡ Some (meant result) }
 {
-    match number {
-        ADD => Some(Primitive::Two(Binary::Add)),
-        SUB => Some(Primitive::Two(Binary::Sub)),
-        MUL => Some(Primitive::Two(Binary::Mul)),
-        DIV => Some(Primitive::Two(Binary::Div)),
-        REM => Some(Primitive::Two(Binary::Mod)),
-        NEG => Some(Primitive::One(Unary::Neg)),
-        EQ => Some(Primitive::Two(Binary::Equal)),
-        LT => Some(Primitive::Two(Binary::Less)),
-        CONCAT => Some(Primitive::Two(Binary::Concat)),
-        NOT => Some(Primitive::One(Unary::Not)),
-        PRINT_INT => Some(Primitive::One(Unary::PrintInt)),
-        PRINT_STRING => Some(Primitive::One(Unary::PrintString)),
-        SEND => Some(Primitive::One(Unary::Send)),
-        RECEIVE => Some(Primitive::One(Unary::Receive)),
-        LENGTH => Some(Primitive::One(Unary::Length)),
-        SUB_STRING => Some(Primitive::One(Unary::SubString)),
-        OF_INT => Some(Primitive::One(Unary::OfInt)),
-        _ => None,
+    match primitive {
+        Primitive::Add => Operation::Two(Binary::Add),
+        Primitive::Sub => Operation::Two(Binary::Sub),
+        Primitive::Mul => Operation::Two(Binary::Mul),
+        Primitive::Div => Operation::Two(Binary::Div),
+        Primitive::Rem => Operation::Two(Binary::Mod),
+        Primitive::Neg => Operation::One(Unary::Neg),
+        Primitive::Eq => Operation::Two(Binary::Equal),
+        Primitive::Lt => Operation::Two(Binary::Less),
+        Primitive::Concat => Operation::Two(Binary::Concat),
+        Primitive::Not => Operation::One(Unary::Not),
+        Primitive::PrintInt => Operation::One(Unary::PrintInt),
+        Primitive::PrintString => Operation::One(Unary::PrintString),
+        Primitive::Send => Operation::One(Unary::Send),
+        Primitive::Receive => Operation::One(Unary::Receive),
+        Primitive::Length => Operation::One(Unary::Length),
+        Primitive::SubString => Operation::One(Unary::SubString),
+        Primitive::OfInt => Operation::One(Unary::OfInt),
     }
 }
 

@@ -4,9 +4,7 @@ use crate::defs::word;
 use crate::patterns::pattern;
 use ac_code::{Block, CodeId, CodeTable, Instr};
 use ac_terms::Home;
-use ac_types::exceptions::exception_name;
-use ac_types::primitives::primitive_name;
-use ac_types::{Many, Memory, Text, Ty};
+use ac_types::{ExnKind, Many, Memory, Primitive, Text, Ty};
 use std::alloc::Global;
 
 /// A byte that is written as a number, 0 where none is.
@@ -70,26 +68,6 @@ fn numbered(name: &str, n: u8) -> Option<Instr> {
     }
 }
 
-// The primitive of that name.
-fn primitive(name: &[u8]) -> Option<u8> {
-    for number in 0..u8::MAX {
-        if primitive_name(number) == name {
-            return Some(number);
-        }
-    }
-    None
-}
-
-// The exception of that name.
-fn exception(name: &[u8]) -> Option<u8> {
-    for number in 0..u8::MAX {
-        if exception_name(number) == name {
-            return Some(number);
-        }
-    }
-    None
-}
-
 // The field of that name of entry 1.
 fn reference(alloc: Global, name: &str) -> Result<Instr, Memory> {
     word(alloc, name.as_bytes()).map(|name| Instr::Ref(1, name))
@@ -110,8 +88,10 @@ fn with_operand(alloc: Global, name: &str, operand: &str) -> Result<Instr, Memor
         "PushStr" => Text::from_slice(alloc, operand.as_bytes()).map(Instr::PushStr),
         "Ref" => reference(alloc, operand),
         "Test" => test(alloc, operand),
-        "Prim" => primitive(operand.as_bytes()).map(Instr::Prim).ok_or(Memory),
-        "MakeExn" => exception(operand.as_bytes())
+        "Prim" => Primitive::from_name(operand.as_bytes())
+            .map(Instr::Prim)
+            .ok_or(Memory),
+        "MakeExn" => ExnKind::from_name(operand.as_bytes())
             .map(Instr::MakeExn)
             .ok_or(Memory),
         _ => numbered(name, number(operand)).ok_or(Memory),

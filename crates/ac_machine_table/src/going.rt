@@ -3,7 +3,8 @@
 
 ghost use Rattle.std.specs.Prelude.{◌≡◌, ◌∷◌, [], true, Some, option_map, MatchBool, MatchOption, OnOk, IfOk};
 ghost use Rattle.ac_types.specs.Exceptions.{failure};
-ghost use Rattle.ac_terms.specs.Read.{environment_of, bytes_of};
+ghost use Rattle.ac_types.specs.ReadNumbers.{exn_number, exn_text};
+ghost use Rattle.ac_terms.specs.Read.{environment_of};
 ghost use Rattle.ac_code.specs.ReadCode.{table_code};
 ghost use Rattle.ac_machine.specs.States.{Ask, Core, Run, Paused};
 ghost use Rattle.ac_machine.specs.Resumes.{Wait, At, Waits, paused_at, takes_unit, takes_text, takes_block, takes_raise};
@@ -17,9 +18,8 @@ use ac_code::{CodeId, CodeTable};
 use ac_machine::engine::{EMPTY, Engine, Step};
 use ac_machine::{Machine, Pause};
 use ac_page::Page;
-use ac_terms::{Env, Exn};
-use ac_types::exceptions::FAILURE;
-use ac_types::{Memory, Text};
+use ac_terms::Env;
+use ac_types::{Exn, Memory, Text, TextExn};
 use ac_values::Node;
 use std::alloc::Global;
 
@@ -120,14 +120,11 @@ fn by_block(machine: &mut Machine, engine: &mut Engine) -> Result<bool, Memory>
 }
 
 fn refusal(alloc: Global) -> Result<Exn, Memory>
-    ensures { IfOk result (λ e. (e.number ≡ failure) ×
-        (option_map bytes_of e.text ≡ Some (110 ∷ 111 ∷ []))) }
+    ensures { IfOk result (λ e. (exn_number e ≡ failure) ×
+        (exn_text e ≡ Some (110 ∷ 111 ∷ []))) }
 {
     let text = Text::from_slice(alloc, b"no")?;
-    Ok(Exn {
-        number: FAILURE,
-        text: Some(text),
-    })
+    Ok(Exn::Text(TextExn::Failure, text))
 }
 
 // Answers by an exception. Whether it goes on.

@@ -2,7 +2,6 @@
 
 use ac_machine::Pause;
 use ac_page::Page;
-use ac_types::exceptions::exception_name;
 use ac_values::Store;
 use ac_values::read::int_in;
 
@@ -25,7 +24,7 @@ pub fn note_pause(notes: &mut Page, store: &Store, pause: &Pause) {
         }
         Pause::Unmarshal { text, .. } => note(notes, b" unmarshal ", text.as_slice()),
         Pause::Done => notes.put(b" done"),
-        Pause::Raised(exn) => note(notes, b" raised ", exception_name(exn.number)),
+        Pause::Raised(exn) => note(notes, b" raised ", exn.kind().name()),
         Pause::Spent => notes.put(b" spent"),
         Pause::Memory => notes.put(b" memory"),
     }

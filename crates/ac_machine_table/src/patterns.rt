@@ -1,8 +1,7 @@
 // Patterns by their names in the table.
 
 use ac_terms::Pat;
-use ac_types::exceptions::{FAILURE, MATCH_FAILURE, NOT_FOUND};
-use ac_types::{Box, Many, Memory, Text, Ty, both};
+use ac_types::{BareExn, Box, Many, Memory, Text, TextExn, Ty, both};
 use std::alloc::Global;
 
 fn pair(alloc: Global, a: Pat, b: Pat) -> Result<Pat, Memory> {
@@ -21,7 +20,9 @@ fn larger(alloc: Global, name: &str) -> Result<Pat, Memory> {
         )| Pat::Cons(head, tail)),
         "1;false" => pair(alloc, Pat::Int(1), Pat::Bool(false)),
         "x;y" => pair(alloc, Pat::Var(Ty::Int), Pat::Var(Ty::Int)),
-        "Failure:s" => Box::new(alloc, Pat::Var(Ty::Str)).map(|text| Pat::Exn(FAILURE, Some(text))),
+        "Failure:s" => {
+            Box::new(alloc, Pat::Var(Ty::Str)).map(|text| Pat::ExnOf(TextExn::Failure, text))
+        }
         "\"s\"" => Text::from_slice(alloc, b"s").map(Pat::Str),
         _ => Ok(Pat::Wild),
     }
@@ -35,8 +36,8 @@ pub fn pattern(alloc: Global, name: &str) -> Result<Pat, Memory> {
         "None" => Ok(Pat::Absent),
         "true" => Ok(Pat::Bool(true)),
         "1" => Ok(Pat::Int(1)),
-        "Not_found" => Ok(Pat::Exn(NOT_FOUND, None)),
-        "Match_failure" => Ok(Pat::Exn(MATCH_FAILURE, None)),
+        "Not_found" => Ok(Pat::Exn(BareExn::NotFound)),
+        "Match_failure" => Ok(Pat::Exn(BareExn::MatchFailure)),
         _ => larger(alloc, name),
     }
 }

@@ -2,6 +2,7 @@
 use Rattle.std.proofs.Common.{◌≡◌, refl, ap, subst, ℕ, zero, suc, Bool, true, false, [], Option, Some, None, ◌∙◌}
 use Rattle.std.specs.Prelude.{IsTrue}
 use native.Mathlib.Omega.{arith}
+use Rattle.ac_types.specs.Limits.{longest_packet, deepest_nesting}
 use Rattle.ac_types.specs.First.{or_else}
 use Rattle.ac_types.specs.Types.{Bytes, Typ, TStr, TExn, TBool, TFun, TList, Typs}
 use Rattle.ac_terms.specs.Terms.{Home, Main, Expr, Int, Boolean, Str, Unit', Exn, ExnOf, Tuple, Nil, Empty, Present, Cons, Var, Own, Ref, Lam, Rec, App, Let, If, Seq, Match, Try, Raise, Prim, Marshal, Unmarshal, Val, Evaluated, Bracket, Exprs, no_exprs, expr, PValue, Value, VStr}
@@ -150,16 +151,16 @@ marshal_parts z y c T m w s Wrong b e = absurd cc
 pub string_fine : (E : Environment) (mark : Bytes) (T : Typ) (v : PValue) (s : Bytes) → marshalled E mark T v ≡ AString s → Fine (value_heads two_written 1 v)
 string_fine E mark T v s e = by_mark (mark_at E mark) e
   where
-    by_parts : (m : ℕ) (o : Option Fault) → first_fault 500 1048576 0 (packed_heads T v) ≡ o → behind E m T v o ≡ AString s → Fine (value_heads two_written 1 v)
+    by_parts : (m : ℕ) (o : Option Fault) → first_fault deepest_nesting longest_packet 0 (packed_heads T v) ≡ o → behind E m T v o ≡ AString s → Fine (value_heads two_written 1 v)
     by_parts m (Some f) r h = absurd cc
     by_parts m None r h =
-        let fine = none_fails 500 1048576 0 (packed_heads T v) r in
+        let fine = none_fails deepest_nesting longest_packet 0 (packed_heads T v) r in
         let short = fine.short (omega arith) in
         (fine_both (type_heads T) (value_heads two_written 1 v) (record { travels = fine.travels; short = omega (arith, short) })).1
 
     by_mark : (o : Option ℕ) → cut_at E T v o ≡ AString s → Fine (value_heads two_written 1 v)
     by_mark None h = absurd cc
-    by_mark (Some m) h = by_parts m (first_fault 500 1048576 0 (packed_heads T v)) refl h
+    by_mark (Some m) h = by_parts m (first_fault deepest_nesting longest_packet 0 (packed_heads T v)) refl h
 
 -- a typed value within the bounds
 value_read : (mode : Mode) (z : World) (c : Home) (T : Typ) (mark s : Bytes) (v : Value) → IsCoherent z.environment → Known mode z.environment T → ValueTyped mode z.environment v c (as_seen mode z.environment c T) → TypeFits T → ValueWithin v →

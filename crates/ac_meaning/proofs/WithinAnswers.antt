@@ -90,8 +90,8 @@ tested : (b : Bool) (x y : PrimitiveAnswer) → (b ≡ true → AnswerWithin x) 
 tested true x y h k = h refl
 tested false x y h k = k refl
 
-bytes_at_most : (n m : ℕ) → n ≤ m → nat_le m 1048576 ≡ true → nat_le n 1048576 ≡ true
-bytes_at_most n m l h = is_at_most n 1048576 (let k = at_most m 1048576 h in omega (arith, l, k))
+bytes_at_most : (n m : ℕ) → n ≤ m → nat_le m longest_string ≡ true → nat_le n longest_string ≡ true
+bytes_at_most n m l h = is_at_most n longest_string (let k = at_most m longest_string h in omega (arith, l, k))
 
 sum_within : MeaningWithin (Two sum)
 sum_within (CInt x) (CInt y) h k = wrapped (x +ℤ y)
@@ -132,7 +132,7 @@ less_within _ _ h k = tt
 joined_within : MeaningWithin (Two concatenated)
 joined_within (CStr s) (CStr t) h k =
     tested (nat_le (length s + length t) longest_string) (Yields (CStr (s ++ t))) (raise_invalid_argument (codes "string"))
-    (λ e. ap (λ n. nat_le n 1048576) (length-append s t) ∙ e) (λ e. (refl, refl))
+    (λ e. ap (λ n. nat_le n longest_string) (length-append s t) ∙ e) (λ e. (refl, refl))
 joined_within _ _ h k = tt
 
 opposite_within : MeaningWithin (One opposite)
@@ -140,7 +140,7 @@ opposite_within (CBool b) h = tt
 opposite_within _ h = tt
 
 digits_short : (z : ℤ) → is_integer z ≡ true → is_string (signed_decimal z) ≡ true
-digits_short z h = is_at_most (length (signed_decimal z)) 1048576 (let l = digits z h in omega (arith, l))
+digits_short z h = is_at_most (length (signed_decimal z)) longest_string (let l = digits z h in omega (arith, l))
   where
     digits : (z : ℤ) → is_integer z ≡ true → length (signed_decimal z) ≤ 20 + 1
     digits (pos m) e = let l = below m (2 ^ 63) e in length_signed_le 20 (pos m) (omega (arith, l)) l
@@ -163,7 +163,7 @@ receive_within CUnit h = tt
 receive_within _ h = tt
 
 size_within : MeaningWithin (One size)
-size_within (CStr s) h = is_below (length s) (2 ^ 63) (let l = at_most (length s) 1048576 h in omega (arith, l))
+size_within (CStr s) h = is_below (length s) (2 ^ 63) (let l = at_most (length s) longest_string h in omega (arith, l))
 size_within _ h = tt
 
 take_short : (n : ℕ) (s : Bytes) → length (take n s) ≤ length s

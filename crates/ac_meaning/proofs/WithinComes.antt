@@ -5,6 +5,7 @@ use Rattle.std.specs.List.{list_all}
 use Rattle.std.proofs.lemmas.Bool.Decides.{nat_tests}
 use native.Mathlib.Omega.{arith}
 use Rattle.sha2.specs.Sha256.{sha256}
+use Rattle.ac_types.specs.Limits.{longest_word, longest_string, longest_packet}
 use Rattle.ac_types.proofs.FirstLaws.{none≢some, some_eq}
 use Rattle.ac_types.proofs.Same.{both_true}
 use Rattle.ac_types.specs.Types.{Bytes, Typ}
@@ -69,10 +70,10 @@ ArrivalWithin mode (Brings F v w) = ValueWithin (v mode)
 upper_word : (w : Bytes) → is_upper w ≡ true → is_word w ≡ true
 upper_word w e = (both_true (is_word w) (is_between 65 90 (slice_index w 0)) e).0
 
-word_short : (w : Bytes) → is_word w ≡ true → nat_le (length w) 255 ≡ true
+word_short : (w : Bytes) → is_word w ≡ true → nat_le (length w) longest_word ≡ true
 word_short w e = (both_true _ _ (both_true _ _ (both_true _ _ (both_true _ _ e).0).0).0).1
 
-short_string : (n : ℕ) → nat_le n 255 ≡ true → nat_le n 1048576 ≡ true
+short_string : (n : ℕ) → nat_le n longest_word ≡ true → nat_le n longest_string ≡ true
 short_string n e = grind (arith, nat_tests)
 
 name_short : (d : Def) → fits_def d ≡ true → is_string (import_name d) ≡ true
@@ -133,7 +134,7 @@ abbrev PackingWithin : Packing → Type 0
 PackingWithin (CannotPack x) = RaisedWithin x
 PackingWithin (Packs s) = is_string s ≡ true
 
-at_most : (n : ℕ) → n ≤ 1048576 → nat_le n 1048576 ≡ true
+at_most : (n : ℕ) → n ≤ longest_packet → nat_le n longest_string ≡ true
 at_most n h = grind (arith, nat_tests)
 
 packing_within : (z : World) (T : Typ) (mark : Bytes) (v : PValue) → PackingWithin (packing z T mark v)

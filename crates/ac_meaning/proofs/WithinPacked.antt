@@ -5,6 +5,7 @@ use Rattle.std.specs.List.{list_all}
 use Rattle.std.proofs.lemmas.Bool.Decides.{nat_tests}
 use mathlib.Core.Bool.{true≢false}
 use native.Mathlib.Omega.{arith}
+use Rattle.ac_types.specs.Limits.{longest_packet}
 use Rattle.ac_types.proofs.Same.{both_true, and_true}
 use Rattle.ac_types.specs.Types.{Bytes, Typ, Typs, no_types, typ, agree}
 use Rattle.ac_terms.specs.Terms.{Home, Main, In, Expr, Int, Boolean, Str, Unit', Exn, ExnOf, Tuple, Nil, Empty, Present, Cons, Var, Own, Ref, Lam, Rec, App, Let, If, Seq, Match, Try, Raise, Prim, Marshal, Unmarshal, Val, Evaluated, Bracket, Exprs, no_exprs, expr, Arms, no_arms, arm, PValue, KInt, KBool, KStr, KUnit, KExn, KTuple, KList, KAbsent, KPresent, KFun, PValues, no_pvalues, pvalue, Value, VInt, VBool, VStr, VUnit, VExn, VTuple, VNil, VCons, VAbsent, VPresent, VLam, VRec, VProxy, VSeal, Values, no_values, value}
@@ -27,7 +28,7 @@ use Rattle.ac_meaning.proofs.Within.{Within, AllWithin, ArmsWithin, ValueWithin,
 -- everything travels and is short
 pub record Fine (hs : List Head) : Type 0 where
   pub travels : list_all (λ (h : Head). h.travels) hs ≡ true
-  pub short : length (spelling hs) ≤ 1048576
+  pub short : length (spelling hs) ≤ longest_packet
 
 travel_both : (hs ks : List Head) → list_all (λ (h : Head). h.travels) (hs ++ ks) ≡ true → (list_all (λ (h : Head). h.travels) hs ≡ true) × (list_all (λ (h : Head). h.travels) ks ≡ true)
 travel_both [] ks e = (refl, e)
@@ -81,7 +82,7 @@ values_bytes d (pvalue v vs) =
     let b = values_bytes d vs in
     omega (arith, l, a, b)
 
-four_of : (n : ℕ) → n ≤ 1048576 → is_four n ≡ true
+four_of : (n : ℕ) → n ≤ longest_packet → is_four n ≡ true
 four_of n h = grind (arith, nat_tests)
 
 -- a list by its items, any other value by itself

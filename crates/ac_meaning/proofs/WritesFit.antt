@@ -9,7 +9,7 @@ use Rattle.ac_terms.specs.Terms.{Expr, Value}
 use Rattle.ac_terms.specs.Defs.{Environment}
 use Rattle.ac_terms.specs.Bounds.{fits_term, is_string}
 use Rattle.ac_rules.specs.Views.{Mode}
-use Rattle.ac_types.specs.Limits.{longest_frame}
+use Rattle.ac_types.specs.Limits.{longest_frame, longest_string}
 use Rattle.ac_meaning.specs.Writes.{Write, string_of}
 use Rattle.ac_meaning.specs.Worlds.{Exception, World, IsShortText, IsException, fresh}
 use Rattle.ac_meaning.specs.Acts.{Outcome, Returned, Raised, Spent, Stuck, At, Over, writes_of}
@@ -20,7 +20,7 @@ use Rattle.ac_meaning.proofs.Within.{RaisedWithin, WritesWithin}
 use Rattle.ac_meaning.proofs.WithinSteps.{StateWithin}
 use Rattle.ac_meaning.proofs.MarshalledRead.{IsBounded, run_bounded, starts_bounded}
 
-at_most : (n : ℕ) → nat_le n 1048576 ≡ true → n ≤ longest_frame
+at_most : (n : ℕ) → nat_le n longest_string ≡ true → n ≤ longest_frame
 at_most n h = grind (arith, nat_tests)
 
 one_short : (ws before after : List Write) (w : Write) → ws ≡ before ++ w ∷ after → WritesWithin ws → length (string_of w) ≤ longest_frame

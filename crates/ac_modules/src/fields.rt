@@ -17,10 +17,8 @@ pub fn valuable(t: &Term) -> bool
         Term::Bool(_) => true,
         Term::Str(_) => true,
         Term::Unit => true,
-        Term::ExnVal(_, text) => match text {
-            None => true,
-            Some(text) => valuable(text),
-        },
+        Term::ExnVal(_) => true,
+        Term::ExnOf(_, text) => valuable(text),
         Term::Tuple(parts) => are_valuable(parts.as_slice()),
         Term::Nil(_) => true,
         Term::Empty(_) => true,

@@ -2,13 +2,14 @@
 use Rattle.std.specs.Prelude.{List, [], ◌∷◌}
 use Rattle.ac_types.specs.Primitives as primitives
 use Rattle.ac_types.specs.Types.{Bytes, TInt, TStr, TUnit, TTuple, typs}
-use Rattle.ac_scopes.specs.Standard.{NamedPrimitive, primitive_on, io, str_primitives}
-use Rattle.ac_outer.specs.declared.primitive.Primitive.{Primitive}
-use Rattle.ac_outer.specs.declared.primitive.Primitive.TheVariants.{PrintInt, PrintString, Send, Receive, Length, Sub, OfInt}
+use Rattle.ac_scopes.specs.Standard as standard
+use Rattle.ac_scopes.specs.Standard.{primitive_on, io, str_primitives}
+use Rattle.ac_outer.specs.declared.primitive.NamedPrimitive.{NamedPrimitive}
+use Rattle.ac_outer.specs.declared.primitive.NamedPrimitive.TheVariants.{PrintInt, PrintString, Send, Receive, Length, Sub, OfInt}
 use Rattle.ac_outer.specs.declared.primitive.Standard.{Standard}
 use Rattle.ac_outer.specs.declared.primitive.Standard.TheVariants.{Io, Str}
 
-abbrev pub read_primitive : Primitive → NamedPrimitive
+abbrev pub read_primitive : NamedPrimitive → standard.NamedPrimitive
 read_primitive PrintInt = primitive_on primitives.print_int TInt
 read_primitive PrintString = primitive_on primitives.print_string TStr
 read_primitive Send = primitive_on primitives.send TStr
@@ -18,6 +19,6 @@ read_primitive Sub = primitive_on primitives.sub_string (TTuple (typs (TStr ∷ 
 read_primitive OfInt = primitive_on primitives.of_int TInt
 
 -- the table of a standard module
-abbrev pub table_of : Standard → List (Bytes × NamedPrimitive)
+abbrev pub table_of : Standard → List (Bytes × standard.NamedPrimitive)
 table_of Io = io
 table_of Str = str_primitives

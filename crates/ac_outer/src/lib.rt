@@ -13,5 +13,5 @@ mod variables;
 
 pub use front::Front;
 pub use outer::{Outer, Scope};
-pub use primitive::{Primitive, named};
+pub use primitive::{NamedPrimitive, named};
 pub use types::{fun_ty, ty};

@@ -1,6 +1,6 @@
 // What is in scope at a place.
 
-ghost use Rattle.std.specs.Prelude.{◌≡◌, ◌<◌, ◌≤◌, ◌∷◌, [], length, map, None, option_and_then, option_map, unwrap_or, IfOk, IsTrue};
+ghost use Rattle.std.specs.Prelude.{◌≡◌, ◌<◌, ◌≤◌, ◌∷◌, [], length, map, None, option_and_then, option_map, unwrap_or, IfOk, IsTrue, ◌^◌};
 ghost use Rattle.std.specs.List.{list_all};
 ghost use Rattle.ac_types.specs.Types.{TUnit};
 ghost use Rattle.ac_types.specs.ReadTypes.{typ_of};
@@ -33,7 +33,7 @@ pub struct Outer<'a> {
     /// The fields.
     pub fields: Latest<()>,
     ghost named: { IsTrue (list_all keeps_name (environment_of env.now)) },
-    ghost few: { length fields ≤ 65536 },
+    ghost few: { length fields ≤ 2 ^ 16 },
 }
 
 #[tactic(auto, using(crate::proofs::OuterLaws::outer_laws), unfolding(crate::specs::Fronts::outer_of))]
@@ -77,7 +77,7 @@ impl<'a> Outer<'a> {
 
     /// Behind a field.
     pub fn with_field(self, alloc: Global, name: &SName) -> Result<Outer<'a>, Memory>
-        requires { length (outer_of self).fields < 65536 }
+        requires { length (outer_of self).fields < 2 ^ 16 }
         ensures { IfOk result (λ o. outer_of o ≡ with_field (name_of name.now)
             (outer_of self.entry)) }
     {

@@ -1,21 +1,21 @@
 // The primitives of the standard modules.
 
 ghost use Rattle.std.specs.Prelude.{◌≡◌, IfOk, option_map};
+ghost use Rattle.ac_types.specs.ReadNumbers.{primitive_number};
 ghost use Rattle.ac_types.specs.ReadTypes.{typ_of};
 ghost use Rattle.ac_terms.specs.Read.{expr_of};
-ghost use Rattle.ac_outer.specs.declared.primitive.Primitive.TheVariants.{Sub};
+ghost use Rattle.ac_outer.specs.declared.primitive.NamedPrimitive.TheVariants.{Sub};
 ghost use Rattle.ac_scopes.specs.Standard.{beside_name, standard, io, str_primitives, is_standard, primitive_named};
 ghost use Rattle.ac_scopes.specs.Scopes.{primitive_of, primitive_function};
 ghost use Rattle.ac_outer.specs.Primitives.{read_primitive, table_of};
 
 use ac_terms::Term;
-use ac_types::primitives::{LENGTH, OF_INT, PRINT_INT, PRINT_STRING, RECEIVE, SEND, SUB_STRING};
-use ac_types::{Box, Many, Memory, Ty, Word, both};
+use ac_types::{Box, Many, Memory, Primitive, Ty, Word, both};
 use std::alloc::Global;
 
 /// A primitive that is called by a name.
 #[derive(Clone, Copy, PartialEq, Eq)]
-pub enum Primitive {
+pub enum NamedPrimitive {
     /// `IO.print_int`.
     PrintInt,
     /// `IO.print_string`.
@@ -32,19 +32,19 @@ pub enum Primitive {
     OfInt,
 }
 
-impl Primitive {
-    /// The number of the primitive.
-    pub fn number(self) -> u8
-        ensures { result ≡ (read_primitive self).number }
+impl NamedPrimitive {
+    /// The primitive.
+    pub fn primitive(self) -> Primitive
+        ensures { primitive_number result ≡ (read_primitive self).number }
     {
         match self {
-            Primitive::PrintInt => PRINT_INT,
-            Primitive::PrintString => PRINT_STRING,
-            Primitive::Send => SEND,
-            Primitive::Receive => RECEIVE,
-            Primitive::Length => LENGTH,
-            Primitive::Sub => SUB_STRING,
-            Primitive::OfInt => OF_INT,
+            NamedPrimitive::PrintInt => Primitive::PrintInt,
+            NamedPrimitive::PrintString => Primitive::PrintString,
+            NamedPrimitive::Send => Primitive::Send,
+            NamedPrimitive::Receive => Primitive::Receive,
+            NamedPrimitive::Length => Primitive::Length,
+            NamedPrimitive::Sub => Primitive::SubString,
+            NamedPrimitive::OfInt => Primitive::OfInt,
         }
     }
 
@@ -54,13 +54,13 @@ impl Primitive {
         ensures { IfOk result (λ ty. typ_of ty ≡ (read_primitive self).argument) }
     {
         match self {
-            Primitive::PrintInt => Ok(Ty::Int),
-            Primitive::PrintString => Ok(Ty::Str),
-            Primitive::Send => Ok(Ty::Str),
-            Primitive::Receive => Ok(Ty::Unit),
-            Primitive::Length => Ok(Ty::Str),
-            Primitive::Sub => text_and_range(alloc),
-            Primitive::OfInt => Ok(Ty::Int),
+            NamedPrimitive::PrintInt => Ok(Ty::Int),
+            NamedPrimitive::PrintString => Ok(Ty::Str),
+            NamedPrimitive::Send => Ok(Ty::Str),
+            NamedPrimitive::Receive => Ok(Ty::Unit),
+            NamedPrimitive::Length => Ok(Ty::Str),
+            NamedPrimitive::Sub => text_and_range(alloc),
+            NamedPrimitive::OfInt => Ok(Ty::Int),
         }
     }
 
@@ -72,7 +72,7 @@ impl Primitive {
     {
         let mut arguments = Many::new(alloc);
         arguments.push(argument)?;
-        Ok(Term::Prim(self.number(), arguments))
+        Ok(Term::Prim(self.primitive(), arguments))
     }
 
     /// The function that applies it.
@@ -123,7 +123,7 @@ impl Standard {
     }
 
     /// The primitive of that name in it.
-    pub fn primitive(self, word: &Word) -> Option<Primitive>
+    pub fn primitive(self, word: &Word) -> Option<NamedPrimitive>
         ensures { option_map read_primitive result ≡ beside_name word.now (table_of self) }
     {
         let name = word.text().as_slice();
@@ -134,41 +134,41 @@ impl Standard {
     }
 }
 
-fn primitive_of_io(name: &[u8]) -> Option<Primitive>
+fn primitive_of_io(name: &[u8]) -> Option<NamedPrimitive>
     ensures { option_map read_primitive result ≡ beside_name name.now io }
 {
     if b"print_int".as_slice() == name {
-        return Some(Primitive::PrintInt);
+        return Some(NamedPrimitive::PrintInt);
     }
     if b"print_string".as_slice() == name {
-        return Some(Primitive::PrintString);
+        return Some(NamedPrimitive::PrintString);
     }
     if b"send".as_slice() == name {
-        return Some(Primitive::Send);
+        return Some(NamedPrimitive::Send);
     }
     if b"receive".as_slice() == name {
-        return Some(Primitive::Receive);
+        return Some(NamedPrimitive::Receive);
     }
     None
 }
 
-fn primitive_of_str(name: &[u8]) -> Option<Primitive>
+fn primitive_of_str(name: &[u8]) -> Option<NamedPrimitive>
     ensures { option_map read_primitive result ≡ beside_name name.now str_primitives }
 {
     if b"length".as_slice() == name {
-        return Some(Primitive::Length);
+        return Some(NamedPrimitive::Length);
     }
     if b"sub".as_slice() == name {
-        return Some(Primitive::Sub);
+        return Some(NamedPrimitive::Sub);
     }
     if b"of_int".as_slice() == name {
-        return Some(Primitive::OfInt);
+        return Some(NamedPrimitive::OfInt);
     }
     None
 }
 
 /// The primitive that a name after a module's name is.
-pub fn named(standard: &Word, name: &Word) -> Option<Primitive>
+pub fn named(standard: &Word, name: &Word) -> Option<NamedPrimitive>
     ensures { option_map read_primitive result ≡ primitive_named standard.now name.now }
 {
     let standard = Standard::named(standard)?;

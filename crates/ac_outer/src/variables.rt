@@ -1,14 +1,16 @@
 // The variables in scope.
 
-ghost use Rattle.std.specs.Prelude.{◌≡◌, List, None, min, map, length, option_map};
+ghost use Rattle.std.specs.Prelude.{◌≡◌, List, None, min, map, length, option_map, ◌+◌};
+ghost use Rattle.ac_types.specs.Limits.{most_variables};
 ghost use Rattle.ac_types.specs.Types.{Bytes};
 ghost use Rattle.ac_syntax.specs.ReadTrees.{name_of};
 ghost use Rattle.ac_scopes.specs.Scopes.{binders_to, scope_with};
-ghost use Rattle.ac_scopes.specs.Counts.{over, scope_limit};
+ghost use Rattle.ac_scopes.specs.Counts.{over};
 ghost use Rattle.ac_outer.specs.inner.VariableNames.{names_in, passed};
 
 use ac_syntax::SName;
 use ac_types::Word;
+use ac_types::limits::MOST_VARIABLES;
 
 /// The variables in scope, the newest first.
 #[derive(Clone, Copy)]
@@ -21,14 +23,14 @@ pub enum Variables<'a> {
     Arm(&'a Variables<'a>, &'a [SName]),
 }
 
-// A number that no variable has: past it, none is counted.
-const NO_VARIABLE: usize = 65536;
+// How far binders are counted: a number that no variable has.
+const COUNTED: usize = MOST_VARIABLES as usize + 1;
 
-// How many binders stand between a name and its own, at most 65,536, `None` exactly where it isn't
-// in scope.
+// How many binders stand between a name and its own, counted up to one past the limit, `None`
+// exactly where it isn't in scope.
 #[tactic(auto, using(crate::proofs::VariableForms::variable_laws))]
 fn binders_to(variables: &Variables, word: &Word) -> Option<usize>
-    ensures { result ≡ option_map (λ i. min i 65536) (binders_to word.now (names_in
+    ensures { result ≡ option_map (λ i. min i (most_variables + 1)) (binders_to word.now (names_in
         variables.now)) }
 {
     match variables {
@@ -38,13 +40,13 @@ fn binders_to(variables: &Variables, word: &Word) -> Option<usize>
                 return Some(0);
             }
             let i = binders_to(outer, word)?;
-            Some((i + 1).min(NO_VARIABLE))
+            Some((i + 1).min(COUNTED))
         }
         Variables::Arm(outer, names) => match behind(names, word) {
-            Some(i) => Some(i.min(NO_VARIABLE)),
+            Some(i) => Some(i.min(COUNTED)),
             None => {
                 let i = binders_to(outer, word)?;
-                Some((names.len() + i).min(NO_VARIABLE))
+                Some((names.len() + i).min(COUNTED))
             }
         },
     }
@@ -52,7 +54,7 @@ fn binders_to(variables: &Variables, word: &Word) -> Option<usize>
 
 /// How many binders stand between a name and its own, `None` exactly where it isn't in scope.
 pub fn number_of(variables: &Variables, word: &Word) -> Option<u16>
-    requires { over scope_limit (length (names_in variables.now)) ≡ None }
+    requires { over most_variables (length (names_in variables.now)) ≡ None }
     ensures { result ≡ binders_to word.now (names_in variables.now) }
 {
     let number = binders_to(variables, word)?;

@@ -1,8 +1,9 @@
 -- What the parsers say of signs, over the text.
 use Rattle.std.proofs.Common.{◌≡◌, ℕ, ◌<◌, ◌≤◌, List, length, sym, subst}
+use Rattle.ac_types.specs.Limits.{longest_text}
 use Rattle.ac_types.specs.Types.{Bytes}
 use Rattle.ac_lexer.specs.declared.tokens.Token.{Token}
-use Rattle.ac_lexer.specs.Tokens.{Tokens, FailsAt, longest_text}
+use Rattle.ac_lexer.specs.Tokens.{Tokens, FailsAt}
 use Rattle.ac_lexer.proofs.Unique as lexed
 use Rattle.ac_syntax.specs.Signs.{Sign, signs}
 use Rattle.ac_syntax.specs.Openers.{IsDeep}

@@ -7,9 +7,10 @@ ghost use Rattle.ac_syntax.specs.PartParsing.{OnSyntax};
 ghost use Rattle.ac_parser.specs.inner.ProgramParsing.{UpperAt, NoUpper, TextAt, NoText, OnlyRead, NoRead, Anything, AbbrevAt, NoAbbrev, HeadAt};
 
 use ac_syntax::{
-    HIGHEST_TYPE, SAbbrev, SName, SSig, Sign, SignKind, Stop, Symbol, after, next, next_name,
-    refused_at, sig, whole_type,
+    SAbbrev, SName, SSig, Sign, SignKind, Stop, Symbol, after, next, next_name, refused_at, sig,
+    whole_type,
 };
+use ac_types::limits::HIGHEST_WRITTEN_TYPE;
 use ac_types::{Memory, Text};
 use std::alloc::Global;
 
@@ -67,7 +68,7 @@ pub fn abbreviation<'s, 't>(
     let Some(behind) = after(Symbol::Equals, rest) else {
         return Err(refused_at(rest));
     };
-    let (ty, end) = whole_type(alloc, HIGHEST_TYPE, behind)?;
+    let (ty, end) = whole_type(alloc, HIGHEST_WRITTEN_TYPE, behind)?;
     Ok((SAbbrev { name, ty: ty.tree }, end))
 }
 

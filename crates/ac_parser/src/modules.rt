@@ -12,10 +12,10 @@ use crate::front::{abbreviation, head};
 use crate::versions::version;
 use ac_expressions::expression;
 use ac_syntax::{
-    HIGHEST_TYPE, SAbbrev, SDef, SDefKind, SField, Sign, Stop, Symbol, after, next_name,
-    refused_at, whole_type,
+    SAbbrev, SDef, SDefKind, SField, Sign, Stop, Symbol, after, next_name, refused_at, whole_type,
 };
 use ac_types::Many;
+use ac_types::limits::HIGHEST_WRITTEN_TYPE;
 use std::alloc::Global;
 
 /// The `struct` of a likespec, its abbreviations and its `end`.
@@ -65,7 +65,7 @@ fn value_field<'s, 't>(
     let Some(behind) = after(Symbol::Colon, rest) else {
         return Err(refused_at(rest));
     };
-    let (ty, later) = whole_type(alloc, HIGHEST_TYPE, behind)?;
+    let (ty, later) = whole_type(alloc, HIGHEST_WRITTEN_TYPE, behind)?;
     let Some(inner) = after(Symbol::Equals, later) else {
         return Err(refused_at(later));
     };

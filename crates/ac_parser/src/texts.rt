@@ -1,6 +1,7 @@
 // From the bytes of a text to its tree.
 
 ghost use Rattle.std.specs.Prelude.{◌≤◌, IfOk, IfErr};
+ghost use Rattle.ac_types.specs.Limits.{longest_text};
 ghost use Rattle.ac_syntax.specs.Programs.{IsProgram, IsModule};
 ghost use Rattle.ac_syntax.specs.ReadTrees.{surface_of};
 ghost use Rattle.ac_syntax.specs.Texts.{IsRead, HasTree, IsPlace, IsUnread, IsTextFault, FaultAt};
@@ -40,7 +41,7 @@ fn place(tokens: &[Token], left: usize, end: u32) -> u32
 
 // Why the tokens of a text of this length have no tree.
 fn fault(tokens: &[Token], len: usize, stop: Stop) -> ParseFault
-    requires { len ≤ 1048576 }
+    requires { len ≤ longest_text }
     ensures { FaultAt tokens.now len stop result }
 {
     match stop {
@@ -53,7 +54,7 @@ fn fault(tokens: &[Token], len: usize, stop: Stop) -> ParseFault
 
 /// The program that a text is. A text has exactly one of these answers, but that memory may run out
 /// at any text that is not too long: its tree; `TooLong`, with its length in bytes; `Lexical`,
-/// where it has no tokens; `TooDeep`, at the first opener at which more than 200 are unclosed;
+/// where it has no tokens; `TooDeep`, at the first opener at which too many are unclosed;
 /// `Syntax`, where its signs are no program, heights past their bounds included, at the place of
 /// the token at which no program can go on, or the text's length.
 pub fn parse_program(alloc: Global, bytes: &[u8]) -> Result<Surface, ParseFault>

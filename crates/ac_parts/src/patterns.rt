@@ -23,10 +23,8 @@ pub fn pattern_passes<T: Test>(pat: &Pat, test: &T) -> bool
         Pat::Tuple(parts) => patterns_pass(parts, test),
         Pat::Cons(head, tail) => boxed_passes(head, test) & boxed_passes(tail, test),
         Pat::Present(inner) => boxed_passes(inner, test),
-        Pat::Exn(_, text) => match text {
-            None => true,
-            Some(text) => boxed_passes(text, test),
-        },
+        Pat::ExnOf(_, text) => boxed_passes(text, test),
+        Pat::Exn(_) => true,
         Pat::Wild => true,
         Pat::Int(_) => true,
         Pat::Bool(_) => true,

@@ -46,9 +46,9 @@ pub fn term_renumbered(alloc: Global, term: &Term, numbers: &[u32]) -> Result<Te
             Err(want) => Err(want),
         },
         Term::Unit => Ok(Term::Unit),
-        Term::ExnVal(number, None) => Ok(Term::ExnVal(*number, None)),
-        Term::ExnVal(number, Some(inner)) => match boxed(alloc, inner, numbers) {
-            Ok(inner) => Ok(Term::ExnVal(*number, Some(inner))),
+        Term::ExnVal(exn) => Ok(Term::ExnVal(*exn)),
+        Term::ExnOf(exn, inner) => match boxed(alloc, inner, numbers) {
+            Ok(inner) => Ok(Term::ExnOf(*exn, inner)),
             Err(want) => Err(want),
         },
         Term::Tuple(parts) => match terms(alloc, parts, numbers) {
@@ -128,8 +128,8 @@ pub fn term_renumbered(alloc: Global, term: &Term, numbers: &[u32]) -> Result<Te
             Ok((ty, inner)) => Ok(Term::Raise(ty, inner)),
             Err(want) => Err(want),
         },
-        Term::Prim(number, args) => match terms(alloc, args, numbers) {
-            Ok(args) => Ok(Term::Prim(*number, args)),
+        Term::Prim(primitive, args) => match terms(alloc, args, numbers) {
+            Ok(args) => Ok(Term::Prim(*primitive, args)),
             Err(want) => Err(want),
         },
         Term::Marshal(ty, mark, value) => {

@@ -23,10 +23,8 @@ pub fn term_passes<T: Test>(term: &Term, test: &T) -> bool
         Term::Bool(_) => true,
         Term::Str(_) => true,
         Term::Unit => true,
-        Term::ExnVal(_, text) => match text {
-            None => true,
-            Some(text) => boxed_passes(text, test),
-        },
+        Term::ExnVal(_) => true,
+        Term::ExnOf(_, text) => boxed_passes(text, test),
         Term::Tuple(parts) => terms_pass(parts, test),
         Term::Nil(ty) => test.passes_type(ty),
         Term::Empty(ty) => test.passes_type(ty),

@@ -1,5 +1,6 @@
 -- How pieces are read exactly: only a spelling within the bounds is taken, so bytes are read where they spell and nowhere else.
 use Rattle.std.specs.Prelude.{ℕ, ℤ, ◌==◌, Bool, true, ◌&&◌, ◌||◌, ◌++◌, nat_le, slice_index, List, [], ◌∷◌, length, Some, option_and_then}
+use Rattle.ac_types.specs.Limits.{most_version_atoms, longest_uri, most_resolves}
 use Rattle.ac_types.specs.First.{given}
 use Rattle.ac_types.specs.Types.{Bytes, same_bytes}
 use Rattle.ac_types.specs.Words.{is_word, is_between}
@@ -72,7 +73,7 @@ unfoldable pub exact_atom : ReadsPart Atom
 exact_atom bs = tagged atom_table bs
 
 unfoldable pub exact_version : ReadsPart (List Atom)
-exact_version = read_list (exact_count 1 8) exact_atom
+exact_version = read_list (exact_count 1 most_version_atoms) exact_atom
 
 abbrev pub range_table : List (ReadsPart Range)
 range_table = nothing ∷ one One exact_four ∷ two_parts_read Between exact_four exact_four ∷ one UpTo exact_four ∷ one From exact_four ∷ []
@@ -88,7 +89,7 @@ abbrev pub a_ranges : List Range × Bool → Constraint
 a_ranges p = Ranges p.0 p.1
 
 unfoldable pub exact_ranges : ReadsPart (List Range × Bool)
-exact_ranges = passing has_ranges (pair (read_list (exact_count 0 8) exact_range) exact_truth)
+exact_ranges = passing has_ranges (pair (read_list (exact_count 0 most_version_atoms) exact_range) exact_truth)
 
 abbrev pub constraint_table : List (ReadsPart Constraint)
 constraint_table = nothing ∷ one a_ranges exact_ranges ∷ one Exact exact_name ∷ []
@@ -97,10 +98,10 @@ unfoldable pub exact_constraint : ReadsPart Constraint
 exact_constraint bs = tagged constraint_table bs
 
 abbrev pub resolve_table : List (ReadsPart Resolve)
-resolve_table = nothing ∷ give StaticLink ∷ give HereAlready ∷ one Uri (exact_text 1024) ∷ []
+resolve_table = nothing ∷ give StaticLink ∷ give HereAlready ∷ one Uri (exact_text longest_uri) ∷ []
 
 unfoldable pub exact_resolve : ReadsPart Resolve
 exact_resolve bs = tagged resolve_table bs
 
 unfoldable pub exact_resolves : ReadsPart (List Resolve)
-exact_resolves = read_list (exact_count 1 16) exact_resolve
+exact_resolves = read_list (exact_count 1 most_resolves) exact_resolve

@@ -1,5 +1,6 @@
 -- How types are read exactly, and signatures whatever reads types.
 use Rattle.std.specs.Prelude.{ℕ, zero, suc, Bool, true, false, List, [], ◌∷◌, Option, Some, None}
+use Rattle.ac_types.specs.Limits.{highest_type, most_items}
 use Rattle.ac_types.specs.Types.{Typ, TInt, TBool, TStr, TUnit, TExn, TTuple, TList, TOpt, TFun, TAbs, TMine, no_types, typ, is_small}
 use Rattle.ac_types.specs.Sigs.{Typed_name, Sig_type, Signature}
 use Rattle.ac_terms.specs.PacketReading.{ReadsPart, give, one, then_read, two_parts_read, times, read_list, tagged, nothing, a_sig_type, a_typed, a_signature}
@@ -23,7 +24,7 @@ exact_type_of own (suc k) bs = tagged (exact_type_table own (exact_type_of own k
 
 -- a small type
 unfoldable pub exact_type : Bool → ReadsPart Typ
-exact_type own = passing is_small (exact_type_of own 100)
+exact_type own = passing is_small (exact_type_of own highest_type)
 
 -- signatures, where `read_type` says whether own abstract types may stand in a type
 module _ (read_type : Bool → ReadsPart Typ) where
@@ -41,10 +42,10 @@ module _ (read_type : Bool → ReadsPart Typ) where
 
   -- the types of a struct or of a likespec, and the values of a signature
   unfoldable pub exact_all_typed : Bool → ReadsPart (List Typed_name)
-  exact_all_typed own = read_list (exact_long_count 0 1024) (exact_typed own)
+  exact_all_typed own = read_list (exact_long_count 0 most_items) (exact_typed own)
 
   unfoldable pub exact_sig_types : ReadsPart (List Sig_type)
-  exact_sig_types = read_list (exact_long_count 0 1024) exact_sig_type
+  exact_sig_types = read_list (exact_long_count 0 most_items) exact_sig_type
 
   unfoldable pub exact_sig : ReadsPart Signature
   exact_sig = two_parts_read a_signature exact_sig_types (exact_all_typed true)

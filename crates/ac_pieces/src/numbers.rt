@@ -8,6 +8,7 @@ ghost use Rattle.ac_pieces.specs.Readers.{ReadsAs};
 use crate::fault::Fault;
 use ac_bytes::Cursor;
 use ac_types::Name;
+use ac_types::limits::WIDEST_TUPLE;
 
 /// A byte.
 pub fn byte(cursor: &mut Cursor<'_>) -> Result<u8, Fault>
@@ -85,7 +86,7 @@ pub fn width(cursor: &mut Cursor<'_>) -> Result<u8, Fault>
 {
     let at = cursor.place();
     let n = byte(cursor)?;
-    if n < 2 || n > 16 {
+    if n < 2 || n > WIDEST_TUPLE {
         return Err(Fault::Misfit { at });
     }
     Ok(n)

@@ -13,6 +13,8 @@ use crate::numbers::{byte, long_count};
 use crate::texts::lower;
 use crate::types::Types;
 use ac_bytes::Cursor;
+use ac_terms::tags;
+use ac_types::limits::MOST_ITEMS;
 use ac_types::{Many, Sig, SigType, Ty, TyField};
 use std::alloc::Global;
 
@@ -43,8 +45,8 @@ fn manifest_behind<T: Types>(
         (slice_get (manifest_table (T.reads_type types.now)) tag)) cursor.new.left }
 {
     match tag {
-        0x00 => Ok(None),
-        0x01 => Ok(Some(types.read_type(alloc, cursor, true)?)),
+        tags::SIG_ABSTRACT => Ok(None),
+        tags::SIG_MANIFEST => Ok(Some(types.read_type(alloc, cursor, true)?)),
         _ => Err(Fault::Misfit { at }),
     }
 }
@@ -88,7 +90,7 @@ fn sig_types<T: Types>(
     ensures { ReadsAs (map sig_type_of) result
         (exact_sig_types (T.reads_type types.now) cursor.old.left) cursor.new.left }
 {
-    let n = long_count(cursor, 0, 1024)?;
+    let n = long_count(cursor, 0, MOST_ITEMS)?;
     some_sig_types(alloc, cursor, types, n)
 }
 
@@ -127,7 +129,7 @@ fn some_typed<T: Types>(
     Ok(items)
 }
 
-/// Names with their types, at most 1,024; `own` where own abstract types may stand in one.
+/// Names with their types, at most `MOST_ITEMS`; `own` where own abstract types may stand in one.
 #[tactic(auto, unfolding(crate::specs::ExactTypes::exact_all_typed))]
 pub fn all_typed<T: Types>(
     alloc: Global,
@@ -138,7 +140,7 @@ pub fn all_typed<T: Types>(
     ensures { ReadsAs (map typed_of) result
         (exact_all_typed (T.reads_type types.now) own cursor.old.left) cursor.new.left }
 {
-    let n = long_count(cursor, 0, 1024)?;
+    let n = long_count(cursor, 0, MOST_ITEMS)?;
     some_typed(alloc, cursor, types, own, n)
 }
 

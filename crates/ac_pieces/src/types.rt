@@ -13,6 +13,8 @@ use crate::fault::{Fault, joined};
 use crate::numbers::{byte, name, width};
 use crate::texts::lower;
 use ac_bytes::Cursor;
+use ac_terms::tags;
+use ac_types::limits::HIGHEST_TYPE;
 use ac_types::{Box, Many, Ty, small};
 use std::alloc::Global;
 
@@ -88,17 +90,17 @@ fn head(
         (slice_get (exact_type_table own f) tag)) }
 {
     match tag {
-        0x01 => Ok(TypeHead::Leaf(Ty::Int)),
-        0x02 => Ok(TypeHead::Leaf(Ty::Bool)),
-        0x03 => Ok(TypeHead::Leaf(Ty::Str)),
-        0x04 => Ok(TypeHead::Leaf(Ty::Unit)),
-        0x05 => Ok(TypeHead::Leaf(Ty::Exn)),
-        0x06 => Ok(TypeHead::Tuple(width(cursor)?)),
-        0x07 => Ok(TypeHead::List),
-        0x08 => Ok(TypeHead::Opt),
-        0x09 => Ok(TypeHead::Fun),
-        0x0A => Ok(TypeHead::Leaf(abstract_type(alloc, cursor)?)),
-        0x0B => {
+        tags::TYPE_INT => Ok(TypeHead::Leaf(Ty::Int)),
+        tags::TYPE_BOOL => Ok(TypeHead::Leaf(Ty::Bool)),
+        tags::TYPE_STR => Ok(TypeHead::Leaf(Ty::Str)),
+        tags::TYPE_UNIT => Ok(TypeHead::Leaf(Ty::Unit)),
+        tags::TYPE_EXN => Ok(TypeHead::Leaf(Ty::Exn)),
+        tags::TYPE_TUPLE => Ok(TypeHead::Tuple(width(cursor)?)),
+        tags::TYPE_LIST => Ok(TypeHead::List),
+        tags::TYPE_OPT => Ok(TypeHead::Opt),
+        tags::TYPE_FUN => Ok(TypeHead::Fun),
+        tags::TYPE_ABS => Ok(TypeHead::Leaf(abstract_type(alloc, cursor)?)),
+        tags::TYPE_MINE => {
             if !own {
                 return Err(Fault::Misfit { at });
             }
@@ -218,7 +220,7 @@ fn small_type(alloc: Global, cursor: &mut Cursor<'_>, own: bool) -> Result<Ty, F
     ensures { ReadsAs typ_of result (exact_type own cursor.old.left) cursor.new.left }
 {
     let at = cursor.place();
-    let ty = type_of(alloc, cursor, own, 100)?;
+    let ty = type_of(alloc, cursor, own, HIGHEST_TYPE)?;
     if !small(&ty) {
         return Err(Fault::Misfit { at });
     }

@@ -10,6 +10,8 @@ use crate::fault::Fault;
 use crate::numbers::{byte, count, four, name, truth};
 use crate::texts::text;
 use ac_bytes::Cursor;
+use ac_terms::tags;
+use ac_types::limits::{LONGEST_URI, MOST_RESOLVES, MOST_VERSION_ATOMS};
 use ac_types::{Atom, Constraint, Many, Range, Resolve, Version};
 use std::alloc::Global;
 
@@ -28,8 +30,8 @@ fn atom_behind(cursor: &mut Cursor<'_>, at: usize, tag: u8) -> Result<Atom, Faul
         (slice_get atom_table tag)) cursor.new.left }
 {
     match tag {
-        0x01 => Ok(Atom::Number(four(cursor)?)),
-        0x02 => Ok(Atom::MyName),
+        tags::ATOM_NUMBER => Ok(Atom::Number(four(cursor)?)),
+        tags::ATOM_MY_NAME => Ok(Atom::MyName),
         _ => Err(Fault::Misfit { at }),
     }
 }
@@ -47,13 +49,13 @@ fn atoms(alloc: Global, cursor: &mut Cursor<'_>, count: u8) -> Result<Many<Atom>
     Ok(items)
 }
 
-/// A version: 1 to 8 parts.
+/// A version: 1 to `MOST_VERSION_ATOMS` parts.
 #[tactic(auto, unfolding(crate::specs::ExactReading::exact_version))]
 pub fn version(alloc: Global, cursor: &mut Cursor<'_>) -> Result<Version, Fault>
     ensures { ReadsAs (λ v. map atom_of v.atoms) result (exact_version cursor.old.left)
         cursor.new.left }
 {
-    let n = count(cursor, 1, 8)?;
+    let n = count(cursor, 1, MOST_VERSION_ATOMS as u8)?;
     let atoms = atoms(alloc, cursor, n)?;
     Ok(Version { atoms })
 }
@@ -73,14 +75,14 @@ fn range_behind(cursor: &mut Cursor<'_>, at: usize, tag: u8) -> Result<Range, Fa
         (slice_get range_table tag)) cursor.new.left }
 {
     match tag {
-        0x01 => Ok(Range::One(four(cursor)?)),
-        0x02 => {
+        tags::RANGE_ONE => Ok(Range::One(four(cursor)?)),
+        tags::RANGE_BETWEEN => {
             let least = four(cursor)?;
             let most = four(cursor)?;
             Ok(Range::Between(least, most))
         }
-        0x03 => Ok(Range::UpTo(four(cursor)?)),
-        0x04 => Ok(Range::From(four(cursor)?)),
+        tags::RANGE_UP_TO => Ok(Range::UpTo(four(cursor)?)),
+        tags::RANGE_FROM => Ok(Range::From(four(cursor)?)),
         _ => Err(Fault::Misfit { at }),
     }
 }
@@ -105,7 +107,7 @@ fn ranges(alloc: Global, cursor: &mut Cursor<'_>) -> Result<(Many<Range>, bool),
         cursor.new.left }
 {
     let at = cursor.place();
-    let n = count(cursor, 0, 8)?;
+    let n = count(cursor, 0, MOST_VERSION_ATOMS as u8)?;
     let atoms = all_ranges(alloc, cursor, n)?;
     let star = truth(cursor)?;
     if !star && atoms.len() < 1 {
@@ -134,11 +136,11 @@ fn constraint_behind(
         (slice_get constraint_table tag)) cursor.new.left }
 {
     match tag {
-        0x01 => {
+        tags::CONSTRAINT_RANGES => {
             let (atoms, star) = ranges(alloc, cursor)?;
             Ok(Constraint::Ranges { atoms, star })
         }
-        0x02 => Ok(Constraint::Exact(name(cursor)?)),
+        tags::CONSTRAINT_EXACT => Ok(Constraint::Exact(name(cursor)?)),
         _ => Err(Fault::Misfit { at }),
     }
 }
@@ -163,9 +165,9 @@ fn resolve_behind(
         (slice_get resolve_table tag)) cursor.new.left }
 {
     match tag {
-        0x01 => Ok(Resolve::StaticLink),
-        0x02 => Ok(Resolve::HereAlready),
-        0x03 => Ok(Resolve::Uri(text(alloc, cursor, 1024)?)),
+        tags::RESOLVE_STATIC_LINK => Ok(Resolve::StaticLink),
+        tags::RESOLVE_HERE_ALREADY => Ok(Resolve::HereAlready),
+        tags::RESOLVE_URI => Ok(Resolve::Uri(text(alloc, cursor, LONGEST_URI)?)),
         _ => Err(Fault::Misfit { at }),
     }
 }
@@ -183,11 +185,11 @@ fn places(alloc: Global, cursor: &mut Cursor<'_>, count: u8) -> Result<Many<Reso
     Ok(items)
 }
 
-/// A resolvespec: 1 to 16 places.
+/// A resolvespec: 1 to `MOST_RESOLVES` places.
 #[tactic(auto, unfolding(crate::specs::ExactReading::exact_resolves))]
 pub fn resolves(alloc: Global, cursor: &mut Cursor<'_>) -> Result<Many<Resolve>, Fault>
     ensures { ReadsAs (map resolve_of) result (exact_resolves cursor.old.left) cursor.new.left }
 {
-    let n = count(cursor, 1, 16)?;
+    let n = count(cursor, 1, MOST_RESOLVES)?;
     places(alloc, cursor, n)
 }

@@ -21,8 +21,8 @@ impl Pile {
             }
             "pabsent" => Pat::Absent,
             "ppresent" => Pat::Present(boxed(self.alloc, &mut self.pats)?),
-            "pexn" => Pat::Exn(self.small(), None),
-            "pexnof" => Pat::Exn(self.small(), Some(boxed(self.alloc, &mut self.pats)?)),
+            "pexn" => Pat::Exn(self.bare_exn()?),
+            "pexnof" => Pat::ExnOf(self.text_exn()?, boxed(self.alloc, &mut self.pats)?),
             _ => return None,
         })
     }

@@ -1,7 +1,7 @@
 // The parts that were read, from the end of a line on: of each kind the leftmost on top.
 
 use ac_terms::{Arm, PVal, Pat, Term};
-use ac_types::{Box, Many, Name, Text, Ty, Word};
+use ac_types::{BareExn, Box, ExnKind, Many, Name, Primitive, Text, TextExn, Ty, Word};
 use std::alloc::Global;
 
 /// What is still to be taken by a form to the left. Where a number, a type or a string that a form
@@ -93,6 +93,27 @@ impl Pile {
                 0
             }
         }
+    }
+
+    /// The exception without a text of the top number; `None` where there is none.
+    pub fn bare_exn(&mut self) -> Option<BareExn> {
+        match ExnKind::from_number(self.small())? {
+            ExnKind::Bare(exn) => Some(exn),
+            ExnKind::Text(_) => None,
+        }
+    }
+
+    /// The exception with a text of the top number; `None` where there is none.
+    pub fn text_exn(&mut self) -> Option<TextExn> {
+        match ExnKind::from_number(self.small())? {
+            ExnKind::Bare(_) => None,
+            ExnKind::Text(exn) => Some(exn),
+        }
+    }
+
+    /// The primitive of the top number; `None` where there is none.
+    pub fn primitive(&mut self) -> Option<Primitive> {
+        Primitive::from_number(self.small())
     }
 
     /// The top number, in two bytes.

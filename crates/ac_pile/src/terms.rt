@@ -35,8 +35,8 @@ impl Pile {
             "Bool" => Term::Bool(self.truth()),
             "Str" => Term::Str(self.string()),
             "Unit" => Term::Unit,
-            "Exn" => Term::ExnVal(self.small(), None),
-            "ExnOf" => Term::ExnVal(self.small(), Some(self.boxed_term()?)),
+            "Exn" => Term::ExnVal(self.bare_exn()?),
+            "ExnOf" => Term::ExnOf(self.text_exn()?, self.boxed_term()?),
             "Tuple" => Term::Tuple(self.parts()?),
             "Nil" => Term::Nil(self.top_type()),
             "Empty" => Term::Empty(self.top_type()),
@@ -45,7 +45,7 @@ impl Pile {
             "Own" => Term::Own(self.short()),
             "Ref" => Term::Ref(self.long(), self.words.pop()?),
             "Seq" => Term::Seq(self.parts()?),
-            "Prim" => Term::Prim(self.small(), self.parts()?),
+            "Prim" => Term::Prim(self.primitive()?, self.parts()?),
             _ => return self.joined(form),
         })
     }

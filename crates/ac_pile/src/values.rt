@@ -1,7 +1,8 @@
 // Packed values.
 
 use crate::pile::{Pile, boxed, several};
-use ac_terms::{Exn, Home, PVal};
+use ac_terms::{Home, PVal};
+use ac_types::Exn;
 
 impl Pile {
     /// The packed value of that form, whose parts are on top.
@@ -11,14 +12,8 @@ impl Pile {
             "vbool" => PVal::Bool(self.truth()),
             "vstr" => PVal::Str(self.string()),
             "vunit" => PVal::Unit,
-            "vexn" => PVal::Exn(Exn {
-                number: self.small(),
-                text: None,
-            }),
-            "vexnof" => PVal::Exn(Exn {
-                number: self.small(),
-                text: Some(self.string()),
-            }),
+            "vexn" => PVal::Exn(Exn::Bare(self.bare_exn()?)),
+            "vexnof" => PVal::Exn(Exn::Text(self.text_exn()?, self.string())),
             "vtuple" => PVal::Tuple(several(self.alloc, self.long(), &mut self.values)?),
             "vlist" => PVal::List(several(self.alloc, self.long(), &mut self.values)?),
             "vabsent" => PVal::Absent,

@@ -52,9 +52,9 @@ fn put_link(out: &mut Out, link: Option<u32>) -> Result<(), Memory>
     ensures { OnOk result (out.new ≡ out.old ++ link_bytes link) }
 {
     match link {
-        None => out.put_u8(0x00),
+        None => out.put_u8(0),
         Some(j) => {
-            out.put_u8(0x01)?;
+            out.put_u8(1)?;
             out.put_u32(j)
         }
     }

@@ -1,7 +1,7 @@
 -- Coherent environments: what holds of every environment that a program has.
 use Rattle.std.specs.Prelude.{◌≡◌, ℕ, ◌<◌, ◌≤◌, ◌&&◌, Bool, true, nat_le, List, [], ◌∷◌, length, filter_map, Option, Some, None, option_and_then, slice_get, IsTrue}
 use Rattle.ac_types.specs.Types.{Bytes}
-use Rattle.ac_types.specs.Limits.{is_uri}
+use Rattle.ac_types.specs.Limits.{is_uri, most_entries}
 use Rattle.ac_terms.specs.Defs.{Environment, Entry, Def, AModule, AnImport, AMark, Seen, Own', Shelf, Arrived, def_of, name_at}
 use Rattle.ac_terms.specs.Names.{text_of_entry, name_of_entry}
 use Rattle.ac_terms.specs.Bounds.{fits_def}
@@ -45,8 +45,8 @@ IsAModule (AnImport i) = ⊥
 IsAModule (AMark t) = ⊥
 
 pub record IsCoherent (E : Environment) : Type 0 where
-  -- there are at most 65,535 entries: those of the shelf, own ones, arrived ones
-  pub few : length E ≤ 65535
+  -- there are at most so many entries: those of the shelf, own ones, arrived ones
+  pub few : length E ≤ most_entries
   pub in_order : IsTrue (rises 0 E)
   -- shelf entries are modules of distinct URIs
   pub from_shelf : (i : ℕ) (e : Entry) (u : Bytes) → slice_get E i ≡ Some e → e.seen ≡ Shelf u → IsTrue (is_uri u) × IsAModule e.def

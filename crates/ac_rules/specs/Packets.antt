@@ -3,6 +3,7 @@ use Rattle.std.specs.Prelude.{◌≡◌, ℕ, suc, ◌&&◌, not, Bool, true, fa
 use Rattle.std.specs.List.{list_all, list_any}
 use Rattle.std.specs.Option.{option_map_or}
 use Rattle.sha2.specs.Sha256.{sha256}
+use Rattle.ac_types.specs.Limits.{most_entries}
 use Rattle.ac_types.specs.Types.{Bytes, Typ, mentions, same, same_bytes}
 use Rattle.ac_terms.specs.Terms.{PValue}
 use Rattle.ac_terms.specs.Defs.{Environment, Entry, Import, Def, AModule, AnImport, AMark, Arrived, Packet}
@@ -147,7 +148,7 @@ module _ (digest : Bytes → Bytes) where
 
   -- 3: more entries than there may be
   abbrev pub too_many : Environment → List Def → Option PacketCause
-  too_many E ds = given (nat_lt 65535 (length (places E ds).0)) (Some (Full (length (places E ds).0)))
+  too_many E ds = given (nat_lt most_entries (length (places E ds).0)) (Some (Full (length (places E ds).0)))
 
   -- 4: the first import without a link
   abbrev pub is_resolved : Environment → Def → Bool

@@ -1,13 +1,13 @@
 -- The machine gets what crosses, or the exception of why nothing does.
 use Rattle.std.proofs.Common.{◌≡◌, inr, ℕ, Bool, false, [], Option, Some, None, IsTrue, refl, sym, ap, ◌∙◌, subst, subst₂}
-use Rattle.std.specs.Prelude.{option_map, Err, OnOk, OnErr}
+use Rattle.std.specs.Prelude.{Err, OnOk, OnErr}
 use Rattle.std.specs.declared.result.Result.{Result}
+use Rattle.ac_types.specs.ReadNumbers.{exn_number, exn_text}
 use Rattle.ac_types.specs.declared.memory.Memory.{Memory}
 use Rattle.ac_types.specs.Types.{Bytes}
 use Rattle.ac_terms.specs.Terms.{PValue}
-use Rattle.ac_terms.specs.Read.{bytes_of}
 use Rattle.ac_terms.specs.Defs.{Environment}
-use Rattle.ac_terms.specs.declared.term.Exn.{Exn}
+use Rattle.ac_types.specs.declared.exceptions.Exn.{Exn}
 use Rattle.ac_code.specs.Code.{Code}
 use Rattle.ac_generate.specs.Generated.{value_generated, value_number}
 use Rattle.ac_machine.specs.States.{Core, MState}
@@ -56,7 +56,7 @@ module _ (told : Bool) (m n : MachineSeen) (now : Streams) (r : Option RunEnd) w
 
   -- a fault raises its exception, or is want of memory
   abbrev FaultAnswered : CrossFault → Type 0
-  FaultAnswered f = ((e : Exn) → f ≡ fault.Raise e → Answered (with_raise e.number (option_map bytes_of e.text))) × (f ≡ fault.Memory → r ≡ Some end.Memory)
+  FaultAnswered f = ((e : Exn) → f ≡ fault.Raise e → Answered (with_raise (exn_number e) (exn_text e))) × (f ≡ fault.Memory → r ≡ Some end.Memory)
 
   -- the string of a value is the answer
   pub string_answers : (q : Marshalled) (s : Bytes) → answer q ≡ Packs s → Answered (resumed_text s) → (u : Bytes) → q ≡ AString u → Answered (resumed_text u)

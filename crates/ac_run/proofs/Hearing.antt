@@ -1,13 +1,13 @@
 -- What comes to a session that reads.
 use Rattle.std.proofs.Common.{◌≡◌, ◌≤◌, ℕ, Bool, true, false, [], ◌++◌, length, drop, IsTrue, Option, Some, None, refl, sym, ap, ◌∙◌, subst}
-use Rattle.std.specs.Prelude.{option_map, Ok, Err, IfOk, IsErr, OnOk, OnErr}
+use Rattle.std.specs.Prelude.{Ok, Err, IfOk, IsErr, OnOk, OnErr}
 use Rattle.std.specs.declared.result.Result.{Result}
+use Rattle.ac_types.specs.ReadNumbers.{exn_number, exn_text}
 use Rattle.ac_types.specs.declared.memory.Memory.{Memory}
 use Rattle.ac_types.specs.Limits.{longest_frame}
 use Rattle.ac_types.specs.Types.{Bytes}
 use Rattle.ac_types.specs.declared.text.Text.{Text}
-use Rattle.ac_terms.specs.Read.{bytes_of}
-use Rattle.ac_terms.specs.declared.term.Exn.{Exn}
+use Rattle.ac_types.specs.declared.exceptions.Exn.{Exn}
 use Rattle.ac_outside.specs.Frames.{Frame, Whole, Bad, AtEnd, frame_of, next_frame}
 use Rattle.ac_outside.specs.FrameReaders.{IsBad}
 use Rattle.ac_outside.proofs.FrameLaws.{frame_back}
@@ -77,8 +77,8 @@ module _ (told : Bool) (m n : MachineSeen) (inbox : Inbox) (rest input : Bytes) 
   gets_frame s left e l (Err v) r got ok err = subst (Received told inbox rest input m n) (sym err) tt
 
   -- an exception is the answer, or memory ran out
-  gets_raised : (f : Frame) (s : Streams) → next_frame input ≡ f → (e : Exn) (r : Option RunEnd) → Served false (with_raise e.number (option_map bytes_of e.text)) [] m n s s r → (r ≡ Some end.WriteFault → ⊥)
-      → (Served false (with_raise e.number (option_map bytes_of e.text)) [] m n s s None → HasGotFrame told inbox rest input m n f) → Received told inbox rest input m n r
+  gets_raised : (f : Frame) (s : Streams) → next_frame input ≡ f → (e : Exn) (r : Option RunEnd) → Served false (with_raise (exn_number e) (exn_text e)) [] m n s s r → (r ≡ Some end.WriteFault → ⊥)
+      → (Served false (with_raise (exn_number e) (exn_text e)) [] m n s s None → HasGotFrame told inbox rest input m n f) → Received told inbox rest input m n r
   gets_raised f s is e None got never has = subst (HasGotFrame told inbox rest input m n) (sym is) (has got)
   gets_raised f s is e (Some end.Memory) got never has = tt
   gets_raised f s is e (Some end.WriteFault) got never has = absurd (never refl)
@@ -87,9 +87,9 @@ module _ (told : Bool) (m n : MachineSeen) (inbox : Inbox) (rest input : Bytes) 
   gets_raised f s is e (Some (end.Uncaught x)) got never has = absurd got
   gets_raised f s is e (Some (end.Spent k)) got never has = absurd got
 
-  pub gets_end : (s : Streams) → next_frame input ≡ AtEnd → IsLeft told inbox rest input → (e : Exn) → exn_of e ≡ end_of_file_exn → (r : Option RunEnd) → Served false (with_raise e.number (option_map bytes_of e.text)) [] m n s s r → (r ≡ Some end.WriteFault → ⊥) → Received told inbox rest input m n r
+  pub gets_end : (s : Streams) → next_frame input ≡ AtEnd → IsLeft told inbox rest input → (e : Exn) → exn_of e ≡ end_of_file_exn → (r : Option RunEnd) → Served false (with_raise (exn_number e) (exn_text e)) [] m n s s r → (r ≡ Some end.WriteFault → ⊥) → Received told inbox rest input m n r
   gets_end s is l e exn r got never = gets_raised AtEnd s is e r got never (λ g. ((subst (λ x. Served false (with_raise x.number x.text) [] m n s s None) exn g).0, l))
 
-  pub gets_bad : (s : Streams) (k j : ℕ) → next_frame input ≡ Bad k j → IsLeft told inbox rest input → (x : Result Exn Memory) → IfOk x (λ e. exn_of e ≡ bad_frame) → (r : Option RunEnd) → ((e : Exn) → x ≡ Ok e → Served false (with_raise e.number (option_map bytes_of e.text)) [] m n s s r) → (IsErr x → r ≡ Some end.Memory) → (r ≡ Some end.WriteFault → ⊥) → Received told inbox rest input m n r
+  pub gets_bad : (s : Streams) (k j : ℕ) → next_frame input ≡ Bad k j → IsLeft told inbox rest input → (x : Result Exn Memory) → IfOk x (λ e. exn_of e ≡ bad_frame) → (r : Option RunEnd) → ((e : Exn) → x ≡ Ok e → Served false (with_raise (exn_number e) (exn_text e)) [] m n s s r) → (IsErr x → r ≡ Some end.Memory) → (r ≡ Some end.WriteFault → ⊥) → Received told inbox rest input m n r
   gets_bad s k j is l (Ok e) exn r got fault never = gets_raised (Bad k j) s is e r (got e refl) never (λ g. ((subst (λ x. Served false (with_raise x.number x.text) [] m n s s None) exn g).0, l))
   gets_bad s k j is l (Err v) exn r got fault never = subst (Received told inbox rest input m n) (sym (fault refl)) tt

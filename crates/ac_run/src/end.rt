@@ -2,8 +2,7 @@
 
 ghost use Rattle.std.specs.Prelude.{◌≡◌, IfOk};
 
-use ac_terms::Exn;
-use ac_types::Memory;
+use ac_types::{Exn, Memory};
 use std::alloc::Global;
 
 /// How a run ends.

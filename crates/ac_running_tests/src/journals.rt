@@ -3,8 +3,7 @@
 use crate::make::{program, text};
 use ac_outside::SureWorld;
 use ac_run::{Crossing, RunEnd, Session};
-use ac_types::exceptions::UNMARSHAL_FAILURE;
-use ac_types::{Many, Text};
+use ac_types::{Exn, Many, Text, TextExn};
 use std::alloc::Global;
 use std::process::Abort;
 
@@ -22,10 +21,10 @@ fn read(crossing: &Crossing) -> Option<&[u8]> {
 fn check_refused(rt: &impl Abort, alloc: Global, session: &mut Session) {
     let mut world = SureWorld::new(alloc, Text::new(alloc));
     let end = session.run(&mut world);
-    let refused = match &end {
-        RunEnd::Uncaught(exn) => exn.number == UNMARSHAL_FAILURE,
-        _ => false,
-    };
+    let refused = matches!(
+        &end,
+        RunEnd::Uncaught(Exn::Text(TextExn::UnmarshalFailure, _))
+    );
     drop(end);
     assert!(rt; refused);
 }

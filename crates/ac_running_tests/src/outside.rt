@@ -2,9 +2,10 @@
 
 use crate::make::{numbers, one_file, text};
 use ac_outside::{
-    Files, Got, MemoryFiles, MemorySink, MemorySource, MemoryWorld, Put, RealFiles, RealSource,
-    Sink, Source, SureSink, SureSource, SureWorld, World,
+    Files, Got, MemoryFiles, MemorySink, MemorySource, MemoryWorld, Put, Sink, Source, SureSink,
+    SureSource, SureWorld, World,
 };
+use ac_outside_system::{RealFiles, RealSource};
 use std::fs;
 use std::os::unix::fs::symlink;
 use std::process::Abort;

@@ -1,5 +1,6 @@
 -- The search for counts that pass their limits. What is found is one more than the limit.
 use Rattle.std.specs.Prelude.{ℕ, suc, nat_le, if◌then◌else◌, List, [], length, Option, Some, None, unwrap_or}
+use Rattle.ac_types.specs.Limits.{most_items, most_arms, widest_tuple, most_variables, most_resolves, longest_uri, most_type_parts, highest_type}
 use Rattle.ac_types.specs.Types.{parts, height}
 use Rattle.ac_types.specs.Sigs.{Resolve, StaticLink, HereAlready, Uri}
 use Rattle.ac_syntax.specs.Trees.{TypeTree, TyInt, TyBool, TyStr, TyUnit, TyExn, TyLocal, TyOf, TyTuple, TyList, TyOpt, TyFun, TypeTrees, no_type_trees, type_tree, PatTree, PatWild, PatVar, PatInt, PatBool, PatStr, PatUnit, PatTuple, PatNil, PatCons, PatAbsent, PatPresent, PatExn, PatExnOf, PatTrees, no_pat_trees, pat_tree, SigTree, FieldTree, DefTree, ModuleDef, ImportDef, MarkDef}
@@ -12,40 +13,6 @@ use Rattle.ac_scopes.specs.Searches.{Search, least, least_of, found_in_def}
 abbrev pub over : ℕ → ℕ → Option ℕ
 over limit count = if nat_le count limit then None else Some (suc limit)
 
--- the definitions of a program
-abbrev pub definitions_limit : ℕ
-definitions_limit = 4096
-
--- the types, and the values, of a signature, a struct or a likespec
-abbrev pub items_limit : ℕ
-items_limit = 1024
-
--- the arms of a match or try
-abbrev pub arms_limit : ℕ
-arms_limit = 1024
-
--- the parts of a tuple, of its type and of its pattern
-abbrev pub width_limit : ℕ
-width_limit = 16
-
--- the variables in scope at one place
-abbrev pub scope_limit : ℕ
-scope_limit = 65535
-
--- the atoms of a resolvespec, and the bytes of a URI in it
-abbrev pub atoms_limit : ℕ
-atoms_limit = 16
-
-abbrev pub uri_limit : ℕ
-uri_limit = 1024
-
--- the parts of a type written out, and its height
-abbrev pub parts_limit : ℕ
-parts_limit = 4096
-
-abbrev pub height_limit : ℕ
-height_limit = 100
-
 abbrev pub type_count : TypeTrees → ℕ
 type_count no_type_trees = 0
 type_count (type_tree t ts) = suc (type_count ts)
@@ -57,7 +24,7 @@ pat_count (pat_tree p ps) = suc (pat_count ps)
 -- the tuples of a type as it stands
 abbrev mutual
   pub wide_type : TypeTree → Option ℕ
-  wide_type (TyTuple at parts) = least (over width_limit (type_count parts)) (wide_types parts)
+  wide_type (TyTuple at parts) = least (over widest_tuple (type_count parts)) (wide_types parts)
   wide_type (TyList at item) = wide_type item
   wide_type (TyOpt at item) = wide_type item
   wide_type (TyFun at from to) = least (wide_type from) (wide_type to)
@@ -75,12 +42,12 @@ abbrev mutual
 
 -- a type where it is written: its tuples, and its height and its parts once it is written out
 abbrev pub large_type : NameScope → TypeTree → Option ℕ
-large_type S t = least (wide_type t) (least (over height_limit (height (type_in S t))) (over parts_limit (parts (type_in S t))))
+large_type S t = least (wide_type t) (least (over highest_type (height (type_in S t))) (over most_type_parts (parts (type_in S t))))
 
 abbrev mutual
   pub large_pattern : NameScope → PatTree → Option ℕ
   large_pattern S (PatVar at name ty) = large_type S ty
-  large_pattern S (PatTuple at parts) = least (over width_limit (pat_count parts)) (large_patterns S parts)
+  large_pattern S (PatTuple at parts) = least (over widest_tuple (pat_count parts)) (large_patterns S parts)
   large_pattern S (PatCons at head tail) = least (large_pattern S head) (large_pattern S tail)
   large_pattern S (PatPresent at item) = large_pattern S item
   large_pattern S (PatExnOf at number item) = large_pattern S item
@@ -99,7 +66,7 @@ abbrev mutual
 
 -- at the leaves of an expression the most variables are in scope
 abbrev pub crowded : NameScope → Option ℕ
-crowded S = over scope_limit (length S.variables)
+crowded S = over most_variables (length S.variables)
 
 abbrev pub large : Search
 large = record {
@@ -108,13 +75,13 @@ large = record {
   variable = λ S at x. crowded S;
   dotted = λ S m x. crowded S;
   constant = crowded;
-  parts = over width_limit;
-  arms = over arms_limit;
+  parts = over widest_tuple;
+  arms = over most_arms;
 }
 
 -- the types and the values of a signature and of a struct, the types of a likespec, and a resolvespec
 abbrev pub many_items : {A B : Type 0} → List A → List B → Option ℕ
-many_items types values = least (over items_limit (length types)) (over items_limit (length values))
+many_items types values = least (over most_items (length types)) (over most_items (length values))
 
 abbrev pub many_in_sig : NameScope → SigTree → Option ℕ
 many_in_sig S σ = many_items (each_in after_spec spec_type S σ.specs) (each_in after_spec spec_value S σ.specs)
@@ -123,16 +90,16 @@ abbrev pub many_in_struct : NameScope → List FieldTree → Option ℕ
 many_in_struct S fields = many_items (each_in after_field item_type S fields) (each_in after_field item_field S fields)
 
 abbrev pub long_uri : Resolve → Option ℕ
-long_uri (Uri u) = over uri_limit (length u)
+long_uri (Uri u) = over longest_uri (length u)
 long_uri StaticLink = None
 long_uri HereAlready = None
 
 abbrev pub many_atoms : List Resolve → Option ℕ
-many_atoms by = least (over atoms_limit (length by)) (least_of long_uri by)
+many_atoms by = least (over most_resolves (length by)) (least_of long_uri by)
 
 abbrev pub many_in_lists : NameScope → DefTree → Option ℕ
 many_in_lists S (ModuleDef at name σ version fields) = least (many_in_sig S σ) (many_in_struct S fields)
-many_in_lists S (ImportDef at name σ wants like by) = least (many_in_sig S σ) (least (over items_limit (length (unwrap_or like []))) (many_atoms by))
+many_in_lists S (ImportDef at name σ wants like by) = least (many_in_sig S σ) (least (over most_items (length (unwrap_or like []))) (many_atoms by))
 many_in_lists S (MarkDef at text_at text) = None
 
 abbrev pub large_in_def : NameScope → DefTree → Option ℕ

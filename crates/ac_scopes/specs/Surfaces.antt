@@ -1,6 +1,7 @@
 -- What a surface, a program or a module by itself, elaborates to behind the entries in front of it, and why it is refused.
 use Rattle.std.specs.Prelude.{◌≡◌, ℕ, [], ◌∷◌, length, Option, Some, None, option_map, option_and_then}
 use Rattle.std.specs.Option.{option_map_or}
+use Rattle.ac_types.specs.Limits.{most_definitions}
 use Rattle.ac_types.specs.First.{first_some}
 use Rattle.ac_types.specs.Types.{Bytes}
 use Rattle.ac_terms.specs.Terms.{Expr, Unit'}
@@ -12,7 +13,7 @@ use Rattle.ac_scopes.specs.Definitions.{after_def}
 use Rattle.ac_scopes.specs.Searches.{least, least_in, found}
 use Rattle.ac_scopes.specs.Unbound.{unbound, unbound_in_def}
 use Rattle.ac_scopes.specs.Repeated.{repeated, repeated_in_def, twice, mark_name}
-use Rattle.ac_scopes.specs.Counts.{definitions_limit, over, large, large_in_def}
+use Rattle.ac_scopes.specs.Counts.{over, large, large_in_def}
 
 -- the scope at the front of a surface: a module by itself sees the entries in front of it by their external names, a program doesn't
 abbrev pub first_scope : Environment → Option Tree → NameScope
@@ -49,7 +50,7 @@ module _ (digest : Bytes → Bytes) (E : Environment) (p : ProgramTree) where
   -- one more than the least limit that a count passes
   abbrev pub least_passed : Option ℕ
   least_passed =
-      least (over definitions_limit (length p.defs))
+      least (over most_definitions (length p.defs))
       (least (least_in (after_def digest) large_in_def (first_scope E p.expr) p.defs) (option_and_then (found large last_scope) p.expr))
 
   -- the first of these that applies

@@ -9,7 +9,6 @@ use crate::patterns::{put_pattern, put_truth};
 use crate::types::put_type;
 use ac_code::Instr;
 use ac_literals::{put_integer, put_literal, put_number};
-use ac_types::primitives::primitive_name;
 use ac_types::{Memory, Text};
 use std::alloc::Global;
 
@@ -33,7 +32,7 @@ pub fn put_instr(alloc: Global, text: &mut Text, instr: &Instr) -> Result<(), Me
         Instr::PushUnit => text.extend(b"PushUnit"),
         Instr::PushNil => text.extend(b"PushNil"),
         Instr::PushNone => text.extend(b"PushNone"),
-        Instr::MakeExn(number) => put_numbered(alloc, text, b"MakeExn ", u64::from(*number)),
+        Instr::MakeExn(kind) => put_numbered(alloc, text, b"MakeExn ", u64::from(kind.number())),
         Instr::MakeSome => text.extend(b"MakeSome"),
         Instr::MakeCons => text.extend(b"MakeCons"),
         Instr::MakeTuple(parts) => put_numbered(alloc, text, b"MakeTuple ", *parts as u64),
@@ -61,9 +60,9 @@ pub fn put_instr(alloc: Global, text: &mut Text, instr: &Instr) -> Result<(), Me
             put_numbered(alloc, text, b" ", *to as u64)
         }
         Instr::NoMatch => text.extend(b"NoMatch"),
-        Instr::Prim(number) => {
+        Instr::Prim(primitive) => {
             text.extend(b"Prim ")?;
-            text.extend(primitive_name(*number))
+            text.extend(primitive.name())
         }
         Instr::Try(to) => put_numbered(alloc, text, b"Try ", *to as u64),
         Instr::EndTry => text.extend(b"EndTry"),

@@ -8,7 +8,6 @@ ghost use Rattle.ac_shown.specs.Listing.{pattern_shown, patterns_shown, truth_wo
 use crate::types::put_type;
 use ac_literals::{put_integer, put_literal};
 use ac_terms::Pat;
-use ac_types::exceptions::exception_name;
 use ac_types::{Memory, Text};
 use std::alloc::Global;
 
@@ -48,16 +47,14 @@ pub fn put_pattern(alloc: Global, text: &mut Text, pat: &Pat) -> Result<(), Memo
             put_pattern(alloc, text, item)?;
             text.extend(b")")
         }
-        Pat::Exn(number, argument) => match argument {
-            None => text.extend(exception_name(*number)),
-            Some(argument) => {
-                text.extend(b"(")?;
-                text.extend(exception_name(*number))?;
-                text.extend(b" ")?;
-                put_pattern(alloc, text, argument)?;
-                text.extend(b")")
-            }
-        },
+        Pat::Exn(exn) => text.extend(exn.name()),
+        Pat::ExnOf(exn, argument) => {
+            text.extend(b"(")?;
+            text.extend(exn.name())?;
+            text.extend(b" ")?;
+            put_pattern(alloc, text, argument)?;
+            text.extend(b")")
+        }
     }
 }
 

@@ -2,6 +2,7 @@
 use Rattle.std.proofs.Common.{◌≡◌, ◌∙◌, ap, refl, suc, ℕ, Bool, true, false, List, [], ◌∷◌, length, Option, Some, None}
 use Rattle.std.specs.Prelude.{is_some, ◌||◌, flat_map, option_map, if◌then◌else◌}
 use Rattle.std.specs.List.{list_any}
+use Rattle.ac_types.specs.Limits.{most_items}
 use Rattle.ac_types.specs.Types.{Bytes, Typ, TMine, same_bytes}
 use Rattle.ac_types.specs.Sigs.{named_type, type_under}
 use Rattle.ac_syntax.specs.Trees.{NameAt, AbbrevTree, SpecTree, AbstractSpec, ManifestSpec, ValSpec, SigTree}
@@ -12,7 +13,7 @@ use Rattle.ac_scopes.specs.Definitions.{after_abbrev, after_spec, spec_type, spe
 use Rattle.ac_scopes.specs.Searches.{least, least_in, found_in_spec}
 use Rattle.ac_scopes.specs.Unbound.{unbound}
 use Rattle.ac_scopes.specs.Repeated.{repeated, spec_type_name, spec_value_name}
-use Rattle.ac_scopes.specs.Counts.{over, items_limit, many_in_sig, large}
+use Rattle.ac_scopes.specs.Counts.{over, many_in_sig, large}
 use Rattle.ac_signatures.specs.declared.size.Size.{Size}
 use Rattle.ac_signatures.specs.declared.types.Measured.{Measured}
 use Rattle.ac_signatures.specs.KnownScopes.{KnownScope, size_of, size_of_leaf}
@@ -126,8 +127,8 @@ value_names-length S (AbstractSpec name ∷ xs) = value_names-length (after_spec
 value_names-length S (ManifestSpec a ∷ xs) = value_names-length (after_spec S (ManifestSpec a)) xs
 value_names-length S (ValSpec name ty ∷ xs) = ap suc (value_names-length S xs)
 
-pub over_both : (a b c d : ℕ) → a ≡ c → b ≡ d → least (over items_limit a) (over items_limit b) ≡ least (over items_limit c) (over items_limit d)
-over_both a b c d p q = ap (λ n. least (over items_limit n) (over items_limit b)) p ∙ ap (λ n. least (over items_limit c) (over items_limit n)) q
+pub over_both : (a b c d : ℕ) → a ≡ c → b ≡ d → least (over most_items a) (over most_items b) ≡ least (over most_items c) (over most_items d)
+over_both a b c d p q = ap (λ n. least (over most_items n) (over most_items b)) p ∙ ap (λ n. least (over most_items c) (over most_items n)) q
 
-pub sig_counts : (S : NameScope) (σ : SigTree) → least (over items_limit (length (flat_map spec_type_name σ.specs))) (over items_limit (length (flat_map spec_value_name σ.specs))) ≡ many_in_sig S σ
+pub sig_counts : (S : NameScope) (σ : SigTree) → least (over most_items (length (flat_map spec_type_name σ.specs))) (over most_items (length (flat_map spec_value_name σ.specs))) ≡ many_in_sig S σ
 sig_counts S σ = over_both _ _ _ _ (type_names-length S σ.specs) (value_names-length S σ.specs)

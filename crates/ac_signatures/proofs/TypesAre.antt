@@ -1,13 +1,14 @@
 -- What is wrong with types by what is known is what is wrong with them in the scope.
 use Rattle.std.proofs.Common.{◌≡◌, ◌∙◌, ap, refl, sym, arith, ℕ, ◌+◌, min, max, Bool, true, false, Option, Some, None}
 use Rattle.std.specs.Prelude.{is_some, option_map, unwrap_or}
+use Rattle.ac_types.specs.Limits.{widest_tuple}
 use Rattle.ac_types.specs.Types.{Typ, TUnit, parts, height, parts_of_all, height_of_all}
 use Rattle.ac_syntax.specs.Trees.{NameAt, TypeTree, TyInt, TyBool, TyStr, TyUnit, TyExn, TyLocal, TyOf, TyTuple, TyList, TyOpt, TyFun, TypeTrees, no_type_trees, type_tree}
 use Rattle.ac_scopes.specs.Scopes.{NameScope, plain_type, before_dot, dotted_type}
 use Rattle.ac_scopes.specs.Written.{type_in, types_in}
 use Rattle.ac_scopes.specs.Searches.{least}
 use Rattle.ac_scopes.specs.Unbound.{unless, unbound_behind, unbound_type, unbound_types}
-use Rattle.ac_scopes.specs.Counts.{over, width_limit, wide_type, wide_types, large_type, type_count}
+use Rattle.ac_scopes.specs.Counts.{over, wide_type, wide_types, large_type, type_count}
 use Rattle.ac_signatures.specs.declared.flaws.Flaws.{Flaws}
 use Rattle.ac_signatures.specs.declared.size.Size.{Size}
 use Rattle.ac_signatures.specs.declared.types.Measured.{Measured}
@@ -66,7 +67,7 @@ module _ (K : KnownScope) (S : NameScope) (k : Knows K S) where
         ∙ ap (λ o. leaf_of (unbound_behind (is_some (before_dot S m.word)) o m t) o) (dotted_size-is K S k m.word t.word)
         ∙ dotted-is (is_some (before_dot S m.word)) (dotted_type S m.word t.word) m t
     measured-is (TyTuple at ts) =
-        let w = counts (over width_limit (type_count ts)) in
+        let w = counts (over widest_tuple (type_count ts)) in
         let P = parts_of_all (types_in S ts) in
         let H = height_of_all (types_in S ts) in
         let all : measured_all K no_type ts ≡ of_both (names_and_tuples_of_all S ts) (cut P H) =

@@ -1,14 +1,15 @@
 -- What a search for faults knows of a scope: of the types in it their sizes alone.
 use Rattle.std.specs.Prelude.{◌+◌, min, max, Bool, true, false, not, if◌then◌else◌, Option, Some, None, option_and_then}
 use Rattle.std.specs.Option.{option_map_or}
+use Rattle.ac_types.specs.Limits.{most_type_parts, highest_type}
 use Rattle.ac_types.specs.First.{given}
 use Rattle.ac_types.specs.Types.{Bytes, Typ, parts, height, same_bytes}
 use Rattle.ac_scopes.specs.Standard.{is_standard}
 use Rattle.ac_signatures.specs.declared.size.Size.{Size}
 
--- the parts of a type, of which at most 4,097 are counted, and its height, of which at most 101
+-- the parts of a type and its height, each counted up to one past its limit
 abbrev pub size_of : Typ → Size
-size_of T = record { parts = min (parts T) 4097; height = min (height T) 101 }
+size_of T = record { parts = min (parts T) (most_type_parts + 1); height = min (height T) (highest_type + 1) }
 
 abbrev pub size_of_leaf : Size
 size_of_leaf = record { parts = 1; height = 1 }
@@ -18,10 +19,10 @@ size_of_none = record { parts = 0; height = 0 }
 
 -- of a type around, and of two types side by side
 abbrev pub around : Size → Size
-around s = record { parts = min (s.parts + 1) 4097; height = min (s.height + 1) 101 }
+around s = record { parts = min (s.parts + 1) (most_type_parts + 1); height = min (s.height + 1) (highest_type + 1) }
 
 abbrev pub side_by_side : Size → Size → Size
-side_by_side s t = record { parts = min (s.parts + t.parts) 4097; height = max s.height t.height }
+side_by_side s t = record { parts = min (s.parts + t.parts) (most_type_parts + 1); height = max s.height t.height }
 
 -- what stands behind the name of a definition and a dot
 pub record Members : Type 0 where

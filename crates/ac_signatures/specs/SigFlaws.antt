@@ -1,11 +1,12 @@
 -- What is wrong with signatures, by what is known of a scope, and what they show behind a dot.
 use Rattle.std.specs.Prelude.{Bool, is_some, List, [], ◌∷◌, ◌++◌, flat_map, length, Option, None}
+use Rattle.ac_types.specs.Limits.{most_items}
 use Rattle.ac_types.specs.Types.{Bytes}
 use Rattle.ac_syntax.specs.Trees.{NameAt, TypeTree, AbbrevTree, SpecTree, AbstractSpec, ManifestSpec, ValSpec}
 use Rattle.ac_scopes.specs.Standard.{beside_name}
 use Rattle.ac_scopes.specs.Scopes.{binders_to, scope_with}
 use Rattle.ac_scopes.specs.Repeated.{repeated_name, spec_type_name, spec_value_name}
-use Rattle.ac_scopes.specs.Counts.{over, items_limit}
+use Rattle.ac_scopes.specs.Counts.{over}
 use Rattle.ac_signatures.specs.declared.flaws.Flaws.{Flaws}
 use Rattle.ac_signatures.specs.declared.size.Size.{Size}
 use Rattle.ac_signatures.specs.Joined.{no_flaws, flaws_joined}
@@ -58,7 +59,7 @@ spec_members K specs = record { types = λ t. beside_name t (spec_sizes K specs)
 
 -- the repetitions and the number of the types or the values of a list
 abbrev pub list_flaws : List NameAt → Flaws
-list_flaws names = record { unbound = None; repeated = repeated_name [] names; count = over items_limit (length names) }
+list_flaws names = record { unbound = None; repeated = repeated_name [] names; count = over most_items (length names) }
 
 -- of a signature where these definitions are called by their names
 abbrev pub sig_flaws : (Bytes → Option Members) → List SpecTree → Flaws

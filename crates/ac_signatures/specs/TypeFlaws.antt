@@ -1,8 +1,9 @@
 -- What is wrong with types, by what is known of a scope.
 use Rattle.std.specs.Prelude.{ℕ, is_some, Option, None, unwrap_or}
+use Rattle.ac_types.specs.Limits.{widest_tuple, highest_type, most_type_parts}
 use Rattle.ac_syntax.specs.Trees.{TypeTree, TyInt, TyBool, TyStr, TyUnit, TyExn, TyLocal, TyOf, TyTuple, TyList, TyOpt, TyFun, TypeTrees, no_type_trees, type_tree}
 use Rattle.ac_scopes.specs.Unbound.{unless, unbound_behind}
-use Rattle.ac_scopes.specs.Counts.{over, width_limit, height_limit, parts_limit, type_count}
+use Rattle.ac_scopes.specs.Counts.{over, type_count}
 use Rattle.ac_signatures.specs.declared.flaws.Flaws.{Flaws}
 use Rattle.ac_signatures.specs.declared.size.Size.{Size}
 use Rattle.ac_signatures.specs.declared.types.Measured.{Measured}
@@ -38,7 +39,7 @@ abbrev mutual
   measured K (TyExn at) = constant_type
   measured K (TyLocal at t) = leaf_of (unless (K.types t) at) (K.types t)
   measured K (TyOf at m t) = leaf_of (unbound_behind (is_some (called_definition K m.word)) (dotted_size K m.word t.word) m t) (dotted_size K m.word t.word)
-  measured K (TyTuple at parts) = measured_with (counts (over width_limit (type_count parts))) (measured_around (measured_all K no_type parts))
+  measured K (TyTuple at parts) = measured_with (counts (over widest_tuple (type_count parts))) (measured_around (measured_all K no_type parts))
   measured K (TyList at item) = measured_around (measured K item)
   measured K (TyOpt at item) = measured_around (measured K item)
   measured K (TyFun at from to) = measured_around (measured_both (measured K from) (measured K to))
@@ -49,7 +50,7 @@ abbrev mutual
 
 -- what is wrong with a type where it is written
 abbrev pub size_flaws : Size → Flaws
-size_flaws s = flaws_joined (counts (over height_limit s.height)) (counts (over parts_limit s.parts))
+size_flaws s = flaws_joined (counts (over highest_type s.height)) (counts (over most_type_parts s.parts))
 
 abbrev pub written_flaws : Measured → Flaws
 written_flaws m = flaws_joined m.flaws (size_flaws m.size)

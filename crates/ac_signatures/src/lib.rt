@@ -25,4 +25,4 @@ pub use lists::list_flaws;
 pub use named::{Named, repeated_name, with_name};
 pub use outside::{Externals, Outside, outside_of, put_outside};
 pub use sigs::{Shown, sig};
-pub use types::{WIDTH_LIMIT, type_flaws};
+pub use types::type_flaws;

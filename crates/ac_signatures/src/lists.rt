@@ -10,17 +10,15 @@ use crate::flaws::Flaws;
 use crate::named::{Named, repeated_name, with_name};
 use ac_syntax::SSpec;
 use ac_types::Memory;
+use ac_types::limits::MOST_ITEMS;
 use std::alloc::Global;
-
-// The most types, and the most values, of a signature, a struct or a likespec.
-const ITEMS_LIMIT: u32 = 1024;
 
 /// What is wrong with a list of names, that of a signature, a struct or a likespec.
 pub fn list_flaws(alloc: Global, names: &[Named]) -> Result<Flaws, Memory>
     ensures { IfOk result (λ f. f ≡ list_flaws (map named names.now)) }
 {
     let repeated = repeated_name(alloc, names)?;
-    let counted = Flaws::counted(ITEMS_LIMIT, names.len());
+    let counted = Flaws::counted(MOST_ITEMS as u32, names.len());
     Ok(Flaws {
         unbound: None,
         repeated,

@@ -6,13 +6,17 @@ ghost use Rattle.ac_signatures.specs.KnownScopes.{size_of, size_of_leaf, size_of
 ghost use Rattle.ac_signatures.specs.inner.TypeSizes.{sizes_after};
 
 use ac_types::Ty;
+use ac_types::limits::{HIGHEST_TYPE, MOST_TYPE_PARTS};
+
+// How many parts are counted: one past the limit.
+const PARTS_COUNTED: usize = MOST_TYPE_PARTS as usize + 1;
 
 /// The size of a type written out, in which each name stands for its type.
 #[derive(Clone, Copy, PartialEq, Eq)]
 pub struct Size {
-    /// Its parts, of which at most 4,097 are counted.
+    /// Its parts, of which at most one more than `MOST_TYPE_PARTS` are counted.
     pub parts: usize,
-    /// Its height, of which at most 101 is counted.
+    /// Its height, of which at most one more than `HIGHEST_TYPE` is counted.
     pub height: usize,
 }
 
@@ -42,8 +46,8 @@ impl Size {
         ensures { result ≡ around self }
     {
         Size {
-            parts: self.parts.min(4096) + 1,
-            height: self.height.min(100) + 1,
+            parts: self.parts.min(MOST_TYPE_PARTS as usize) + 1,
+            height: self.height.min(HIGHEST_TYPE as usize) + 1,
         }
     }
 
@@ -51,9 +55,9 @@ impl Size {
     pub fn beside(self, other: Size) -> Size
         ensures { result ≡ side_by_side self other }
     {
-        let parts = self.parts.min(4097) + other.parts.min(4097);
+        let parts = self.parts.min(PARTS_COUNTED) + other.parts.min(PARTS_COUNTED);
         Size {
-            parts: parts.min(4097),
+            parts: parts.min(PARTS_COUNTED),
             height: self.height.max(other.height),
         }
     }

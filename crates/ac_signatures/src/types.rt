@@ -15,15 +15,7 @@ use crate::size::Size;
 use crate::standard::is_standard;
 use ac_syntax::{SName, SType, STypeKind};
 use ac_types::Word;
-
-/// The most parts of a tuple, of its type and of its pattern.
-pub const WIDTH_LIMIT: u32 = 16;
-
-// The greatest height of a type written out.
-const HEIGHT_LIMIT: u32 = 100;
-
-// The most parts of a type written out.
-const PARTS_LIMIT: u32 = 4096;
+use ac_types::limits::{HIGHEST_TYPE, MOST_TYPE_PARTS, WIDEST_TUPLE};
 
 /// What is wrong with a type's names and tuples, and its size.
 #[derive(Clone, Copy)]
@@ -99,8 +91,8 @@ impl Measured {
     pub fn flaws(self) -> Flaws
         ensures { result ≡ written_flaws self }
     {
-        let height = Flaws::counted(HEIGHT_LIMIT, self.size.height);
-        let parts = Flaws::counted(PARTS_LIMIT, self.size.parts);
+        let height = Flaws::counted(HIGHEST_TYPE, self.size.height);
+        let parts = Flaws::counted(MOST_TYPE_PARTS, self.size.parts);
         self.flaws.join(height.join(parts))
     }
 }
@@ -127,7 +119,7 @@ pub fn measure<'a>(tree: &'a SType, scan: &Scan<'_, 'a>) -> Measured
         STypeKind::Local(word) => local(tree.at, word, scan),
         STypeKind::Of(owner, name) => dotted(owner, name, scan),
         STypeKind::Tuple(parts) => {
-            let width = Flaws::counted(WIDTH_LIMIT, parts.len());
+            let width = Flaws::counted(WIDEST_TUPLE as u32, parts.len());
             all(parts.as_slice(), scan).around().with(width)
         }
         STypeKind::List(item) => measure(item, scan).around(),

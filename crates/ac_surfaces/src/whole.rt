@@ -3,6 +3,7 @@
 ghost use Rattle.std.specs.Prelude.{◌≡◌, ◌<◌, ◌≤◌, ◌+◌, ◌^◌, length, None, IfOk, IfErr, OnOk, IsTrue};
 ghost use Rattle.std.specs.List.{list_all};
 ghost use Rattle.sha2.specs.Sha256.{sha256};
+ghost use Rattle.ac_types.specs.Limits.{most_definitions};
 ghost use Rattle.ac_terms.specs.Read.{environment_of, expr_of};
 ghost use Rattle.ac_syntax.specs.ReadTrees.{surface_of};
 ghost use Rattle.ac_scopes.specs.Surfaces.{Elaborates, surface_fault};
@@ -21,13 +22,13 @@ use std::alloc::Global;
 /// exactly where it has one: a name that isn't in scope, a repetition, a count that passes its limit.
 pub fn elaborate(alloc: Global, surface: &Surface, env: Env) -> Result<RawProgram, ScopeFault>
     requires names { IsTrue (list_all keeps_name (environment_of env)) }
-    requires few { length (environment_of env) + 4096 < 2 ^ 32 }
+    requires few { length (environment_of env) + most_definitions < 2 ^ 32 }
     ensures elaborated { IfOk result (λ r. Elaborates sha256 (environment_of env)
         (surface_of surface.now)
         (environment_of r.env) (expr_of r.main)) }
     ensures names { IfOk result (λ r. IsTrue (list_all keeps_name (environment_of r.env))) }
     ensures counted { IfOk result (λ r. length (environment_of r.env)
-        ≤ length (environment_of env) + 4096) }
+        ≤ length (environment_of env) + most_definitions) }
     ensures refused { IfErr result (λ fault. RefusesScopes (environment_of env)
         (surface_of surface.now) fault) }
 {

@@ -1,5 +1,7 @@
 -- The equations of the reading of patterns and expressions: one for all layers, and one for each form that holds a list.
 use Rattle.std.proofs.Common.{◌≡◌, ◌∙◌, ap, ℕ, List, map}
+use Rattle.ac_types.specs.ReadNumbers.{primitive_number}
+use Rattle.ac_types.specs.declared.primitives.Primitive.{Primitive}
 use Rattle.ac_syntax.specs.declared.surface.SPat.{SPat}
 use Rattle.ac_syntax.specs.declared.surface.SPatKind.{SPatKind, Tuple as TuplePat}
 use Rattle.ac_syntax.specs.declared.surface.SPatKind.TheOpen.{SPatKind-F, SPat-F}
@@ -77,8 +79,8 @@ expr_kind_of-Tuple es at = ap (λ f. f at) (expr_kind_out (Tuple es)) ∙ ap (ki
 pub expr_kind_of-Seq : (es : List SExpr) (at : ℕ) → expr_kind_of (Seq es) at ≡ ExSeq at (trees (map tree_of es))
 expr_kind_of-Seq es at = ap (λ f. f at) (expr_kind_out (Seq es)) ∙ ap (kind_at at) (variants.outs-Seq es)
 
-pub expr_kind_of-Op : (n : ℕ) (es : List SExpr) (at : ℕ) → expr_kind_of (Op n es) at ≡ ExOp at n (trees (map tree_of es))
-expr_kind_of-Op n es at = ap (λ f. f at) (expr_kind_out (Op n es)) ∙ ap (kind_at at) (variants.outs-Op n es)
+pub expr_kind_of-Op : (p : Primitive) (es : List SExpr) (at : ℕ) → expr_kind_of (Op p es) at ≡ ExOp at (primitive_number p) (trees (map tree_of es))
+expr_kind_of-Op p es at = ap (λ f. f at) (expr_kind_out (Op p es)) ∙ ap (kind_at at) (variants.outs-Op p es)
 
 pub expr_kind_of-Match : (e : SExpr) (arms : List SArm) (at : ℕ) → expr_kind_of (Match e arms) at ≡ ExMatch at (tree_of e) (arm_trees (map arm_tree_of arms))
 expr_kind_of-Match e arms at = ap (λ f. f at) (expr_kind_out (Match e arms)) ∙ ap (kind_at at) (variants.outs-Match e arms)

@@ -25,6 +25,7 @@
 -- In the tuple form there is at least one comma. A `-` before a single INT that stands without parentheses makes one constant of both.
 -- A sequence in parentheses is one part of the sequence around it, also at its end.
 use Rattle.std.specs.Prelude.{◌≡◌, ℕ, zero, suc, ◌<◌, ◌≤◌, pos, neg_ℤ, Bool, true, false, List, ◌∷◌, Option, Some, None, if◌then◌else◌, nat_le, nat_eq}
+use Rattle.ac_types.specs.Limits.{highest_expression}
 use Rattle.ac_types.specs.Types.{Bytes}
 use Rattle.ac_syntax.specs.Signs.{Sign, Int, Str, Lower, Upper, Fixed, here}
 use Rattle.ac_types.specs.Primitives as primitives
@@ -254,6 +255,6 @@ pub record IsTree (depth : ℕ) (level : Level) (ts : List Sign) (e : Tree) (res
   pub stops : Stops level ending rest
   pub low : height e ≤ depth
 
--- an expression, of a height of at most 500
+-- an expression, of a height of at most `highest_expression`
 abbrev pub IsExpr : List Sign → Tree → List Sign → Type 0
-IsExpr ts e rest = IsTree 500 Expr ts e rest
+IsExpr ts e rest = IsTree highest_expression Expr ts e rest

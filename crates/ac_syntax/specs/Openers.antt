@@ -1,5 +1,6 @@
 -- Openers and closers, and where too many openers are unclosed.
 use Rattle.std.specs.Prelude.{◌≡◌, ℕ, ◌+◌, ◌-◌, ◌≤◌, Bool, true, false, List, [], ◌∷◌, ◌++◌, if◌then◌else◌}
+use Rattle.ac_types.specs.Limits.{most_openers}
 use Rattle.ac_syntax.specs.Signs.{Sign, Fixed, sign_place}
 use Rattle.ac_syntax.specs.declared.sign.Symbol.{Symbol}
 use Rattle.ac_syntax.specs.declared.sign.Symbol.TheVariants as symbol
@@ -29,16 +30,16 @@ abbrev pub unclosed : ℕ → List Sign → ℕ
 unclosed n [] = n
 unclosed n (t ∷ ts) = unclosed (open_after n t) ts
 
--- no front of the signs has more than 200 unclosed openers
+-- no front of the signs has too many unclosed openers
 abbrev pub IsShallow : List Sign → Type 0
-IsShallow ts = (front rest : List Sign) → ts ≡ front ++ rest → unclosed 0 front ≤ 200
+IsShallow ts = (front rest : List Sign) → ts ≡ front ++ rest → unclosed 0 front ≤ most_openers
 
--- at this place stands the first sign at which more than 200 openers are unclosed
+-- at this place stands the first sign at which too many openers are unclosed
 pub record IsDeep (ts : List Sign) (at : ℕ) : Type 0 where
   pub before : List Sign
   pub opener : Sign
   pub rest : List Sign
   pub split : ts ≡ before ++ opener ∷ rest
   pub shallow : IsShallow before
-  pub deep : 201 ≤ unclosed 0 (before ++ opener ∷ [])
+  pub deep : most_openers + 1 ≤ unclosed 0 (before ++ opener ∷ [])
   pub here : at ≡ sign_place opener

@@ -7,6 +7,7 @@
 --
 -- EXN1 are the exceptions with a string, EXN0 the others. In the tuple form there is at least one comma.
 use Rattle.std.specs.Prelude.{◌≡◌, ℕ, ◌<◌, ◌≤◌, pos, neg_ℤ, true, false, List, ◌∷◌, Option, Some, None}
+use Rattle.ac_types.specs.Limits.{highest_pattern}
 use Rattle.ac_types.specs.Exceptions as exceptions
 use Rattle.ac_types.specs.Types.{Bytes}
 use Rattle.ac_syntax.specs.Signs.{Sign, Int, Str, Lower, Fixed, here}
@@ -90,6 +91,6 @@ pub record IsPatTree (depth : ℕ) (level : PatLevel) (ts : List Sign) (p : PatT
   pub stops : PatStops level rest
   pub low : pat_height p ≤ depth
 
--- a pattern; it has a height of its own, of at most 500
+-- a pattern; it has a height of its own, of at most `highest_pattern`
 abbrev pub IsPattern : List Sign → PatTree → List Sign → Type 0
-IsPattern ts p rest = IsPatTree 500 Pattern ts p rest
+IsPattern ts p rest = IsPatTree highest_pattern Pattern ts p rest

@@ -1,7 +1,8 @@
 -- The trees of the code as those of the definitions.
-use Rattle.std.specs.Prelude.{ℕ, List, map, Some, None, option_map}
+use Rattle.std.specs.Prelude.{ℕ, List, map, option_map}
 use Rattle.ac_types.specs.declared.sig.Version as code_version
 use Rattle.ac_types.specs.Sigs.{Atom}
+use Rattle.ac_types.specs.ReadNumbers.{primitive_number, bare_number, texted_number}
 use Rattle.ac_types.specs.ReadTypes.{atom_of, constraint_of, resolve_of}
 use Rattle.ac_syntax.specs.declared.surface.SName.{SName}
 use Rattle.ac_syntax.specs.declared.surface.SType.{SType}
@@ -71,8 +72,8 @@ pat_kind_layer code_pat.Nil at = PatNil at
 pat_kind_layer (code_pat.Cons head tail) at = PatCons at head tail
 pat_kind_layer code_pat.Absent at = PatAbsent at
 pat_kind_layer (code_pat.Present item) at = PatPresent at item
-pat_kind_layer (code_pat.Exn number None) at = PatExn at number
-pat_kind_layer (code_pat.Exn number (Some item)) at = PatExnOf at number item
+pat_kind_layer (code_pat.Exn exn) at = PatExn at (bare_number exn)
+pat_kind_layer (code_pat.ExnOf exn item) at = PatExnOf at (texted_number exn) item
 
 abbrev pub pat_layer : code_pat.SPat-F (ℕ → PatTree) PatTree → PatTree
 pat_layer p = p.kind p.at
@@ -97,8 +98,8 @@ expr_kind_layer (code.Int n) at = ExInt at n
 expr_kind_layer (code.Bool b) at = ExBool at b
 expr_kind_layer (code.Str text) at = ExStr at text.0
 expr_kind_layer code.Unit at = ExUnit at
-expr_kind_layer (code.Exn number None) at = ExExn at number
-expr_kind_layer (code.Exn number (Some argument)) at = ExExnOf at number argument
+expr_kind_layer (code.Exn exn) at = ExExn at (bare_number exn)
+expr_kind_layer (code.ExnOf exn argument) at = ExExnOf at (texted_number exn) argument
 expr_kind_layer (code.Tuple parts) at = ExTuple at (trees parts)
 expr_kind_layer (code.Nil ty) at = ExNil at (type_of ty)
 expr_kind_layer (code.Absent ty) at = ExAbsent at (type_of ty)
@@ -118,7 +119,7 @@ expr_kind_layer (code.Try of arms) at = ExTry at of (arm_trees arms)
 expr_kind_layer (code.Raise exception ty) at = ExRaise at exception (type_of ty)
 expr_kind_layer (code.And a b) at = ExAnd at a b
 expr_kind_layer (code.Or a b) at = ExOr at a b
-expr_kind_layer (code.Op number parts) at = ExOp at number (trees parts)
+expr_kind_layer (code.Op primitive parts) at = ExOp at (primitive_number primitive) (trees parts)
 expr_kind_layer (code.Marshal mark value ty) at = ExMarshal at mark value (type_of ty)
 expr_kind_layer (code.Unmarshal text ty) at = ExUnmarshal at text (type_of ty)
 

@@ -1,8 +1,9 @@
 -- What a text is answered by: its tree, or why it has none, the first cause that applies.
 use Rattle.std.specs.Prelude.{◌≡◌, ◌⊎◌, ℕ, ◌<◌, ◌≤◌, List, length, Some, option_map, slice_get}
+use Rattle.ac_types.specs.Limits.{longest_text}
 use Rattle.ac_types.specs.Types.{Bytes}
 use Rattle.ac_lexer.specs.declared.tokens.Token.{Token}
-use Rattle.ac_lexer.specs.Tokens.{Tokens, FailsAt, longest_text}
+use Rattle.ac_lexer.specs.Tokens.{Tokens, FailsAt}
 use Rattle.ac_syntax.specs.Signs.{Sign, signs}
 use Rattle.ac_syntax.specs.Openers.{IsShallow, IsDeep}
 use Rattle.ac_syntax.specs.Trees.{ProgramTree}
@@ -11,7 +12,7 @@ use Rattle.ac_syntax.specs.declared.stop.Stop.{Stop}
 use Rattle.ac_syntax.specs.declared.stop.Stop.TheVariants as stop
 use Rattle.ac_syntax.specs.declared.fault.ParseFault.TheVariants as fault
 
--- the text is not too long and has these tokens, no front of which has more than 200 unclosed openers
+-- the text is not too long and has these tokens, no front of which has too many unclosed openers
 pub record IsRead (text : Bytes) (tokens : List Token) : Type 0 where
   pub short : length text ≤ longest_text
   pub lexed : Tokens text tokens

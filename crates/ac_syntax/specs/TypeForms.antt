@@ -5,6 +5,7 @@
 --   stype = atype ('list' | 'option')*
 --   atype = 'int' | 'bool' | 'string' | 'unit' | 'exn' | lower | UPPER '.' lower | '(' type ')'
 use Rattle.std.specs.Prelude.{ℕ, ◌<◌, ◌≤◌, List, ◌∷◌}
+use Rattle.ac_types.specs.Limits.{highest_written_type}
 use Rattle.ac_types.specs.Types.{Bytes}
 use Rattle.ac_syntax.specs.Signs.{Sign, Lower, Upper, Fixed, here}
 use Rattle.ac_syntax.specs.Trees.{TypeTree, TyInt, TyBool, TyStr, TyUnit, TyExn, TyLocal, TyOf, TyTuple, TyList, TyOpt, TyFun, TypeTrees, no_type_trees, type_tree, type_height}
@@ -73,6 +74,6 @@ pub record IsTypeTree (depth : ℕ) (level : TypeLevel) (ts : List Sign) (t : Ty
   pub stops : TypeStops level rest
   pub low : type_height t ≤ depth
 
--- a type, taken as long as it can be; by itself it has a height of at most 100
+-- a type, taken as long as it can be; by itself it has a height of at most `highest_written_type`
 abbrev pub IsType : List Sign → TypeTree → List Sign → Type 0
-IsType ts t rest = IsTypeTree 100 Whole ts t rest
+IsType ts t rest = IsTypeTree highest_written_type Whole ts t rest

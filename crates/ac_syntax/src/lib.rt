@@ -23,4 +23,4 @@ pub use surface::{
     SAbbrev, SArm, SDef, SDefKind, SExpr, SExprKind, SField, SFun, SName, SPat, SPatKind, SSig,
     SSpec, SType, STypeKind, SWants, Surface,
 };
-pub use types::{HIGHEST_TYPE, ParsedType, whole_type};
+pub use types::{ParsedType, whole_type};

@@ -1,14 +1,13 @@
 // Where too many openers are unclosed.
 
 ghost use Rattle.std.specs.Prelude.{◌≡◌, ◌≤◌, MatchOption};
+ghost use Rattle.ac_types.specs.Limits.{most_openers};
 ghost use Rattle.ac_syntax.specs.Signs.{sign_of, signs};
 ghost use Rattle.ac_syntax.specs.Openers.{opens_part, closes_part, open_after, IsShallow, IsDeep};
 
 use crate::sign::{Symbol, symbol_of};
 use ac_lexer::{Token, TokenKind};
-
-// How many openers may be unclosed.
-const DEEPEST: u32 = 200;
+use ac_types::limits::MOST_OPENERS;
 
 impl Symbol {
     /// Whether it is `(`, `[`, `sig`, `struct`, `match` or `try`.
@@ -35,7 +34,7 @@ impl Symbol {
 }
 
 fn open_after(count: u32, token: &Token) -> u32
-    requires { count ≤ 200 }
+    requires { count ≤ most_openers }
     ensures { result ≡ open_after count (sign_of token.now) }
 {
     let TokenKind::Fixed(text) = &token.kind else {
@@ -53,7 +52,7 @@ fn open_after(count: u32, token: &Token) -> u32
     }
 }
 
-/// The place of the first opener at which more than 200 are unclosed. Takes no memory.
+/// The place of the first opener at which more than `MOST_OPENERS` are unclosed. Takes no memory.
 pub fn deep(tokens: &[Token]) -> Option<u32>
     ensures { MatchOption result (IsShallow (signs tokens.now)) (λ at.
         IsDeep (signs tokens.now) at) }
@@ -61,7 +60,7 @@ pub fn deep(tokens: &[Token]) -> Option<u32>
     let mut count = 0;
     for token in tokens {
         count = open_after(count, token);
-        if count > DEEPEST {
+        if count > MOST_OPENERS {
             return Some(token.at);
         }
     }

@@ -1,6 +1,7 @@
 // The parsers that take tokens.
 
 ghost use Rattle.std.specs.Prelude.{◌≡◌, ◌≤◌, ◌-◌, length, drop, IfOk, IfErr, List, ℕ};
+ghost use Rattle.ac_types.specs.Limits.{highest_written_type};
 ghost use Rattle.ac_syntax.specs.Signs.{signs};
 ghost use Rattle.ac_syntax.specs.Openers.{IsShallow};
 ghost use Rattle.ac_syntax.specs.TypeForms.{IsType, Whole};
@@ -13,8 +14,9 @@ use crate::sign::{Sign, signs};
 use crate::sigs::sig;
 use crate::stop::Stop;
 use crate::surface::{SSig, SType};
-use crate::types::{HIGHEST_TYPE, whole_type};
+use crate::types::whole_type;
 use ac_lexer::Token;
+use ac_types::limits::HIGHEST_WRITTEN_TYPE;
 use std::alloc::Global;
 
 // The place of the token before which so many are left, of the last one where none is left.
@@ -64,11 +66,12 @@ pub fn parse_type(alloc: Global, tokens: &[Token], from: u32) -> Result<(SType, 
     ensures tree { IfOk result (λ x. IsType (drop from (signs tokens.now)) (type_of x.0)
         (drop x.1 (signs tokens.now))) }
     ensures within { IfOk result (λ x. x.1 ≤ length tokens.now) }
-    ensures none { IfErr result (λ e. OnFault e (NoType 100 Whole (drop from (signs tokens.now)))) }
+    ensures none { IfErr result (λ e. OnFault e (NoType highest_written_type Whole
+        (drop from (signs tokens.now)))) }
 {
     let found = signs(alloc, tokens)?;
     let all = found.as_slice();
-    match whole_type(alloc, HIGHEST_TYPE, from_number(all, from)) {
+    match whole_type(alloc, HIGHEST_WRITTEN_TYPE, from_number(all, from)) {
         Ok((ty, rest)) => {
             let number = number_behind(all, rest)?;
             Ok((ty.tree, number))

@@ -11,8 +11,9 @@ use crate::front::{after, here, next_name};
 use crate::sign::{Sign, Symbol};
 use crate::stop::{Stop, refused_at};
 use crate::surface::{SAbbrev, SSig, SSpec};
-use crate::types::{HIGHEST_TYPE, whole_type};
+use crate::types::whole_type;
 use ac_types::Many;
+use ac_types::limits::HIGHEST_WRITTEN_TYPE;
 use std::alloc::Global;
 
 // The spec behind a `type`.
@@ -30,7 +31,7 @@ fn type_spec<'s, 't>(alloc: Global, signs: &'s [Sign<'t>]) -> Result<(SSpec, &'s
     let Some(behind) = after(Symbol::Equals, rest) else {
         return Ok((SSpec::Abstract(name), rest));
     };
-    let (ty, end) = whole_type(alloc, HIGHEST_TYPE, behind)?;
+    let (ty, end) = whole_type(alloc, HIGHEST_WRITTEN_TYPE, behind)?;
     Ok((SSpec::Manifest(SAbbrev { name, ty: ty.tree }), end))
 }
 
@@ -48,7 +49,7 @@ fn value_spec<'s, 't>(alloc: Global, signs: &'s [Sign<'t>]) -> Result<(SSpec, &'
     let Some(behind) = after(Symbol::Colon, rest) else {
         return Err(refused_at(rest));
     };
-    let (ty, end) = whole_type(alloc, HIGHEST_TYPE, behind)?;
+    let (ty, end) = whole_type(alloc, HIGHEST_WRITTEN_TYPE, behind)?;
     Ok((SSpec::Val(name, ty.tree), end))
 }
 

@@ -1,7 +1,7 @@
 // The trees of programs as they are written. Each node has the place of the first byte of its first
 // token.
 
-use ac_types::{Box, Constraint, Many, Resolve, Text, Version, Word};
+use ac_types::{BareExn, Box, Constraint, Many, Primitive, Resolve, Text, TextExn, Version, Word};
 
 /// A program, or a module alone: then there is no expression.
 pub struct Surface {
@@ -237,15 +237,15 @@ impl Drop for SFun {
     }
 }
 
-/// What an expression is. `Exn` has an exception's number, `Op` that of a primitive from 0 to 9.
-/// A constant with its `-` is one `Int`.
+/// What an expression is. `Op` has an operator's primitive. A constant with its `-` is one `Int`.
 #[cycle(expressions)]
 pub enum SExprKind {
     Int(i64),
     Bool(bool),
     Str(Text),
     Unit,
-    Exn(u8, Option<Box<SExpr>>),
+    Exn(BareExn),
+    ExnOf(TextExn, Box<SExpr>),
     Tuple(Many<SExpr>),
     Nil(SType),
     Absent(SType),
@@ -265,7 +265,7 @@ pub enum SExprKind {
     Raise(Box<SExpr>, SType),
     And(Box<SExpr>, Box<SExpr>),
     Or(Box<SExpr>, Box<SExpr>),
-    Op(u8, Many<SExpr>),
+    Op(Primitive, Many<SExpr>),
     Marshal(Box<SExpr>, Box<SExpr>, SType),
     Unmarshal(Box<SExpr>, SType),
 }
@@ -278,7 +278,8 @@ impl Drop for SExprKind {
             | SExprKind::Bool(_)
             | SExprKind::Str(_)
             | SExprKind::Unit
-            | SExprKind::Exn(_, _)
+            | SExprKind::Exn(_)
+            | SExprKind::ExnOf(_, _)
             | SExprKind::Tuple(_)
             | SExprKind::Nil(_)
             | SExprKind::Absent(_)
@@ -347,7 +348,8 @@ pub enum SPatKind {
     Cons(Box<SPat>, Box<SPat>),
     Absent,
     Present(Box<SPat>),
-    Exn(u8, Option<Box<SPat>>),
+    Exn(BareExn),
+    ExnOf(TextExn, Box<SPat>),
 }
 
 impl Drop for SPatKind {
@@ -365,7 +367,8 @@ impl Drop for SPatKind {
             | SPatKind::Cons(_, _)
             | SPatKind::Absent
             | SPatKind::Present(_)
-            | SPatKind::Exn(_, _) => {}
+            | SPatKind::Exn(_)
+            | SPatKind::ExnOf(_, _) => {}
         }
     }
 }

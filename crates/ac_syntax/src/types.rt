@@ -16,9 +16,6 @@ use crate::surface::{SName, SType, STypeKind};
 use ac_types::{Box, Many, Memory, Word, both};
 use std::alloc::Global;
 
-/// How high a type by itself may be.
-pub const HIGHEST_TYPE: u32 = 100;
-
 /// A type, and its height.
 #[derive(Drop)]
 pub struct ParsedType {

@@ -1,6 +1,9 @@
 -- The reading of each form of patterns.
-use Rattle.std.proofs.Common.{◌≡◌, ◌∙◌, ap, ℕ, ℤ, Bool, List, map, None, Some}
+use Rattle.std.proofs.Common.{◌≡◌, ◌∙◌, ap, ℤ, Bool, List, map}
 use Rattle.ac_types.specs.ReadTypes.{typ_of}
+use Rattle.ac_types.specs.ReadNumbers.{bare_number, texted_number}
+use Rattle.ac_types.specs.declared.exceptions.BareExn.{BareExn}
+use Rattle.ac_types.specs.declared.exceptions.TextExn.{TextExn}
 use Rattle.ac_types.specs.declared.text.Text.{Text}
 use Rattle.ac_types.specs.declared.ty.Ty.{Ty}
 use Rattle.ac_terms.specs.declared.pat.Pat.{Pat, out-Pat, map-Pat, fold_out-Pat}
@@ -49,10 +52,10 @@ pattern_of-Absent = pattern_out pat.Absent ∙ ap pat_layer pat.outs-Absent
 pub pattern_of-Present : (p : Pat) → pattern_of (pat.Present p) ≡ PPresent (pattern_of p)
 pattern_of-Present p = pattern_out (pat.Present p) ∙ ap pat_layer (pat.outs-Present p)
 
-pub pattern_of-Exn : (k : ℕ) → pattern_of (pat.Exn k None) ≡ PExn k
-pattern_of-Exn k = pattern_out (pat.Exn k None) ∙ ap pat_layer (pat.outs-Exn k None)
+pub pattern_of-Exn : (x : BareExn) → pattern_of (pat.Exn x) ≡ PExn (bare_number x)
+pattern_of-Exn x = pattern_out (pat.Exn x) ∙ ap pat_layer (pat.outs-Exn x)
 
-pub pattern_of-ExnOf : (k : ℕ) (p : Pat) → pattern_of (pat.Exn k (Some p)) ≡ PExnOf k (pattern_of p)
-pattern_of-ExnOf k p = pattern_out (pat.Exn k (Some p)) ∙ ap pat_layer (pat.outs-Exn k (Some p))
+pub pattern_of-ExnOf : (x : TextExn) (p : Pat) → pattern_of (pat.ExnOf x p) ≡ PExnOf (texted_number x) (pattern_of p)
+pattern_of-ExnOf x p = pattern_out (pat.ExnOf x p) ∙ ap pat_layer (pat.outs-ExnOf x p)
 
 pub ruleset pattern_forms = (pattern_of-Wild, pattern_of-Var, pattern_of-Int, pattern_of-Bool, pattern_of-Str, pattern_of-Unit, pattern_of-Tuple, pattern_of-Nil, pattern_of-Cons, pattern_of-Absent, pattern_of-Present, pattern_of-Exn, pattern_of-ExnOf)

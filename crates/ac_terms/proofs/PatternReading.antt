@@ -1,11 +1,12 @@
 -- The reading of patterns loses nothing: a pattern is found again from what it is read as.
-use Rattle.std.proofs.Common.{◌≡◌, refl, sym, ap, ◌∙◌, subst, List, [], ◌∷◌, map, Some, None}
+use Rattle.std.proofs.Common.{◌≡◌, refl, sym, ap, ◌∙◌, subst, List, [], ◌∷◌, map}
 use mathlib.Core.Path.{ap₂}
+use Rattle.ac_types.proofs.NumberLaws.{bare_back, bare_again, texted_back, texted_again}
 use Rattle.ac_types.proofs.TypeReading.{back, typ_back}
 use Rattle.ac_terms.specs.Terms.{Pattern, PWild, PVar, PInt, PBool, PStr, PUnit, PTuple, PNil, PCons, PAbsent, PPresent, PExn, PExnOf, Patterns, no_patterns, pattern', patterns}
 use Rattle.ac_terms.specs.Read.{pattern_of, pattern_layer}
 use Rattle.ac_terms.specs.declared.pat.Pat.{Pat, ind-Pat, roll-Pat, map-Pat, fold-roll-Pat}
-use Rattle.ac_terms.specs.declared.pat.Pat.TheOpen.{Pat-F, Wild, Var, Int, Bool, Str, Unit, Tuple, Nil, Cons, Absent, Present, Exn}
+use Rattle.ac_terms.specs.declared.pat.Pat.TheOpen.{Pat-F, Wild, Var, Int, Bool, Str, Unit, Tuple, Nil, Cons, Absent, Present, Exn, ExnOf}
 
 -- the pattern that is read as this one
 abbrev mutual
@@ -21,8 +22,8 @@ abbrev mutual
   find_pattern (PCons p q) = roll-Pat (Cons (find_pattern p) (find_pattern q))
   find_pattern PAbsent = roll-Pat Absent
   find_pattern (PPresent p) = roll-Pat (Present (find_pattern p))
-  find_pattern (PExn k) = roll-Pat (Exn k None)
-  find_pattern (PExnOf k p) = roll-Pat (Exn k (Some (find_pattern p)))
+  find_pattern (PExn k) = roll-Pat (Exn (bare_back k))
+  find_pattern (PExnOf k p) = roll-Pat (ExnOf (texted_back k) (find_pattern p))
 
   pub find_patterns : Patterns → List Pat
   find_patterns no_patterns = []
@@ -48,8 +49,8 @@ of_layer Nil = refl
 of_layer (Cons a b) = ap₂ (λ p q. roll-Pat (Cons p q)) a.1 b.1
 of_layer Absent = refl
 of_layer (Present e) = ap (λ p. roll-Pat (Present p)) e.1
-of_layer (Exn k None) = refl
-of_layer (Exn k (Some e)) = ap (λ p. roll-Pat (Exn k (Some p))) e.1
+of_layer (Exn x) = ap (λ y. roll-Pat (Exn y)) (bare_again x)
+of_layer (ExnOf x e) = ap₂ (λ y p. roll-Pat (ExnOf y p)) (texted_again x) e.1
 
 pub pattern_back : (p : Pat) → find_pattern (pattern_of p) ≡ p
 unfolding pattern_of

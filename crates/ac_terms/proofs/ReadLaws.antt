@@ -1,5 +1,7 @@
 -- The equations of the reading of terms: one for all layers, and one for each form that holds a list.
-use Rattle.std.proofs.Common.{◌≡◌, ◌∙◌, ap, ℕ, List, map}
+use Rattle.std.proofs.Common.{◌≡◌, ◌∙◌, ap, List, map}
+use Rattle.ac_types.specs.ReadNumbers.{primitive_number}
+use Rattle.ac_types.specs.declared.primitives.Primitive.{Primitive}
 use Rattle.ac_terms.specs.declared.term.Term.{Term, Tuple, Seq, Prim}
 use Rattle.ac_terms.specs.declared.term.PVal.{PVal}
 use Rattle.ac_terms.specs.declared.term.Arm.{Arm}
@@ -28,7 +30,7 @@ expr_of-Tuple ts = expr_out (Tuple ts) ∙ ap (λ x. expr_layer (read_parts x)) 
 pub expr_of-Seq : (ts : List Term) → expr_of (Seq ts) ≡ SeqOf (exprs (map expr_of ts))
 expr_of-Seq ts = expr_out (Seq ts) ∙ ap (λ x. expr_layer (read_parts x)) (term.outs-Seq ts)
 
-pub expr_of-Prim : (k : ℕ) (ts : List Term) → expr_of (Prim k ts) ≡ PrimOf k (exprs (map expr_of ts))
-expr_of-Prim k ts = expr_out (Prim k ts) ∙ ap (λ x. expr_layer (read_parts x)) (term.outs-Prim k ts)
+pub expr_of-Prim : (p : Primitive) (ts : List Term) → expr_of (Prim p ts) ≡ PrimOf (primitive_number p) (exprs (map expr_of ts))
+expr_of-Prim p ts = expr_out (Prim p ts) ∙ ap (λ x. expr_layer (read_parts x)) (term.outs-Prim p ts)
 
 pub ruleset term_laws = (expr_out, expr_of-Tuple, expr_of-Seq, expr_of-Prim, the_lemmas)

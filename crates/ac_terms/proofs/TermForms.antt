@@ -1,6 +1,9 @@
 -- The reading of each form of terms.
-use Rattle.std.proofs.Common.{◌≡◌, ◌∙◌, sym, ap, ap₂, refl, ℕ, ℤ, Bool, true, false, ◌||◌, List, [], ◌∷◌, map, None, Some}
+use Rattle.std.proofs.Common.{◌≡◌, ◌∙◌, sym, ap, ap₂, refl, ℕ, ℤ, Bool, true, false, ◌||◌, List, [], ◌∷◌, map}
 use Rattle.ac_types.specs.ReadTypes.{typ_of}
+use Rattle.ac_types.specs.ReadNumbers.{bare_number, texted_number}
+use Rattle.ac_types.specs.declared.exceptions.BareExn.{BareExn}
+use Rattle.ac_types.specs.declared.exceptions.TextExn.{TextExn}
 use Rattle.ac_types.specs.declared.text.Text.{Text}
 use Rattle.ac_types.specs.declared.ty.Ty.{Ty}
 use Rattle.ac_terms.specs.declared.term.Term.{Term}
@@ -36,11 +39,11 @@ expr_of-Str s = expr_out (term.Str s) ∙ ap layer (term.outs-Str s)
 pub expr_of-Unit : expr_of term.Unit ≡ Unit'
 expr_of-Unit = expr_out term.Unit ∙ ap layer term.outs-Unit
 
-pub expr_of-Exn : (k : ℕ) → expr_of (term.ExnVal k None) ≡ Exn k
-expr_of-Exn k = expr_out (term.ExnVal k None) ∙ ap layer (term.outs-ExnVal k None)
+pub expr_of-Exn : (x : BareExn) → expr_of (term.ExnVal x) ≡ Exn (bare_number x)
+expr_of-Exn x = expr_out (term.ExnVal x) ∙ ap layer (term.outs-ExnVal x)
 
-pub expr_of-ExnOf : (k : ℕ) (e : Term) → expr_of (term.ExnVal k (Some e)) ≡ ExnOf k (expr_of e)
-expr_of-ExnOf k e = expr_out (term.ExnVal k (Some e)) ∙ ap layer (term.outs-ExnVal k (Some e))
+pub expr_of-ExnOf : (x : TextExn) (e : Term) → expr_of (term.ExnOf x e) ≡ ExnOf (texted_number x) (expr_of e)
+expr_of-ExnOf x e = expr_out (term.ExnOf x e) ∙ ap layer (term.outs-ExnOf x e)
 
 pub expr_of-Nil : (t : Ty) → expr_of (term.Nil t) ≡ Nil (typ_of t)
 expr_of-Nil t = expr_out (term.Nil t) ∙ ap layer (term.outs-Nil t)
@@ -122,6 +125,4 @@ no_lambda t r lambda recursive = sym (ap (λ e. is_wanted e r) (expr_out t) ∙ 
     unwanted : (y : Term-F PVal Term Arm) → out-Term t ≡ y → is_wanted (layer y) r ≡ false
     unwanted (code.Lam T e) q = absurd (lambda T e (rolled (code.Lam T e) q ∙ term.rolls-Lam T e))
     unwanted (code.Rec T U e) q = absurd (recursive T U e (rolled (code.Rec T U e) q ∙ term.rolls-Rec T U e))
-    unwanted (code.ExnVal k None) q = refl
-    unwanted (code.ExnVal k (Some e)) q = refl
     unwanted y q = refl

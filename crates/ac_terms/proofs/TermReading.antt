@@ -1,16 +1,15 @@
 -- The reading of terms and packed values loses nothing.
 use Rattle.std.proofs.Common.{ℕ, ◌≡◌, refl, sym, ap, ◌∙◌, subst, List, [], ◌∷◌, map, Option, Some, None}
-use Rattle.std.specs.Prelude.{option_map}
 use mathlib.Core.Path.{ap₂}
 use Rattle.ac_types.specs.Types.{Bytes}
-use Rattle.ac_types.specs.declared.text.Text.{Text}
+use Rattle.ac_types.specs.declared.exceptions.Exn as code_exn
+use Rattle.ac_types.specs.ReadNumbers.{exn_number, exn_text}
 use Rattle.ac_types.proofs.TypeReading.{back, typ_back}
-use Rattle.ac_types.proofs.SigReading.{option_back}
+use Rattle.ac_types.proofs.NumberLaws.{primitive_back, primitive_again, bare_back, bare_again, texted_back, texted_again}
 use Rattle.ac_terms.specs.Terms as terms
 use Rattle.ac_terms.specs.Terms.{Pattern, Expr, Exprs, no_exprs, expr, exprs, Arms, no_arms, arm, arms, PValue, KInt, KBool, KStr, KUnit, KExn, KTuple, KList, KAbsent, KPresent, KFun, PValues, no_pvalues, pvalue, pvalues}
-use Rattle.ac_terms.specs.Read.{home_of, bytes_of, expr_of, value_of, value_layer, expr_layer, arm_layer}
+use Rattle.ac_terms.specs.Read.{home_of, expr_of, value_of, value_layer, expr_layer, arm_layer}
 use Rattle.ac_terms.specs.declared.term.Home as code_home
-use Rattle.ac_terms.specs.declared.term.Exn.{Exn}
 use Rattle.ac_terms.specs.declared.term.Term.{Term}
 use Rattle.ac_terms.specs.declared.term.PVal.{PVal}
 use Rattle.ac_terms.specs.declared.term.Arm.{Arm}
@@ -32,17 +31,13 @@ home_back : (h : code_home.Home) → find_home (home_of h) ≡ h
 home_back code_home.Home.Main = refl
 home_back (code_home.Home.In k) = refl
 
-abbrev find_text : Bytes → Text
-find_text s = record { 0 = s }
+abbrev find_exn : ℕ → Option Bytes → code_exn.Exn
+find_exn k None = code_exn.Exn.Bare (bare_back k)
+find_exn k (Some s) = code_exn.Exn.Text (texted_back k) (record { 0 = s })
 
-text_back : (t : Text) → find_text (bytes_of t) ≡ t
-text_back t = refl
-
-abbrev find_exn : ℕ → Option Bytes → Exn
-find_exn k s = record { number = k; text = option_map find_text s }
-
-exn_back : (x : Exn) → find_exn x.number (option_map bytes_of x.text) ≡ x
-exn_back x = ap (λ o. record { number = x.number; text = o }) (option_back bytes_of find_text text_back x.text)
+exn_back : (x : code_exn.Exn) → find_exn (exn_number x) (exn_text x) ≡ x
+exn_back (code_exn.Exn.Bare x) = ap code_exn.Exn.Bare (bare_again x)
+exn_back (code_exn.Exn.Text x text) = ap (λ y. code_exn.Exn.Text y text) (texted_again x)
 
 -- the term and the packed value that are read as these; those of the reduction alone are read from none
 abbrev mutual
@@ -51,8 +46,8 @@ abbrev mutual
   find_term (terms.Boolean b) = roll-Term (code.Term::Bool b)
   find_term (terms.Str s) = roll-Term (code.Term::Str (record { 0 = s }))
   find_term terms.Unit' = roll-Term code.Term::Unit
-  find_term (terms.Exn k) = roll-Term (code.ExnVal k None)
-  find_term (terms.ExnOf k e) = roll-Term (code.ExnVal k (Some (find_term e)))
+  find_term (terms.Exn k) = roll-Term (code.ExnVal (bare_back k))
+  find_term (terms.ExnOf k e) = roll-Term (code.ExnOf (texted_back k) (find_term e))
   find_term (terms.Tuple es) = roll-Term (code.Term::Tuple (find_terms es))
   find_term (terms.Nil T) = roll-Term (code.Nil (back T))
   find_term (terms.Empty T) = roll-Term (code.Empty (back T))
@@ -70,7 +65,7 @@ abbrev mutual
   find_term (terms.Match e cases) = roll-Term (code.Match (find_term e) (find_arms cases))
   find_term (terms.Try e cases) = roll-Term (code.Try (find_term e) (find_arms cases))
   find_term (terms.Raise T e) = roll-Term (code.Raise (back T) (find_term e))
-  find_term (terms.Prim k es) = roll-Term (code.Prim k (find_terms es))
+  find_term (terms.Prim k es) = roll-Term (code.Prim (primitive_back k) (find_terms es))
   find_term (terms.Marshal T m e) = roll-Term (code.Marshal (back T) (find_term m) (find_term e))
   find_term (terms.Unmarshal T e) = roll-Term (code.Unmarshal (back T) (find_term e))
   find_term (terms.Val T v) = roll-Term (code.Val (back T) (find_value v))
@@ -159,8 +154,8 @@ term_layer (code.Term::Int n) = refl
 term_layer (code.Term::Bool b) = refl
 term_layer (code.Term::Str s) = refl
 term_layer code.Term::Unit = refl
-term_layer (code.ExnVal k None) = refl
-term_layer (code.ExnVal k (Some e)) = ap (λ t. roll-Term (code.ExnVal k (Some t))) e.1
+term_layer (code.ExnVal x) = ap (λ y. roll-Term (code.ExnVal y)) (bare_again x)
+term_layer (code.ExnOf x e) = ap₂ (λ y t. roll-Term (code.ExnOf y t)) (texted_again x) e.1
 term_layer (code.Term::Tuple es) = ap (λ ts. roll-Term (code.Term::Tuple ts)) (of_terms es)
 term_layer (code.Nil T) = ap (λ t. roll-Term (code.Nil t)) (typ_back T)
 term_layer (code.Empty T) = ap (λ t. roll-Term (code.Empty t)) (typ_back T)
@@ -178,7 +173,7 @@ term_layer (code.Seq es) = ap (λ ts. roll-Term (code.Seq ts)) (of_terms es)
 term_layer (code.Match e cases) = ap₂ (λ t u. roll-Term (code.Match t u)) e.1 (of_arms cases)
 term_layer (code.Try e cases) = ap₂ (λ t u. roll-Term (code.Try t u)) e.1 (of_arms cases)
 term_layer (code.Raise T e) = ap₂ (λ t u. roll-Term (code.Raise t u)) (typ_back T) e.1
-term_layer (code.Prim k es) = ap (λ ts. roll-Term (code.Prim k ts)) (of_terms es)
+term_layer (code.Prim p es) = ap₂ (λ q ts. roll-Term (code.Prim q ts)) (primitive_again p) (of_terms es)
 term_layer (code.Marshal T m e) = ap₃ (λ t u w. roll-Term (code.Marshal t u w)) (typ_back T) m.1 e.1
 term_layer (code.Unmarshal T e) = ap₂ (λ t u. roll-Term (code.Unmarshal t u)) (typ_back T) e.1
 term_layer (code.Val T v) = ap₂ (λ t u. roll-Term (code.Val t u)) (typ_back T) v.1

@@ -1,8 +1,9 @@
 -- The reading of each form of packed values.
-use Rattle.std.proofs.Common.{◌≡◌, ◌∙◌, ap, ℤ, Bool, List, map, option_map}
+use Rattle.std.proofs.Common.{◌≡◌, ◌∙◌, ap, ℤ, Bool, List, map}
 use Rattle.ac_types.specs.declared.text.Text.{Text}
+use Rattle.ac_types.specs.declared.exceptions.Exn as code_exn
+use Rattle.ac_types.specs.ReadNumbers.{exn_number, exn_text}
 use Rattle.ac_terms.specs.declared.term.Home as code_home
-use Rattle.ac_terms.specs.declared.term.Exn as code_exn
 use Rattle.ac_terms.specs.declared.term.Term.{Term}
 use Rattle.ac_terms.specs.declared.term.PVal.{PVal}
 use Rattle.ac_terms.specs.declared.term.PVal.TheVariants as value
@@ -11,7 +12,7 @@ use Rattle.ac_terms.specs.declared.term.PVal.TheOpen.{PVal-F}
 use Rattle.ac_terms.specs.declared.term.PVal.TheFolds.{map-PVal, fold_out-PVal}
 use Rattle.ac_terms.specs.declared.term.PVal.TheViews.{out-PVal}
 use Rattle.ac_terms.specs.Terms.{Pattern, Expr, PValue, KInt, KBool, KStr, KUnit, KExn, KTuple, KList, KAbsent, KPresent, KFun, pvalues}
-use Rattle.ac_terms.specs.Read.{home_of, bytes_of, expr_of, value_of, value_layer, expr_layer, arm_layer}
+use Rattle.ac_terms.specs.Read.{home_of, expr_of, value_of, value_layer, expr_layer, arm_layer}
 use Rattle.ac_terms.proofs.ReadLaws.{read_arm}
 
 abbrev pub pval_layer : PVal-F PVal Term Arm → PValue
@@ -33,7 +34,7 @@ value_of-Str s = value_out (value.Str s) ∙ ap pval_layer (value.outs-Str s)
 pub value_of-Unit : value_of value.Unit ≡ KUnit
 value_of-Unit = value_out value.Unit ∙ ap pval_layer value.outs-Unit
 
-pub value_of-Exn : (x : code_exn.Exn) → value_of (value.Exn x) ≡ KExn x.number (option_map bytes_of x.text)
+pub value_of-Exn : (x : code_exn.Exn) → value_of (value.Exn x) ≡ KExn (exn_number x) (exn_text x)
 value_of-Exn x = value_out (value.Exn x) ∙ ap pval_layer (value.outs-Exn x)
 
 pub value_of-Tuple : (vs : List PVal) → value_of (value.Tuple vs) ≡ KTuple (pvalues (map value_of vs))

@@ -2,7 +2,7 @@
 use Rattle.std.specs.Prelude.{◌≡◌, ℕ, ℤ, pos, negsuc, zero, suc, ◌==◌, ◌+◌, ◌^◌, ◌≤◌, ◌&&◌, ◌||◌, Bool, true, false, not, nat_lt, nat_le, nat_eq, List, [], ◌∷◌, length, map, None, IsTrue, slice_index}
 use Rattle.std.specs.List.{list_all}
 use Rattle.std.specs.Option.{option_map_or}
-use Rattle.ac_types.specs.Limits.{longest_string, longest_packet}
+use Rattle.ac_types.specs.Limits.{longest_string, longest_packet, widest_tuple, most_arms, most_version_atoms, longest_uri, most_items, most_resolves, deepest_nesting}
 use Rattle.ac_types.specs.Words.{is_word, is_between}
 use Rattle.ac_types.specs.Types.{Bytes, Typ, TInt, TBool, TStr, TUnit, TExn, TTuple, TList, TOpt, TFun, TAbs, TMine, Typs, no_types, typ, is_small}
 use Rattle.ac_terms.specs.Terms.{Home, Main, In, Pattern, PWild, PVar, PInt, PBool, PStr, PUnit, PTuple, PNil, PCons, PAbsent, PPresent, PExn, PExnOf, Patterns, no_patterns, pattern', Expr, Int, Boolean, Str, Unit', Exn, ExnOf, Tuple, Nil, Empty, Present, Cons, Var, Own, Ref, Lam, Rec, App, Let, If, Seq, Match, Try, Raise, Prim, Marshal, Unmarshal, Val, Evaluated, Bracket, Exprs, no_exprs, expr, Arms, no_arms, arm, PValue, KInt, KBool, KStr, KUnit, KExn, KTuple, KList, KAbsent, KPresent, KFun, PValues, no_pvalues, pvalue}
@@ -39,9 +39,9 @@ abbrev pub is_integer : ℤ → Bool
 is_integer (pos n) = nat_lt n (2 ^ 63)
 is_integer (negsuc n) = nat_lt n (2 ^ 63)
 
--- a tuple has 2 to 16 parts
+-- how many parts a tuple may have
 abbrev pub is_width : ℕ → Bool
-is_width n = nat_le 2 n && nat_le n 16
+is_width n = nat_le 2 n && nat_le n widest_tuple
 
 -- a type; an own abstract type stands in a signature alone
 abbrev mutual
@@ -180,8 +180,8 @@ abbrev mutual
   fits_term within (Let T e b) = fits_type false T && fits_term within e && fits_term within b
   fits_term within (If c a b) = fits_term within c && fits_term within a && fits_term within b
   fits_term within (Seq es) = nat_le 2 (term_count es) && is_four (term_count es) && fit_terms within es
-  fits_term within (Match e arms) = fits_term within e && fit_arms within arms && nat_le 1 (arm_count arms) && nat_le (arm_count arms) 1024
-  fits_term within (Try e arms) = fits_term within e && fit_arms within arms && nat_le 1 (arm_count arms) && nat_le (arm_count arms) 1024
+  fits_term within (Match e arms) = fits_term within e && fit_arms within arms && nat_le 1 (arm_count arms) && nat_le (arm_count arms) most_arms
+  fits_term within (Try e arms) = fits_term within e && fit_arms within arms && nat_le 1 (arm_count arms) && nat_le (arm_count arms) most_arms
   fits_term within (Raise T e) = fits_type false T && fits_term within e
   fits_term within (Prim k es) = takes primitives k (term_count es) && fit_terms within es
   fits_term within (Marshal T m e) = fits_type false T && fits_term within m && fits_term within e
@@ -225,31 +225,31 @@ fits_range (UpTo n) = is_four n
 fits_range (From n) = is_four n
 
 abbrev pub fits_constraint : Constraint → Bool
-fits_constraint (Ranges rs star) = list_all fits_range rs && nat_le (length rs) 8 && (star || nat_le 1 (length rs))
+fits_constraint (Ranges rs star) = list_all fits_range rs && nat_le (length rs) most_version_atoms && (star || nat_le 1 (length rs))
 fits_constraint (Exact n) = is_name n
 
 abbrev pub fits_resolve : Resolve → Bool
 fits_resolve StaticLink = true
 fits_resolve HereAlready = true
-fits_resolve (Uri u) = nat_le (length u) 1024
+fits_resolve (Uri u) = nat_le (length u) longest_uri
 
 abbrev pub fits_typed : Bool → Typed_name → Bool
 fits_typed own x = is_lower x.name && fits_type own x.ty
 
 abbrev pub fits_sig : Signature → Bool
 fits_sig s =
-    nat_le (length s.types) 1024 && nat_le (length s.vals) 1024 &&
+    nat_le (length s.types) most_items && nat_le (length s.vals) most_items &&
     list_all (λ (t : Sig_type). is_lower t.name && option_map_or (fits_type true) t.manifest true) s.types && list_all (fits_typed true) s.vals
 
 -- a definition within the bounds, but for nesting and the size of types
 abbrev pub fits_def : Def → Bool
 fits_def (AModule m) =
-    is_upper m.name && nat_le 1 (length m.version) && nat_le (length m.version) 8 && list_all fits_atom m.version && fits_sig m.sig &&
-    nat_le (length m.types) 1024 && list_all (fits_typed false) m.types &&
-    nat_le (length m.fields) 1024 && list_all (λ (f : Field). is_lower f.name && fits_type false f.ty && fits_term false f.term) m.fields
+    is_upper m.name && nat_le 1 (length m.version) && nat_le (length m.version) most_version_atoms && list_all fits_atom m.version && fits_sig m.sig &&
+    nat_le (length m.types) most_items && list_all (fits_typed false) m.types &&
+    nat_le (length m.fields) most_items && list_all (λ (f : Field). is_lower f.name && fits_type false f.ty && fits_term false f.term) m.fields
 fits_def (AnImport i) =
-    is_upper i.name && fits_sig i.sig && fits_constraint i.constraint && nat_le (length i.like) 1024 && list_all (fits_typed false) i.like &&
-    nat_le 1 (length i.by) && nat_le (length i.by) 16 && list_all fits_resolve i.by
+    is_upper i.name && fits_sig i.sig && fits_constraint i.constraint && nat_le (length i.like) most_items && list_all (fits_typed false) i.like &&
+    nat_le 1 (length i.by) && nat_le (length i.by) most_resolves && list_all fits_resolve i.by
 fits_def (AMark t) = is_string t
 
 abbrev pub is_module_or_import : Def → Bool
@@ -257,14 +257,14 @@ is_module_or_import (AModule m) = true
 is_module_or_import (AnImport i) = true
 is_module_or_import (AMark t) = false
 
--- the terms of a definition's fields nest at most 500
+-- how far the terms of a definition's fields nest
 abbrev pub def_nesting : Def → List ℕ
 def_nesting (AModule m) = map (λ (f : Field). nesting f.term) m.fields
 def_nesting (AnImport i) = []
 def_nesting (AMark t) = []
 
 abbrev pub nests_little : Def → Bool
-nests_little d = list_all (λ n. nat_le n 500) (def_nesting d)
+nests_little d = list_all (λ n. nat_le n deepest_nesting) (def_nesting d)
 
 abbrev pub has_small_types : List Portion → Bool
 has_small_types ps = list_all is_small (part_types ps)
@@ -275,7 +275,7 @@ fits_packet p =
     is_two (length p.defs) && list_all is_module_or_import p.defs && list_all fits_def p.defs && list_all nests_little p.defs &&
     list_all (λ d. has_small_types (def_parts d)) p.defs &&
     fits_type false p.ty && is_small p.ty &&
-    fits_value p.value && nat_le (value_nesting p.value) 500 && has_small_types (value_parts p.value)
+    fits_value p.value && nat_le (value_nesting p.value) deepest_nesting && has_small_types (value_parts p.value)
 
 -- the bytes of a packet within the bounds, and no more than a packet may have
 pub record Spells (bytes : Bytes) (p : Packet) : Type 0 where

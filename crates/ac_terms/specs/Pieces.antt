@@ -4,6 +4,7 @@ use Rattle.std.specs.Int.{w8, w16, w32, w64, to_be_bytes, cast_unsigned}
 use Rattle.ac_types.specs.Types.{Bytes}
 use Rattle.ac_types.specs.Sigs.{Atom, Number, MyName, Range, One, Between, UpTo, From, Constraint, Ranges, Exact, Resolve, StaticLink, HereAlready, Uri}
 use Rattle.ac_terms.specs.Terms.{Home, Main, In, Patterns, no_patterns, pattern', Exprs, no_exprs, expr, Arms, no_arms, arm, PValues, no_pvalues, pvalue}
+use Rattle.ac_terms.specs.Tags as tag
 
 -- numbers are big-endian; a word has a byte for its length, a string four. A count is written by the last digits that its width holds; within the bounds that is the count
 abbrev pub one_written : ℕ → Bytes
@@ -62,20 +63,20 @@ value_count no_pvalues = 0
 value_count (pvalue v vs) = suc (value_count vs)
 
 abbrev pub atom_bytes : Atom → Bytes
-atom_bytes (Number n) = 0x01 ∷ four_written n
-atom_bytes MyName = 0x02 ∷ []
+atom_bytes (Number n) = tag.atom_number ∷ four_written n
+atom_bytes MyName = tag.atom_my_name ∷ []
 
 abbrev pub range_bytes : Range → Bytes
-range_bytes (One n) = 0x01 ∷ four_written n
-range_bytes (Between n m) = 0x02 ∷ four_written n ++ four_written m
-range_bytes (UpTo n) = 0x03 ∷ four_written n
-range_bytes (From n) = 0x04 ∷ four_written n
+range_bytes (One n) = tag.range_one ∷ four_written n
+range_bytes (Between n m) = tag.range_between ∷ four_written n ++ four_written m
+range_bytes (UpTo n) = tag.range_up_to ∷ four_written n
+range_bytes (From n) = tag.range_from ∷ four_written n
 
 abbrev pub constraint_bytes : Constraint → Bytes
-constraint_bytes (Ranges rs star) = 0x01 ∷ listed one_written range_bytes rs ++ truth star
-constraint_bytes (Exact n) = 0x02 ∷ n
+constraint_bytes (Ranges rs star) = tag.constraint_ranges ∷ listed one_written range_bytes rs ++ truth star
+constraint_bytes (Exact n) = tag.constraint_exact ∷ n
 
 abbrev pub resolve_bytes : Resolve → Bytes
-resolve_bytes StaticLink = 0x01 ∷ []
-resolve_bytes HereAlready = 0x02 ∷ []
-resolve_bytes (Uri u) = 0x03 ∷ str u
+resolve_bytes StaticLink = tag.resolve_static_link ∷ []
+resolve_bytes HereAlready = tag.resolve_here_already ∷ []
+resolve_bytes (Uri u) = tag.resolve_uri ∷ str u

@@ -7,9 +7,10 @@ mod env;
 mod lambda;
 pub mod laws;
 mod pat;
+pub mod tags;
 mod term;
 
 pub use def::{Def, Entry, Field, Import, Module, PDef, Packet, Seen};
 pub use env::Env;
 pub use pat::Pat;
-pub use term::{Arm, Exn, Home, PVal, Term};
+pub use term::{Arm, Home, PVal, Term};

@@ -2,6 +2,7 @@
 use mathlib.Core.Bool.{true≢false}
 use Rattle.std.proofs.Common.{◌≡◌, ℕ, true, false, IsTrue, List, [], ◌∷◌, Option, length, map, refl, sym, ◌∙◌, ap, ap₂, subst, arith, take}
 use Rattle.std.specs.Borrow.{Bor}
+use Rattle.ac_types.specs.Limits.{longest_read}
 use Rattle.ac_types.specs.Types.{Bytes}
 use Rattle.ac_types.specs.declared.text.Text.{Text}
 use Rattle.ac_types.proofs.FirstLaws.{some_eq}
@@ -15,7 +16,7 @@ pub one_text : (file : Reading) → IsTrue file.told → (s t : Bytes) → IsTex
 one_text file told s t a b =
     let x = a told in
     let y = b told in
-    x.2 ∙ ap (take 1048577) (some_eq (sym x.1 ∙ y.1)) ∙ sym y.2
+    x.2 ∙ ap (take longest_read) (some_eq (sym x.1 ∙ y.1)) ∙ sym y.2
 
 lists_eq : {xs ys : List Listed} → Lists xs ≡ Lists ys → xs ≡ ys
 lists_eq {xs} {ys} e = ap (λ (a : ShelfAnswer). elim a [ Lists zs ↦ zs | BadLine n ↦ xs ]) e

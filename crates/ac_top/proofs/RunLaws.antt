@@ -3,7 +3,7 @@ use Rattle.std.proofs.Common.{◌≡◌, ◌≤◌, ◌⊎◌, ℕ, true, IsTrue
 use Rattle.ac_types.specs.Types.{Bytes}
 use Rattle.ac_types.specs.ReadTypes.{typ_of}
 use Rattle.ac_terms.specs.Terms.{Value}
-use Rattle.ac_terms.specs.declared.term.Exn.{Exn}
+use Rattle.ac_types.specs.declared.exceptions.Exn.{Exn}
 use Rattle.ac_terms.specs.Read.{environment_of, expr_of}
 use Rattle.ac_rules.specs.Views.{Mode, Coloured}
 use Rattle.ac_rules.specs.declared.loaded.Loaded.{Loaded}

@@ -1,5 +1,6 @@
 // Chains of programs.
 ghost use Rattle.std.specs.Prelude.{◌≡◌, ◌<◌, ◌≤◌, ◌^◌, None, IsTrue, length, map, option_map};
+ghost use Rattle.ac_types.specs.Limits.{most_shelf_entries, most_chained};
 ghost use Rattle.ac_acceptance.specs.Accepting.{IsShelf};
 ghost use Rattle.ac_load.specs.Loading.{shelf_of};
 ghost use Rattle.ac_files.specs.Files.{files_seen, files_read};
@@ -29,7 +30,7 @@ pub fn chain_files<F: Files, O: Sink, E: Sink>(
     output: &mut O,
     errors: &mut E,
 ) -> Status
-    requires { length programs.now ≤ 16 }
+    requires { length programs.now ≤ most_chained }
     ensures ends { ChainEnded (map (λ s. s.now) programs.now) (option_map (λ s. s.now) list.entry)
         steps (files_read F.told
         (files_seen F.contents F.read_faults F.write_faults files.old)
@@ -56,7 +57,7 @@ fn chain_texts<O: Sink, E: Sink>(
     errors: &mut E,
 ) -> Status
     requires many { length texts.now < 2 ^ 32 }
-    requires few { length shelf.now.0 ≤ 256 }
+    requires few { length shelf.now.0 ≤ most_shelf_entries }
     requires shelved { IsShelf (shelf_of shelf.now) }
     ensures { ChainDelivered (texts_of texts.now) (shelf_of shelf.now) steps
         (writing O.told O.written O.faults output.old output.new)

@@ -1,5 +1,6 @@
 // What follows from the contract of the top call.
 ghost use Rattle.std.specs.Prelude.{◌≡◌, ◌≤◌, ◌⊎◌, ◌↔◌, List, ℕ, length, Bool, Option, IsTrue, None, Some, is_some, codes};
+ghost use Rattle.ac_types.specs.Limits.{most_shelf_entries};
 ghost use Rattle.ac_types.specs.Types.{Bytes, Typ};
 ghost use Rattle.ac_terms.specs.Terms.{Expr, PValue};
 ghost use Rattle.ac_terms.specs.Defs.{Environment, Packet};
@@ -30,16 +31,16 @@ ghost use Rattle.ac_top.specs.Endings.{AnswerEnded, Ended};
 /// the same writes.
 pub fn one_meaning()
     ensures { (m n : Mode) (text : List ℕ) (shelf : List Shelved) (steps : ℕ) (input : Bytes)
-        (sends : Bool) (a b : CommandAnswer) → IsShelf shelf → length shelf ≤ 256 →
-        Means m text shelf steps input sends a → Means n text shelf steps input sends b →
-        (a.status ≡ b.status) × (a.writes ≡ b.writes) }
+        (sends : Bool) (a b : CommandAnswer) → IsShelf shelf →
+        length shelf ≤ most_shelf_entries → Means m text shelf steps input sends a →
+        Means n text shelf steps input sends b → (a.status ≡ b.status) × (a.writes ≡ b.writes) }
 {}
 
 /// What stands beside a program, without a list or by a list that has no bad line, is a shelf of at
-/// most 256 texts.
+/// most `MOST_SHELF_ENTRIES` texts.
 pub fn good_shelf()
     ensures { (files : Bytes → Reading) (list : Option Bytes) (shelf : List Shelved) →
-        IsShelfBy files list shelf → IsShelf shelf × (length shelf ≤ 256) }
+        IsShelfBy files list shelf → IsShelf shelf × (length shelf ≤ most_shelf_entries) }
 {}
 
 /// Beside a shelf, a text that loads has a meaning in each mode, within each budget and with each
@@ -48,7 +49,7 @@ pub fn good_shelf()
 pub fn some_meaning()
     ensures { (mode : Mode) (text : List ℕ) (shelf : List Shelved) (steps : ℕ) (input : Bytes)
         (sends : Bool) (E : Environment) (e : Expr) (T : Typ) → IsShelf shelf →
-        length shelf ≤ 256 → Loads text shelf E e T →
+        length shelf ≤ most_shelf_entries → Loads text shelf E e T →
         (a : CommandAnswer) × Means mode text shelf steps input sends a }
 {}
 

@@ -1,5 +1,6 @@
 // The command that runs the program of a file.
 ghost use Rattle.std.specs.Prelude.{◌≡◌, ◌≤◌, Bool, List, None, false, IsTrue, length, is_some, option_map};
+ghost use Rattle.ac_types.specs.Limits.{most_shelf_entries};
 ghost use Rattle.ac_types.specs.Types.{Bytes};
 ghost use Rattle.ac_types.specs.ReadTypes.{typ_of};
 ghost use Rattle.ac_terms.specs.Read.{environment_of, expr_of};
@@ -73,7 +74,7 @@ fn run_texts<F: Files, I: Source, O: Sink, E: Sink>(
 ) -> Status
     requires apart { are_one (option_map channel_of run.input) (option_map channel_of run.output)
         ≡ false }
-    requires few { length texts.shelf.0 ≤ 256 }
+    requires few { length texts.shelf.0 ≤ most_shelf_entries }
     requires shelved { IsShelf (shelf_of texts.shelf) }
     ensures ends { (idle : Bool) × (IsTrue idle → input.new ≡ input.old) ×
         ((start : FilesSeen) → Since F.told start

@@ -11,7 +11,7 @@ use ac_answers::{Status, refusal_line, spent_line, uncaught_line};
 use ac_files::TextsFault;
 use ac_load::{Kind, Refusal};
 use ac_outside::{Put, Sink};
-use ac_terms::Exn;
+use ac_types::Exn;
 use std::alloc::{AllocError, Global};
 
 /// Writes the line of a refusal.

@@ -5,16 +5,23 @@ use crate::page::TreePage;
 use crate::patterns::write_pattern;
 use crate::types::write_type;
 use ac_syntax::{SArm, SExpr, SExprKind, SFun};
-use ac_types::exceptions::exception_name;
+use ac_types::Primitive;
 
-const PRIMITIVES: [&[u8]; 10] = [
-    b"+", b"-", b"*", b"/", b"mod", b"neg", b"=", b"<", b"^", b"not",
-];
-
-fn primitive(number: u8) -> &'static [u8] {
-    match PRIMITIVES.get(usize::from(number)) {
-        Some(name) => name,
-        None => b"no primitive",
+fn operator(primitive: Primitive) -> &'static [u8] {
+    match primitive {
+        Primitive::Add => b"+",
+        Primitive::Sub => b"-",
+        Primitive::Mul => b"*",
+        Primitive::Div => b"/",
+        Primitive::Rem => b"mod",
+        Primitive::Neg => b"neg",
+        Primitive::Eq => b"=",
+        Primitive::Lt => b"<",
+        Primitive::Concat => b"^",
+        Primitive::Not => b"not",
+        Primitive::PrintInt | Primitive::PrintString => b"no operator",
+        Primitive::Send | Primitive::Receive => b"no operator",
+        Primitive::Length | Primitive::SubString | Primitive::OfInt => b"no operator",
     }
 }
 
@@ -25,7 +32,7 @@ fn is_leaf(kind: &SExprKind) -> bool {
             | SExprKind::Bool(_)
             | SExprKind::Str(_)
             | SExprKind::Unit
-            | SExprKind::Exn(_, None)
+            | SExprKind::Exn(_)
             | SExprKind::Var(_)
     )
 }
@@ -36,7 +43,7 @@ fn leaf(page: &mut TreePage, kind: &SExprKind, at: u32) {
         SExprKind::Bool(truth) => page.truth(*truth, at),
         SExprKind::Str(text) => page.string(text, at),
         SExprKind::Unit => page.leaf(b"()", at),
-        SExprKind::Exn(number, _) => page.leaf(exception_name(*number), at),
+        SExprKind::Exn(exn) => page.leaf(exn.name(), at),
         SExprKind::Var(word) => page.leaf(word.text().as_slice(), at),
         _ => {}
     }
@@ -44,8 +51,8 @@ fn leaf(page: &mut TreePage, kind: &SExprKind, at: u32) {
 
 fn form(kind: &SExprKind) -> &'static [u8] {
     match kind {
-        SExprKind::Exn(number, _) => exception_name(*number),
-        SExprKind::Op(number, _) => primitive(*number),
+        SExprKind::ExnOf(exn, _) => exn.name(),
+        SExprKind::Op(primitive, _) => operator(*primitive),
         SExprKind::Tuple(_) => b"tuple",
         SExprKind::Nil(_) => b"[]",
         SExprKind::Absent(_) => b"None",
@@ -128,7 +135,7 @@ pub fn write_tree(page: &mut TreePage, tree: &SExpr) {
 #[cycle(expressions)]
 fn write_parts(page: &mut TreePage, kind: &SExprKind) {
     match kind {
-        SExprKind::Exn(_, Some(part))
+        SExprKind::ExnOf(_, part)
         | SExprKind::Present(part)
         | SExprKind::Fun(_, _, part)
         | SExprKind::Raise(part, _)

@@ -3,7 +3,6 @@
 use crate::page::TreePage;
 use crate::types::write_type;
 use ac_syntax::{SPat, SPatKind};
-use ac_types::exceptions::exception_name;
 
 fn leaf(page: &mut TreePage, kind: &SPatKind, at: u32) {
     match kind {
@@ -14,7 +13,7 @@ fn leaf(page: &mut TreePage, kind: &SPatKind, at: u32) {
         SPatKind::Unit => page.leaf(b"()", at),
         SPatKind::Nil => page.leaf(b"[]", at),
         SPatKind::Absent => page.leaf(b"None", at),
-        SPatKind::Exn(number, None) => page.leaf(exception_name(*number), at),
+        SPatKind::Exn(exn) => page.leaf(exn.name(), at),
         SPatKind::Var(name, ty) => {
             page.open(b"var", at);
             page.name(name);
@@ -45,8 +44,8 @@ pub fn write_pattern(page: &mut TreePage, pattern: &SPat) {
             write_pattern(page, item);
             page.close();
         }
-        SPatKind::Exn(number, Some(item)) => {
-            page.open(exception_name(*number), pattern.at);
+        SPatKind::ExnOf(exn, item) => {
+            page.open(exn.name(), pattern.at);
             write_pattern(page, item);
             page.close();
         }

@@ -2,8 +2,8 @@
 
 use ac_command::Command;
 use ac_lexer::Token;
-use ac_terms::{Env, Exn, Home, Packet, Pat, Term};
-use ac_types::{Constraint, Resolve, Sig, Text, Ty, Version};
+use ac_terms::{Env, Home, Packet, Pat, Term};
+use ac_types::{Constraint, Exn, Resolve, Sig, Text, Ty, Version};
 
 fn crosses<T: Send + Sync>() {}
 

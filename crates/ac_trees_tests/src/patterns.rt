@@ -6,7 +6,7 @@ use ac_expressions::pattern;
 use ac_lexer::{Token, lex};
 use ac_page::Page;
 use ac_syntax::{SPatKind, Sign, Stop, signs};
-use ac_types::exceptions::{FAILURE, NOT_FOUND};
+use ac_types::{BareExn, TextExn};
 use std::alloc::Global;
 use std::process::Abort;
 
@@ -33,16 +33,6 @@ Some _ :: []~cons 0
 (_ _)~!2
 x~!1"#;
 
-fn exception(code: u8, of: bool) -> &'static str {
-    if code == FAILURE && of {
-        "exn0 of"
-    } else if code == NOT_FOUND && !of {
-        "exn2"
-    } else {
-        "exn"
-    }
-}
-
 fn form(kind: &SPatKind) -> &'static str {
     match kind {
         SPatKind::Wild => "wild",
@@ -56,7 +46,9 @@ fn form(kind: &SPatKind) -> &'static str {
         SPatKind::Cons(_, _) => "cons",
         SPatKind::Absent => "none",
         SPatKind::Present(_) => "some",
-        SPatKind::Exn(code, of) => exception(*code, of.is_some()),
+        SPatKind::Exn(BareExn::NotFound) => "exn2",
+        SPatKind::ExnOf(TextExn::Failure, _) => "exn0 of",
+        SPatKind::Exn(_) | SPatKind::ExnOf(_, _) => "exn",
     }
 }
 

@@ -1,9 +1,8 @@
 // Calls that can answer want of memory, where memory suffices.
 
 use crate::make::{boxed, entry, named, one, text, two, word};
-use ac_terms::{Arm, Def, Env, Exn, Home, Import, PDef, PVal, Packet, Pat, Term};
-use ac_types::exceptions::FAILURE;
-use ac_types::{Constraint, Many, Name, Resolve, Sig, Ty};
+use ac_terms::{Arm, Def, Env, Home, Import, PDef, PVal, Packet, Pat, Term};
+use ac_types::{Constraint, Exn, Many, Name, Resolve, Sig, TextExn, Ty};
 use std::alloc::Global;
 use std::process::Abort;
 
@@ -54,10 +53,7 @@ fn packet(rt: &impl Abort, alloc: Global) -> Packet {
     Packet {
         defs: one(rt, alloc, PDef::Import(any_c(rt, alloc))),
         ty: Ty::Exn,
-        value: PVal::Exn(Exn {
-            number: FAILURE,
-            text: Some(text(rt, alloc, b"s")),
-        }),
+        value: PVal::Exn(Exn::Text(TextExn::Failure, text(rt, alloc, b"s"))),
     }
 }
 

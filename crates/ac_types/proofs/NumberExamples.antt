@@ -1,22 +1,15 @@
 -- Each exception and each primitive stands in its table where its number says.
-use Rattle.std.proofs.Common.{◌≡◌, refl, [], ◌∷◌, map}
+use Rattle.std.proofs.Common.{◌≡◌, refl, [], map, Some}
 use Rattle.std.specs.Prelude.{codes}
 use Rattle.ac_types.specs.Exceptions as exceptions
+use Rattle.ac_types.specs.Exceptions.{exception_called}
 use Rattle.ac_types.specs.Primitives as primitives
+use Rattle.ac_types.specs.Primitives.{primitive_called}
 
-pub exceptions_in_order :
-    map exceptions.exception_name
-    (exceptions.failure ∷ exceptions.invalid_argument ∷ exceptions.not_found ∷ exceptions.division_by_zero ∷
-    exceptions.match_failure ∷ exceptions.end_of_file ∷ exceptions.sys_error ∷
-    exceptions.marshal_failure ∷ exceptions.unmarshal_failure ∷ exceptions.resolve_failure ∷ []) ≡ exceptions.exception_names
+pub exceptions_in_order : map exceptions.exception_name exceptions.exception_numbers ≡ exceptions.exception_names
 exceptions_in_order = refl
 
-pub primitives_in_order :
-    map primitives.primitive_name
-    (primitives.add ∷ primitives.sub ∷ primitives.mul ∷ primitives.div ∷ primitives.rem ∷ primitives.neg ∷
-    primitives.eq ∷ primitives.lt ∷ primitives.concat ∷ primitives.not ∷
-    primitives.print_int ∷ primitives.print_string ∷ primitives.send ∷ primitives.receive ∷
-    primitives.length ∷ primitives.sub_string ∷ primitives.of_int ∷ []) ≡ primitives.primitive_names
+pub primitives_in_order : map primitives.primitive_name primitives.primitive_numbers ≡ primitives.primitive_names
 primitives_in_order = refl
 
 pub one_by_name : exceptions.exception_name exceptions.match_failure ≡ codes "Match_failure"
@@ -24,3 +17,11 @@ one_by_name = refl
 
 pub none_of_that_number : primitives.primitive_name 17 ≡ []
 none_of_that_number = refl
+
+one_called : exception_called (codes "Match_failure") ≡ Some exceptions.match_failure
+unfolding exception_called
+one_called = refl
+
+a_remainder : primitive_called (codes "mod") ≡ Some primitives.rem
+unfolding primitive_called
+a_remainder = refl

@@ -1,5 +1,7 @@
 -- The primitives by their numbers, and their names.
-use Rattle.std.specs.Prelude.{ℕ, List, [], ◌∷◌, codes, slice_index_or}
+use Rattle.std.specs.Prelude.{ℕ, Bool, nat_le, List, [], ◌∷◌, codes, slice_index_or, Option}
+use Rattle.std.specs.List.{find}
+use Rattle.ac_types.specs.Types.{Bytes, same_bytes}
 
 abbrev pub add : ℕ
 add = 0
@@ -52,6 +54,14 @@ sub_string = 15
 abbrev pub of_int : ℕ
 of_int = 16
 
+abbrev pub primitive_numbers : List ℕ
+primitive_numbers =
+    add ∷ sub ∷ mul ∷ div ∷ rem ∷ neg ∷ eq ∷ lt ∷ concat ∷ not ∷
+    print_int ∷ print_string ∷ send ∷ receive ∷ length ∷ sub_string ∷ of_int ∷ []
+
+abbrev pub is_primitive : ℕ → Bool
+is_primitive k = nat_le k of_int
+
 -- in the order of their numbers
 abbrev pub primitive_names : List (List ℕ)
 primitive_names =
@@ -63,3 +73,7 @@ primitive_names =
 -- empty where there is none
 abbrev pub primitive_name : ℕ → List ℕ
 primitive_name number = slice_index_or primitive_names number []
+
+-- the number of the primitive of that name
+unfoldable pub primitive_called : Bytes → Option ℕ
+primitive_called name = find (λ k. same_bytes (primitive_name k) name) primitive_numbers

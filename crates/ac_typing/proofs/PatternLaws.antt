@@ -1,5 +1,5 @@
 -- The variables of patterns, form by form, and those of a list of patterns.
-use Rattle.std.proofs.Common.{ℕ, ◌≡◌, ◌+◌, ◌<◌, suc, refl, sym, ap, ap₂, ◌∙◌, append_assoc, Bool, true, false, ◌&&◌, List, [], ◌∷◌, ◌++◌, length, map, reverse, get_or, drop, Option, Some, None}
+use Rattle.std.proofs.Common.{ℕ, ◌≡◌, ◌+◌, ◌<◌, suc, refl, sym, ap, ap₂, ◌∙◌, append_assoc, Bool, true, false, List, [], ◌∷◌, ◌++◌, length, map, reverse, get_or, drop, Option, Some, None}
 use Rattle.std.specs.Prelude.{is_some}
 use Rattle.std.proofs.lemmas.List.{reverse-append, map-append}
 use Rattle.ac_types.specs.First.{given}
@@ -8,8 +8,11 @@ use Rattle.ac_types.specs.ReadTypes.{typ_of}
 use Rattle.ac_types.specs.declared.ty.Ty.{Ty}
 use Rattle.ac_terms.specs.Terms.{Home, Pattern, PTuple, PNil, PCons, PAbsent, PPresent, PExn, PExnOf, Patterns, patterns}
 use Rattle.ac_terms.specs.Read.{pattern_of}
-use Rattle.ac_types.specs.Exceptions.{has_text}
-use Rattle.ac_terms.specs.PrimitiveTypes.{is_exception}
+use Rattle.ac_types.specs.ReadNumbers.{bare_number, texted_number}
+use Rattle.ac_types.specs.declared.exceptions.BareExn.{BareExn}
+use Rattle.ac_types.specs.declared.exceptions.TextExn.{TextExn}
+use Rattle.ac_types.proofs.NumberLaws.{texted_has_one}
+use Rattle.ac_terms.proofs.ExceptionLaws.{bare_is}
 use Rattle.ac_terms.specs.Defs.{Environment}
 use Rattle.ac_terms.specs.declared.pat.Pat.{Pat}
 use Rattle.ac_terms.specs.declared.pat.Pat.TheViews.{the_lemmas}
@@ -66,13 +69,13 @@ module _ (E : Environment) (c : Home) where
   at_present p (TOpt T) = refl
   at_present p T = refl
 
-  pub at_exception : (k : ℕ) (T : Typ) → vars (PExn k) T ≡ given (same TExn T && is_exception k None) (Some [])
-  at_exception k TExn = refl
-  at_exception k T = refl
+  pub at_bare : (x : BareExn) (T : Typ) → vars (PExn (bare_number x)) T ≡ given (same TExn T) (Some [])
+  at_bare x TExn = ap (λ (b : Bool). given b (Some [])) (bare_is x)
+  at_bare x T = refl
 
-  pub at_text : (k : ℕ) (p : Pattern) (T : Typ) → vars (PExnOf k p) T ≡ given (same TExn T && has_text k) (vars p TStr)
-  at_text k p TExn = refl
-  at_text k p T = refl
+  pub at_texted : (x : TextExn) (p : Pattern) (T : Typ) → vars (PExnOf (texted_number x) p) T ≡ given (same TExn T) (vars p TStr)
+  at_texted x p TExn = ap (λ (b : Bool). given b (vars p TStr)) (texted_has_one x)
+  at_texted x p T = refl
 
   -- the two parts of a list's pattern, one after the other
   cons_is : (p q : Pattern) (T U : Typ) (before : List Typ) → Some U ≡ list_item T → variables_joined (Some before) (vars (PCons p q) T) ≡ variables_joined (variables_joined (Some before) (vars p U)) (vars q T)
@@ -87,10 +90,10 @@ module _ (E : Environment) (c : Home) where
       → variables_joined (Some found) (vars q T) ≡ variables_joined (Some before) (vars (PCons p q) T)
   cons_some p q T U before found e h = ap (λ (o : Option (List Typ)). variables_joined o (vars q T)) h ∙ sym (cons_is p q T U before e)
 
-  pub text_some : (k : ℕ) (p : Pattern) (T U : Typ) (before : List Typ) → U ≡ TStr → same TExn T ≡ true → has_text k ≡ true
-      → variables_joined (Some before) (vars p U) ≡ variables_joined (Some before) (vars (PExnOf k p) T)
-  text_some k p T U before s e h =
-      ap (variables_joined (Some before)) (ap (vars p) s ∙ sym (at_text k p T ∙ ap (λ (b : Bool). given (b && has_text k) (vars p TStr)) e ∙ ap (λ (b : Bool). given b (vars p TStr)) h))
+  pub text_some : (x : TextExn) (p : Pattern) (T U : Typ) (before : List Typ) → U ≡ TStr → same TExn T ≡ true
+      → variables_joined (Some before) (vars p U) ≡ variables_joined (Some before) (vars (PExnOf (texted_number x) p) T)
+  text_some x p T U before s e =
+      ap (variables_joined (Some before)) (ap (vars p) s ∙ sym (at_texted x p T ∙ ap (λ (b : Bool). given b (vars p TStr)) e))
 
   pub other_lengths : (ps : List Pat) (ts : List Ty) → (length ps ≡ length ts → ⊥) → vars_of_all ps ts ≡ None
   other_lengths [] [] h = absurd (h refl)
@@ -115,4 +118,4 @@ module _ (E : Environment) (c : Home) where
 
 pub ruleset form_laws = (pattern_out, the_lemmas)
 
-pub ruleset pattern_laws = (pattern_out, pattern_of-Tuple, the_lemmas, joined_given, joined_none, joined_twice, newest_more, at_tuple, at_nil, at_cons, at_absent, at_present, at_exception, at_text)
+pub ruleset pattern_laws = (pattern_out, pattern_of-Tuple, the_lemmas, joined_given, joined_none, joined_twice, newest_more, at_tuple, at_nil, at_cons, at_absent, at_present, at_bare, at_texted)

@@ -1,6 +1,7 @@
 -- The reading of terms, form by form, and lists of terms and of arms.
 use Rattle.std.proofs.Common.{◌≡◌, refl, ap, true, List, [], ◌∷◌, map}
 use Rattle.ac_types.proofs.SizeLaws.{type_laws}
+use Rattle.ac_terms.proofs.ExceptionLaws.{exception_laws}
 use Rattle.ac_types.specs.Types.{Typ}
 use Rattle.ac_terms.specs.Terms.{exprs, arms}
 use Rattle.ac_terms.specs.Read.{expr_of, arm_of, pattern_of}
@@ -28,4 +29,4 @@ arms_collected E S T (a ∷ cs) = ap (also (arm_type E S T (pattern_of a.pat) (e
 
 pub ruleset form_laws = (term_laws, expr_of-Match, expr_of-Try)
 
-pub ruleset typing_laws = (form_laws, type_laws)
+pub ruleset typing_laws = (form_laws, type_laws, exception_laws)

@@ -2,7 +2,9 @@
 use Rattle.std.proofs.Common.{ℕ, ◌≡◌, sym, ap, ap₂, ◌∙◌, subst, true, List, map, Option}
 use Rattle.std.specs.Prelude.{option_map, Result, Ok, IfOk}
 use Rattle.ac_types.specs.Types.{Typ}
+use Rattle.ac_types.specs.ReadNumbers.{primitive_number}
 use Rattle.ac_types.specs.ReadTypes.{typ_of}
+use Rattle.ac_types.specs.declared.primitives.Primitive.{Primitive}
 use Rattle.ac_types.specs.declared.memory.Memory.{Memory}
 use Rattle.ac_types.specs.declared.ty.Ty.{Ty}
 use Rattle.ac_types.specs.declared.text.Word.{Word}
@@ -34,7 +36,7 @@ tuple_form t ps xs e p = ap expr_of e ∙ ap (λ (us : List Term). expr_of (term
 pub seq_form : (t : Term) (ps xs : List Term) → t ≡ term.Seq ps → xs ≡ ps → expr_of t ≡ Seq (exprs (map expr_of xs))
 seq_form t ps xs e p = ap expr_of e ∙ ap (λ (us : List Term). expr_of (term.Seq us)) (sym p) ∙ expr_of-Seq xs
 
-pub prim_form : (t : Term) (k : ℕ) (ps xs : List Term) → t ≡ term.Prim k ps → xs ≡ ps → expr_of t ≡ Prim k (exprs (map expr_of xs))
+pub prim_form : (t : Term) (k : Primitive) (ps xs : List Term) → t ≡ term.Prim k ps → xs ≡ ps → expr_of t ≡ Prim (primitive_number k) (exprs (map expr_of xs))
 prim_form t k ps xs e p = ap expr_of e ∙ ap (λ (us : List Term). expr_of (term.Prim k us)) (sym p) ∙ expr_of-Prim k xs
 
 pub nil_form : (t : Term) (T : Ty) → t ≡ term.Nil T → expr_of t ≡ Nil (typ_of T)

@@ -12,5 +12,4 @@ mod scope;
 mod typing;
 mod written;
 
-pub use exceptions::is_bare;
 pub use typing::declared_type;

@@ -10,9 +10,7 @@ ghost use Rattle.ac_rules.specs.Typing.{variables, variables_of_all, variables_j
 ghost use Rattle.ac_views.specs.Sites.{typs_of, entries_of};
 ghost use Rattle.ac_typing.specs.inner.Parts.{newest_first};
 
-use crate::exceptions::is_bare;
 use ac_terms::Pat;
-use ac_types::exceptions::has_text;
 use ac_types::{Many, Memory, Ty};
 use ac_views::{Base, Site, is_base, is_seen_as, list_item, option_item, tuple_parts};
 use std::alloc::Global;
@@ -83,13 +81,13 @@ pub fn variables<'a>(
             None => Ok(None),
             Some(item) => variables(alloc, inner, item, site, before),
         },
-        Pat::Exn(number, None) => { Ok(given(is_base(ty, Base::Exn) && is_bare(*number), before)) }
-        Pat::Exn(number, Some(inner)) => {
-            if !is_base(ty, Base::Exn) || !has_text(*number) {
+        Pat::Exn(_) => Ok(given(is_base(ty, Base::Exn), before)),
+        Pat::ExnOf(_, inner) => {
+            if !is_base(ty, Base::Exn) {
                 return Ok(None);
             }
             let text = Ty::Str;
-            let found = variables(alloc, inner, &text, site, before);
+            let found = variables(alloc, inner, &text, &*site, before);
             drop(text);
             found
         }

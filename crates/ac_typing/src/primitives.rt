@@ -2,15 +2,12 @@
 
 ghost use Rattle.std.specs.Prelude.{◌≡◌, [], ◌∷◌, length, map, option_map, option_and_then, MatchOption};
 ghost use Rattle.ac_types.specs.Types.{TInt, TStr, TTuple, no_types, typ, typs, same_all};
+ghost use Rattle.ac_types.specs.ReadNumbers.{primitive_number};
 ghost use Rattle.ac_types.specs.ReadTypes.{typ_of};
 ghost use Rattle.ac_terms.specs.PrimitiveTypes.{primitive_type, by_rules, takes_one, takes_two, comparison};
 ghost use Rattle.ac_views.specs.Sites.{base_typ, typs_of};
 
-use ac_types::primitives::{
-    ADD, CONCAT, DIV, EQ, LENGTH, LT, MUL, NEG, NOT, OF_INT, PRINT_INT, PRINT_STRING, RECEIVE, REM,
-    SEND, SUB, SUB_STRING,
-};
-use ac_types::{Many, Ty};
+use ac_types::{Many, Primitive, Ty};
 use ac_views::{Base, is_base, tuple_parts};
 
 // Whether the types are these, in order.
@@ -100,40 +97,40 @@ fn slice_type(args: &[Ty]) -> Option<Ty>
     }
 }
 
-// The type of the primitive of that number at such arguments.
+// The type of a primitive at such arguments.
 #[tactic(auto, using(ac_types::proofs::SizeLaws::type_laws))]
-fn primitive_type(number: u8, args: &[Ty]) -> Option<Ty>
-    ensures { option_map typ_of result ≡ primitive_type number (typs_of args.now) }
+fn primitive_type(primitive: Primitive, args: &[Ty]) -> Option<Ty>
+    ensures { option_map typ_of result ≡ primitive_type (primitive_number primitive)
+        (typs_of args.now) }
 {
-    match number {
-        ADD => of_two(args, Base::Int, Ty::Int),
-        SUB => of_two(args, Base::Int, Ty::Int),
-        MUL => of_two(args, Base::Int, Ty::Int),
-        DIV => of_two(args, Base::Int, Ty::Int),
-        REM => of_two(args, Base::Int, Ty::Int),
-        NEG => of_one(args, Base::Int, Ty::Int),
-        EQ => comparison_type(args),
-        LT => comparison_type(args),
-        CONCAT => of_two(args, Base::Str, Ty::Str),
-        NOT => of_one(args, Base::Bool, Ty::Bool),
-        PRINT_INT => of_one(args, Base::Int, Ty::Unit),
-        PRINT_STRING => of_one(args, Base::Str, Ty::Unit),
-        SEND => of_one(args, Base::Str, Ty::Unit),
-        RECEIVE => of_one(args, Base::Unit, Ty::Str),
-        LENGTH => of_one(args, Base::Str, Ty::Int),
-        SUB_STRING => slice_type(args),
-        OF_INT => of_one(args, Base::Int, Ty::Str),
-        _ => None,
+    match primitive {
+        Primitive::Add => of_two(args, Base::Int, Ty::Int),
+        Primitive::Sub => of_two(args, Base::Int, Ty::Int),
+        Primitive::Mul => of_two(args, Base::Int, Ty::Int),
+        Primitive::Div => of_two(args, Base::Int, Ty::Int),
+        Primitive::Rem => of_two(args, Base::Int, Ty::Int),
+        Primitive::Neg => of_one(args, Base::Int, Ty::Int),
+        Primitive::Eq => comparison_type(args),
+        Primitive::Lt => comparison_type(args),
+        Primitive::Concat => of_two(args, Base::Str, Ty::Str),
+        Primitive::Not => of_one(args, Base::Bool, Ty::Bool),
+        Primitive::PrintInt => of_one(args, Base::Int, Ty::Unit),
+        Primitive::PrintString => of_one(args, Base::Str, Ty::Unit),
+        Primitive::Send => of_one(args, Base::Str, Ty::Unit),
+        Primitive::Receive => of_one(args, Base::Unit, Ty::Str),
+        Primitive::Length => of_one(args, Base::Str, Ty::Int),
+        Primitive::SubString => slice_type(args),
+        Primitive::OfInt => of_one(args, Base::Int, Ty::Str),
     }
 }
 
 /// The type of a primitive's result, where its arguments have these types.
-pub fn result_type(number: u8, args: Option<Many<Ty>>) -> Option<Ty>
-    ensures { option_map typ_of result ≡ option_and_then (primitive_type number)
-        (option_map typs_of args) }
+pub fn result_type(primitive: Primitive, args: Option<Many<Ty>>) -> Option<Ty>
+    ensures { option_map typ_of result ≡ option_and_then
+        (primitive_type (primitive_number primitive)) (option_map typs_of args) }
 {
     match args {
         None => None,
-        Some(args) => primitive_type(number, args.as_slice()),
+        Some(args) => primitive_type(primitive, args.as_slice()),
     }
 }

@@ -14,7 +14,7 @@ ghost use Rattle.ac_typing.specs.inner.Parts.{types_in, arm_type};
 
 use crate::arms::{both_same, go_on, if_type, is_test, sequence_type};
 use crate::data::{cons_type, empty_type, nil_type, present_type, tuple_type};
-use crate::exceptions::{exception_type, text_exception_type};
+use crate::exceptions::text_exception_type;
 use crate::functions::{applied, function_type, own_type, recursive_type};
 use crate::patterns::variables;
 use crate::primitives::result_type;
@@ -60,10 +60,10 @@ fn typed<'a>(
         Term::Bool(_) => Ok(Some(Ty::Bool)),
         Term::Str(_) => Ok(Some(Ty::Str)),
         Term::Unit => Ok(Some(Ty::Unit)),
-        Term::ExnVal(number, None) => Ok(exception_type(*number)),
-        Term::ExnVal(number, Some(text)) => {
+        Term::ExnVal(_) => Ok(Some(Ty::Exn)),
+        Term::ExnOf(_, text) => {
             let text = typed(alloc, text, site, vars)?;
-            Ok(text_exception_type(*number, text))
+            Ok(text_exception_type(text))
         }
         Term::Tuple(parts) => {
             let parts = types_of(alloc, parts.as_slice(), site, vars)?;
@@ -134,9 +134,9 @@ fn typed<'a>(
             let inner = typed(alloc, inner, site, vars)?;
             promised_type(alloc, ty, inner, Base::Exn, site)
         }
-        Term::Prim(number, args) => {
+        Term::Prim(primitive, args) => {
             let args = types_of(alloc, args.as_slice(), site, vars)?;
-            Ok(result_type(*number, args))
+            Ok(result_type(*primitive, args))
         }
         Term::Own(f) => field_type(alloc, site, *f),
         Term::Ref(j, x) => ref_type(alloc, site, *j, x),

@@ -12,7 +12,7 @@
 //! definition. `Ref 1` is the value of definition 1, `Val T 1` the captured value 1 at T, `Carried T
 //! l` a function of the module, `Foreign T l` one of the import by version. After `type` there is no
 //! definition, variable 0 is an int and variable 1 a bool. The answer is `none` where a term has no
-//! type.
+//! type, and `no term` where there is none, as of a primitive's number that is none.
 #![tactic(auto)]
 
 mod loads;

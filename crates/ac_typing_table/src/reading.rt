@@ -4,9 +4,7 @@ use crate::site::{text, word};
 use crate::types::{NAME, OTHER};
 use ac_pile::Pile;
 use ac_terms::{Home, PVal, Term};
-use ac_types::Name;
-use ac_types::exceptions::exception_name;
-use ac_types::primitives::primitive_name;
+use ac_types::{ExnKind, Name, Primitive};
 use std::alloc::Global;
 
 /// The term that a line writes: its forms are taken from the end on, each with its parts on the
@@ -73,11 +71,10 @@ fn number_of(piece: &str) -> Option<i64> {
     if let Ok(number) = piece.parse::<i64>() {
         return Some(number);
     }
-    for number in 0..17u8 {
-        let bytes = piece.as_bytes();
-        if primitive_name(number) == bytes || exception_name(number) == bytes {
-            return Some(i64::from(number));
-        }
+    let name = piece.as_bytes();
+    if let Some(primitive) = Primitive::from_name(name) {
+        return Some(i64::from(primitive.number()));
     }
-    None
+    let kind = ExnKind::from_name(name)?;
+    Some(i64::from(kind.number()))
 }

@@ -6,7 +6,8 @@ use Rattle.std.proofs.Math.ListN.{get_or-append}
 use Rattle.std.proofs.lemmas.List.{get_or_past}
 use Rattle.ac_values.specs.declared.node.Node.{Node}
 use Rattle.ac_values.specs.declared.node.Value.{Value}
-use Rattle.ac_values.specs.declared.node.Node.TheVariants.{Int, Bool, Str, Unit as UnitNode, Exn, Tuple, Nil, Cons, Absent, Present, Closure, EnvEnd, EnvCons}
+use Rattle.ac_types.specs.ReadNumbers.{texted_number}
+use Rattle.ac_values.specs.declared.node.Node.TheVariants.{Int, Bool, Str, Unit as UnitNode, Exn, ExnOf, Tuple, Nil, Cons, Absent, Present, Closure, EnvEnd, EnvCons}
 use Rattle.ac_values.proofs.BuiltLaws.{built-push, length-built, built-at}
 use Rattle.ac_values.specs.Below.{Below, IsOrdered}
 use Rattle.ac_values.specs.Values.{MValue, MUnit, MTuple, MExnOf, MCons, MPresent, MClosure, MMore, also, value_at, values_at, node_value, values, stands_as}
@@ -21,7 +22,7 @@ values_at_near ts us n (v ∷ vs) h e =
 
 -- a node's value depends on its parts alone
 pub value_of_near : (ts us : List MValue) (n : ℕ) (a : Node) → Below n a → Agree ts us n → node_value ts a ≡ node_value us a
-value_of_near ts us n (Exn x (Some v)) h e = ap (MExnOf x) (e v.0 h)
+value_of_near ts us n (ExnOf x v) h e = ap (MExnOf (texted_number x)) (e v.0 h)
 value_of_near ts us n (Tuple vs) h e = ap MTuple (values_at_near ts us n vs h e)
 value_of_near ts us n (Cons a b) h e = ap₂ MCons (e a.0 h.0) (e b.0 h.1)
 value_of_near ts us n (Present a) h e = ap MPresent (e a.0 h)
@@ -31,7 +32,7 @@ value_of_near ts us n (Int i) h e = refl
 value_of_near ts us n (Bool b) h e = refl
 value_of_near ts us n (Str s) h e = refl
 value_of_near ts us n UnitNode h e = refl
-value_of_near ts us n (Exn x None) h e = refl
+value_of_near ts us n (Exn x) h e = refl
 value_of_near ts us n Nil h e = refl
 value_of_near ts us n Absent h e = refl
 value_of_near ts us n EnvEnd h e = refl

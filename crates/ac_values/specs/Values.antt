@@ -1,8 +1,9 @@
 -- What a number of a store stands for.
-use Rattle.std.specs.Prelude.{ℕ, ℤ, Bool, List, [], ◌∷◌, Some, None, get_or}
+use Rattle.std.specs.Prelude.{ℕ, ℤ, Bool, List, [], ◌∷◌, get_or}
+use Rattle.ac_types.specs.ReadNumbers.{bare_number, texted_number}
 use Rattle.ac_values.specs.declared.node.Node.{Node}
 use Rattle.ac_values.specs.declared.node.Value.{Value}
-use Rattle.ac_values.specs.declared.node.Node.TheVariants.{Int, Bool as BoolNode, Str, Unit as UnitNode, Exn, Tuple, Nil, Cons, Absent, Present, Closure, EnvEnd, EnvCons}
+use Rattle.ac_values.specs.declared.node.Node.TheVariants.{Int, Bool as BoolNode, Str, Unit as UnitNode, Exn, ExnOf, Tuple, Nil, Cons, Absent, Present, Closure, EnvEnd, EnvCons}
 use Rattle.ac_values.specs.Building.{built}
 
 -- a machine value, or a list of them: MEnd, or MMore with the newest and the rest
@@ -41,8 +42,8 @@ node_value ts (Int i) = MInt i
 node_value ts (BoolNode b) = MBool b
 node_value ts (Str s) = MStr s.0
 node_value ts UnitNode = MUnit
-node_value ts (Exn x None) = MExn x
-node_value ts (Exn x (Some v)) = MExnOf x (value_at ts v.0)
+node_value ts (Exn x) = MExn (bare_number x)
+node_value ts (ExnOf x v) = MExnOf (texted_number x) (value_at ts v.0)
 node_value ts (Tuple vs) = MTuple (values_at ts vs)
 node_value ts Nil = MNil
 node_value ts (Cons a b) = MCons (value_at ts a.0) (value_at ts b.0)

@@ -1,7 +1,7 @@
 // Values, and the nodes in which they stand.
 
 use ac_code::CodeId;
-use ac_types::{Many, Text};
+use ac_types::{BareExn, Many, Text, TextExn};
 
 /// The number of a node in its store.
 #[derive(Clone, Copy, Debug, PartialEq, Eq)]
@@ -13,7 +13,8 @@ pub enum Node {
     Bool(bool),
     Str(Text),
     Unit,
-    Exn(u8, Option<Value>),
+    Exn(BareExn),
+    ExnOf(TextExn, Value),
     Tuple(Many<Value>),
     Nil,
     Cons(Value, Value),
@@ -35,7 +36,8 @@ impl Drop for Node {
             | Node::Bool(_)
             | Node::Str(_)
             | Node::Unit
-            | Node::Exn(_, _)
+            | Node::Exn(_)
+            | Node::ExnOf(_, _)
             | Node::Tuple(_)
             | Node::Nil
             | Node::Cons(_, _)

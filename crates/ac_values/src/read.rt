@@ -1,13 +1,14 @@
 //! What the values of a store are.
-ghost use Rattle.std.specs.Prelude.{◌≡◌, ◌<◌, length, MatchOption, Some, None, true, false};
+ghost use Rattle.std.specs.Prelude.{◌≡◌, ◌<◌, length, option_map, MatchOption, Some, None, true, false};
 ghost use Rattle.std.specs.List.{All};
+ghost use Rattle.ac_types.specs.ReadNumbers.{bare_number, texted_number};
 ghost use Rattle.ac_values.specs.Values.{stands_as, values, values_at};
 ghost use Rattle.ac_values.specs.ValueReaders.{newest_and_rest, entry, int_in, bool_in, closure_in, text_in, without, cons_in, present_in, tuple_in, exn_with, exn_without, is_unit, is_nil, is_absent};
 
 use crate::node::{Node, Value};
 use crate::store::Store;
 use ac_code::CodeId;
-use ac_types::{Many, Text};
+use ac_types::{BareExn, Many, Text, TextExn};
 
 /// The newest of a list of values, and the rest.
 pub fn opened(store: &Store, v: Value) -> Option<(Value, Value)>
@@ -145,24 +146,24 @@ pub fn tuple_in<'a>(store: &'a Store, v: Value) -> Option<&'a Many<Value>>
     }
 }
 
-/// The number and the value of an exception that has one.
-pub fn exn_with(store: &Store, v: Value) -> Option<(u8, Value)>
+/// An exception that has a text, and the text.
+pub fn exn_with(store: &Store, v: Value) -> Option<(TextExn, Value)>
     ensures { MatchOption result (exn_with (stands_as store.now v.0) ≡ None)
         (λ p. (p.1.0 < length store.now) × (exn_with (stands_as store.now v.0) ≡ Some
-        (p.0, stands_as store.now p.1.0))) }
+        (texted_number p.0, stands_as store.now p.1.0))) }
 {
     match store.node(v) {
-        Some(Node::Exn(number, Some(inner))) => Some((*number, *inner)),
+        Some(Node::ExnOf(exn, text)) => Some((*exn, *text)),
         _ => None,
     }
 }
 
-/// The number of an exception without a value.
-pub fn exn_without(store: &Store, v: Value) -> Option<u8>
-    ensures { result ≡ exn_without (stands_as store.now v.0) }
+/// An exception that has no text.
+pub fn exn_without(store: &Store, v: Value) -> Option<BareExn>
+    ensures { option_map bare_number result ≡ exn_without (stands_as store.now v.0) }
 {
     match store.node(v) {
-        Some(Node::Exn(number, None)) => Some(*number),
+        Some(Node::Exn(exn)) => Some(*exn),
         _ => None,
     }
 }

@@ -1,12 +1,13 @@
 -- Which tokens are a version, and which are a constraint.
 --
---   version    = vatom ('.' vatom)*                  (1 to 8)
+--   version    = vatom ('.' vatom)*                  (1 to most_version_atoms)
 --   vatom      = INT | 'myname'
---   constraint = '*' | catom ('.' catom)* ['.' '*']  (1 to 8 catoms)
+--   constraint = '*' | catom ('.' catom)* ['.' '*']  (1 to most_version_atoms)
 --   catom      = INT | INT '-' INT | '-' INT | INT '-'
 --
 -- An INT is below 2^32 here. In a catom a `-` behind an INT takes a following INT.
 use Rattle.std.specs.Prelude.{◌≡◌, ℕ, ◌<◌, ◌≤◌, ◌^◌, Bool, true, false, List, [], ◌∷◌, length}
+use Rattle.ac_types.specs.Limits.{most_version_atoms}
 use Rattle.ac_types.specs.Sigs.{Atom, Number as Numbered, MyName as Own, Range, One, Between, UpTo, From, Constraint, Ranges, Exact}
 use Rattle.ac_version.specs.declared.read.VersionFault.{VersionFault}
 use Rattle.ac_version.specs.declared.read.VersionFault.TheVariants as fault
@@ -29,7 +30,7 @@ pub data Atoms : List VToken → List Atom → Type 0 where
 -- the tokens are this version
 pub record IsVersion (ts : List VToken) (version : List Atom) : Type 0 where
   pub atoms : Atoms ts version
-  pub few : length version ≤ 8
+  pub few : length version ≤ most_version_atoms
 
 -- one catom, and the tokens behind it
 pub data RangeAt : List VToken → Range → List VToken → Type 0 where
@@ -47,7 +48,7 @@ pub data Ranged : List VToken → List Range → Bool → Type 0 where
 -- the tokens are a constraint of these ranges, with or without a star behind them
 pub data IsConstraint : List VToken → List Range → Bool → Type 0 where
   any : IsConstraint (Star ∷ []) [] true
-  ranged : {ts : List VToken} {ranges : List Range} {star : Bool} → Ranged ts ranges star → length ranges ≤ 8 → IsConstraint ts ranges star
+  ranged : {ts : List VToken} {ranges : List Range} {star : Bool} → Ranged ts ranges star → length ranges ≤ most_version_atoms → IsConstraint ts ranges star
 
 abbrev pub NoVersion : List VToken → Type 0
 NoVersion ts = (version : List Atom) → IsVersion ts version → ⊥

@@ -4,11 +4,9 @@ ghost use Rattle.std.specs.Prelude.{◌≡◌, ◌<◌, ◌∷◌, [], map, leng
 ghost use Rattle.ac_types.specs.ReadTypes.{atom_of, range_of, constraint_of};
 ghost use Rattle.ac_version.specs.VersionReading.{IsSmall, AtomAt, FirstAtom, NoAtom, IsVersion, NoVersion, OnBad, RangeRead, NoRange, EndAt, ReadsConstraint, NoConstraint};
 
+use ac_types::limits::MOST_VERSION_ATOMS;
 use ac_types::{Atom, Constraint, Many, Memory, Range, Version};
 use std::alloc::Global;
-
-// How many atoms a version or a constraint may have.
-const MOST: usize = 8;
 
 /// A token of a version or a constraint.
 #[derive(Clone, Copy, PartialEq, Eq)]
@@ -98,7 +96,7 @@ pub fn read_version(alloc: Global, tokens: &[VToken]) -> Result<Version, Version
     if !rest.is_empty() {
         return Err(VersionFault::Bad);
     }
-    if atoms.len() > MOST {
+    if atoms.len() > MOST_VERSION_ATOMS {
         return Err(VersionFault::Bad);
     }
     Ok(Version { atoms })
@@ -181,7 +179,7 @@ pub fn read_constraint(alloc: Global, tokens: &[VToken]) -> Result<Constraint, V
     atoms.push(first)?;
     loop {
         if let Some(star) = end(rest) {
-            if atoms.len() > MOST {
+            if atoms.len() > MOST_VERSION_ATOMS {
                 return Err(VersionFault::Bad);
             }
             return Ok(Constraint::Ranges { atoms, star });

@@ -8,6 +8,7 @@ ghost use Rattle.ac_views.specs.inner.Sizes.{from_home, all_from_home};
 
 use crate::opened::opened;
 use crate::site::Site;
+use ac_types::limits::{HIGHEST_TYPE, MOST_TYPE_PARTS};
 use ac_types::{Ty, spend};
 
 // What is left of a number of parts after those of a type as the site's home sees it, which may
@@ -59,11 +60,11 @@ fn spend_all_here<'a>(tys: &'a [Ty], site: &'a Site<'a>, left: u32, depth: u32) 
     Some(left)
 }
 
-/// Whether a type as the site's home sees it has at most 4,096 parts and a height of at most 100.
+/// Whether a type as the site's home sees it is within the limits of parts and height.
 #[tactic(auto, using(ac_types::proofs::SizeLaws::small_laws))]
 pub fn is_small_here<'a>(ty: &'a Ty, site: &'a Site<'a>) -> bool
     requires { length site.now.env.now.entries < 2 ^ 32 }
     ensures { result ≡ is_small (from_home site.now (typ_of ty.now)) }
 {
-    spend_here(ty, site, 4096, 100).is_some()
+    spend_here(ty, site, MOST_TYPE_PARTS, HIGHEST_TYPE).is_some()
 }

@@ -1,7 +1,9 @@
 -- Functions, as they are packed.
-use Rattle.std.proofs.Common.{◌≡◌, refl, sym, ap, ◌∙◌, ℕ, Bool, true, false, ◌&&◌, List, [], Option, Some, None}
+use Rattle.std.proofs.Common.{◌≡◌, refl, sym, ap, ◌∙◌, Bool, true, false, ◌&&◌, List, [], Option, Some, None}
 use Rattle.std.specs.Prelude.{pos}
 use Rattle.ac_types.specs.Types.{Typ, TInt}
+use Rattle.ac_types.specs.ReadNumbers.{texted_number}
+use Rattle.ac_types.specs.declared.exceptions.TextExn.{TextExn}
 use Rattle.ac_terms.specs.Terms.{Home, Main, Expr, Int, App, Lam, Rec, PValue, KUnit, KFun}
 use Rattle.ac_terms.specs.Defs.{Environment}
 use Rattle.ac_terms.specs.Bounds.{is_lambda, is_wanted}
@@ -72,11 +74,10 @@ module _ (E : Environment) where
       wanted k.home l k.context r es T q ∙ ap (λ (o : Option Expr). bare_packed E (closed k.home o k.context r es) T) (sym m) ∙ ap (λ (x : Option Block). bare_packed E (closure_of x r es) T) (sym e)
 
   -- an exception is packed alike at each type
-  pub exception_anywhere : (K : Code) (ts : List MValue) (k : ℕ) (o : Option Value) (T U : Typ) → bare_packed E (stands K (node_value ts (node.Exn k o))) T ≡ bare_packed E (stands K (node_value ts (node.Exn k o))) U
-  exception_anywhere K ts k None T U = refl
-  exception_anywhere K ts k (Some v) T U = by (value_at ts v.0)
+  pub exception_anywhere : (K : Code) (ts : List MValue) (x : TextExn) (v : Value) (T U : Typ) → bare_packed E (stands K (node_value ts (node.ExnOf x v))) T ≡ bare_packed E (stands K (node_value ts (node.ExnOf x v))) U
+  exception_anywhere K ts x v T U = by (value_at ts v.0)
     where
-      by : (m : MValue) → bare_packed E (exception_with k m) T ≡ bare_packed E (exception_with k m) U
+      by : (m : MValue) → bare_packed E (exception_with (texted_number x) m) T ≡ bare_packed E (exception_with (texted_number x) m) U
       by (MStr s) = refl
       by m = sym (senseless_stays T) ∙ senseless_stays U
 

@@ -11,6 +11,7 @@ use Rattle.ac_terms.specs.Heads.{Head, next_head, value_heads}
 use Rattle.ac_terms.specs.Renumbered.{values_renumbered}
 use Rattle.ac_terms.specs.Read.{value_of}
 use Rattle.ac_terms.specs.declared.term.PVal.{PVal}
+use Rattle.ac_terms.specs.Tags.{value_tuple, value_list}
 use Rattle.ac_rules.specs.Views.{head}
 use Rattle.ac_rules.specs.Typing.{tuple_parts, list_item, option_item}
 use Rattle.ac_rules.specs.Plain.{stays, where_there, in_front, may_travel, travelling}
@@ -177,23 +178,23 @@ pub visits_deeper : (r : Result Unit Stop) (d e : ℕ) (v w : PValue) (old new :
 visits_deeper r d e v w old new q p h = subst (λ (n : ℕ). VisitsValue r n w old new) q (visits_value r d v w old new p h)
 
 pub visits_tuple : (r : Result Unit Stop) (d n : ℕ) (vs : PValues) (w : PValue) (old new : Walk) → KTuple vs ≡ w → n ≡ value_count (values_renumbered (number_at old.site) vs) →
-    Visits r (next_head d (0x06 ∷ one_written n) ∷ values_written old.site (suc d) vs) (spoken_at old.site (all_value_parts vs)) old new → VisitsValue r d w old new
+    Visits r (next_head d (value_tuple ∷ one_written n) ∷ values_written old.site (suc d) vs) (spoken_at old.site (all_value_parts vs)) old new → VisitsValue r d w old new
 visits_tuple r d n vs w old new e c h =
     visits_value r d (KTuple vs) w old new e
-    (visits_same r _ _ _ _ old new (ap (λ (k : ℕ). next_head d (0x06 ∷ one_written k) ∷ values_written old.site (suc d) vs) c) refl h)
+    (visits_same r _ _ _ _ old new (ap (λ (k : ℕ). next_head d (value_tuple ∷ one_written k) ∷ values_written old.site (suc d) vs) c) refl h)
 
 pub visits_list : (r : Result Unit Stop) (d n : ℕ) (vs : PValues) (w : PValue) (old new : Walk) → KList vs ≡ w → n ≡ value_count (values_renumbered (number_at old.site) vs) →
-    Visits r (next_head d (0x07 ∷ four_written n) ∷ values_written old.site (suc d) vs) (spoken_at old.site (all_value_parts vs)) old new → VisitsValue r d w old new
+    Visits r (next_head d (value_list ∷ four_written n) ∷ values_written old.site (suc d) vs) (spoken_at old.site (all_value_parts vs)) old new → VisitsValue r d w old new
 visits_list r d n vs w old new e c h =
     visits_value r d (KList vs) w old new e
-    (visits_same r _ _ _ _ old new (ap (λ (k : ℕ). next_head d (0x07 ∷ four_written k) ∷ values_written old.site (suc d) vs) c) refl h)
+    (visits_same r _ _ _ _ old new (ap (λ (k : ℕ). next_head d (value_list ∷ four_written k) ∷ values_written old.site (suc d) vs) c) refl h)
 
 -- a list, the first item of which can't travel
 pub visits_lost : (r : Result Unit Stop) (d n k : ℕ) (w : PValue) (old new : Walk) → n ≡ suc k → KList (all_stay n) ≡ w →
-    ((ks : List Head) (ns : List ℕ) → Visits r (next_head d (0x07 ∷ four_written n) ∷ value_heads two_written (suc d) stays ++ ks) ns old new) → VisitsValue r d w old new
+    ((ks : List Head) (ns : List ℕ) → Visits r (next_head d (value_list ∷ four_written n) ∷ value_heads two_written (suc d) stays ++ ks) ns old new) → VisitsValue r d w old new
 visits_lost r d n k w old new q e h =
     visits_list r d n (all_stay n) w old new e (sym (stay_counted (number_at old.site) n))
-    (visits_same r _ _ _ _ old new (ap (λ (j : ℕ). next_head d (0x07 ∷ four_written n) ∷ values_written old.site (suc d) (all_stay j)) (sym q)) refl
+    (visits_same r _ _ _ _ old new (ap (λ (j : ℕ). next_head d (value_list ∷ four_written n) ∷ values_written old.site (suc d) (all_stay j)) (sym q)) refl
     (h (values_written old.site (suc d) (all_stay k)) (spoken_at old.site (all_value_parts (all_stay n)))))
 
 pub ruleset tail_laws = (there_none)

@@ -18,7 +18,8 @@ use crate::functions::function;
 use crate::lists::{items_in, shared};
 use ac_code::CodeId;
 use ac_heads::{Stop, deeper};
-use ac_types::Ty;
+use ac_terms::tags;
+use ac_types::{TextExn, Ty};
 use ac_values::read::{cons_in, text_in};
 use ac_values::{Node, Value};
 use ac_views::{head, list_item, option_item, tuple_parts};
@@ -42,21 +43,22 @@ pub fn held<'a>(
     let d = deeper(outer)?;
     let site = walk.site;
     let Some(node) = site.store.node(v) else {
-        return walk.head(d, &[0x04]);
+        return walk.head(d, &[tags::VALUE_UNIT]);
     };
     match node {
-        Node::Int(n) => walk.int(d, 0x01, *n),
-        Node::Bool(b) => walk.truth(d, 0x02, *b),
-        Node::Str(text) => walk.string(d, &[0x03], text.as_slice()),
-        Node::Unit => walk.head(d, &[0x04]),
-        Node::Exn(number, text) => exception(walk, *number, *text, d),
+        Node::Int(n) => walk.int(d, tags::VALUE_INT, *n),
+        Node::Bool(b) => walk.truth(d, tags::VALUE_BOOL, *b),
+        Node::Str(text) => walk.string(d, &[tags::VALUE_STR], text.as_slice()),
+        Node::Unit => walk.head(d, &[tags::VALUE_UNIT]),
+        Node::Exn(exn) => walk.head(d, &[tags::VALUE_EXN, exn.number()]),
+        Node::ExnOf(exn, text) => exception(walk, *exn, *text, d),
         Node::Tuple(parts) => {
             let seen = head(site.env, ty);
             held_tuple(walk, parts.as_slice(), seen, d)
         }
         Node::Nil => walk.nil(d),
         Node::Cons(_, _) => held_list(walk, v, ty, d),
-        Node::Absent => walk.head(d, &[0x08]),
+        Node::Absent => walk.head(d, &[tags::VALUE_ABSENT]),
         Node::Present(inner) => held_option(walk, *inner, ty, d),
         Node::Closure {
             block,
@@ -68,21 +70,18 @@ pub fn held<'a>(
     }
 }
 
-// An exception; its text is a string of the store.
+// An exception that has a text, which is a string of the store.
 #[tactic(auto, using(crate::proofs::ValueLaws::held_laws))]
-fn exception<'a>(walk: &mut Walk<'a>, number: u8, text: Option<Value>, d: u32) -> Result<(), Stop>
+fn exception<'a>(walk: &mut Walk<'a>, exn: TextExn, text: Value, d: u32) -> Result<(), Stop>
     ensures { VisitsValue result d
         (bare_packed (entries_at walk.old.site) (stands (code_at walk.old.site)
-        (node_value (values walk.old.site.store.now) (Node.Exn number text))) TExn) walk.old
+        (node_value (values walk.old.site.store.now) (Node.ExnOf exn text))) TExn) walk.old
         walk.new }
 {
     let site = walk.site;
-    let Some(inner) = text else {
-        return walk.head(d, &[0x05, number]);
-    };
-    match text_in(site.store, inner) {
+    match text_in(site.store, text) {
         None => walk.stay(d),
-        Some(text) => walk.string(d, &[0x05, number], text.as_slice()),
+        Some(text) => walk.string(d, &[tags::VALUE_EXN, exn.number()], text.as_slice()),
     }
 }
 
@@ -97,7 +96,7 @@ fn held_option<'a>(walk: &mut Walk<'a>, inner: Value, ty: &'a Ty, d: u32) -> Res
     let site = walk.site;
     match option_item(head(site.env, ty)) {
         None => walk.stay(d),
-        Some(item) => walk.one(d, &[0x09], Piece::Held(inner, item, d)),
+        Some(item) => walk.one(d, &[tags::VALUE_PRESENT], Piece::Held(inner, item, d)),
     }
 }
 
@@ -113,7 +112,7 @@ fn held_tuple<'a>(walk: &mut Walk<'a>, parts: &'a [Value], ty: &'a Ty, d: u32) -
     };
     let count = shared(parts.len(), types.len())?;
     let all = Piece::HeldParts(parts, types.as_slice(), d);
-    walk.few(d, 0x06, count, all)
+    walk.few(d, tags::VALUE_TUPLE, count, all)
 }
 
 // A list of one item or more.
@@ -130,7 +129,7 @@ fn held_list<'a>(walk: &mut Walk<'a>, list: Value, ty: &'a Ty, d: u32) -> Result
     };
     match list_item(head(site.env, ty)) {
         None => walk.lost(d, count),
-        Some(item) => { walk.many(d, 0x07, count, Piece::HeldItems(list, item, d)) }
+        Some(item) => { walk.many(d, tags::VALUE_LIST, count, Piece::HeldItems(list, item, d)) }
     }
 }
 

@@ -1,10 +1,11 @@
 // Packed values, which stand in functions that have arrived.
 
-ghost use Rattle.std.specs.Prelude.{◌≡◌, ◌<◌, ◌^◌, option_map, suc, map, length};
+ghost use Rattle.std.specs.Prelude.{◌≡◌, ◌<◌, ◌^◌, suc, map, length};
+ghost use Rattle.ac_types.specs.ReadNumbers.{exn_number, exn_text};
 ghost use Rattle.ac_types.specs.Types.{TInt};
 ghost use Rattle.ac_types.specs.ReadTypes.{typ_of};
 ghost use Rattle.ac_terms.specs.Terms.{KTuple, KPresent, KFun, KExn, KList, pvalues};
-ghost use Rattle.ac_terms.specs.Read.{home_of, expr_of, value_of, bytes_of};
+ghost use Rattle.ac_terms.specs.Read.{home_of, expr_of, value_of};
 ghost use Rattle.ac_rules.specs.Typing.{tuple_parts};
 ghost use Rattle.ac_rules.specs.Plain.{where_there};
 ghost use Rattle.ac_views.specs.Sites.{typs_of};
@@ -14,8 +15,8 @@ ghost use Rattle.ac_walk.specs.inner.Goes.{VisitsValue, VisitsValues};
 use crate::functions::function;
 use crate::lists::shared;
 use ac_heads::{Stop, deeper};
-use ac_terms::{Exn, Home, PVal, Term};
-use ac_types::Ty;
+use ac_terms::{Home, PVal, Term, tags};
+use ac_types::{Exn, Ty};
 use ac_views::{head, list_item, option_item, tuple_parts};
 use ac_walk::{Around, Piece, Walk};
 use std::alloc::Global;
@@ -37,17 +38,17 @@ pub fn packed<'a>(
     let site = walk.site;
     let d = deeper(outer)?;
     match value {
-        PVal::Int(n) => walk.int(d, 0x01, *n),
-        PVal::Bool(b) => walk.truth(d, 0x02, *b),
-        PVal::Str(text) => walk.string(d, &[0x03], text.as_slice()),
-        PVal::Unit => walk.head(d, &[0x04]),
+        PVal::Int(n) => walk.int(d, tags::VALUE_INT, *n),
+        PVal::Bool(b) => walk.truth(d, tags::VALUE_BOOL, *b),
+        PVal::Str(text) => walk.string(d, &[tags::VALUE_STR], text.as_slice()),
+        PVal::Unit => walk.head(d, &[tags::VALUE_UNIT]),
         PVal::Exn(exn) => exception(walk, exn, d),
         PVal::Tuple(parts) => {
             let seen = head(site.env, ty);
             packed_tuple(walk, parts.as_slice(), seen, d)
         }
         PVal::List(parts) => packed_list(walk, parts.as_slice(), ty, d),
-        PVal::Absent => walk.head(d, &[0x08]),
+        PVal::Absent => walk.head(d, &[tags::VALUE_ABSENT]),
         PVal::Present(inner) => packed_option(walk, inner, ty, d),
         PVal::Fun(home, function) => packed_function(walk, alloc, *home, function, ty, d),
     }
@@ -57,11 +58,13 @@ pub fn packed<'a>(
 #[tactic(auto, using(crate::proofs::ValueLaws::packed_laws))]
 fn exception<'a>(walk: &mut Walk<'a>, exn: &Exn, d: u32) -> Result<(), Stop>
     ensures { VisitsValue result d
-        (KExn exn.now.number (option_map bytes_of exn.now.text)) walk.old walk.new }
+        (KExn (exn_number exn.now) (exn_text exn.now)) walk.old walk.new }
 {
-    match &exn.text {
-        None => walk.head(d, &[0x05, exn.number]),
-        Some(text) => walk.string(d, &[0x05, exn.number], text.as_slice()),
+    match exn {
+        Exn::Bare(exn) => walk.head(d, &[tags::VALUE_EXN, exn.number()]),
+        Exn::Text(exn, text) => {
+            walk.string(d, &[tags::VALUE_EXN, exn.number()], text.as_slice())
+        }
     }
 }
 
@@ -76,7 +79,7 @@ fn packed_option<'a>(walk: &mut Walk<'a>, inner: &'a PVal, ty: &'a Ty, d: u32) -
     let site = walk.site;
     match option_item(head(site.env, ty)) {
         None => walk.stay(d),
-        Some(item) => walk.one(d, &[0x09], Piece::Packed(inner, item, d)),
+        Some(item) => walk.one(d, &[tags::VALUE_PRESENT], Piece::Packed(inner, item, d)),
     }
 }
 
@@ -92,7 +95,7 @@ fn packed_tuple<'a>(walk: &mut Walk<'a>, parts: &'a [PVal], ty: &'a Ty, d: u32) 
     };
     let count = shared(parts.len(), types.len())?;
     let all = Piece::PackedParts(parts, types.as_slice(), d);
-    walk.few(d, 0x06, count, all)
+    walk.few(d, tags::VALUE_TUPLE, count, all)
 }
 
 // A list.
@@ -110,7 +113,14 @@ fn packed_list<'a>(walk: &mut Walk<'a>, items: &'a [PVal], ty: &'a Ty, d: u32) -
     }
     match list_item(head(site.env, ty)) {
         None => walk.lost(d, count),
-        Some(item) => { walk.many(d, 0x07, count, Piece::PackedItems(items, item, d)) }
+        Some(item) => {
+            walk.many(
+                d,
+                tags::VALUE_LIST,
+                count,
+                Piece::PackedItems(items, item, d),
+            )
+        }
     }
 }
 
@@ -131,7 +141,7 @@ fn packed_function<'a>(
         walk.old walk.new }
 {
     if !lambda.is_lambda() {
-        return walk.head(d, &[0x04]);
+        return walk.head(d, &[tags::VALUE_UNIT]);
     }
     let around = Around {
         home,

@@ -1,7 +1,7 @@
 // What is written of a type and a value.
 
 ghost use Rattle.std.specs.Prelude.{◌≡◌, ◌∷◌, ◌++◌, ◌<◌, ◌^◌, [], MatchResult, Some, None, length, get_or};
-ghost use Rattle.ac_types.specs.Limits.{longest_packet};
+ghost use Rattle.ac_types.specs.Limits.{longest_packet, deepest_nesting};
 ghost use Rattle.ac_types.specs.Types.{TInt};
 ghost use Rattle.ac_types.specs.ReadTypes.{typ_of};
 ghost use Rattle.ac_terms.specs.Terms.{PValue};
@@ -53,12 +53,12 @@ pub fn write(
     ensures { let v : PValue = bare_packed (environment_of env.now)
         (stands (table_code table.now) (stands_as store.now value.0)) (typ_of ty.now) in
         MatchResult result
-        (λ w. (first_fault 500 longest_packet 0 (packed_heads (typ_of ty.now) v) ≡ None) ×
-        (w.text.0 ≡ type_bytes (typ_of ty.now) ++ value_bytes two_written
+        (λ w. (first_fault deepest_nesting longest_packet 0 (packed_heads (typ_of ty.now) v) ≡
+        None) × (w.text.0 ≡ type_bytes (typ_of ty.now) ++ value_bytes two_written
         (value_renumbered (λ k. get_or numbers.now k 0) v)) × (w.roots ≡
         spoken_by_all (environment_of env.now) (OfType (typ_of ty.now) ∷ value_parts v)))
         (λ e. (f : Fault) → fault_in e ≡ Some f →
-        first_fault 500 longest_packet 0 (packed_heads (typ_of ty.now) v) ≡ Some f) }
+        first_fault deepest_nesting longest_packet 0 (packed_heads (typ_of ty.now) v) ≡ Some f) }
 {
     let int = Ty::Int;
     let site = Site {

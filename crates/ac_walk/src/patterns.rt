@@ -11,7 +11,7 @@ ghost use Rattle.ac_walk.specs.inner.Goes.{Visits};
 use crate::piece::Piece;
 use crate::walk::Walk;
 use ac_heads::{Stop, deeper};
-use ac_terms::Pat;
+use ac_terms::{Pat, tags};
 
 impl<'a> Walk<'a> {
     /// Visits a pattern inside a part that nests so deep.
@@ -23,25 +23,37 @@ impl<'a> Walk<'a> {
     {
         let d = deeper(outer)?;
         match pat {
-            Pat::Wild => self.head(d, &[0x01]),
-            Pat::Var(ty) => self.one(d, &[0x02], Piece::Type(ty)),
-            Pat::Int(n) => self.int(d, 0x03, *n),
-            Pat::Bool(b) => self.truth(d, 0x04, *b),
-            Pat::Str(text) => self.string(d, &[0x05], text.as_slice()),
-            Pat::Unit => self.head(d, &[0x06]),
+            Pat::Wild => self.head(d, &[tags::PATTERN_WILD]),
+            Pat::Var(ty) => self.one(d, &[tags::PATTERN_VAR], Piece::Type(ty)),
+            Pat::Int(n) => self.int(d, tags::PATTERN_INT, *n),
+            Pat::Bool(b) => self.truth(d, tags::PATTERN_BOOL, *b),
+            Pat::Str(text) => self.string(d, &[tags::PATTERN_STR], text.as_slice()),
+            Pat::Unit => self.head(d, &[tags::PATTERN_UNIT]),
             Pat::Tuple(parts) => {
-                self.few(d, 0x07, parts.len(), Piece::Patterns(parts.as_slice(), d))
+                self.few(
+                    d,
+                    tags::PATTERN_TUPLE,
+                    parts.len(),
+                    Piece::Patterns(parts.as_slice(), d),
+                )
             }
-            Pat::Nil => self.head(d, &[0x08]),
+            Pat::Nil => self.head(d, &[tags::PATTERN_NIL]),
             Pat::Cons(head, tail) => {
-                self.two(d, &[0x09], Piece::Pattern(head, d), Piece::Pattern(tail, d))
+                self.two(
+                    d,
+                    &[tags::PATTERN_CONS],
+                    Piece::Pattern(head, d),
+                    Piece::Pattern(tail, d),
+                )
             }
-            Pat::Absent => self.head(d, &[0x0A]),
-            Pat::Present(inner) => self.one(d, &[0x0B], Piece::Pattern(inner, d)),
-            Pat::Exn(number, inner) => match inner {
-                None => self.head(d, &[0x0C, *number]),
-                Some(inner) => self.one(d, &[0x0C, *number], Piece::Pattern(inner, d)),
-            },
+            Pat::Absent => self.head(d, &[tags::PATTERN_ABSENT]),
+            Pat::Present(inner) => self.one(d, &[tags::PATTERN_PRESENT], Piece::Pattern(inner, d)),
+            Pat::Exn(exn) => self.head(d, &[tags::PATTERN_EXN, exn.number()]),
+            Pat::ExnOf(exn, inner) => self.one(
+                d,
+                &[tags::PATTERN_EXN, exn.number()],
+                Piece::Pattern(inner, d),
+            ),
         }
     }
 

@@ -23,10 +23,8 @@ pub fn binders(pat: &Pat) -> Result<usize, Memory>
             sum(first, second)
         }
         Pat::Present(inner) => binders(inner),
-        Pat::Exn(_, inner) => match inner {
-            None => Ok(0),
-            Some(inner) => binders(inner),
-        },
+        Pat::ExnOf(_, inner) => binders(inner),
+        Pat::Exn(_) => Ok(0),
         Pat::Wild => Ok(0),
         Pat::Int(_) => Ok(0),
         Pat::Bool(_) => Ok(0),

@@ -16,7 +16,7 @@ use crate::piece::{Around, Piece};
 use crate::shapes::binders;
 use crate::walk::Walk;
 use ac_heads::{Stop, deeper};
-use ac_terms::{Arm, Term};
+use ac_terms::{Arm, Term, tags};
 use ac_types::Ty;
 
 impl<'a> Walk<'a> {
@@ -30,48 +30,71 @@ impl<'a> Walk<'a> {
         let site = self.site;
         let d = deeper(outer)?;
         match t {
-            Term::Int(n) => self.int(d, 0x01, *n),
-            Term::Bool(b) => self.truth(d, 0x02, *b),
-            Term::Str(text) => self.string(d, &[0x03], text.as_slice()),
-            Term::Unit => self.head(d, &[0x04]),
-            Term::ExnVal(number, inner) => match inner {
-                None => self.head(d, &[0x05, *number]),
-                Some(inner) => self.one_term(d, &[0x05, *number], inner, &around),
-            },
+            Term::Int(n) => self.int(d, tags::TERM_INT, *n),
+            Term::Bool(b) => self.truth(d, tags::TERM_BOOL, *b),
+            Term::Str(text) => self.string(d, &[tags::TERM_STR], text.as_slice()),
+            Term::Unit => self.head(d, &[tags::TERM_UNIT]),
+            Term::ExnVal(exn) => self.head(d, &[tags::TERM_EXN, exn.number()]),
+            Term::ExnOf(exn, inner) => {
+                self.one_term(d, &[tags::TERM_EXN, exn.number()], inner, &around)
+            }
             Term::Tuple(parts) => {
                 let all = Piece::Terms(parts.as_slice(), around, d);
-                self.few(d, 0x06, parts.len(), all)
+                self.few(d, tags::TERM_TUPLE, parts.len(), all)
             }
-            Term::Nil(ty) => self.one(d, &[0x07], Piece::Type(ty)),
-            Term::Empty(ty) => self.one(d, &[0x08], Piece::Type(ty)),
-            Term::Present(inner) => self.one_term(d, &[0x09], inner, &around),
-            Term::Cons(head, tail) => self.two_terms(d, 0x0A, head, tail, &around),
+            Term::Nil(ty) => self.one(d, &[tags::TERM_NIL], Piece::Type(ty)),
+            Term::Empty(ty) => self.one(d, &[tags::TERM_EMPTY], Piece::Type(ty)),
+            Term::Present(inner) => self.one_term(d, &[tags::TERM_PRESENT], inner, &around),
+            Term::Cons(head, tail) => self.two_terms(d, tags::TERM_CONS, head, tail, &around),
             Term::Var(i) => self.variable(*i, around, d),
-            Term::Own(field) => self.short(d, 0x0C, *field),
+            Term::Own(field) => self.short(d, tags::TERM_OWN, *field),
             Term::Ref(entry, field) => {
                 let number = site.number(*entry);
                 self.reference(d, *entry, number, field)
             },
             Term::Lam(ty, body) => self.lambda(d, ty, body, &around),
             Term::Rec(from, to, body) => self.recursive(d, from, to, body, &around),
-            Term::App(f, a) => self.two_terms(d, 0x10, f, a, &around),
+            Term::App(f, a) => self.two_terms(d, tags::TERM_APP, f, a, &around),
             Term::Let(ty, bound, body) => self.local(d, ty, bound, body, &around),
             Term::If(test, so, otherwise) => self.choice(d, test, so, otherwise, &around),
             Term::Seq(parts) => {
                 let all = Piece::Terms(parts.as_slice(), around, d);
-                self.many(d, 0x13, parts.len(), all)
+                self.many(d, tags::TERM_SEQ, parts.len(), all)
             }
-            Term::Match(of, cases) => self.with_cases(d, 0x14, of, cases.as_slice(), &around),
-            Term::Try(of, cases) => self.with_cases(d, 0x15, of, cases.as_slice(), &around),
-            Term::Raise(ty, inner) => self.typed_term(d, 0x16, ty, inner, &around),
-            Term::Prim(number, args) => {
+            Term::Match(of, cases) => self.with_cases(
+                d,
+                tags::TERM_MATCH,
+                of,
+                cases.as_slice(),
+                &around,
+            ),
+            Term::Try(of, cases) => self.with_cases(
+                d,
+                tags::TERM_TRY,
+                of,
+                cases.as_slice(),
+                &around,
+            ),
+            Term::Raise(ty, inner) => self.typed_term(d, tags::TERM_RAISE, ty, inner, &around),
+            Term::Prim(primitive, args) => {
                 let args = Piece::Terms(args.as_slice(), around, d);
-                self.one(d, &[0x17, *number], args)
+                self.one(d, &[tags::TERM_PRIM, primitive.number()], args)
             }
             Term::Marshal(ty, mark, inner) => self.marshal(d, ty, mark, inner, &around),
-            Term::Unmarshal(ty, inner) => self.typed_term(d, 0x19, ty, inner, &around),
+            Term::Unmarshal(ty, inner) => self.typed_term(
+                d,
+                tags::TERM_UNMARSHAL,
+                ty,
+                inner,
+                &around,
+            ),
             Term::Val(ty, value) => {
-                self.two(d, &[0x1A], Piece::Type(ty), Piece::Packed(value, ty, d))
+                self.two(
+                    d,
+                    &[tags::TERM_VAL],
+                    Piece::Type(ty),
+                    Piece::Packed(value, ty, d),
+                )
             }
         }
     }
@@ -160,7 +183,7 @@ impl<'a> Walk<'a> {
             (Lam (typ_of ty.now) (expr_of body.now))) self.old self.new }
     {
         let within = around.under(1)?;
-        self.typed_term(d, 0x0E, ty, body, &within)
+        self.typed_term(d, tags::TERM_LAM, ty, body, &within)
     }
 
     // A recursive function.
@@ -177,7 +200,13 @@ impl<'a> Walk<'a> {
             (Rec (typ_of from.now) (typ_of to.now) (expr_of body.now))) self.old self.new }
     {
         let body = Piece::Term(body, around.under(2)?, d);
-        self.three(d, &[0x0F], Piece::Type(from), Piece::Type(to), body)
+        self.three(
+            d,
+            &[tags::TERM_REC],
+            Piece::Type(from),
+            Piece::Type(to),
+            body,
+        )
     }
 
     // A term with a variable of its own.
@@ -195,7 +224,7 @@ impl<'a> Walk<'a> {
     {
         let bound = Piece::Term(bound, *around, d);
         let body = Piece::Term(body, around.under(1)?, d);
-        self.three(d, &[0x11], Piece::Type(ty), bound, body)
+        self.three(d, &[tags::TERM_LET], Piece::Type(ty), bound, body)
     }
 
     // A choice.
@@ -212,7 +241,13 @@ impl<'a> Walk<'a> {
     {
         let test = Piece::Term(test, *around, d);
         let so = Piece::Term(so, *around, d);
-        self.three(d, &[0x12], test, so, Piece::Term(otherwise, *around, d))
+        self.three(
+            d,
+            &[tags::TERM_IF],
+            test,
+            so,
+            Piece::Term(otherwise, *around, d),
+        )
     }
 
     // A term that is marshalled.
@@ -229,7 +264,7 @@ impl<'a> Walk<'a> {
     {
         let mark = Piece::Term(mark, *around, d);
         let inner = Piece::Term(inner, *around, d);
-        self.three(d, &[0x18], Piece::Type(ty), mark, inner)
+        self.three(d, &[tags::TERM_MARSHAL], Piece::Type(ty), mark, inner)
     }
 
     // A variable, or the captured value that stands for it.
@@ -241,9 +276,14 @@ impl<'a> Walk<'a> {
     {
         let site = self.site;
         match around.slot(&site, i) {
-            Slot::Free(i) => self.short(d, 0x0B, i),
+            Slot::Free(i) => self.short(d, tags::TERM_VAR, i),
             Slot::Bound(value, ty) => {
-                self.two(d, &[0x1A], Piece::Type(ty), Piece::Held(value, ty, d))
+                self.two(
+                    d,
+                    &[tags::TERM_VAL],
+                    Piece::Type(ty),
+                    Piece::Held(value, ty, d),
+                )
             }
         }
     }

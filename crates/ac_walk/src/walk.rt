@@ -5,6 +5,7 @@ ghost use Rattle.ac_terms.specs.Spelling.{truth, str, word, one_written, two_wri
 ghost use Rattle.ac_terms.specs.Read.{home_of};
 ghost use Rattle.ac_terms.specs.Renumbered.{home_by};
 ghost use Rattle.ac_terms.specs.Heads.{Head, next_head, before, value_heads};
+ghost use Rattle.ac_terms.specs.Tags.{value_list, term_ref, value_fun};
 ghost use Rattle.ac_rules.specs.Plain.{stays};
 ghost use Rattle.ac_heads.specs.Outcomes.{On};
 ghost use Rattle.ac_walk.specs.Spoken.{spoken_by_home};
@@ -14,7 +15,7 @@ ghost use Rattle.ac_walk.specs.inner.Goes.{comes, Visits};
 use crate::piece::{Piece, Site};
 use ac_heads as heads;
 use ac_heads::Stop;
-use ac_terms::Home;
+use ac_terms::{Home, tags};
 use ac_types::{Many, Memory, Text, Word};
 use std::alloc::Global;
 
@@ -98,18 +99,19 @@ impl<'a> Walk<'a> {
 
     /// The head of a list without items.
     pub fn nil(&mut self, d: u32) -> Result<(), Stop>
-        ensures { Visits result (next_head d (0x07 ∷ four_written 0) ∷ []) [] self.old self.new }
+        ensures { Visits result (next_head d (value_list ∷ four_written 0) ∷ []) [] self.old
+            self.new }
     {
-        heads::count(&mut self.text, d, 0x07, 0)
+        heads::count(&mut self.text, d, tags::VALUE_LIST, 0)
     }
 
     /// A reference to a value of a definition, which is written by this number.
     #[tactic(auto, using(crate::proofs::WalkLaws::stop_laws), unfolding(crate::specs::inner::Goes::Visits))]
     pub fn reference(&mut self, d: u32, entry: u32, number: u16, name: &Word) -> Result<(), Stop>
-        ensures { Visits result (next_head d (0x0D ∷ two_written number ++ word name.now) ∷ [])
-            (entry ∷ []) self.old self.new }
+        ensures { Visits result (next_head d (term_ref ∷ two_written number ++ word name.now) ∷
+            []) (entry ∷ []) self.old self.new }
     {
-        heads::named(&mut self.text, d, 0x0D, number, name)?;
+        heads::named(&mut self.text, d, tags::TERM_REF, number, name)?;
         self.roots.push(entry)?;
         Ok(())
     }
@@ -194,13 +196,13 @@ impl<'a> Walk<'a> {
     #[tactic(auto, using(crate::proofs::WalkLaws::step_laws))]
     pub fn function_head(&mut self, d: u32, home: Home, lambda: Piece<'a>) -> Result<(), Stop>
         ensures { Visits result (next_head d
-            (0x0A ∷ home_bytes (home_by (number_at self.old.site) (home_of home))) ∷
+            (value_fun ∷ home_bytes (home_by (number_at self.old.site) (home_of home))) ∷
             heads_at self.old.site lambda.entry)
             (spoken_by_home (home_of home) ++ roots_at self.old.site lambda.entry) self.old
             self.new }
     {
         match home {
-            Home::Main => self.one(d, &[0x0A, 0, 0], lambda),
+            Home::Main => self.one(d, &[tags::VALUE_FUN, 0, 0], lambda),
             Home::In(k) => {
                 let number = self.site.home_number(k)?;
                 self.function_in(d, k, number, lambda)
@@ -211,11 +213,11 @@ impl<'a> Walk<'a> {
     // The same for a home that is written by this number.
     #[tactic(auto, using(crate::proofs::WalkLaws::stop_laws), unfolding(crate::specs::inner::Goes::Visits))]
     fn function_in(&mut self, d: u32, k: u32, number: u16, lambda: Piece<'a>) -> Result<(), Stop>
-        ensures { Visits result (next_head d (0x0A ∷ two_written number) ∷
+        ensures { Visits result (next_head d (value_fun ∷ two_written number) ∷
             heads_at self.old.site lambda.entry) (k ∷ roots_at self.old.site lambda.entry) self.old
             self.new }
     {
-        heads::short(&mut self.text, d, 0x0A, number)?;
+        heads::short(&mut self.text, d, tags::VALUE_FUN, number)?;
         self.roots.push(k)?;
         self.add(lambda)?;
         Ok(())
@@ -292,7 +294,7 @@ impl<'a> Walk<'a> {
     /// Stops at a list of so many items, the first of which can't travel.
     pub fn lost(&mut self, d: u32, items: usize) -> Result<(), Stop>
         ensures { (ks : List Head) (ns : List ℕ) →
-            Visits result (next_head d (0x07 ∷ four_written items) ∷
+            Visits result (next_head d (value_list ∷ four_written items) ∷
             value_heads two_written (suc d) stays ++ ks) ns self.old self.new }
     {
         Err(heads::lost(&mut self.text, d, items))

@@ -3,7 +3,6 @@
 use crate::sheet::Sheet;
 use crate::types::write_type;
 use ac_terms::Pat;
-use ac_types::exceptions::exception_name;
 
 fn truth(sheet: &mut Sheet, truth: bool) {
     sheet.leaf(if truth { b"true" } else { b"false" });
@@ -43,9 +42,9 @@ pub fn write_pattern(sheet: &mut Sheet, pattern: &Pat) {
             write_pattern(sheet, item);
             sheet.close();
         }
-        Pat::Exn(number, None) => sheet.leaf(exception_name(*number)),
-        Pat::Exn(number, Some(item)) => {
-            sheet.open(exception_name(*number));
+        Pat::Exn(exn) => sheet.leaf(exn.name()),
+        Pat::ExnOf(exn, item) => {
+            sheet.open(exn.name());
             write_pattern(sheet, item);
             sheet.close();
         }

@@ -3,14 +3,13 @@
 use crate::patterns::write_pattern;
 use crate::sheet::Sheet;
 use crate::types::write_type;
-use ac_terms::{Arm, Exn, Home, PVal, Term};
-use ac_types::exceptions::exception_name;
-use ac_types::primitives::primitive_name;
+use ac_terms::{Arm, Home, PVal, Term};
+use ac_types::Exn;
 
 fn form(term: &Term) -> &'static [u8] {
     match term {
-        Term::ExnVal(number, _) => exception_name(*number),
-        Term::Prim(number, _) => primitive_name(*number),
+        Term::ExnOf(exn, _) => exn.name(),
+        Term::Prim(primitive, _) => primitive.name(),
         Term::Tuple(_) => b"tuple",
         Term::Nil(_) => b"[]",
         Term::Empty(_) => b"None",
@@ -74,7 +73,7 @@ pub fn write_term(sheet: &mut Sheet, term: &Term) {
         Term::Bool(false) => sheet.leaf(b"false"),
         Term::Str(text) => sheet.string(text),
         Term::Unit => sheet.leaf(b"()"),
-        Term::ExnVal(number, None) => sheet.leaf(exception_name(*number)),
+        Term::ExnVal(exn) => sheet.leaf(exn.name()),
         term => {
             sheet.open(form(term));
             front(sheet, term);
@@ -87,7 +86,7 @@ pub fn write_term(sheet: &mut Sheet, term: &Term) {
 #[cycle(terms)]
 fn write_parts(sheet: &mut Sheet, term: &Term) {
     match term {
-        Term::ExnVal(_, Some(part))
+        Term::ExnOf(_, part)
         | Term::Present(part)
         | Term::Lam(_, part)
         | Term::Rec(_, _, part)
@@ -133,10 +132,10 @@ fn write_arms(sheet: &mut Sheet, arms: &[Arm]) {
 }
 
 fn write_exn(sheet: &mut Sheet, exn: &Exn) {
-    match &exn.text {
-        None => sheet.leaf(exception_name(exn.number)),
-        Some(text) => {
-            sheet.open(exception_name(exn.number));
+    match exn {
+        Exn::Bare(exn) => sheet.leaf(exn.name()),
+        Exn::Text(exn, text) => {
+            sheet.open(exn.name());
             sheet.string(text);
             sheet.close();
         }

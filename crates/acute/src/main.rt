@@ -2,7 +2,8 @@
 #![tactic(auto)]
 
 use ac_command::{Channel, Command, read_words};
-use ac_outside::{OpenGate, RealFiles, RealSink, RealSource};
+use ac_outside::OpenGate;
+use ac_outside_system::{RealFiles, RealSink, RealSource};
 use ac_top::{Status, acute};
 use ac_types::Memory;
 use std::alloc::Global;

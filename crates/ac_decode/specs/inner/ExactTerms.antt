@@ -1,6 +1,6 @@
 -- How patterns, terms and packed values are read exactly, whatever reads types.
 use Rattle.std.specs.Prelude.{ℕ, zero, suc, Bool, true, false, nat_le, List, [], ◌∷◌, Some, None}
-use Rattle.ac_types.specs.Limits.{longest_string}
+use Rattle.ac_types.specs.Limits.{longest_string, most_arms}
 use Rattle.ac_types.specs.Types.{Typ}
 use Rattle.ac_terms.specs.Terms.{Pattern, PWild, PVar, PInt, PBool, PStr, PUnit, PTuple, PNil, PCons, PAbsent, PPresent, PExn, PExnOf, no_patterns, pattern', Expr, Int, Boolean, Str, Unit', Exn, ExnOf, Tuple, Nil, Empty, Present, Cons, Var, Own, Ref, Lam, Rec, App, Let, If, Seq, Match, Try, Raise, Prim, Marshal, Unmarshal, Val, no_exprs, expr, Arms, no_arms, arm, PValue, KInt, KBool, KStr, KUnit, KExn, KTuple, KList, KAbsent, KPresent, KFun, no_pvalues, pvalue, Home}
 use Rattle.ac_types.specs.Exceptions.{has_text, resolve_failure}
@@ -41,7 +41,7 @@ exact_several = passing several exact_four
 
 -- of a match or a try
 abbrev pub exact_cases : ReadsPart Pattern → ReadsPart Expr → ReadsPart Arms
-exact_cases p f = then_read (exact_long_count 1 1024) (times no_arms an_arm (pair p f))
+exact_cases p f = then_read (exact_long_count 1 most_arms) (times no_arms an_arm (pair p f))
 
 abbrev pub exact_value_table : ReadsPart Expr → ReadsPart PValue → List (ReadsPart PValue)
 exact_value_table f g =

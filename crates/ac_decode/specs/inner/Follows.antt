@@ -1,4 +1,5 @@
 -- What stands behind the head of a pattern, of a term and of a packed value.
+use Rattle.ac_types.specs.ReadNumbers.{primitive_number, texted_number}
 use Rattle.ac_types.specs.ReadTypes.{typ_of}
 use Rattle.ac_terms.specs.Terms.{Pattern, PTuple, PCons, PPresent, PExnOf, no_patterns, pattern', Expr, ExnOf, Tuple, Present, Cons, Lam, Rec, App, Let, If, Seq, Match, Try, Raise, Prim, Marshal, Unmarshal, Val, Exprs, no_exprs, expr, Arms, PValue, KTuple, KList, KPresent, KFun, no_pvalues, pvalue}
 use Rattle.ac_terms.specs.Read.{pattern_of, expr_of, value_of, home_of}
@@ -26,11 +27,11 @@ pattern_follows f (pat.Leaf p) = give (pattern_of p)
 pattern_follows f (pat.Tuple n) = one PTuple (times no_patterns pattern' f n)
 pattern_follows f pat.Cons = two_parts_read PCons f f
 pattern_follows f pat.Present = one PPresent f
-pattern_follows f (pat.Exn k) = one (PExnOf k) f
+pattern_follows f (pat.Exn x) = one (PExnOf (texted_number x)) f
 
 -- a term around one, of two, and of several
 abbrev pub put_around : Around → Expr → Expr
-put_around (around.Exn k) = ExnOf k
+put_around (around.Exn x) = ExnOf (texted_number x)
 put_around around.Present = Present
 put_around (around.Lam ty) = Lam (typ_of ty)
 put_around (around.Rec from to) = Rec (typ_of from) (typ_of to)
@@ -46,7 +47,7 @@ put_joint (joint.Marshal ty) = Marshal (typ_of ty)
 abbrev pub put_row : Row → Exprs → Expr
 put_row row.Tuple = Tuple
 put_row row.Seq = Seq
-put_row (row.Prim k) = Prim k
+put_row (row.Prim p) = Prim (primitive_number p)
 
 abbrev pub put_cases : Cases → Expr → Arms → Expr
 put_cases cases.Match = Match

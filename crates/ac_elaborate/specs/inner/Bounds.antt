@@ -1,5 +1,6 @@
 -- What is asked of the fields of structs: few enough are in scope to be numbered, and few enough variables.
 use Rattle.std.specs.Prelude.{◌≡◌, ◌≤◌, List, length, None}
+use Rattle.ac_types.specs.Limits.{most_items}
 use Rattle.ac_syntax.specs.Trees.{FieldTree, DefTree, ModuleDef, ImportDef, MarkDef}
 use Rattle.ac_scopes.specs.Scopes.{NameScope, each_in}
 use Rattle.ac_scopes.specs.Definitions.{after_field, item_field}
@@ -8,7 +9,7 @@ use Rattle.ac_elaborate.specs.inner.Crowd.{crowd}
 
 pub record FieldsFit (S : NameScope) (fields : List FieldTree) : Type 0 where
   pub crowd : least_in after_field (found_in_field crowd) S fields ≡ None
-  pub few : length (each_in after_field item_field S fields) ≤ 1024
+  pub few : length (each_in after_field item_field S fields) ≤ most_items
 
 abbrev pub DefFits : NameScope → DefTree → Type 0
 DefFits S (ModuleDef at name sig version fields) = FieldsFit S fields

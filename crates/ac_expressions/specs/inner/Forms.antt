@@ -1,6 +1,7 @@
 -- The forms of expressions, piece by piece.
 use Rattle.std.specs.Prelude.{◌≡◌, ℕ, ◌<◌, ◌-◌, true, false, List, ◌∷◌, Option, Some, None}
 use Rattle.ac_types.specs.Exceptions as exceptions
+use Rattle.ac_types.specs.ReadNumbers.{primitive_number, texted_number}
 use Rattle.ac_syntax.specs.Signs.{Sign, Fixed}
 use Rattle.ac_syntax.specs.Trees.{NameAt, TypeTree, PatTree, Tree, ExBool, ExExn, ExExnOf, ExTuple, ExPresent, ExFun, ExRec, ExLet, ExLetRec, ExIf, ExSeq, ExRaise, ExMarshal, ExUnmarshal, tree, trees, height}
 use Rattle.ac_syntax.specs.Patterns.{IsPattern}
@@ -31,7 +32,7 @@ measured p = p.height ≡ height (tree_of p.tree)
 
 abbrev pub prefixed : Prefix → ℕ → Tree → Tree
 prefixed prefix.Present at e = ExPresent at e
-prefixed (prefix.Exn number) at e = ExExnOf at number e
+prefixed (prefix.Exn exn) at e = ExExnOf at (texted_number exn) e
 
 -- the expression that a symbol is by itself
 abbrev pub base_expr : Symbol → ℕ → Option Tree
@@ -52,7 +53,7 @@ abbrev pub NoFormLeaf : List Sign → Type 0
 NoFormLeaf ts = (e : Tree) (rest : List Sign) → Parses Atom Closed ts e rest → ⊥
 
 abbrev pub operator_read : code.Operator → Operator
-operator_read (operator.Prim number) = Prim number
+operator_read (operator.Prim primitive) = Prim (primitive_number primitive)
 operator_read operator.Consing = Consing
 operator_read operator.Both = Both
 operator_read operator.Either = Either

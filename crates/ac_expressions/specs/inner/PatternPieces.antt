@@ -1,6 +1,7 @@
 -- The forms of patterns, piece by piece.
 use Rattle.std.specs.Prelude.{◌≡◌, ℕ, true, false, List, Option, Some, None}
 use Rattle.ac_types.specs.Exceptions as exceptions
+use Rattle.ac_types.specs.ReadNumbers.{texted_number}
 use Rattle.ac_syntax.specs.Signs.{Sign}
 use Rattle.ac_syntax.specs.Trees.{NameAt, TypeTree, PatTree, PatVar, PatWild, PatBool, PatAbsent, PatExn, PatTuple, PatPresent, PatExnOf, pat_tree, pat_trees, pat_height}
 use Rattle.ac_syntax.specs.Patterns.{PatLevel, Pattern, Single, ParsesPat, IsPatTree}
@@ -17,7 +18,7 @@ NoPat depth level ts = (p : PatTree) (rest : List Sign) → IsPatTree depth leve
 
 abbrev pub prefixed_pat : Prefix → ℕ → PatTree → PatTree
 prefixed_pat prefix.Present at p = PatPresent at p
-prefixed_pat (prefix.Exn number) at p = PatExnOf at number p
+prefixed_pat (prefix.Exn exn) at p = PatExnOf at (texted_number exn) p
 
 -- the pattern that a symbol is by itself
 abbrev pub base_pat : Symbol → ℕ → Option PatTree

@@ -1,5 +1,6 @@
 -- The pieces of patterns and expressions, as the parsers read them.
 use Rattle.std.specs.Prelude.{◌≡◌, ℕ, ◌<◌, Bool, true, false, List, [], ◌∷◌, Some}
+use Rattle.ac_types.specs.ReadNumbers.{texted_number}
 use Rattle.ac_syntax.specs.Signs.{Sign, Int, Lower, Fixed}
 use Rattle.ac_syntax.specs.Trees.{NameAt, TypeTree, Tree}
 use Rattle.ac_syntax.specs.TypeForms.{IsType}
@@ -102,7 +103,7 @@ begins_lower ts = false
 -- a word that takes one argument: `Some`, or an exception with a string
 abbrev pub IsPrefix : Prefix → Symbol → Type 0
 IsPrefix prefix.Present s = s ≡ symbol.SomeWord
-IsPrefix (prefix.Exn number) s = exception_with_string s ≡ Some number
+IsPrefix (prefix.Exn exn) s = exception_with_string s ≡ Some (texted_number exn)
 
 pub record PrefixAt (p : Prefix) (at : ℕ) (ts rest : List Sign) : Type 0 where
   pub symbol : Symbol

@@ -1,12 +1,13 @@
 -- What is wrong with expressions, by what is known of a scope and the variables in it.
 use Rattle.std.specs.Prelude.{ℕ, ◌||◌, is_some, List, [], ◌∷◌, length}
+use Rattle.ac_types.specs.Limits.{widest_tuple, most_arms, most_variables}
 use Rattle.ac_types.specs.Types.{Bytes}
 use Rattle.ac_syntax.specs.Trees.{PatTree, Tree, ExInt, ExBool, ExStr, ExUnit, ExExn, ExExnOf, ExTuple, ExNil, ExAbsent, ExPresent, ExCons, ExVar, ExOf, ExFun, ExRec, ExApp, ExLet, ExLetRec, ExIf, ExSeq, ExMatch, ExTry, ExRaise, ExAnd, ExOr, ExOp, ExMarshal, ExUnmarshal, Trees, no_trees, tree, ArmTrees, no_arm_trees, arm_tree}
 use Rattle.ac_scopes.specs.Scopes.{binders_to, scope_with}
 use Rattle.ac_scopes.specs.Written.{variables}
 use Rattle.ac_scopes.specs.Searches.{tree_count, arms_written}
 use Rattle.ac_scopes.specs.Repeated.{repeated_name}
-use Rattle.ac_scopes.specs.Counts.{over, width_limit, arms_limit, scope_limit}
+use Rattle.ac_scopes.specs.Counts.{over}
 use Rattle.ac_signatures.specs.declared.flaws.Flaws.{Flaws}
 use Rattle.ac_signatures.specs.Joined.{no_flaws, missing, repeats, counts, flaws_joined}
 use Rattle.ac_signatures.specs.KnownScopes.{KnownScope}
@@ -16,7 +17,7 @@ use Rattle.ac_signatures.specs.NameFlaws.{dotted_flaws, place_unless}
 
 -- at a leaf the most variables are in scope
 abbrev pub leaf_flaws : List Bytes → Flaws
-leaf_flaws names = counts (over scope_limit (length names))
+leaf_flaws names = counts (over most_variables (length names))
 
 abbrev pub variable_flaws : KnownScope → List Bytes → ℕ → Bytes → Flaws
 variable_flaws K names at x = missing (place_unless (is_some (binders_to x names) || K.fields x) at)
@@ -30,7 +31,7 @@ module _ (K : KnownScope) where
     flaws names (ExUnit at) = leaf_flaws names
     flaws names (ExExn at number) = leaf_flaws names
     flaws names (ExExnOf at number a) = flaws names a
-    flaws names (ExTuple at parts) = flaws_joined (counts (over width_limit (tree_count parts))) (flaws_of_all names parts)
+    flaws names (ExTuple at parts) = flaws_joined (counts (over widest_tuple (tree_count parts))) (flaws_of_all names parts)
     flaws names (ExNil at T) = flaws_joined (type_flaws K T) (leaf_flaws names)
     flaws names (ExAbsent at T) = flaws_joined (type_flaws K T) (leaf_flaws names)
     flaws names (ExPresent at a) = flaws names a
@@ -44,8 +45,8 @@ module _ (K : KnownScope) where
     flaws names (ExLetRec at f x T U a b) = flaws_joined (type_flaws K T) (flaws_joined (type_flaws K U) (flaws_joined (flaws (x.word ∷ f.word ∷ names) a) (flaws (f.word ∷ names) b)))
     flaws names (ExIf at c a b) = flaws_joined (flaws names c) (flaws_joined (flaws names a) (flaws names b))
     flaws names (ExSeq at parts) = flaws_of_all names parts
-    flaws names (ExMatch at a arms) = flaws_joined (counts (over arms_limit (arms_written arms))) (flaws_joined (flaws names a) (flaws_of_arms names arms))
-    flaws names (ExTry at a arms) = flaws_joined (counts (over arms_limit (arms_written arms))) (flaws_joined (flaws names a) (flaws_of_arms names arms))
+    flaws names (ExMatch at a arms) = flaws_joined (counts (over most_arms (arms_written arms))) (flaws_joined (flaws names a) (flaws_of_arms names arms))
+    flaws names (ExTry at a arms) = flaws_joined (counts (over most_arms (arms_written arms))) (flaws_joined (flaws names a) (flaws_of_arms names arms))
     flaws names (ExRaise at a T) = flaws_joined (type_flaws K T) (flaws names a)
     flaws names (ExAnd at a b) = flaws_joined (flaws names a) (flaws names b)
     flaws names (ExOr at a b) = flaws_joined (flaws names a) (flaws names b)

@@ -1,6 +1,7 @@
 -- What is wrong with patterns, by what is known of a scope.
+use Rattle.ac_types.specs.Limits.{widest_tuple}
 use Rattle.ac_syntax.specs.Trees.{PatTree, PatWild, PatVar, PatInt, PatBool, PatStr, PatUnit, PatTuple, PatNil, PatCons, PatAbsent, PatPresent, PatExn, PatExnOf, PatTrees, no_pat_trees, pat_tree}
-use Rattle.ac_scopes.specs.Counts.{over, width_limit, pat_count}
+use Rattle.ac_scopes.specs.Counts.{over, pat_count}
 use Rattle.ac_signatures.specs.declared.flaws.Flaws.{Flaws}
 use Rattle.ac_signatures.specs.Joined.{no_flaws, counts, flaws_joined}
 use Rattle.ac_signatures.specs.KnownScopes.{KnownScope}
@@ -15,7 +16,7 @@ abbrev mutual
   pat_flaws K (PatBool at b) = no_flaws
   pat_flaws K (PatStr at text) = no_flaws
   pat_flaws K (PatUnit at) = no_flaws
-  pat_flaws K (PatTuple at parts) = flaws_joined (counts (over width_limit (pat_count parts))) (pats_flaws K parts)
+  pat_flaws K (PatTuple at parts) = flaws_joined (counts (over widest_tuple (pat_count parts))) (pats_flaws K parts)
   pat_flaws K (PatNil at) = no_flaws
   pat_flaws K (PatCons at head tail) = flaws_joined (pat_flaws K head) (pat_flaws K tail)
   pat_flaws K (PatAbsent at) = no_flaws

@@ -1,12 +1,13 @@
 -- What is wrong with a surface behind some entries, by what is known of scopes.
 use Rattle.std.specs.Prelude.{List, [], ◌∷◌, length, Option, Some, None, option_map}
 use Rattle.std.specs.Option.{option_map_or}
+use Rattle.ac_types.specs.Limits.{most_definitions}
 use Rattle.ac_types.specs.First.{first_some}
 use Rattle.ac_types.specs.Types.{Bytes}
 use Rattle.ac_terms.specs.Defs.{Environment}
 use Rattle.ac_syntax.specs.Trees.{Tree, DefTree, ProgramTree}
 use Rattle.ac_scopes.specs.Repeated.{twice, mark_name}
-use Rattle.ac_scopes.specs.Counts.{over, definitions_limit}
+use Rattle.ac_scopes.specs.Counts.{over}
 use Rattle.ac_scopes.specs.Surfaces.{SurfaceFault, Unbound, Repeated, TooMany}
 use Rattle.ac_signatures.specs.declared.flaws.Flaws.{Flaws}
 use Rattle.ac_signatures.specs.Joined.{no_flaws, flaws_joined}
@@ -30,7 +31,7 @@ rest_flaws outer (d ∷ ds) expr = flaws_joined (def_flaws outer d) (rest_flaws 
 
 -- the marks' names, and how many definitions there are
 abbrev pub defs_flaws : List DefTree → Flaws
-defs_flaws ds = record { unbound = None; repeated = twice mark_name ds; count = over definitions_limit (length ds) }
+defs_flaws ds = record { unbound = None; repeated = twice mark_name ds; count = over most_definitions (length ds) }
 
 abbrev pub surface_flaws : Environment → ProgramTree → Flaws
 surface_flaws E p = flaws_joined (defs_flaws p.defs) (rest_flaws (first_outer E p.expr) p.defs p.expr)

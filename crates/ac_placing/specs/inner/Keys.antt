@@ -8,8 +8,8 @@ use Rattle.ac_rules.specs.Packets.{wide_bytes}
 
 -- no link, or the number of an entry
 abbrev pub link_bytes : Option ℕ → Bytes
-link_bytes None = 0x00 ∷ []
-link_bytes (Some j) = 0x01 ∷ four_written j
+link_bytes None = 0 ∷ []
+link_bytes (Some j) = 1 ∷ four_written j
 
 abbrev pub key_bytes : Def → Option ℕ → Bytes
 key_bytes d link = link_bytes link ++ wide_bytes d

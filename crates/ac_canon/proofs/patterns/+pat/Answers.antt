@@ -1,4 +1,4 @@
-use Rattle.std.proofs.Common.{rules, ◌∙◌, sym, ap, ap₂, Some, length}
+use Rattle.std.proofs.Common.{rules, ◌∙◌, sym, ap, ap₂, length}
 use Rattle.std.specs.Int.{w64}
 use Rattle.std.specs.Prelude.{FitsSigned}
 use Rattle.std.proofs.lemmas.Int.{to_z-of_z}
@@ -50,10 +50,10 @@ pub put_pattern-returns-in_ok-put_u8-in-Present : goal.put_pattern-returns-in_ok
 put_pattern-returns-in_ok-put_u8-in-Present g t c =
     put_pattern_as _ _ _ _ _ _ _ (c.in-Present.is ∙ ap pat.Present (sym c.deref-in-Present.ensures)) (pattern_of-Present _) (put_behind _ _ _ _ _ _ c.in_ok-put_u8-in-Present.ensures.ok c.put_pattern-in-Present.ensures)
 
-pub put_pattern-returns-in-None : goal.put_pattern-returns-in-None
-put_pattern-returns-in-None g t c = put_pattern_as _ _ _ _ _ _ _ (c.in-Exn.is ∙ ap (pat.Exn _) c.in-None.is) (pattern_of-Exn _) c.put_byte.ensures
+pub put_pattern-returns-in-Exn : goal.put_pattern-returns-in-Exn
+put_pattern-returns-in-Exn g t c = put_pattern_as _ _ _ _ _ _ _ c.in-Exn.is (pattern_of-Exn _) (rw c.number.ensures at c.put_byte.ensures)
 
-pub put_pattern-returns-in_ok-put_byte-in-Some : goal.put_pattern-returns-in_ok-put_byte-in-Some
-put_pattern-returns-in_ok-put_byte-in-Some g t c =
-    put_pattern_as _ _ _ _ _ _ _ (c.in-Exn.is ∙ ap (pat.Exn _) (c.in-Some.is ∙ ap Some (sym c.deref-in-Some.ensures))) (pattern_of-ExnOf _ _)
-    (put_behind _ _ _ _ _ _ c.in_ok-put_byte-in-Some.ensures c.put_pattern-in-Some.ensures)
+pub put_pattern-returns-in_ok-put_byte-in-ExnOf : goal.put_pattern-returns-in_ok-put_byte-in-ExnOf
+put_pattern-returns-in_ok-put_byte-in-ExnOf g t c =
+    put_pattern_as _ _ _ _ _ _ _ (c.in-ExnOf.is ∙ ap (pat.ExnOf _) (sym c.deref-in-ExnOf.ensures)) (pattern_of-ExnOf _ _)
+    (put_behind _ _ _ _ _ _ (rw c.number-in-ExnOf.ensures at c.in_ok-put_byte-in-ExnOf.ensures) c.put_pattern-in-ExnOf.ensures)

@@ -1,4 +1,4 @@
-use Rattle.std.proofs.Common.{rules, ◌∙◌, sym, ap, ap₂, Some}
+use Rattle.std.proofs.Common.{rules, ◌∙◌, sym, ap, ap₂}
 use Rattle.std.specs.Int.{w64}
 use Rattle.std.specs.Prelude.{FitsSigned}
 use Rattle.std.proofs.lemmas.Int.{to_z-of_z}
@@ -26,13 +26,13 @@ put_term-returns-in-Str g t c = put_term_as _ _ _ _ _ _ _ _ c.in-Str.is (expr_of
 pub put_term-returns-in-Unit : goal.put_term-returns-in-Unit
 put_term-returns-in-Unit g t c = put_term_as _ _ _ _ _ _ _ _ c.in-Unit.is expr_of-Unit c.put_u8.ensures.ok
 
-pub put_term-returns-in-None : goal.put_term-returns-in-None
-put_term-returns-in-None g t c = put_term_as _ _ _ _ _ _ _ _ (c.in-ExnVal.is ∙ ap (term.ExnVal _) c.in-None.is) (expr_of-Exn _) c.put_byte.ensures
+pub put_term-returns-in-ExnVal : goal.put_term-returns-in-ExnVal
+put_term-returns-in-ExnVal g t c = put_term_as _ _ _ _ _ _ _ _ c.in-ExnVal.is (expr_of-Exn _) (rw c.number.ensures at c.put_byte.ensures)
 
-pub put_term-returns-in_ok-put_byte-in-Some : goal.put_term-returns-in_ok-put_byte-in-Some
-put_term-returns-in_ok-put_byte-in-Some g t c =
-    put_term_as _ _ _ _ _ _ _ _ (c.in-ExnVal.is ∙ ap (term.ExnVal _) (c.in-Some.is ∙ ap Some (sym c.deref.ensures))) (expr_of-ExnOf _ _)
-    (put_behind _ _ _ _ _ _ c.in_ok-put_byte-in-Some.ensures c.put_term.ensures)
+pub put_term-returns-in_ok-put_byte-in-ExnOf : goal.put_term-returns-in_ok-put_byte-in-ExnOf
+put_term-returns-in_ok-put_byte-in-ExnOf g t c =
+    put_term_as _ _ _ _ _ _ _ _ (c.in-ExnOf.is ∙ ap (term.ExnOf _) (sym c.deref.ensures)) (expr_of-ExnOf _ _)
+    (put_behind _ _ _ _ _ _ (rw c.number-in-ExnOf.ensures at c.in_ok-put_byte-in-ExnOf.ensures) c.put_term.ensures)
 
 pub put_term-returns-in-Tuple : goal.put_term-returns-in-Tuple
 put_term-returns-in-Tuple g t c = put_term_as _ _ _ _ _ _ _ _ (c.in-Tuple.is ∙ ap term.Tuple (sym c.as_slice.ensures)) (expr_of-Tuple _) c.put_tuple.ensures
@@ -129,7 +129,7 @@ pub put_sequence-returns : goal.put_sequence-returns
 put_sequence-returns g t c = put_third _ _ _ _ _ _ _ _ c.in_ok-put_u8.ensures.ok (rw (sym (count_terms c.args.parts.now)) at c.in_ok-put_count_u32.ensures) c.put_terms.ensures
 
 pub put_primitive-returns : goal.put_primitive-returns
-put_primitive-returns g t c = put_behind _ _ _ _ _ _ c.in_ok-put_byte.ensures c.put_terms.ensures
+put_primitive-returns g t c = put_behind _ _ _ _ _ _ (rw c.number.ensures at c.in_ok-put_byte.ensures) c.put_terms.ensures
 
 pub put_cases-returns : goal.put_cases-returns
 put_cases-returns g t c = put_next _ _ _ _ _ c.in_ok-put_count_u16.ensures c.put_arms.ensures

@@ -1,5 +1,6 @@
 use Rattle.std.proofs.Common.{◌≡◌, ◌-◌, suc, List, map, ap, ◌∙◌, arith}
 use Rattle.std.proofs.lemmas.Result.{err_from_is_err_and}
+use Rattle.ac_types.specs.ReadNumbers.{texted_number}
 use Rattle.ac_terms.specs.Terms.{Pattern, PTuple, PCons, PPresent, PExnOf, no_patterns, pattern', patterns}
 use Rattle.ac_terms.specs.Read.{pattern_of}
 use Rattle.ac_terms.specs.declared.pat.Pat.{Pat}
@@ -78,7 +79,7 @@ pattern-returns-in-Exn g t c =
     let e : c.args.depth ≡ suc (c.args.depth - 1) = omega arith in
     let f = exact_pattern (g.T.Types.reads_type c.args.types.now) (c.args.depth - 1) in
     answered_by _ _ _ (pattern_led (g.T.Types.reads_type c.args.types.now) c.args.depth (c.args.depth - 1) c.args.cursor.now.left _ _ e c.in_ok-tag.ensures ∙ c.in_ok-head.ensures f ∙ ap (λ h. pattern_follows f h c.pattern_head.new.cursor.left) c.in-Exn.is)
-    (made pattern_of pattern_of (PExnOf c.in-Exn.number) c.boxed_pattern-in-Exn.result c.pat_exn.result _ _ c.boxed_pattern-in-Exn.ensures c.pat_exn.ensures)
+    (made pattern_of pattern_of (PExnOf (texted_number c.in-Exn.exn)) c.boxed_pattern-in-Exn.result c.pat_exn.result _ _ c.boxed_pattern-in-Exn.ensures c.pat_exn.ensures)
 
 pub two_patterns-returns-in_err-head : goal.two_patterns-returns-in_err-head
 two_patterns-returns-in_err-head g t c =

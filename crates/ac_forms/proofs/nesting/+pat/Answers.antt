@@ -35,8 +35,8 @@ pattern_nests-returns-in-Absent t c = search (rules, pattern_laws)
 pub pattern_nests-returns-in-Present : goal.pattern_nests-returns-in-Present
 pattern_nests-returns-in-Present t c = search (rules, pattern_laws)
 
-pub pattern_nests-returns-in-None : goal.pattern_nests-returns-in-None
-pattern_nests-returns-in-None t c = search (rules, pattern_laws)
+pub pattern_nests-returns-in-Exn : goal.pattern_nests-returns-in-Exn
+pattern_nests-returns-in-Exn t c = search (rules, pattern_laws)
 
-pub pattern_nests-returns-in-Some : goal.pattern_nests-returns-in-Some
-pattern_nests-returns-in-Some t c = search (rules, pattern_laws)
+pub pattern_nests-returns-in-ExnOf : goal.pattern_nests-returns-in-ExnOf
+pattern_nests-returns-in-ExnOf t c = search (rules, pattern_laws)

@@ -14,11 +14,11 @@ term_nests-returns-in-Str t c = search (rules, term_laws)
 pub term_nests-returns-in-Unit : goal.term_nests-returns-in-Unit
 term_nests-returns-in-Unit t c = search (rules, term_laws)
 
-pub term_nests-returns-in-None : goal.term_nests-returns-in-None
-term_nests-returns-in-None t c = search (rules, term_laws)
+pub term_nests-returns-in-ExnVal : goal.term_nests-returns-in-ExnVal
+term_nests-returns-in-ExnVal t c = search (rules, term_laws)
 
-pub term_nests-returns-in-Some : goal.term_nests-returns-in-Some
-term_nests-returns-in-Some t c = search (rules, term_laws)
+pub term_nests-returns-in-ExnOf : goal.term_nests-returns-in-ExnOf
+term_nests-returns-in-ExnOf t c = search (rules, term_laws)
 
 pub term_nests-returns-in-Tuple : goal.term_nests-returns-in-Tuple
 term_nests-returns-in-Tuple t c = search (rules, term_laws)

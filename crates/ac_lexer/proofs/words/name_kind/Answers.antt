@@ -1,5 +1,5 @@
 use Rattle.ac_lexer.proofs.NameLaws.{long_name}
 use Rattle.ac_lexer.proofs.words.name_kind.Goals as goal
 
-pub returns-then-name-gt-LONGEST_NAME : goal.returns-then-name-gt-LONGEST_NAME
-returns-then-name-gt-LONGEST_NAME c = long_name _ c.if-name-gt-LONGEST_NAME.true
+pub returns-then-name-gt-LONGEST_WORD : goal.returns-then-name-gt-LONGEST_WORD
+returns-then-name-gt-LONGEST_WORD c = long_name _ c.if-name-gt-LONGEST_WORD.true

@@ -1,6 +1,7 @@
 use Rattle.std.proofs.Common.{◌≡◌, ◌∙◌, ap, ◌<◌, refl, arith, length, true, false, rules}
 use Rattle.std.proofs.lemmas.Bool.Decides.{nat_tests}
 use Rattle.ac_types.specs.ReadTypes.{typ_of}
+use Rattle.ac_types.specs.ReadNumbers.{bare_number, texted_number}
 use Rattle.ac_terms.specs.Terms.{PWild, PVar, PInt, PBool, PStr, PUnit, PTuple, PNil, PCons, PAbsent, PPresent, PExn, PExnOf, patterns}
 use Rattle.ac_terms.specs.Read.{pattern_of}
 use Rattle.ac_terms.proofs.PatternForms.{pattern_of-Absent, pattern_of-Bool, pattern_of-Cons, pattern_of-Int, pattern_of-Nil, pattern_of-Present, pattern_of-Str, pattern_of-Tuple, pattern_of-Unit, pattern_of-Var, pattern_of-Wild}
@@ -48,9 +49,9 @@ fits-returns-in-Absent t c =
     let is : pattern_of c.args.pat.now ≡ PAbsent = ap pattern_of c.in-Absent.is ∙ pattern_of-Absent in
     rw (is, c.is_absent.ensures) (fitted_tested c.args.store.now _ c.args.found.now.items _ c.requires.found (at_absent _))
 
-pub fits-returns-in-Exn-default-None : goal.fits-returns-in-Exn-default-None
-fits-returns-in-Exn-default-None t c =
-    let is : pattern_of c.args.pat.now ≡ PExn c.in-Exn-default-None.number = grind (arith, form_laws) in
+pub fits-returns-in-Exn : goal.fits-returns-in-Exn
+fits-returns-in-Exn t c =
+    let is : pattern_of c.args.pat.now ≡ PExn (bare_number c.in-Exn.exn) = grind (arith, form_laws) in
     rw is (fitted_tested c.args.store.now _ c.args.found.now.items c.is_exn.result c.requires.found c.is_exn.ensures)
 
 pub fits-returns-in-None : goal.fits-returns-in-None
@@ -70,7 +71,7 @@ fits-returns-in-None-present_in t c =
 
 pub fits-returns-in-None-exn_with : goal.fits-returns-in-None-exn_with
 fits-returns-in-None-exn_with t c =
-    let is : pattern_of c.args.pat.now ≡ PExnOf c.in-Exn-default-Some.number (pattern_of c.in-Exn-default-Some.inner) = grind (arith, form_laws) in
+    let is : pattern_of c.args.pat.now ≡ PExnOf (texted_number c.in-ExnOf.exn) (pattern_of c.in-ExnOf.inner) = grind (arith, form_laws) in
     no_exn c.args.store.now _ c.args.v _ _ is c.in-None-exn_with.ensures
 
 pub fits-returns-then-not-branch : goal.fits-returns-then-not-branch
@@ -82,10 +83,10 @@ fits-returns-then-not-branch t c =
 pub fits_all-returns-then-pats-vs : goal.fits_all-returns-then-pats-vs
 fits_all-returns-then-pats-vs t c = other_lengths c.args.store.now c.args.pats.now c.args.vs.now (λ e. c.if-pats-vs.true e)
 
-pub fits-returns-then-number-of : goal.fits-returns-then-number-of
-fits-returns-then-number-of t c =
-    let is : pattern_of c.args.pat.now ≡ PExnOf c.in-Exn-default-Some.number (pattern_of c.in-Exn-default-Some.inner) = grind (arith, form_laws) in
-    let no : nat_eq c.in-Exn-default-Some.number c.in-Some-exn_with.of ≡ false = grind (arith, nat_tests) in
+pub fits-returns-then-number : goal.fits-returns-then-number
+fits-returns-then-number t c =
+    let is : pattern_of c.args.pat.now ≡ PExnOf (texted_number c.in-ExnOf.exn) (pattern_of c.in-ExnOf.inner) = grind (arith, form_laws) in
+    let no : nat_eq (texted_number c.in-ExnOf.exn) (texted_number c.in-Some-exn_with.of) ≡ false = grind (arith, nat_tests) in
     other_exn c.args.store.now _ c.args.v _ _ _ c.in-Some-exn_with.value is c.in-Some-exn_with.ensures.1 no
 
 pub fits-returns-in_ok-fit-in-Some : goal.fits-returns-in_ok-fit-in-Some
@@ -108,8 +109,8 @@ fits-returns-in_ok-fit-in-Some-present_in t c =
 
 pub fits-returns-in_ok-fit-in-Some-exn_with : goal.fits-returns-in_ok-fit-in-Some-exn_with
 fits-returns-in_ok-fit-in-Some-exn_with t c =
-    let is : pattern_of c.args.pat.now ≡ PExnOf c.in-Exn-default-Some.number (pattern_of c.deref-in-Some-exn_with.result.now) = grind (arith, form_laws) in
-    let yes : nat_eq c.in-Exn-default-Some.number c.in-Some-exn_with.of ≡ true = grind (arith, nat_tests) in
+    let is : pattern_of c.args.pat.now ≡ PExnOf (texted_number c.in-ExnOf.exn) (pattern_of c.deref-in-Some-exn_with.result.now) = grind (arith, form_laws) in
+    let yes : nat_eq (texted_number c.in-ExnOf.exn) (texted_number c.in-Some-exn_with.of) ≡ true = grind (arith, nat_tests) in
     exn_fits c.args.store.now _ c.args.v c.args.found.now.items c.fits-in-Some-exn_with.new.found.items c.in_ok-fit-in-Some-exn_with.fit _ _ _ c.in-Some-exn_with.value is c.in-Some-exn_with.ensures.1 yes c.in_ok-fit-in-Some-exn_with.ensures
 
 pub fits_all-returns-then-not-branch : goal.fits_all-returns-then-not-branch

@@ -1,7 +1,8 @@
 use Rattle.std.proofs.Common.{ap, refl}
-use Rattle.std.specs.Prelude.{Some, option_map}
-use Rattle.ac_terms.specs.Read.{environment_of, bytes_of}
-use Rattle.ac_terms.specs.declared.term.Exn.{Exn}
+use Rattle.std.specs.Prelude.{Some}
+use Rattle.ac_types.specs.ReadNumbers.{exn_number, exn_text}
+use Rattle.ac_terms.specs.Read.{environment_of}
+use Rattle.ac_types.specs.declared.exceptions.Exn.{Exn}
 use Rattle.ac_code.specs.ReadCode.{table_code}
 use Rattle.ac_machine.specs.States.{AskDone, AskRaised, AskSpent, Ask, Paused}
 use Rattle.ac_machine.specs.Resumes.{At}
@@ -29,7 +30,7 @@ returns-in-Done c =
 
 pub returns-in_ok-kept-in-Raised : goal.returns-in_ok-kept-in-Raised
 returns-in_ok-kept-in-Raised c =
-    let asks : Exn → Ask = λ x. AskRaised x.number (option_map bytes_of x.text) in
+    let asks : Exn → Ask = λ x. AskRaised (exn_number x) (exn_text x) in
     rw c.in-Raised.is
     (stopped (environment_of c.args.env.now) (table_code c.args.table.now) c.args.engine.now (asks c.in-Raised.exn) (answers.Raised c.in_ok-again-in-Raised.again) (stand.Raised c.in_ok-kept-in-Raised.kept) c.requires.sound
     (ap (λ (x : Exn). Some (asks x)) c.in_ok-again-in-Raised.ensures) (ap (λ (x : Exn). At (Paused (asks x) (core c.args.engine.now))) c.in_ok-kept-in-Raised.ensures) refl)

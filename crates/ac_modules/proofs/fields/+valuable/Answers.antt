@@ -25,13 +25,13 @@ pub valuable-returns-in-Unit : goal.valuable-returns-in-Unit
 valuable-returns-in-Unit t c =
     valued _ _ _ c.in-Unit.is expr_of-Unit
 
-pub valuable-returns-in-None : goal.valuable-returns-in-None
-valuable-returns-in-None t c =
-    valued _ _ _ (c.in-ExnVal.is ∙ ap (term.ExnVal _) c.in-None.is) (expr_of-Exn _)
+pub valuable-returns-in-ExnVal : goal.valuable-returns-in-ExnVal
+valuable-returns-in-ExnVal t c =
+    valued _ _ _ c.in-ExnVal.is (expr_of-Exn _)
 
-pub valuable-returns-in-Some : goal.valuable-returns-in-Some
-valuable-returns-in-Some t c =
-    c.valuable.ensures ∙ valued _ _ _ (c.in-ExnVal.is ∙ ap (term.ExnVal _) (c.in-Some.is ∙ ap Some (sym c.deref.ensures))) (expr_of-ExnOf _ _)
+pub valuable-returns-in-ExnOf : goal.valuable-returns-in-ExnOf
+valuable-returns-in-ExnOf t c =
+    c.valuable.ensures ∙ valued _ _ _ (c.in-ExnOf.is ∙ ap (term.ExnOf _) (sym c.deref.ensures)) (expr_of-ExnOf _ _)
 
 pub valuable-returns-in-Tuple : goal.valuable-returns-in-Tuple
 valuable-returns-in-Tuple t c =

@@ -1,6 +1,5 @@
-use Rattle.std.proofs.Common.{◌∙◌, ap, refl}
+use Rattle.std.proofs.Common.{refl}
 use Rattle.std.proofs.lemmas.List.Folds.{list_all-append}
-use Rattle.ac_terms.specs.declared.pat.Pat.TheVariants.{Exn}
 use Rattle.ac_terms.proofs.PatternForms.{pattern_of-Wild, pattern_of-Var, pattern_of-Int, pattern_of-Bool, pattern_of-Str, pattern_of-Unit, pattern_of-Tuple, pattern_of-Nil, pattern_of-Cons, pattern_of-Absent, pattern_of-Present, pattern_of-Exn, pattern_of-ExnOf}
 use Rattle.ac_parts.proofs.WalkLaws.{of_pattern, both_so, alone}
 use Rattle.ac_parts.proofs.patterns.+pat.Goals as goal
@@ -38,8 +37,8 @@ pattern_passes-returns-in-Absent g t c = of_pattern _ _ _ _ _ c.in-Absent.is pat
 pub pattern_passes-returns-in-Present : goal.pattern_passes-returns-in-Present
 pattern_passes-returns-in-Present g t c = of_pattern _ _ _ _ _ c.in-Present.is (pattern_of-Present _) c.boxed_passes-in-Present.ensures
 
-pub pattern_passes-returns-in-None : goal.pattern_passes-returns-in-None
-pattern_passes-returns-in-None g t c = of_pattern _ _ _ _ _ (c.in-Exn.is ∙ ap (Exn _) c.in-None.is) (pattern_of-Exn _) refl
+pub pattern_passes-returns-in-Exn : goal.pattern_passes-returns-in-Exn
+pattern_passes-returns-in-Exn g t c = of_pattern _ _ _ _ _ c.in-Exn.is (pattern_of-Exn _) refl
 
-pub pattern_passes-returns-in-Some : goal.pattern_passes-returns-in-Some
-pattern_passes-returns-in-Some g t c = of_pattern _ _ _ _ _ (c.in-Exn.is ∙ ap (Exn _) c.in-Some.is) (pattern_of-ExnOf _ _) c.boxed_passes-in-Some.ensures
+pub pattern_passes-returns-in-ExnOf : goal.pattern_passes-returns-in-ExnOf
+pattern_passes-returns-in-ExnOf g t c = of_pattern _ _ _ _ _ c.in-ExnOf.is (pattern_of-ExnOf _ _) c.boxed_passes-in-ExnOf.ensures

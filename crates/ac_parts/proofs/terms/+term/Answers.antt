@@ -3,7 +3,6 @@ use Rattle.std.proofs.lemmas.List.Folds.{list_all-append}
 use Rattle.ac_terms.proofs.ReadLaws.{expr_of-Tuple, expr_of-Seq, expr_of-Prim}
 use Rattle.ac_terms.proofs.TermForms.{expr_of-Int, expr_of-Bool, expr_of-Str, expr_of-Unit, expr_of-Exn, expr_of-ExnOf, expr_of-Nil, expr_of-Empty, expr_of-Present, expr_of-Cons, expr_of-Var, expr_of-Own, expr_of-Ref, expr_of-Lam, expr_of-Rec, expr_of-App, expr_of-Let, expr_of-If, expr_of-Match, expr_of-Try, expr_of-Raise, expr_of-Marshal, expr_of-Unmarshal, expr_of-Val}
 use Rattle.ac_terms.proofs.ValueForms.{value_of-Int, value_of-Bool, value_of-Str, value_of-Unit, value_of-Exn, value_of-Tuple, value_of-List, value_of-Absent, value_of-Present, value_of-Fun}
-use Rattle.ac_terms.specs.declared.term.Term.TheVariants.{ExnVal}
 use Rattle.ac_terms.specs.declared.term.PVal.TheVariants.{Present}
 use Rattle.ac_parts.proofs.WalkLaws.{of_term, of_value, both_so, alone}
 use Rattle.ac_parts.proofs.terms.+term.Goals as goal
@@ -20,11 +19,11 @@ term_passes-returns-in-Str g t c = of_term _ _ _ _ _ c.in-Str.is (expr_of-Str _)
 pub term_passes-returns-in-Unit : goal.term_passes-returns-in-Unit
 term_passes-returns-in-Unit g t c = of_term _ _ _ _ _ c.in-Unit.is expr_of-Unit refl
 
-pub term_passes-returns-in-None : goal.term_passes-returns-in-None
-term_passes-returns-in-None g t c = of_term _ _ _ _ _ (c.in-ExnVal.is ∙ ap (ExnVal _) c.in-None.is) (expr_of-Exn _) refl
+pub term_passes-returns-in-ExnVal : goal.term_passes-returns-in-ExnVal
+term_passes-returns-in-ExnVal g t c = of_term _ _ _ _ _ c.in-ExnVal.is (expr_of-Exn _) refl
 
-pub term_passes-returns-in-Some : goal.term_passes-returns-in-Some
-term_passes-returns-in-Some g t c = of_term _ _ _ _ _ (c.in-ExnVal.is ∙ ap (ExnVal _) c.in-Some.is) (expr_of-ExnOf _ _) c.boxed_passes.ensures
+pub term_passes-returns-in-ExnOf : goal.term_passes-returns-in-ExnOf
+term_passes-returns-in-ExnOf g t c = of_term _ _ _ _ _ c.in-ExnOf.is (expr_of-ExnOf _ _) c.boxed_passes.ensures
 
 pub term_passes-returns-in-Tuple : goal.term_passes-returns-in-Tuple
 term_passes-returns-in-Tuple g t c = of_term _ _ _ _ _ c.in-Tuple.is (expr_of-Tuple _) c.terms_pass.ensures

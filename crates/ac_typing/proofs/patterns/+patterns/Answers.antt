@@ -5,7 +5,7 @@ use Rattle.ac_types.specs.ReadTypes.{typ_of}
 use Rattle.ac_types.specs.declared.ty.Ty.TheVariants as ty
 use Rattle.ac_types.proofs.SizeLaws.{type_laws}
 use Rattle.ac_terms.specs.Terms.{Pattern, PCons, PExnOf}
-use Rattle.ac_types.specs.Exceptions.{has_text}
+use Rattle.ac_types.specs.ReadNumbers.{texted_number}
 use Rattle.ac_terms.specs.Read.{home_of, pattern_of}
 use Rattle.ac_rules.specs.Typing.{variables_joined}
 use Rattle.ac_views.specs.Sites.{entries_of}
@@ -43,14 +43,13 @@ variables-returns-in-Some-2 t c =
     ∙ ap (λ (p : Pattern). variables_joined (Some (newest_first c.args.before)) (vars (entries_of c.args.site.now) (home_of c.args.site.now.home) p (typ_of c.args.ty.now))) (sym is))
     c.variables-in-Cons.ensures
 
-pub variables-returns-else-not-has_text : goal.variables-returns-else-not-has_text
-variables-returns-else-not-has_text t c =
-    let is : pattern_of c.args.pat.now ≡ PExnOf c.in-Exn-default-Some.number (pattern_of c.deref-in-Exn-default-Some.result.now) = grind (arith, form_laws) in
+pub variables-returns-else-not-is_base : goal.variables-returns-else-not-is_base
+variables-returns-else-not-is_base t c =
+    let is : pattern_of c.args.pat.now ≡ PExnOf (texted_number c.in-ExnOf.field-0) (pattern_of c.deref-in-ExnOf.result.now) = grind (arith, form_laws) in
     let s : typ_of ty.Str ≡ TStr = grind (arith, type_laws) in
     let e : same TExn (typ_of c.args.ty.now) ≡ true = search rules in
-    let h : has_text c.in-Exn-default-Some.number ≡ true = search rules in
     subst (λ (o : Option (List Typ)). IfOk c.variables-found.result (λ r. option_map newest_first r ≡ o))
-    (text_some (entries_of c.args.site.now) (home_of c.args.site.now.home) c.in-Exn-default-Some.number (pattern_of c.deref-in-Exn-default-Some.result.now) (typ_of c.args.ty.now) (typ_of ty.Str)
-    (newest_first c.args.before) s e h
+    (text_some (entries_of c.args.site.now) (home_of c.args.site.now.home) c.in-ExnOf.field-0 (pattern_of c.deref-in-ExnOf.result.now) (typ_of c.args.ty.now) (typ_of ty.Str)
+    (newest_first c.args.before) s e
     ∙ ap (λ (p : Pattern). variables_joined (Some (newest_first c.args.before)) (vars (entries_of c.args.site.now) (home_of c.args.site.now.home) p (typ_of c.args.ty.now))) (sym is))
     c.variables-found.ensures

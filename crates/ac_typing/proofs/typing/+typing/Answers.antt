@@ -2,6 +2,7 @@ use Rattle.std.proofs.Common.{◌≡◌, refl, sym, ap, ap₂, ◌∙◌, arith,
 use Rattle.std.specs.Prelude.{option_map, option_and_then}
 use Rattle.ac_types.specs.First.{given}
 use Rattle.ac_types.specs.Types.{Typ, Typs, TTuple, TOpt, TList, TBool, TStr, TExn, agree}
+use Rattle.ac_types.specs.ReadNumbers.{primitive_number}
 use Rattle.ac_types.specs.ReadTypes.{typ_of}
 use Rattle.ac_types.specs.declared.ty.Ty.{Ty}
 use Rattle.ac_types.specs.declared.ty.Ty.TheVariants as ty
@@ -193,7 +194,7 @@ typed-returns-in_ok-args-in-Prim t c =
     let E = entries_of c.args.site.now in
     let S = scope_at c.args.site.now (types_in c.args.vars.now) in
     same_type E S _ _ _ (prim_form _ _ _ _ c.in-Prim.is c.as_slice-in-Prim.ensures)
-    (c.result_type.ensures ∙ ap (option_and_then (primitive_type c.in-Prim.number)) c.in_ok-args-in-Prim.ensures)
+    (c.result_type.ensures ∙ ap (option_and_then (primitive_type (primitive_number c.in-Prim.primitive))) c.in_ok-args-in-Prim.ensures)
 
 pub typed-returns-in_ok-inner-in-Raise : goal.typed-returns-in_ok-inner-in-Raise
 typed-returns-in_ok-inner-in-Raise t c =

@@ -16,8 +16,8 @@ loop-star-init c =
     let atoms = ap (map range_of) c.in_ok-push.ensures.ok ∙ map-append range_of c.new-atoms.result (c.in-Some.first ∷ []) ∙ ap (λ l. map range_of l ++ range_of c.in-Some.first ∷ []) c.new-atoms.ensures in
     subst (λ (l : List Range). RangesRead c.args.tokens.now l c.in-Some.rest.now) (sym atoms) (first_ranges _ _ _ c.in-Some.ensures.found)
 
-pub returns-then-len-gt-MOST-clause-none : goal.returns-then-len-gt-MOST-clause-none
-returns-then-len-gt-MOST-clause-none c = many_none _ _ _ c.loop-star.invariant _ c.if-is_star.ensures c.in-Some-end.ensures (omega (arith, length-map c.loop-star.atoms range_of))
+pub returns-then-len-gt-MOST_VERSION_ATOMS-clause-none : goal.returns-then-len-gt-MOST_VERSION_ATOMS-clause-none
+returns-then-len-gt-MOST_VERSION_ATOMS-clause-none c = many_none _ _ _ c.loop-star.invariant _ c.if-is_star.ensures c.in-Some-end.ensures (omega (arith, length-map c.loop-star.atoms range_of))
 
 pub returns-in-Some-end-clause-constraint : goal.returns-in-Some-end-clause-constraint
 returns-in-Some-end-clause-constraint c = constraint _ _ _ c.loop-star.invariant _ c.in-Some-end.ensures (omega (arith, length-map c.loop-star.atoms range_of))

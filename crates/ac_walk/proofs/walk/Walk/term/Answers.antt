@@ -16,11 +16,11 @@ returns-in-Str c = as_form c.args.around c.args.t.now _ _ _ _ c.args.self.now _ 
 pub returns-in-Unit : goal.returns-in-Unit
 returns-in-Unit c = as_form c.args.around c.args.t.now _ _ _ _ c.args.self.now _ (ap expr_of c.in-Unit.is ∙ expr_of-Unit) c.in_ok-d.ensures c.head.ensures
 
-pub returns-in-None : goal.returns-in-None
-returns-in-None c = as_form c.args.around c.args.t.now _ _ _ _ c.args.self.now _ (ap expr_of (c.in-ExnVal.is ∙ ap (term.ExnVal _) c.in-None.is) ∙ expr_of-Exn _) c.in_ok-d.ensures c.head-in-None.ensures
+pub returns-in-ExnVal : goal.returns-in-ExnVal
+returns-in-ExnVal c = as_form c.args.around c.args.t.now _ _ _ _ c.args.self.now _ (ap expr_of c.in-ExnVal.is ∙ expr_of-Exn _) c.in_ok-d.ensures (rw c.number.ensures at c.head-in-ExnVal.ensures)
 
-pub returns-in-Some : goal.returns-in-Some
-returns-in-Some c = as_form c.args.around c.args.t.now _ _ _ _ c.args.self.now _ (ap expr_of (c.in-ExnVal.is ∙ ap (term.ExnVal _) (c.in-Some.is ∙ ap Some (sym c.deref.ensures))) ∙ expr_of-ExnOf _ _) c.in_ok-d.ensures c.one_term.ensures
+pub returns-in-ExnOf : goal.returns-in-ExnOf
+returns-in-ExnOf c = as_form c.args.around c.args.t.now _ _ _ _ c.args.self.now _ (ap expr_of (c.in-ExnOf.is ∙ ap (term.ExnOf _) (sym c.deref.ensures)) ∙ expr_of-ExnOf _ _) c.in_ok-d.ensures (rw c.number-in-ExnOf.ensures at c.one_term.ensures)
 
 pub returns-in-Nil : goal.returns-in-Nil
 returns-in-Nil c = as_form c.args.around c.args.t.now _ _ _ _ c.args.self.now _ (ap expr_of c.in-Nil.is ∙ expr_of-Nil _) c.in_ok-d.ensures c.one.ensures

@@ -3,20 +3,15 @@ ghost use Rattle.std.specs.Prelude.{◌≡◌, ◌≤◌, false, None, IfOk};
 ghost use Rattle.ac_outside.specs.Outside.{Rose};
 
 use crate::readers::Readers;
-use crate::traits::{Files, Got, Put};
 use crate::writers::Writers;
+use ac_outside::{Files, Got, Put};
 use ac_types::Memory;
+use ac_types::limits::{LONGEST_SHELF_LIST, MOST_SHELF_ENTRIES};
 use std::alloc::Global;
 use std::fs::File;
 use std::io;
 use std::io::ErrorKind;
 use std::marker::Model;
-
-// The files that no word names: those of a shelf's modules, whose names stand in a list of at most
-// so many bytes.
-const MODULES: usize = 256;
-
-const LIST: usize = 65_536;
 
 /// The files of the system, for one call of the program. Contracts see them as the numbers of reads,
 /// and of creates and appends, that failed, each one count for all names.
@@ -52,10 +47,12 @@ impl<'a, R: std::rt::Files<File = File> + Drop> RealFiles<'a, R> {
     ) -> Result<Self, Memory>
         ensures { IfOk result (λ files. files ≡ (0, 0)) }
     {
-        let bytes = words
-            .iter()
-            .fold(LIST, |bytes, word| bytes.saturating_add(word.len()));
-        let files = words.len().saturating_add(MODULES);
+        // no word names the files of a shelf's modules: their names stand in its list
+        let bytes = words.iter().fold(
+            LONGEST_SHELF_LIST,
+            |bytes, word| bytes.saturating_add(word.len()),
+        );
+        let files = words.len().saturating_add(MOST_SHELF_ENTRIES);
         Ok(RealFiles {
             rt,
             readers: Readers::new(alloc, files, bytes, later)?,

@@ -1,6 +1,7 @@
 // The files of the system that are read.
 ghost use Rattle.std.specs.Prelude.{◌<◌, ◌≤◌, IfOk, IfSome, length, vec_len};
 
+use crate::ahead::{Ahead, PIECE};
 use crate::node::Node;
 use std::alloc::{AllocError, Global};
 use std::fs::{File, Files};
@@ -37,6 +38,7 @@ pub struct Readers<'a> {
     names: Vec<u8>,
     all: Vec<Reader>,
     later: Option<&'a str>,
+    ahead: Ahead,
 }
 
 impl<'a> Readers<'a> {
@@ -52,10 +54,12 @@ impl<'a> Readers<'a> {
             names: Vec::with_capacity(alloc, bytes)?,
             all: Vec::with_capacity(alloc, files)?,
             later,
+            ahead: Ahead::new(alloc)?,
         })
     }
 
-    /// Reads a file from a place on. Nothing is sought where its last read ended there.
+    /// Reads a file from a place on. Nothing is sought where its last read ended there. Of a regular
+    /// file more may be read than is asked for, which the next reads then get.
     pub fn read<R: Files<File = File>>(
         &mut self,
         rt: &R,
@@ -69,7 +73,17 @@ impl<'a> Readers<'a> {
             Some(at) => at,
             None => self.open(rt, name)?,
         };
-        self.all[at].read(from, buf)
+        let count = self.ahead.take(at, from, buf);
+        if 0 < count {
+            return Ok(count);
+        }
+        let reader = &mut self.all[at];
+        if reader.node.is_none() || PIECE <= buf.len() {
+            return reader.read(from, buf);
+        }
+        let held = reader.read(from, self.ahead.room())?;
+        self.ahead.keep(at, from, held);
+        Ok(self.ahead.take(at, from, buf))
     }
 
     /// Whether a file is one of those that are read, or the one that may be later.

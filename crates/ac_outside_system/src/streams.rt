@@ -1,7 +1,7 @@
 // Streams of the system, which tell nothing of what they have.
 ghost use Rattle.std.specs.Prelude.{◌≡◌, ⊤, false, []};
 
-use crate::traits::{Got, Put, Sink, Source};
+use ac_outside::{Got, Put, Sink, Source};
 use std::io;
 use std::io::{Read, Write};
 use std::marker::Model;
