@@ -65,16 +65,25 @@ def stolen():
     return int(text_of("/proc/stat").split("\n")[0].split()[8]) / TICKS
 
 
-def watch(words, folder, log, mark=lambda folder: None):
-    """Runs a command with its output in the file log. Returns its status, the prover's processes that it began and that no other of
-    them began (what a child used is its parent's too), and the most memory that was in use on the machine. Each process is marked
-    by the folder that it runs in."""
-    seen, most = {}, 0
+def outermost(seen):
+    """Returns the processes that no other of them began: what a child used is its parent's too."""
+    numbers = {number for number, _ in seen}
+    return [it for it in seen.values() if it.parent not in numbers]
+
+
+def watch(words, folder, log, mark=lambda folder: None, seen=None):
+    """Runs a command with its output in the file log. Returns its status, the prover's outermost processes that it began, and
+    the most memory that was in use on the machine. Each process is marked by the folder that it runs in. Where seen is given,
+    the processes are noted there too, for a caller that is stopped."""
+    seen, most = {} if seen is None else seen, 0
     with open(log, "w") as out:
         run = subprocess.Popen(words, cwd=folder, stdout=out, stderr=subprocess.STDOUT, stdin=subprocess.DEVNULL)
-        while run.poll() is None:
-            look(seen, run.pid, mark)
-            most = max(most, memory_used())
-            time.sleep(PAUSE)
-    provers = {number for number, _ in seen}
-    return run.returncode, [it for it in seen.values() if it.parent not in provers], most
+        try:
+            while run.poll() is None:
+                look(seen, run.pid, mark)
+                most = max(most, memory_used())
+                time.sleep(PAUSE)
+        finally:
+            if run.poll() is None:
+                run.terminate()
+    return run.returncode, outermost(seen), most
