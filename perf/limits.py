@@ -30,7 +30,7 @@ OWN = [
     (r"ac_types/(src/(exceptions|primitives)\.rt|specs/(Exceptions|Primitives)\.antt)", 16, "exceptions and primitives"),
     (r"ac_answers/src/status\.rt", 11, "statuses"),
     (r"ac_bytes/.*", 256, "the bytes of numbers"),
-    (r"ac_syntax/specs/(Expressions|TypeForms)\.antt|ac_expressions/specs/inner/Forms\.antt", 9, "the levels of operators"),
+    (r"ac_syntax/specs/(Expressions|TypeForms)\.antt|ac_(expressions/specs/inner/Levels|parser_patterns/specs/Pieces)\.antt", 9, "the levels of operators"),
     (r"ac_lexer/(src/(quoted|words)\.rt|specs/(Gaps|Spellings)\.antt)|ac_literals/.*", 16, "characters and digits"),
     (r"ac_command/(src/values\.rt|specs/WordValues\.antt)", 10, "digits"),
     (r"ac_(answers|top|chained|files|lines)/specs/.*", 10, "line feeds"),

@@ -2,9 +2,9 @@
 use Rattle.std.proofs.Common.{◌≡◌, ◌∙◌, ◌≤◌, ◌<◌, ◌+◌, ◌^◌, refl, sym, ap, subst, ℕ, suc, Bool, true, false, List, [], ◌∷◌, ◌++◌, map, length, Option, Some, None, arith}
 use Rattle.std.specs.Prelude.{nat_le, is_some, ◌||◌, ◌&&◌, option_map, option_and_then, unwrap_or, slice_get}
 use Rattle.std.specs.List.{list_all}
+use Rattle.std.specs.Option.{option_or}
 use Rattle.std.proofs.lemmas.Bool.{lt-ltb, le-leb}
 use Rattle.ac_types.specs.Limits.{widest_tuple, most_arms, most_variables, longest_text}
-use Rattle.ac_types.specs.First.{or_else}
 use Rattle.ac_types.proofs.FirstLaws.{none≢some, some_eq}
 use Rattle.ac_types.proofs.Same.{both_true, and_true}
 use Rattle.ac_types.specs.Types.{Bytes, Typ, TFun, same_bytes, mentions, is_small}
@@ -212,7 +212,7 @@ module _ (E : Environment) (coherent : IsCoherent E) (own : Bytes → Bool) wher
   -- a variable or a field, and a value of a definition
   plain_fine : (S : NameScope) → length S.fields ≤ 65535 → length S.variables ≤ 65535 → (x : Bytes) (e : Expr) → plain_value S x ≡ Some e → IsFineTerm E e
   plain_fine S few short x e h = on (binders_to x S.variables) refl (own_number x S.fields) refl h where
-    on : (o : Option ℕ) → binders_to x S.variables ≡ o → (f : Option ℕ) → own_number x S.fields ≡ f → or_else (option_map Var o) (option_map Own f) ≡ Some e → IsFineTerm E e
+    on : (o : Option ℕ) → binders_to x S.variables ≡ o → (f : Option ℕ) → own_number x S.fields ≡ f → option_or (option_map Var o) (option_map Own f) ≡ Some e → IsFineTerm E e
     on (Some i) is f of h = subst (IsFineTerm E) (some_eq h) (record { fits = two_fits i (length S.variables) (binder_low x S.variables i is) short; known = refl })
     on None is (Some f) of h = subst (IsFineTerm E) (some_eq h) (record { fits = two_fits f (length S.fields) (number_low x S.fields f of) few; known = refl })
     on None is None of h = absurd (none≢some h)
@@ -233,7 +233,7 @@ module _ (E : Environment) (coherent : IsCoherent E) (own : Bytes → Bool) wher
 
   dotted_fine : (S : NameScope) → Scoped S → (m x : Bytes) (e : Expr) → dotted_value S m x ≡ Some e → IsFineTerm E e
   dotted_fine S s m x e h = on (primitive_named m x) refl h where
-    on : (o : Option NamedPrimitive) → primitive_named m x ≡ o → or_else (option_map primitive_function o) (option_and_then (value_outside S.entries x) (before_dot S m)) ≡ Some e → IsFineTerm E e
+    on : (o : Option NamedPrimitive) → primitive_named m x ≡ o → option_or (option_map primitive_function o) (option_and_then (value_outside S.entries x) (before_dot S m)) ≡ Some e → IsFineTerm E e
     on (Some p) is h = subst (IsFineTerm E) (some_eq h) (primitive_fine p (is_primitive m x p is))
     on None is h = value_fine S s (before_dot S m) x e h
 

@@ -1,15 +1,15 @@
 -- The first number below another at which something is found.
 use Rattle.std.proofs.Common.{◌≡◌, ◌∙◌, ◌⊎◌, inl, inr, refl, sym, ap, ℕ, zero, suc, ◌<◌, Option, Some, None, arith}
 use Rattle.std.proofs.lemmas.Bool.{cases_order}
-use Rattle.ac_types.specs.First.{or_else}
+use Rattle.std.specs.Option.{option_or}
 use Rattle.ac_types.proofs.FirstLaws.{none≢some, some_eq}
 use Rattle.ac_acceptance.specs.Causes.{first_below}
 
-pub else_none : {A : Type 0} (a b : Option A) → a ≡ None → or_else a b ≡ b
-else_none {A} a b h = ap (λ (o : Option A). or_else o b) h
+pub else_none : {A : Type 0} (a b : Option A) → a ≡ None → option_or a b ≡ b
+else_none {A} a b h = ap (λ (o : Option A). option_or o b) h
 
-pub else_some : {A : Type 0} (a b : Option A) (x : A) → a ≡ Some x → or_else a b ≡ Some x
-else_some {A} a b x h = ap (λ (o : Option A). or_else o b) h
+pub else_some : {A : Type 0} (a b : Option A) (x : A) → a ≡ Some x → option_or a b ≡ Some x
+else_some {A} a b x h = ap (λ (o : Option A). option_or o b) h
 
 -- the least number at which it is found
 pub record Least {A : Type 0} (f : ℕ → Option A) (n : ℕ) (a : A) : Type 0 where

@@ -1,10 +1,10 @@
 -- What holds of the entries of a part that no cause refuses: its fields are sound, its imports are linked, and entries of one name have one text.
 use Rattle.std.proofs.Common.{◌≡◌, ◌∙◌, ◌⊎◌, inl, inr, ◌<◌, ℕ, zero, suc, ◌+◌, Bool, true, false, List, [], ◌∷◌, length, Option, Some, None, refl, sym, ap, ap₂, subst, arith, option_map, slice_get}
 use Rattle.std.specs.Prelude.{not, ◌&&◌, is_none, option_and_then}
-use Rattle.std.specs.Option.{option_map_or}
+use Rattle.std.specs.Option.{option_map_or, option_or}
 use Rattle.std.proofs.lemmas.Bool.{cases_order}
 use Rattle.std.proofs.lemmas.Option.{slice_get_within}
-use Rattle.ac_types.specs.First.{given, or_else}
+use Rattle.ac_types.specs.Partial.{given, differ}
 use Rattle.ac_types.specs.Types.{Bytes, same_bytes}
 use Rattle.ac_types.proofs.FirstLaws.{none≢some, some_eq}
 use Rattle.ac_types.proofs.Same.{and_true, bytes_eq, bytes_refl}
@@ -16,10 +16,10 @@ use Rattle.ac_rules.proofs.ListLaws.{all_of_none}
 use Rattle.ac_rules.specs.Modules.{is_valuable, uncovered, like_missing, are_typed, has_sound_fields}
 use Rattle.ac_syntax.specs.Trees.{ProgramTree}
 use Rattle.ac_scopes.specs.Surfaces.{surface_fault, first_unbound, first_repeated, least_passed}
-use Rattle.ac_acceptance.specs.Causes.{Uncovered, NotValuable, LikeMissing, Clash, first_at, first_below, ill_typed, uncovering, not_valuable, without_likespec, unlinked, differ, clashes, clash_of, first_clash, loaded, added, main_type, cause}
+use Rattle.ac_acceptance.specs.Causes.{Uncovered, NotValuable, LikeMissing, Clash, first_at, first_below, ill_typed, uncovering, not_valuable, without_likespec, unlinked, clashes, clash_of, first_clash, loaded, added, main_type, cause}
 
 -- where nothing is found, nothing was found before
-pub none_of_two : {A : Type 0} (a b : Option A) → or_else a b ≡ None → (a ≡ None) × (b ≡ None)
+pub none_of_two : {A : Type 0} (a b : Option A) → option_or a b ≡ None → (a ≡ None) × (b ≡ None)
 none_of_two None b h = (refl, h)
 none_of_two (Some x) b h = absurd (none≢some (sym h))
 

@@ -2,14 +2,14 @@
 use Rattle.std.proofs.Common.{◌≡◌, ◌∙◌, ◌≤◌, refl, ap, ap₂, subst, ℕ, Bool, true, false, List, [], ◌∷◌, ◌++◌, map, Option, Some, None, arith}
 use Rattle.std.specs.Prelude.{nat_le, option_map, option_and_then, unwrap_or}
 use Rattle.std.specs.List.{list_all}
+use Rattle.std.specs.Option.{option_or}
 use Rattle.std.proofs.lemmas.Bool.{le-leb, leb-true}
 use Rattle.ac_types.specs.Limits.{widest_tuple, highest_type, most_type_parts, most_arms}
-use Rattle.ac_types.specs.First.{given, or_else}
+use Rattle.ac_types.specs.Partial.{given, has}
 use Rattle.ac_types.proofs.FirstLaws.{none≢some, some_eq}
 use Rattle.ac_types.proofs.Same.{both_true, and_true}
 use Rattle.ac_types.specs.Types.{Bytes, Typ, TBool, TStr, TExn, TTuple, TList, TOpt, TFun, TAbs, Typs, no_types, typ, parts, parts_of_all, height, height_of_all, is_small, with_each, all_with_each}
 use Rattle.ac_terms.specs.Defs.{Environment, signature_at}
-use Rattle.ac_terms.specs.TermTyping.{has}
 use Rattle.ac_terms.proofs.AllLaws.{all_append}
 use Rattle.ac_types.specs.Sigs.{Signature, named_type}
 use Rattle.ac_terms.specs.Terms.{Expr, expr, no_exprs, Boolean, Var, Own, Ref, Unit', Rec}
@@ -165,7 +165,7 @@ module _ (E : Environment) where
   Typed Γ e T = HasType Coloured E Γ e T
 
   -- what a name means speaks of no type, or of a primitive's argument
-  plain_small : (S : NameScope) (i f : Option ℕ) → Small (term_parts (unwrap_or (or_else (option_map Var i) (option_map Own f)) (Var 0)))
+  plain_small : (S : NameScope) (i f : Option ℕ) → Small (term_parts (unwrap_or (option_or (option_map Var i) (option_map Own f)) (Var 0)))
   plain_small S (Some i) f = refl
   plain_small S None (Some f) = refl
   plain_small S None None = refl
@@ -183,7 +183,7 @@ module _ (E : Environment) where
 
   dotted_small : (S : NameScope) (m x : Bytes) → Small (term_parts (unwrap_or (dotted_value S m x) Unit'))
   dotted_small S m x = on (primitive_named m x) refl where
-    on : (o : Option NamedPrimitive) → primitive_named m x ≡ o → Small (term_parts (unwrap_or (or_else (option_map primitive_function o) (option_and_then (value_outside S.entries x) (before_dot S m))) Unit'))
+    on : (o : Option NamedPrimitive) → primitive_named m x ≡ o → Small (term_parts (unwrap_or (option_or (option_map primitive_function o) (option_and_then (value_outside S.entries x) (before_dot S m))) Unit'))
     on None is = value_small S x (before_dot S m)
     on (Some p) is = and_true (is_primitive m x p is).small refl
 

@@ -3,7 +3,7 @@ use Rattle.std.proofs.Common.{◌≡◌, refl, sym, ap, ◌∙◌, ℕ, ◌<◌,
 use Rattle.std.specs.Prelude.{option_map, option_and_then, slice_get, nat_lt, is_some, unwrap_or, ◌&&◌}
 use Rattle.std.specs.List.{list_all}
 use Rattle.std.proofs.lemmas.Bool.{ltb-true}
-use Rattle.ac_types.specs.First.{given}
+use Rattle.ac_types.specs.Partial.{given}
 use Rattle.ac_types.specs.Types.{Bytes, Typ, TAbs, mentions}
 use Rattle.ac_types.specs.Sigs.{Typed_name}
 use Rattle.ac_types.proofs.FirstLaws.{none≢some}

@@ -1,10 +1,10 @@
 -- Why a part is refused, a program or a text of the shelf, once it has a tree: the first cause that applies.
 use Rattle.std.specs.Prelude.{ℕ, zero, suc, ◌+◌, ◌&&◌, Bool, false, not, is_none, List, [], ◌∷◌, ◌++◌, length, drop, Option, Some, None, option_map}
-use Rattle.std.specs.Option.{option_map_or}
-use Rattle.ac_types.specs.First.{given, first_failing, or_else, first_some}
-use Rattle.ac_types.specs.Types.{Bytes, Typ, same_bytes}
+use Rattle.std.specs.Option.{option_map_or, option_or}
+use Rattle.ac_types.specs.Partial.{given, first_failing, first_some, differ}
+use Rattle.ac_types.specs.Types.{Bytes, Typ}
 use Rattle.ac_terms.specs.Terms.{Main}
-use Rattle.ac_terms.specs.Defs.{Environment, Field, Def, AModule, AnImport, AMark, Seen, Entry, name_at, names}
+use Rattle.ac_terms.specs.Defs.{Environment, Field, Def, AModule, AnImport, Seen, Entry, name_at, names}
 use Rattle.ac_terms.specs.Names.{text_of_entry}
 use Rattle.ac_rules.specs.Views.{Coloured}
 use Rattle.ac_rules.specs.Typing.{all_of, type_of}
@@ -27,9 +27,8 @@ pub data Cause : Type 0 where
 
 -- entries behind those in front of them: where they come from is noted, and each import is linked
 abbrev pub link_of : Environment → Def → Option ℕ
-link_of E (AModule m) = None
 link_of E (AnImport i) = linked E i AtLoad
-link_of E (AMark t) = None
+link_of _ _ = None
 
 abbrev pub linked_entry : Seen → Environment → Entry → Entry
 linked_entry seen E e = record e { seen = seen; link = link_of E e.def }
@@ -41,38 +40,34 @@ linked_behind seen E (e ∷ es) = linked_entry seen E e ∷ linked_behind seen (
 -- the first of some entries, counted from k on, at which something is found
 abbrev pub first_at : {A : Type 0} → ℕ → (ℕ → Entry → Option A) → List Entry → Option A
 first_at k f [] = None
-first_at k f (e ∷ es) = or_else (f k e) (first_at (suc k) f es)
+first_at k f (e ∷ es) = option_or (f k e) (first_at (suc k) f es)
 
 -- the first number below n at which something is found
 abbrev pub first_below : {A : Type 0} → ℕ → (ℕ → Option A) → Option A
 first_below zero f = None
-first_below (suc k) f = or_else (first_below k f) (f k)
+first_below (suc k) f = option_or (first_below k f) (f k)
 
 -- definition k, an entry of E behind the first n, with an ill-typed field
 abbrev pub ill_typed : Environment → ℕ → ℕ → Entry → Option Cause
-ill_typed E n k e = elim e.def [ AModule m ↦ given (not (are_typed E (n + k) 0 m.fields)) (Some (IllTyped k)) | AnImport i ↦ None | AMark t ↦ None ]
+ill_typed E n k e = elim e.def [ AModule m ↦ given (not (are_typed E (n + k) 0 m.fields)) (Some (IllTyped k)) | _ ↦ None ]
 
 -- with a struct that doesn't cover its signature
 abbrev pub uncovering : ℕ → Entry → Option Cause
-uncovering k e = elim e.def [ AModule m ↦ option_map (Uncovered k) (uncovered m) | AnImport i ↦ None | AMark t ↦ None ]
+uncovering k e = elim e.def [ AModule m ↦ option_map (Uncovered k) (uncovered m) | _ ↦ None ]
 
 -- with a field that isn't valuable
 abbrev pub not_valuable : ℕ → Entry → Option Cause
-not_valuable k e = elim e.def [ AModule m ↦ option_map (NotValuable k) (first_failing (λ (f : Field). is_valuable f.term) m.fields) | AnImport i ↦ None | AMark t ↦ None ]
+not_valuable k e = elim e.def [ AModule m ↦ option_map (NotValuable k) (first_failing (λ (f : Field). is_valuable f.term) m.fields) | _ ↦ None ]
 
 -- with an abstract type without a likespec, by version
 abbrev pub without_likespec : ℕ → Entry → Option Cause
-without_likespec k e = elim e.def [ AModule m ↦ None | AnImport i ↦ given (not (is_exact i.constraint)) (option_map (LikeMissing k) (like_missing i)) | AMark t ↦ None ]
+without_likespec k e = elim e.def [ AnImport i ↦ given (not (is_exact i.constraint)) (option_map (LikeMissing k) (like_missing i)) | _ ↦ None ]
 
 -- with an import that has no link
 abbrev pub unlinked : ℕ → Entry → Option Cause
-unlinked k e = elim e.def [ AModule m ↦ None | AnImport i ↦ given (is_none e.link) (Some (Unresolved k)) | AMark t ↦ None ]
+unlinked k e = elim e.def [ AnImport i ↦ given (is_none e.link) (Some (Unresolved k)) | _ ↦ None ]
 
 -- two entries of one name with two texts; an import by exact name and a mark have no text
-abbrev pub differ : Option Bytes → Option Bytes → Bool
-differ (Some s) (Some t) = not (same_bytes s t)
-differ a b = false
-
 abbrev pub clashes : Environment → ℕ → ℕ → Bool
 clashes E i j = option_map_or (names (name_at E i)) (name_at E j) false && differ (text_of_entry E i) (text_of_entry E j)
 

@@ -6,7 +6,7 @@ use Rattle.std.proofs.lemmas.List.{map-append, length-map}
 use mathlib.Core.Path.{fun_ext}
 use native.Mathlib.Omega.{arith}
 use Rattle.sha2.specs.Sha256.{sha256}
-use Rattle.ac_types.specs.First.{first_failing}
+use Rattle.ac_types.specs.Partial.{first_failing}
 use Rattle.ac_terms.specs.Terms.{PValue}
 use Rattle.ac_terms.specs.Defs.{Environment, Entry, Def, AModule, AnImport, AMark, Arrived, Packet}
 use Rattle.ac_terms.specs.Names.{name_by}

@@ -7,7 +7,7 @@ use Rattle.std.proofs.lemmas.List.Folds.{list_all-map}
 use mathlib.Core.Path.{ap₂}
 use native.Mathlib.Omega.{arith}
 use Rattle.sha2.specs.Sha256.{sha256}
-use Rattle.ac_types.specs.First.{given, first_failing, first_wrong}
+use Rattle.ac_types.specs.Partial.{given, first_failing, first_wrong}
 use Rattle.ac_terms.specs.declared.def.Packet as code_packet
 use Rattle.ac_terms.specs.declared.env.Env.{Env}
 use Rattle.ac_terms.specs.Defs.{Environment, Entry, Def, Packet}

@@ -5,7 +5,7 @@ ghost use Rattle.std.specs.Prelude.{◌≡◌, ◌<◌, ◌+◌, ◌^◌, None, 
 ghost use Rattle.std.specs.List.{list_all};
 ghost use Rattle.sha2.specs.Sha256.{sha256};
 ghost use Rattle.ac_types.specs.Limits.{most_entries};
-ghost use Rattle.ac_types.specs.First.{first_wrong, given};
+ghost use Rattle.ac_types.specs.Partial.{first_wrong, given};
 ghost use Rattle.ac_types.specs.ReadTypes.{typ_of};
 ghost use Rattle.ac_types.specs.Types.{same};
 ghost use Rattle.ac_terms.specs.Bounds.{fits_def, fits_packet};

@@ -22,9 +22,8 @@ verdict_line name v = name ++ (codes ": " ++ verdict_shown v)
 
 -- a line for each name, with the verdict at its place
 abbrev pub verdict_lines : List Bytes → List Verdict → Bytes
-verdict_lines [] vs = []
-verdict_lines (name ∷ names) [] = []
 verdict_lines (name ∷ names) (v ∷ vs) = verdict_line name v ++ verdict_lines names vs
+verdict_lines _ _ = []
 
 abbrev pub is_accepted : Verdict → Bool
 is_accepted Accepted = true

@@ -1,15 +1,15 @@
 -- The first clash of entries: what the first entry of each name says of the next.
 use Rattle.std.proofs.Common.{◌≡◌, ◌∙◌, ◌⊎◌, inl, inr, ◌<◌, ◌+◌, refl, sym, ap, ap₂, subst, ℕ, suc, Bool, true, false, length, Option, Some, None, arith}
 use Rattle.std.specs.Prelude.{not, ◌&&◌, is_some, if◌then◌else◌}
-use Rattle.std.specs.Option.{option_map_or}
+use Rattle.std.specs.Option.{option_map_or, option_or}
 use Rattle.std.proofs.lemmas.Bool.{cases_order}
-use Rattle.ac_types.specs.First.{given, or_else}
+use Rattle.ac_types.specs.Partial.{given, differ}
 use Rattle.ac_types.specs.Types.{Bytes, same_bytes}
 use Rattle.ac_types.proofs.FirstLaws.{none≢some, some_eq, given_some}
 use Rattle.ac_types.proofs.Same.{both_true, bytes_eq, bytes_refl}
 use Rattle.ac_terms.specs.Defs.{Environment, name_at, names}
 use Rattle.ac_terms.specs.Names.{text_of_entry}
-use Rattle.ac_acceptance.specs.Causes.{Clash, differ, clashes, clash_of, first_clash}
+use Rattle.ac_acceptance.specs.Causes.{Clash, clashes, clash_of, first_clash}
 use Rattle.ac_causes.specs.inner.Named.{told_name, first_told, put_number}
 use Rattle.ac_acceptance.proofs.Firsts.{below_all, below_none, below_some, below_is}
 
@@ -186,32 +186,32 @@ module _ (E : Environment) where
     on (inr (inr after)) = absurd (omega (arith, lt, e, after))
 
   -- the first of each name, with one more entry
-  else_none : (o : Option ℕ) → or_else o None ≡ o
+  else_none : (o : Option ℕ) → option_or o None ≡ o
   else_none None = refl
   else_none (Some k) = refl
 
-  one_more : (i k : ℕ) (n : Bytes) → k ≡ i + 1 → first_told E k n ≡ or_else (first_told E i n) (under n i)
+  one_more : (i k : ℕ) (n : Bytes) → k ≡ i + 1 → first_told E k n ≡ option_or (first_told E i n) (under n i)
   one_more i k n e = let s : k ≡ suc i = omega (arith, e) in ap (λ m. first_told E m n) s
 
   pub told_skipped : (i k : ℕ) (n : Bytes) → k ≡ i + 1 → told_name E i ≡ None → first_told E k n ≡ first_told E i n
-  told_skipped i k n e h = one_more i k n e ∙ ap (λ (o : Option Bytes). or_else (first_told E i n) (given (names o n) (Some i))) h ∙ else_none (first_told E i n)
+  told_skipped i k n e h = one_more i k n e ∙ ap (λ (o : Option Bytes). option_or (first_told E i n) (given (names o n) (Some i))) h ∙ else_none (first_told E i n)
 
   other_name : (i : ℕ) (m n : Bytes) → Told i m → same_bytes m n ≡ false → under n i ≡ None
   other_name i m n h k = ap (λ (o : Option Bytes). given (names o n) (Some i)) h ∙ ap (λ b. given b (Some i)) k
 
   pub told_kept : (i k f : ℕ) (m n : Bytes) → k ≡ i + 1 → Told i m → first_told E i m ≡ Some f → first_told E k n ≡ first_told E i n
   told_kept i k f m n e h first = one_more i k n e ∙ on (same_bytes m n) refl where
-    on : (b : Bool) → same_bytes m n ≡ b → or_else (first_told E i n) (under n i) ≡ first_told E i n
+    on : (b : Bool) → same_bytes m n ≡ b → option_or (first_told E i n) (under n i) ≡ first_told E i n
     on true is =
         let there : first_told E i n ≡ Some f = ap (first_told E i) (sym (bytes_eq m n is)) ∙ first in
-        ap (λ o. or_else o (under n i)) there ∙ sym there
-    on false is = ap (or_else (first_told E i n)) (other_name i m n h is) ∙ else_none (first_told E i n)
+        ap (λ o. option_or o (under n i)) there ∙ sym there
+    on false is = ap (option_or (first_told E i n)) (other_name i m n h is) ∙ else_none (first_told E i n)
 
   pub told_put : (i k : ℕ) (m n : Bytes) → k ≡ i + 1 → Told i m → first_told E i m ≡ None → first_told E k n ≡ put_number m i (first_told E i) n
   told_put i k m n e h none = one_more i k n e ∙ on (same_bytes m n) refl where
-    on : (b : Bool) → same_bytes m n ≡ b → or_else (first_told E i n) (under n i) ≡ (if same_bytes m n then Some i else first_told E i n)
+    on : (b : Bool) → same_bytes m n ≡ b → option_or (first_told E i n) (under n i) ≡ (if same_bytes m n then Some i else first_told E i n)
     on true is =
         let same : m ≡ n = bytes_eq m n is in
-        ap (λ o. or_else o (under n i)) (ap (first_told E i) (sym same) ∙ none) ∙ is_under n i (subst (Told i) same h) ∙ sym (ap (λ b. if b then Some i else first_told E i n) is)
+        ap (λ o. option_or o (under n i)) (ap (first_told E i) (sym same) ∙ none) ∙ is_under n i (subst (Told i) same h) ∙ sym (ap (λ b. if b then Some i else first_told E i n) is)
     on false is =
-        ap (or_else (first_told E i n)) (other_name i m n h is) ∙ else_none (first_told E i n) ∙ sym (ap (λ b. if b then Some i else first_told E i n) is)
+        ap (option_or (first_told E i n)) (other_name i m n h is) ∙ else_none (first_told E i n) ∙ sym (ap (λ b. if b then Some i else first_told E i n) is)

@@ -1,9 +1,9 @@
 -- The first of entries at which something is found.
 use Rattle.std.proofs.Common.{◌≡◌, ◌∙◌, ◌<◌, ◌+◌, ◌-◌, sym, ap, subst, ℕ, zero, suc, Bool, true, List, [], ◌∷◌, length, take, drop, map, get_or, Option, Some, None, arith, add-one}
 use Rattle.std.specs.List.{list_all}
+use Rattle.std.specs.Option.{option_or}
 use Rattle.std.proofs.Math.Seq.{take-length}
 use Rattle.std.proofs.lemmas.List.{length-drop, take-append-drop, drop-map}
-use Rattle.ac_types.specs.First.{or_else}
 use Rattle.ac_types.proofs.Loops.{drop_next, drop_end}
 use Rattle.ac_types.proofs.Same.{both_true}
 use Rattle.ac_terms.specs.Defs.{Entry}
@@ -37,7 +37,7 @@ module _ {X A : Type 0} (read : X → Entry) (f : ℕ → Entry → Option A) (x
   abbrev from_there : ℕ → ℕ → Option A
   from_there k i = first_at k f (map read (drop i xs))
 
-  here : (k i : ℕ) (x : X) → i < length xs → x ≡ get_or xs i x → from_there k i ≡ or_else (f k (read x)) (from_there (k + 1) (i + 1))
+  here : (k i : ℕ) (x : X) → i < length xs → x ≡ get_or xs i x → from_there k i ≡ option_or (f k (read x)) (from_there (k + 1) (i + 1))
   here k i x lt is = rw (add-one k) (ap (λ ys. first_at k f (map read ys)) (drop_next i xs x lt is))
 
   pub at_next : (all : Option A) (k i : ℕ) (x : X) → i < length xs → x ≡ get_or xs i x → all ≡ from_there k i → f k (read x) ≡ None → all ≡ from_there (k + 1) (i + 1)

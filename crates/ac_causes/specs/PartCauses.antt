@@ -1,6 +1,6 @@
 -- Why the entries of a part, behind the first n, or its term are refused: the causes behind those of the tree and of the scopes.
 use Rattle.std.specs.Prelude.{◌≡◌, ⊤, ℕ, false, is_none, List, [], ◌∷◌, length, drop, Option, Some, None}
-use Rattle.ac_types.specs.First.{given, first_some}
+use Rattle.ac_types.specs.Partial.{given, first_some}
 use Rattle.ac_types.specs.Types.{Typ}
 use Rattle.ac_terms.specs.Terms.{Main, Expr}
 use Rattle.ac_terms.specs.Defs.{Environment}

@@ -2,7 +2,7 @@
 
 ghost use Rattle.std.specs.Prelude.{◌≡◌, ◌<◌, ◌≤◌, ◌^◌, IsTrue, length, map, drop};
 ghost use Rattle.std.specs.List.{list_all};
-ghost use Rattle.ac_types.specs.First.{first_failing};
+ghost use Rattle.ac_types.specs.Partial.{first_failing};
 ghost use Rattle.ac_terms.specs.Read.{environment_of, entry_of, field_of};
 ghost use Rattle.ac_acceptance.specs.Causes.{first_at, uncovering, not_valuable, without_likespec, unlinked};
 ghost use Rattle.ac_acceptance.specs.Counted.{has_counted};

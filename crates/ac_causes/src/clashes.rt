@@ -3,7 +3,8 @@
 ghost use Rattle.std.specs.Prelude.{◌≡◌, ◌<◌, ◌^◌, IsSome, length, option_map, IfOk};
 ghost use Rattle.ac_terms.specs.Read.{environment_of};
 ghost use Rattle.ac_terms.specs.Names.{text_of_entry};
-ghost use Rattle.ac_acceptance.specs.Causes.{differ, first_clash};
+ghost use Rattle.ac_acceptance.specs.Causes.{first_clash};
+ghost use Rattle.ac_types.specs.Partial.{differ};
 ghost use Rattle.ac_causes.specs.inner.Named.{clash};
 
 use crate::names::{Numbers, number_under, put_number, told_name};

@@ -2,7 +2,7 @@
 
 ghost use Rattle.std.specs.Prelude.{◌≡◌, ◌<◌, ◌≤◌, ◌^◌, IsTrue, Some, length, IfOk, IfErr, OnOk};
 ghost use Rattle.std.specs.List.{list_all};
-ghost use Rattle.ac_types.specs.First.{first_some};
+ghost use Rattle.ac_types.specs.Partial.{first_some};
 ghost use Rattle.ac_types.specs.ReadTypes.{typ_of};
 ghost use Rattle.ac_terms.specs.Read.{environment_of, expr_of};
 ghost use Rattle.ac_acceptance.specs.Counted.{has_counted};

@@ -2,17 +2,17 @@
 use Rattle.std.proofs.Common.{◌≡◌, ◌∙◌, ◌⊎◌, inl, inr, refl, sym, ap, ap₂, subst, ℕ, suc, ◌<◌, ◌≤◌, Bool, true, false, ◌&&◌, [], ◌∷◌, ◌++◌, length, Option, Some, None, arith}
 use mathlib.Core.Bool.{true≢false}
 use Rattle.std.specs.Prelude.{not, option_map}
-use Rattle.std.specs.Option.{option_map_or}
+use Rattle.std.specs.Option.{option_map_or, option_or}
 use Rattle.std.proofs.lemmas.Bool.{cases_order}
 use Rattle.std.proofs.lemmas.Option.{slice_get_past}
-use Rattle.ac_types.specs.First.{given, or_else}
+use Rattle.ac_types.specs.Partial.{given, differ}
 use Rattle.ac_types.specs.Types.{Bytes, same_bytes}
 use Rattle.ac_types.proofs.FirstLaws.{none≢some}
 use Rattle.ac_types.proofs.Same.{both_true, bytes_eq, bytes_refl}
 use Rattle.ac_terms.specs.Terms.{Expr}
 use Rattle.ac_terms.specs.Defs.{Environment, Entry, name_at, names}
 use Rattle.ac_terms.specs.Names.{text_of_entry}
-use Rattle.ac_acceptance.specs.Causes.{differ, first_below}
+use Rattle.ac_acceptance.specs.Causes.{first_below}
 use Rattle.ac_acceptance.proofs.Firsts.{below_all, below_none}
 use Rattle.ac_colours.specs.Births.{IsAmong}
 use Rattle.ac_colours.specs.Chains.{Programs, HaveOneText}
@@ -73,7 +73,7 @@ not_given : (b : Bool) (j : ℕ) → given b (Some j) ≡ None → b ≡ false
 not_given true j h = absurd (none≢some (sym h))
 not_given false j h = refl
 
-neither : {A : Type 0} (a b : Option A) → or_else a b ≡ None → (a ≡ None) × (b ≡ None)
+neither : {A : Type 0} (a b : Option A) → option_or a b ≡ None → (a ≡ None) × (b ≡ None)
 neither (Some x) b h = absurd (none≢some (sym h))
 neither None b h = (refl, h)
 
@@ -114,7 +114,7 @@ one_behind a E b (p ∷ qs) h (x ∷ front) back q e =
 none_behind : (a : ℕ) (E : Environment) (i b : ℕ) (qs : Programs) → ((q : Environment × Expr) → IsAmong q qs → OneText E q.0) → clash_behind a E i b qs ≡ None
 none_behind a E i b [] h = refl
 none_behind a E i b (q ∷ qs) h =
-    ap (λ o. or_else (option_map (Clash a i b) o) (clash_behind a E i (suc b) qs)) (none_in E q.0 (h q ([], qs, refl)) i)
+    ap (λ o. option_or (option_map (Clash a i b) o) (clash_behind a E i (suc b) qs)) (none_in E q.0 (h q ([], qs, refl)) i)
     ∙ none_behind a E i (suc b) qs (λ x w. h x (q ∷ w.0, w.1, ap (λ ps. q ∷ ps) w.2))
 
 -- each program by itself has one text for a name
@@ -154,6 +154,6 @@ one_text a ps h own p q w v i j n s t = (any_two a ps h own p q w.0 w.1 v.0 v.1 
 pub no_first : (a : ℕ) (ps : Programs) → HaveOneText ps → first_program_clash a ps ≡ None
 no_first a [] h = refl
 no_first a (p ∷ ps) h =
-    ap (λ o. or_else o (first_program_clash (suc a) ps))
+    ap (λ o. option_or o (first_program_clash (suc a) ps))
     (below_all (length p.0) (λ i. clash_behind a p.0 i (suc a) ps) (λ i lt. none_behind a p.0 i (suc a) ps (λ q w. record { same = h p q ([], ps, refl) (p ∷ w.0, w.1, ap (λ x. p ∷ x) w.2) })))
     ∙ no_first (suc a) ps (λ x y w v. h x y (p ∷ w.0, w.1, ap (λ l. p ∷ l) w.2) (p ∷ v.0, v.1, ap (λ l. p ∷ l) v.2))

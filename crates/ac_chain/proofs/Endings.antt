@@ -1,7 +1,7 @@
 -- How a call ends, from what its steps give.
 use Rattle.std.proofs.Common.{◌≡◌, inr, refl, sym, ap, subst, ℕ, zero, suc, List, [], ◌∷◌, length, Option, Some, None}
 use Rattle.std.specs.Prelude.{option_map, IfOk, IfErr, OnErr, IsErrOf, Result, Ok, Err}
-use Rattle.ac_types.specs.First.{or_else}
+use Rattle.std.specs.Option.{option_or}
 use Rattle.ac_types.specs.Types.{Bytes}
 use Rattle.ac_terms.specs.Defs.{Environment}
 use Rattle.ac_rules.specs.Views.{Mode}
@@ -28,7 +28,7 @@ abbrev AreClash : Option ChainFault → Type 0
 AreClash None = Unit {0}
 AreClash (Some f) = IsClash f
 
-either : (o p : Option ChainFault) → AreClash o → AreClash p → AreClash (or_else o p)
+either : (o p : Option ChainFault) → AreClash o → AreClash p → AreClash (option_or o p)
 either None p h k = k
 either (Some f) p h k = h
 

@@ -1,8 +1,9 @@
 -- A table of names that keeps the texts of entries, entry by entry and program by program.
 use Rattle.std.proofs.Common.{◌≡◌, ◌∙◌, refl, sym, ap, ap₂, subst, ℕ, suc, ◌<◌, Bool, List, [], ◌∷◌, ◌++◌, length, get_or, Option, Some, None, slice_get, arith}
 use Rattle.std.specs.Prelude.{MatchOption}
+use Rattle.std.specs.Option.{option_or}
 use Rattle.std.proofs.lemmas.Option.{slice_get_within}
-use Rattle.ac_types.specs.First.{given, or_else}
+use Rattle.ac_types.specs.Partial.{given}
 use Rattle.ac_types.specs.Types.{Bytes, same_bytes}
 use Rattle.ac_types.proofs.Same.{bytes_refl}
 use Rattle.ac_types.proofs.FirstLaws.{some_eq}
@@ -31,12 +32,12 @@ added old new name text number (Some k) at a = (
 added old new name text number None at a = (
   record {
     number = length old;
-    place = ap (λ (t : KnownNames). number_of t name) a.1 ∙ position_more (test name) old (name, text) ∙ ap₂ (λ (x : Option ℕ) b. or_else x (given b (Some (length old)))) at (bytes_refl name);
+    place = ap (λ (t : KnownNames). number_of t name) a.1 ∙ position_more (test name) old (name, text) ∙ ap₂ (λ (x : Option ℕ) b. option_or x (given b (Some (length old)))) at (bytes_refl name);
     entry = ap (λ (t : KnownNames). slice_get t (length old)) a.1 ∙ get_new old (name, text) [];
   },
   λ n s h. record {
     number = h.number;
-    place = ap (λ (t : KnownNames). number_of t n) a.1 ∙ position_more (test n) old (name, text) ∙ ap (λ (x : Option ℕ). or_else x (given (same_bytes n name) (Some (length old)))) h.place;
+    place = ap (λ (t : KnownNames). number_of t n) a.1 ∙ position_more (test n) old (name, text) ∙ ap (λ (x : Option ℕ). option_or x (given (same_bytes n name) (Some (length old)))) h.place;
     entry = ap (λ (t : KnownNames). slice_get t h.number) a.1 ∙ get_old old ((name, text) ∷ []) h.number (slice_get_within old h.number (n, s) h.entry) ∙ h.entry;
   },
 )

@@ -10,7 +10,7 @@ use Rattle.ac_terms.specs.Read.{environment_of, expr_of}
 use Rattle.ac_rules.specs.Views.{Mode}
 use Rattle.ac_rules.specs.Coherent.{IsCoherent}
 use Rattle.ac_rules.specs.declared.loaded.Loaded.{Loaded}
-use Rattle.ac_machine.specs.Seen.{MachineSeen}
+use Rattle.ac_machine_engine.specs.Seen.{MachineSeen}
 use Rattle.ac_outside.specs.Outside.{Extends}
 use Rattle.ac_meaning.specs.Writes.{Write, Console, written}
 use Rattle.ac_meaning.specs.Worlds.{Trace}

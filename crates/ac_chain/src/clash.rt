@@ -3,7 +3,8 @@
 ghost use Rattle.std.specs.Prelude.{◌≡◌, ◌<◌, ◌≤◌, ◌+◌, ◌^◌, Some, IsSome, length, option_map, IfOk};
 ghost use Rattle.ac_terms.specs.Read.{environment_of};
 ghost use Rattle.ac_terms.specs.Names.{text_of_entry};
-ghost use Rattle.ac_acceptance.specs.Causes.{differ, first_below};
+ghost use Rattle.ac_acceptance.specs.Causes.{first_below};
+ghost use Rattle.ac_types.specs.Partial.{differ};
 ghost use Rattle.ac_chain.specs.Clashes.{is_clash, clash_in, clash_behind, first_program_clash};
 ghost use Rattle.ac_chain.specs.ChainTexts.{programs_of};
 ghost use Rattle.ac_chain.specs.inner.Running.{AreFew};

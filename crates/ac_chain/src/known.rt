@@ -2,7 +2,7 @@
 
 ghost use Rattle.std.specs.Prelude.{◌≡◌, ◌<◌, ◌≤◌, ◌^◌, true, length, is_some, option_map, IfOk};
 ghost use Rattle.std.specs.Option.{option_copied};
-ghost use Rattle.ac_types.specs.First.{given};
+ghost use Rattle.ac_types.specs.Partial.{given};
 ghost use Rattle.ac_terms.specs.Defs.{name_at};
 ghost use Rattle.ac_terms.specs.Names.{text_of_entry};
 ghost use Rattle.ac_terms.specs.Read.{environment_of, name_of_code};

@@ -91,6 +91,7 @@ fn run_linked<C: Sink>(
     ensures later { C.faults console.old ≤ C.faults console.new }
 {
     let mut end = RunEnd::Memory;
+    // the references that it gives back are for the proof alone
     let _ = run_at::<C, Brand>(alloc, session, input, console, &mut end, sent);
     end
 }

@@ -1,16 +1,15 @@
 -- A term of the code has a type exactly where it has that type with captured values counting as of theirs, and each of these is of its own.
 use Rattle.std.proofs.Common.{◌≡◌, refl, sym, ap, ap₂, ◌∙◌, Bool, true, false, ◌&&◌, List, Option, Some, None}
 use Rattle.std.specs.Prelude.{option_map, option_and_then}
-use Rattle.ac_types.specs.First.{given}
-use Rattle.ac_types.specs.Types.{Typ, TInt, TBool, TStr, TUnit, TExn, TTuple, TList, TOpt, TFun, TAbs, TMine, Typs, no_types, typ, agree}
+use Rattle.ac_types.specs.Partial.{given, agree, has, both_same, also}
+use Rattle.ac_types.specs.Types.{Typ, TInt, TBool, TStr, TUnit, TExn, TTuple, TList, TOpt, TFun, TAbs, TMine, Typs, no_types, typ}
 use Rattle.ac_types.proofs.Same.{both_true}
 use Rattle.ac_terms.specs.Terms.{Home, Pattern, PWild, PVar, PInt, PBool, PStr, PUnit, PTuple, PNil, PCons, PAbsent, PPresent, PExn, PExnOf, Patterns, no_patterns, pattern', Expr, Int, Boolean, Str, Unit', Exn, ExnOf, Tuple, Nil, Empty, Present, Cons, Var, Own, Ref, Lam, Rec, App, Let, If, Seq, Match, Try, Raise, Prim, Marshal, Unmarshal, Val, Evaluated, Bracket, Exprs, no_exprs, expr, Arms, no_arms, arm}
 use Rattle.ac_terms.specs.Defs.{Environment}
 use Rattle.ac_types.specs.Exceptions.{has_text}
 use Rattle.ac_terms.specs.PrimitiveTypes.{primitive_type}
-use Rattle.ac_terms.specs.TermTyping.{has, both_same, also, last_of}
 use Rattle.ac_rules.specs.Views.{Coloured}
-use Rattle.ac_rules.specs.Typing.{Scope, bind, bind_all, type_of, types_of, arm_types, one_of, type_applied, type_seen, kept_in, variables, variables_of_all, variables_joined}
+use Rattle.ac_rules.specs.Typing.{Scope, bind, bind_all, type_of, types_of, arm_types, one_of, type_applied, type_seen, kept_in, variables, variables_of_all, variables_joined, last_of}
 use Rattle.ac_check.specs.inner.Captured.{captured_hold, all_captured_hold, arms_captured_hold, is_code, are_code, arms_are_code}
 use Rattle.ac_check.proofs.Strict.{none_given, given_both, strict_one, strict_two, strict_three, under}
 use mathlib.Core.Bool.{true≢false}

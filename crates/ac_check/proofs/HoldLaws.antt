@@ -1,8 +1,8 @@
 -- What packed values and functions are of, from what their parts are.
 use Rattle.std.proofs.Common.{suc, ◌≡◌, refl, ap, ◌∙◌, subst, Bool, true, false, ◌&&◌, List, [], ◌∷◌, length, map, Option, Some, None}
 use Rattle.std.specs.Prelude.{Result, IfOk}
-use Rattle.ac_types.specs.First.{given}
-use Rattle.ac_types.specs.Types.{Typ, typs, agree}
+use Rattle.ac_types.specs.Partial.{given, agree}
+use Rattle.ac_types.specs.Types.{Typ, typs}
 use Rattle.ac_types.specs.ReadTypes.{typ_of}
 use Rattle.ac_types.specs.declared.ty.Ty.{Ty}
 use Rattle.ac_types.specs.declared.memory.Memory.{Memory}

@@ -1,7 +1,7 @@
 -- What is there only under conditions: a rule without the type of a part gives none.
 use Rattle.std.proofs.Common.{◌≡◌, refl, Bool, true, false, ◌&&◌, Option, Some, None}
 use Rattle.std.specs.Prelude.{option_and_then}
-use Rattle.ac_types.specs.First.{given}
+use Rattle.ac_types.specs.Partial.{given}
 
 abbrev nothing : (A : Type 0) → Option A
 nothing A = None

@@ -17,7 +17,6 @@ use ac_types::{Memory, Ty, both};
 use ac_views::{Base, is_base, list_item, option_item, tuple_parts};
 use std::alloc::Global;
 
-// Each part is looked at (`&`): an `&&` would be one more branch of the proof.
 /// Whether each captured value of a term is of the type beside it.
 #[cycle(hold)]
 #[tactic(auto, using(ac_typing::proofs::TermLaws::typing_laws))]
@@ -32,6 +31,7 @@ pub fn captured_hold<'a>(
     ensures heads { AreHeads (environment_of env.now) heads.new }
     ensures answer { IfOk result (λ b. b ≡ captured_hold (environment_of env.now) (expr_of t.now)) }
 {
+    // `&`, not `&&`, between parts: one branch fewer in the proof of each arm
     match t {
         Term::ExnOf(_, text) => captured_hold(alloc, text, env, heads),
         Term::Tuple(parts) => all_captured_hold(alloc, parts.as_slice(), env, heads),

@@ -1,6 +1,7 @@
 -- The first with the same name and another text, where each name that is known has one text.
 use Rattle.std.proofs.Common.{append_assoc, append-nil, length-append, ◌≡◌, refl, sym, ap, ap₂, ◌∙◌, subst, ℕ, zero, suc, ◌+◌, ◌-◌, ◌<◌, ◌≤◌, Bool, true, false, ◌&&◌, not, List, [], ◌∷◌, ◌++◌, length, take, drop, Option, Some, None}
 use Rattle.std.specs.Prelude.{position, option_map, option_and_then, slice_get, nat_lt}
+use Rattle.std.specs.Option.{option_or}
 use mathlib.Core.Bool.{true≢false}
 use native.Mathlib.Omega.{arith}
 use Rattle.std.proofs.lemmas.Bool.{ltb-true, ltb-false}
@@ -9,12 +10,12 @@ use Rattle.sha2.specs.Sha256.{sha256}
 use Rattle.ac_types.proofs.FirstLaws.{none≢some, some_eq}
 use Rattle.ac_types.proofs.Same.{bytes_eq, bytes_refl}
 use Rattle.ac_types.specs.Types.{Bytes, same_bytes}
-use Rattle.ac_types.specs.First.{given, or_else}
+use Rattle.ac_types.specs.Partial.{given, alike, differ}
 use Rattle.ac_clashes.proofs.KnownLaws.{position_more}
 use Rattle.ac_terms.specs.Defs.{Environment, Entry, names}
 use Rattle.ac_terms.specs.Names.{text_of_entry}
 use Rattle.ac_rules.specs.Coherent.{IsCoherent}
-use Rattle.ac_rules.specs.Packets.{named_from, clashes, alike, differ, first_clash, PacketCause, Clash}
+use Rattle.ac_rules.specs.Packets.{named_from, clashes, first_clash, PacketCause, Clash}
 use Rattle.ac_terms.proofs.TestLaws.{not_false, lt_is}
 use Rattle.ac_rules.proofs.ViewLaws.{within}
 use Rattle.ac_rules.proofs.EarlierLaws.{position-first, position-later, no_first}
@@ -66,7 +67,7 @@ module _ (known : List Known) (a : Known) (n s : Bytes) (named : a.0 ≡ Some n)
   -- a name with the text t, where each of the name has it
   module _ (t : Bytes) (one : (j : ℕ) (b : Known) → slice_get known j ≡ Some b → names (texted b) n ≡ true → b.1 ≡ Some t) where
     pointwise : (j : ℕ) (b : Known) → slice_get known j ≡ Some b → clashes sha256 a b ≡ (not (same_bytes s t) && names (texted b) n)
-    pointwise j b g = ap₂ (λ x y. alike sha256 x b.0 && differ sha256 y b.1) named text ∙ by b.0 b.1 refl refl
+    pointwise j b g = ap₂ (λ x y. alike x b.0 && differ y b.1) named text ∙ by b.0 b.1 refl refl
       where
         and_none : (x : Bool) → (x && false) ≡ false
         and_none true = refl
@@ -80,7 +81,7 @@ module _ (known : List Known) (a : Known) (n s : Bytes) (named : a.0 ≡ Some n)
             one_right false = refl
         both false y z e = sym (ap (λ w. z && w) (sym e) ∙ and_none z)
 
-        by : (x y : Option Bytes) → b.0 ≡ x → b.1 ≡ y → (alike sha256 (Some n) x && differ sha256 (Some s) y) ≡ (not (same_bytes s t) && names (texted (x, y)) n)
+        by : (x y : Option Bytes) → b.0 ≡ x → b.1 ≡ y → (alike (Some n) x && differ (Some s) y) ≡ (not (same_bytes s t) && names (texted (x, y)) n)
         by None None p q = sym (and_none (not (same_bytes s t)))
         by (Some m) None p q = and_none (same_bytes n m) ∙ sym (and_none (not (same_bytes s t)))
         by None (Some u) p q = sym (and_none (not (same_bytes s t)))
@@ -107,9 +108,9 @@ no_clash known a h = none_of known
         and_none true = refl
         and_none false = refl
 
-        by : (x y : Option Bytes) → texted (x, y) ≡ None → (alike sha256 x b.0 && differ sha256 y b.1) ≡ false
+        by : (x y : Option Bytes) → texted (x, y) ≡ None → (alike x b.0 && differ y b.1) ≡ false
         by None y e = refl
-        by (Some m) None e = and_none (alike sha256 (Some m) b.0)
+        by (Some m) None e = and_none (alike (Some m) b.0)
         by (Some m) (Some u) e = absurd (none≢some (sym e))
 
     none_of : (xs : List Known) → position (clashes sha256 a) xs ≡ None
@@ -152,7 +153,7 @@ none_at p (y ∷ xs) h (suc k) x g = let q = no_first p y xs h in none_at p xs q
 -- what doesn't clash has one text
 one_of : (n s t : Bytes) (a b : Known) → clashes sha256 a b ≡ false → a.0 ≡ Some n → b.0 ≡ Some n → a.1 ≡ Some s → b.1 ≡ Some t → s ≡ t
 one_of n s t a b h p q u v =
-    let e : (same_bytes n n && not (same_bytes s t)) ≡ false = sym (ap₂ (λ x y. x && y) (ap₂ (alike sha256) p q) (ap₂ (differ sha256) u v)) ∙ h in
+    let e : (same_bytes n n && not (same_bytes s t)) ≡ false = sym (ap₂ (λ x y. x && y) (ap₂ alike p q) (ap₂ differ u v)) ∙ h in
     bytes_eq s t (not_false (same_bytes s t) (ap (λ x. x && not (same_bytes s t)) (sym (bytes_refl n)) ∙ e))
 
 pub one_more_text : (known : List Known) (x : Known) → HasOneText known → position (clashes sha256 x) known ≡ None → HasOneText (known ++ x ∷ [])
@@ -215,9 +216,9 @@ nothing_left K A i e = ap (first_clash sha256 K i) (ap (λ n. drop n (all_known 
 
 -- what the map has, with one more name
 pub found_next : (ks : List Known) (x : Known) (k : ℕ) → length ks ≡ k → (had has : Bytes → Option ℕ) → ((n : Bytes) → had n ≡ known_at ks n) → (o : Option Bytes) → o ≡ texted x →
-    ((n : Bytes) → has n ≡ or_else (had n) (given (names o n) (Some k))) → (n : Bytes) → has n ≡ known_at (ks ++ x ∷ []) n
+    ((n : Bytes) → has n ≡ option_or (had n) (given (names o n) (Some k))) → (n : Bytes) → has n ≡ known_at (ks ++ x ∷ []) n
 found_next ks x k many had has h o same u n =
-    u n ∙ ap₂ (λ a b. or_else a b) (h n) (ap₂ (λ (p : Option Bytes) m. given (names p n) (Some m)) same (sym many)) ∙ sym (position_more (λ (p : Known). names (texted p) n) ks x)
+    u n ∙ ap₂ (λ a b. option_or a b) (h n) (ap₂ (λ (p : Option Bytes) m. given (names p n) (Some m)) same (sym many)) ∙ sym (position_more (λ (p : Known). names (texted p) n) ks x)
 
 -- the entries, one by one
 pub entries_next : (E : Environment) (i : ℕ) → i < length E → take (suc i) (all_known E) ≡ take i (all_known E) ++ known_of E i ∷ []
@@ -332,12 +333,12 @@ text_beside a n h = by a.1 refl h
 
 -- the answer where the map has a number for the name
 pub answered : (E A : Environment) (i : ℕ) → HasOneText (known_before E A i) → (n : Bytes) → texted (known_of A i) ≡ Some n → (k : ℕ) → known_at (known_before E A i) n ≡ Some k →
-    position (clashes sha256 (known_of A i)) (known_before E A i) ≡ given (differ sha256 (text_of_entry A i) (text_under E A k)) (Some k)
+    position (clashes sha256 (known_of A i)) (known_before E A i) ≡ given (differ (text_of_entry A i) (text_under E A k)) (Some k)
 answered E A i one n is k h =
     let s = text_beside (known_of A i) n is in
     let f = found_there (known_before E A i) n k h in
     clash_known E A i one n s.0 is s.1 k f.what f.text h f.there f.named f.texts
-    ∙ sym (ap (λ d. given d (Some k)) (ap₂ (differ sha256) s.1 (text_is E A i k f.what f.there ∙ f.texts)))
+    ∙ sym (ap (λ d. given d (Some k)) (ap₂ differ s.1 (text_is E A i k f.what f.there ∙ f.texts)))
 
 pub unknown : (E A : Environment) (i : ℕ) → HasOneText (known_before E A i) → (n : Bytes) → texted (known_of A i) ≡ Some n → known_at (known_before E A i) n ≡ None → position (clashes sha256 (known_of A i)) (known_before E A i) ≡ None
 unknown E A i one n is h = let s = text_beside (known_of A i) n is in clash_unknown E A i one n s.0 is s.1 h

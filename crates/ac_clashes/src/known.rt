@@ -1,14 +1,15 @@
 // Names that are known with another text.
 
 ghost use Rattle.std.specs.Prelude.{◌≡◌, ◌<◌, ◌+◌, ◌^◌, Some, length, option_map, position, IfOk, OnOk, IsSome};
+ghost use Rattle.std.specs.Option.{option_or};
 ghost use Rattle.sha2.specs.Sha256.{sha256};
 ghost use Rattle.ac_types.specs.Types.{Bytes};
-ghost use Rattle.ac_types.specs.First.{or_else, given};
+ghost use Rattle.ac_types.specs.Partial.{given, differ};
 ghost use Rattle.ac_terms.specs.Defs.{names as are_named};
 ghost use Rattle.ac_terms.specs.Names.{text_of_entry};
 ghost use Rattle.ac_terms.specs.Read.{environment_of, name_of_code};
 ghost use Rattle.ac_rules.specs.Coherent.{IsCoherent};
-ghost use Rattle.ac_rules.specs.Packets.{PacketCause, clashes, differ, first_clash};
+ghost use Rattle.ac_rules.specs.Packets.{PacketCause, clashes, first_clash};
 ghost use Rattle.ac_clashes.specs.inner.Known.{all_known, known_at, known_before, known_of, name_found, text_under, texted, HasOneText};
 
 use ac_canon::{def_text, has_text};
@@ -43,7 +44,7 @@ fn found(names: &Names, name: &Name) -> Option<u32>
 // Notes a number under a name that has none.
 #[tactic(auto, using(crate::proofs::KnownLaws::noted))]
 fn note(names: &mut Names, name: Option<Name>, number: u32) -> Result<(), Memory>
-    ensures { OnOk result ((n : Bytes) → name_found names.new n ≡ or_else (name_found names.old n)
+    ensures { OnOk result ((n : Bytes) → name_found names.new n ≡ option_or (name_found names.old n)
         (given (are_named (option_map name_of_code name) n) (Some number))) }
 {
     let Some(name) = name else {
@@ -73,7 +74,7 @@ fn names_of(alloc: Global, env: &Env) -> Result<Names, Memory>
 fn differ(alloc: Global, a: &Env, i: u32, b: &Env, j: u32) -> Result<bool, Memory>
     requires one { IsSome (text_of_entry (environment_of a.now) i) }
     requires other { IsSome (text_of_entry (environment_of b.now) j) }
-    ensures { IfOk result (λ d. d ≡ differ sha256 (text_of_entry (environment_of a.now) i)
+    ensures { IfOk result (λ d. d ≡ differ (text_of_entry (environment_of a.now) i)
         (text_of_entry (environment_of b.now) j)) }
 {
     let text = def_text(alloc, a, i)?;
@@ -87,7 +88,7 @@ fn differs(alloc: Global, env: &Env, alone: &Env, i: u32, known: u32) -> Result<
     requires few { length env.now.entries < 2 ^ 32 }
     requires one { IsSome (text_of_entry (environment_of alone.now) i) }
     requires other { IsSome (text_under (environment_of env.now) (environment_of alone.now) known) }
-    ensures { IfOk result (λ d. d ≡ differ sha256 (text_of_entry (environment_of alone.now) i)
+    ensures { IfOk result (λ d. d ≡ differ (text_of_entry (environment_of alone.now) i)
         (text_under (environment_of env.now) (environment_of alone.now) known)) }
 {
     let many = env.entries.len() as u32;

@@ -1,7 +1,6 @@
 -- What crossed in a run by its worlds is what its events tell: the strings that marshal gave and that unmarshal took.
 use Rattle.std.proofs.Common.{◌≡◌, ◌⊎◌, inl, inr, refl, sym, ap, ◌∙◌, subst, ℕ, zero, suc, Bool, true, false, ◌&&◌, not, nat_lt, cond, List, [], ◌∷◌, ◌++◌, append_assoc, append-nil, Option, Some, None}
-use Rattle.std.specs.Option.{option_map_or}
-use Rattle.ac_types.specs.First.{or_else}
+use Rattle.std.specs.Option.{option_map_or, option_or}
 use Rattle.ac_types.specs.Types.{Bytes, Typ, TAbs}
 use Rattle.ac_terms.specs.Terms.{Home, Main, Expr, ExnOf, Tuple, Present, Cons, App, Let, If, Seq, Match, Try, Raise, Prim, Marshal, Unmarshal, Bracket, Exprs, no_exprs, expr, Value, VStr}
 use Rattle.ac_terms.specs.Defs.{Environment}
@@ -32,7 +31,7 @@ abbrev AllDone : Option Redex → Type 0
 AllDone None = Unit {0}
 AllDone (Some r) = HasDone r.home r.term
 
-either : (o p : Option Redex) → AllDone o → (o ≡ None → AllDone p) → AllDone (or_else o p)
+either : (o p : Option Redex) → AllDone o → (o ≡ None → AllDone p) → AllDone (option_or o p)
 either None p h k = k refl
 either (Some r) p h k = h
 
@@ -46,7 +45,7 @@ mutual
   done (Tuple es) c = all_done es c
   done (Present e) c = done e c
   done (Cons a b) c = either (redex c a) (redex c b) (done a c) (λ q. done b c)
-  done (App f a) c = either (redex c f) (or_else (redex c a) (stands_next c (App f a))) (done f c) (λ q. either (redex c a) (stands_next c (App f a)) (done a c) (λ r. tt))
+  done (App f a) c = either (redex c f) (option_or (redex c a) (stands_next c (App f a))) (done f c) (λ q. either (redex c a) (stands_next c (App f a)) (done a c) (λ r. tt))
   done (Let T e b) c = either (redex c e) (stands_next c (Let T e b)) (done e c) (λ q. tt)
   done (If e a b) c = either (redex c e) (stands_next c (If e a b)) (done e c) (λ q. tt)
   done (Match e arms) c = either (redex c e) (stands_next c (Match e arms)) (done e c) (λ q. tt)
@@ -56,7 +55,7 @@ mutual
   done (Raise T e) c = either (redex c e) (stands_next c (Raise T e)) (done e c) (λ q. tt)
   done (Try e arms) c = either (redex c e) (stands_next c (Try e arms)) (done e c) (λ q. tt)
   done (Prim k es) c = either (redex_all c es) (stands_next c (Prim k es)) (all_done es c) (λ q. tt)
-  done (Marshal T m e) c = either (redex c m) (or_else (redex c e) (stands_next c (Marshal T m e))) (done m c) (λ q. either (redex c e) (stands_next c (Marshal T m e)) (done e c) (λ r. (q, r)))
+  done (Marshal T m e) c = either (redex c m) (option_or (redex c e) (stands_next c (Marshal T m e))) (done m c) (λ q. either (redex c e) (stands_next c (Marshal T m e)) (done e c) (λ r. (q, r)))
   done (Unmarshal T e) c = either (redex c e) (stands_next c (Unmarshal T e)) (done e c) (λ q. q)
   done (Bracket b T e) c = either (redex b e) (crosses c (Bracket b T e) (is_function T)) (done e b) (λ q. crosses_done c b T e (is_function T))
   done _ c = tt

@@ -8,9 +8,8 @@ use Rattle.ac_terms.specs.Terms.{In, Expr, Int, Boolean, Str, Unit', Exn, ExnOf,
 use Rattle.ac_terms.specs.Defs.{Environment, Field, Module}
 use Rattle.ac_types.specs.Exceptions.{has_text}
 use Rattle.ac_terms.specs.PrimitiveTypes.{primitive_type}
-use Rattle.ac_terms.specs.TermTyping.{last_of}
 use Rattle.ac_rules.specs.Views.{Coloured, view}
-use Rattle.ac_rules.specs.Typing.{Scope, bind, bind_all, all_of, of_field, fields_of, is_home, HasType, type_of, types_of, arm_types, variables, one_of, type_seen}
+use Rattle.ac_rules.specs.Typing.{Scope, bind, bind_all, all_of, of_field, fields_of, is_home, HasType, type_of, types_of, arm_types, variables, one_of, type_seen, last_of}
 use Rattle.ac_rules.specs.Coherent.{IsCoherent}
 use Rattle.ac_rules.proofs.Growth.{extends_not, home_there}
 use Rattle.ac_rules.proofs.GrowthTyping.{More, map_more, then_more, kept_more, given_more, has_more, agree_more, both_more, also_more, applied_more, and_more, has_type_more}

@@ -1,17 +1,16 @@
 -- Values written for variables, and the values that a pattern takes apart, keep types by the rules.
 use Rattle.std.proofs.Common.{◌≡◌, refl, sym, ap, ap₂, ◌∙◌, subst, ℕ, zero, suc, ◌+◌, Bool, true, false, List, [], ◌∷◌, ◌++◌, length, Option, Some, None, arith, append_assoc, length-append}
 use Rattle.std.specs.Prelude.{slice_get, option_and_then, nat_eq}
-use Rattle.ac_types.specs.First.{given}
+use Rattle.ac_types.specs.Partial.{given, agree, has}
 use Rattle.ac_types.proofs.FirstLaws.{none≢some, some_eq, given_some}
 use Rattle.ac_types.proofs.Same.{same_refl}
-use Rattle.ac_types.specs.Types.{Typ, TInt, TBool, TStr, TUnit, TExn, TTuple, TList, TOpt, TFun, Typs, no_types, typ, same, agree, is_small}
+use Rattle.ac_types.specs.Types.{Typ, TInt, TBool, TStr, TUnit, TExn, TTuple, TList, TOpt, TFun, Typs, no_types, typ, same, is_small}
 use Rattle.ac_terms.specs.Terms.{Home, Pattern, PWild, PVar, PInt, PBool, PStr, PUnit, PTuple, PNil, PCons, PAbsent, PPresent, PExn, PExnOf, Patterns, no_patterns, pattern', Expr, Int, Boolean, Str, Unit', Exn, ExnOf, Tuple, Nil, Empty, Present, Cons, Var, Own, Ref, Lam, Rec, App, Let, If, Seq, Match, Try, Raise, Prim, Marshal, Unmarshal, Val, Evaluated, Bracket, Exprs, no_exprs, expr, Arms, no_arms, arm, Value, VInt, VBool, VStr, VUnit, VExn, VTuple, VNil, VCons, VAbsent, VPresent, Values, no_values, value}
 use Rattle.ac_terms.specs.Defs.{Environment}
 use Rattle.ac_types.specs.Exceptions.{has_text}
 use Rattle.ac_terms.specs.PrimitiveTypes.{is_exception, primitive_type}
-use Rattle.ac_terms.specs.TermTyping.{has, last_of}
 use Rattle.ac_rules.specs.Views.{Coloured}
-use Rattle.ac_rules.specs.Typing.{Scope, type_of, types_of, arm_types, variables, variables_of_all, kept_in, one_of, a_list, an_option}
+use Rattle.ac_rules.specs.Typing.{Scope, type_of, types_of, arm_types, variables, variables_of_all, kept_in, one_of, a_list, an_option, last_of}
 use Rattle.ac_rules.proofs.Rules.{map_some, then_some, has_some, both_some, also_some, joined_some, kept_some}
 use Rattle.ac_rules.proofs.GrowthTyping.{More, map_more, then_more, kept_more, given_more, has_more, agree_more, both_more, also_more, applied_more, and_more}
 use Rattle.ac_meaning.specs.Substitution.{Written, Slot, Free, Bound, up, slot_in, slot, from_slot, binders, all_binders, inst, inst_all, inst_arms}

@@ -1,6 +1,6 @@
 -- What is next in a term is what is next in its redex; where it has none, it is a value, or no rule is for it.
 use Rattle.std.proofs.Common.{◌≡◌, ◌⊎◌, inl, inr, ℕ, refl, sym, ap, ◌∙◌, subst, Bool, true, false, cond, [], ◌∷◌, Option, Some, None}
-use Rattle.ac_types.specs.First.{or_else}
+use Rattle.std.specs.Option.{option_or}
 use Rattle.ac_types.specs.Types.{Typ, TInt, TBool, TStr, TUnit, TExn, TTuple, TList, TOpt, TFun, TAbs, TMine}
 use Rattle.ac_terms.specs.Terms.{Home, Main, Expr, Int, Boolean, Str, Unit', Exn, ExnOf, Tuple, Nil, Empty, Present, Cons, Var, Own, Ref, Lam, Rec, App, Let, If, Seq, Match, Try, Raise, Prim, Marshal, Unmarshal, Val, Evaluated, Bracket, Exprs, no_exprs, expr, Value, VStr, VTuple, VCons, VPresent, VProxy, value}
 use Rattle.ac_terms.specs.Defs.{Environment}
@@ -55,7 +55,7 @@ module _ (mode : Mode) (z : World) where
   NextIn a (Some r) = Comes a (look mode z r.home r.term)
 
   -- the part's step and then the whole's
-  then_next : {S T A B : Type 0} (wrap : S → T) (done : A → Act T B) (catch : Exception → Act T B) (o p : Option Redex) (a : Act S A) → NextIn a o → ((v : A) → a ≡ Is v → NextIn (done v) p) → ((x : Exception) (r : Act Expr Value) → r ≡ Raises x → Comes (catch x) r) → NextIn (within wrap done catch a) (or_else o p)
+  then_next : {S T A B : Type 0} (wrap : S → T) (done : A → Act T B) (catch : Exception → Act T B) (o p : Option Redex) (a : Act S A) → NextIn a o → ((v : A) → a ≡ Is v → NextIn (done v) p) → ((x : Exception) (r : Act Expr Value) → r ≡ Raises x → Comes (catch x) r) → NextIn (within wrap done catch a) (option_or o p)
   then_next wrap done catch (Some r) p (Is v) h k c = absurd h
   then_next wrap done catch (Some r) p (Goes s) h k c = h
   then_next wrap done catch (Some r) p (Turns y s) h k c = h
@@ -71,7 +71,7 @@ module _ (mode : Mode) (z : World) where
   then_next wrap done catch None (Some r) Wrong h k c = tt
 
   -- where the whole raises what its part raises
-  part_next : {S T A B : Type 0} (wrap : S → T) (done : A → Act T B) (o p : Option Redex) (a : Act S A) → NextIn a o → ((v : A) → a ≡ Is v → NextIn (done v) p) → NextIn (part wrap done a) (or_else o p)
+  part_next : {S T A B : Type 0} (wrap : S → T) (done : A → Act T B) (o p : Option Redex) (a : Act S A) → NextIn a o → ((v : A) → a ≡ Is v → NextIn (done v) p) → NextIn (part wrap done a) (option_or o p)
   part_next wrap done o p a h k = then_next wrap done Raises o p a h k (λ x r e. e)
 
   -- and its value is what comes of the part's value
@@ -126,7 +126,7 @@ module _ (mode : Mode) (z : World) where
         part_next (λ x. Cons x b) (λ v. part (λ y. Cons a y) (λ w. Is (VCons v w)) (look mode z c b)) (redex c a) (redex c b) (look mode z c a) (next a c)
         (λ v q. last_next (λ y. Cons a y) (λ w. Is (VCons v w)) (redex c b) (look mode z c b) (next b c) (λ w. tt))
     next (App f a) c =
-        part_next (λ x. App x a) (λ v. part (λ y. App f y) (λ w. apply c v w) (look mode z c a)) (redex c f) (or_else (redex c a) (stands_next c (App f a))) (look mode z c f) (next f c)
+        part_next (λ x. App x a) (λ v. part (λ y. App f y) (λ w. apply c v w) (look mode z c a)) (redex c f) (option_or (redex c a) (stands_next c (App f a))) (look mode z c f) (next f c)
         (λ v q. part_next (λ y. App f y) (λ w. apply c v w) (redex c a) (stands_next c (App f a)) (look mode z c a) (next a c)
         (λ w r. stand_next c (App f a) (apply c v w) (ap (λ x. parts App f a (apply c) x (look mode z c a)) q ∙ ap (part (λ y. App f y) (λ w. apply c v w)) r) (rest_apply mode z c v w (stands_next c (App f a)))))
     next (Let T e b) c = part_next (λ x. Let T x b) (λ v. Goes (inst 0 ((T, v) ∷ []) b)) (redex c e) (stands_next c (Let T e b)) (look mode z c e) (next e c) (λ v q. stand_next c (Let T e b) (Goes (inst 0 ((T, v) ∷ []) b)) (ap (part (λ x. Let T x b) (λ v. Goes (inst 0 ((T, v) ∷ []) b))) q) tt)
@@ -147,7 +147,7 @@ module _ (mode : Mode) (z : World) where
         part_next (Prim k) (λ vs. answered spelled (raising TStr) z (primitive k vs)) (redex_all c es) (stands_next c (Prim k es)) (look_all mode z c es) (next_all es c)
         (λ vs q. stand_next c (Prim k es) (answered spelled (raising TStr) z (primitive k vs)) (ap (part (Prim k) (λ vs. answered spelled (raising TStr) z (primitive k vs))) q) (rest_answer mode z (primitive k vs) (stands_next c (Prim k es))))
     next (Marshal T m e) c =
-        part_next (λ x. Marshal T x e) (λ v. part (λ y. Marshal T m y) (λ w. marshal_step z c T v w) (look mode z c e)) (redex c m) (or_else (redex c e) (stands_next c (Marshal T m e))) (look mode z c m) (next m c)
+        part_next (λ x. Marshal T x e) (λ v. part (λ y. Marshal T m y) (λ w. marshal_step z c T v w) (look mode z c e)) (redex c m) (option_or (redex c e) (stands_next c (Marshal T m e))) (look mode z c m) (next m c)
         (λ v q. part_next (λ y. Marshal T m y) (λ w. marshal_step z c T v w) (redex c e) (stands_next c (Marshal T m e)) (look mode z c e) (next e c)
         (λ w r. stand_next c (Marshal T m e) (marshal_step z c T v w) (ap (λ x. parts (Marshal T) m e (marshal_step z c T) x (look mode z c e)) q ∙ ap (part (λ y. Marshal T m y) (λ w. marshal_step z c T v w)) r) (rest_marshal mode z c T v w (stands_next c (Marshal T m e)))))
     next (Unmarshal T e) c =

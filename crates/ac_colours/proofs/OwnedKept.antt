@@ -3,8 +3,9 @@ use Rattle.std.proofs.Common.{◌≡◌, refl, sym, subst, ℕ, zero, suc, ◌+�
 use Rattle.std.specs.List.{list_all}
 use Rattle.ac_types.proofs.Same.{both_true, and_true}
 use Rattle.std.specs.Prelude.{option_map, option_and_then, nat_eq, is_some, ◌&&◌}
+use Rattle.std.specs.Option.{option_or}
 use Rattle.ac_types.proofs.FirstLaws.{none≢some, some_eq, given_some}
-use Rattle.ac_types.specs.First.{given, or_else}
+use Rattle.ac_types.specs.Partial.{given}
 use Rattle.ac_types.specs.Types.{Bytes, same_bytes, mentions, Typ, TInt, TBool, TStr, TUnit, TExn, TTuple, TList, TOpt, TFun, TAbs, Typs, no_types, typ}
 use Rattle.ac_terms.specs.Terms.{Home, Main, In, Pattern, PWild, PVar, PInt, PBool, PStr, PUnit, PTuple, PNil, PCons, PAbsent, PPresent, PExn, PExnOf, Patterns, no_patterns, pattern', Expr, Int, Boolean, Str, Unit', Exn, ExnOf, Tuple, Nil, Empty, Present, Cons, Var, Own, Ref, Lam, Rec, App, Let, If, Seq, Match, Try, Raise, Prim, Marshal, Unmarshal, Val, Evaluated, Bracket, Exprs, no_exprs, expr, Arms, no_arms, arm, Value, VInt, VBool, VStr, VUnit, VExn, VTuple, VNil, VCons, VAbsent, VPresent, VLam, VRec, VProxy, VSeal, Values, no_values, value}
 use Rattle.ac_terms.specs.Defs.{Environment}
@@ -168,7 +169,7 @@ module _ (q : Home → Bytes × Bytes → Bool) where
   abbrev AllGood : Home → Act Exprs Values → Type 0
   AllGood c a = ActOwned (AllOwned q true c) (ValuesOwned q c) a
 
-  arm_owned : (c : Home) (p : Pattern) (t : Expr) (v : Value) (o : Option Written) (rest : Option Expr) (x : Exception) → fit p v [] ≡ o → PatternOwned q c p → V! c v → O! false c t → Good c (or_raises x rest) → Good c (or_raises x (or_else (option_map (λ ws. inst 0 ws t) o) rest))
+  arm_owned : (c : Home) (p : Pattern) (t : Expr) (v : Value) (o : Option Written) (rest : Option Expr) (x : Exception) → fit p v [] ≡ o → PatternOwned q c p → V! c v → O! false c t → Good c (or_raises x rest) → Good c (or_raises x (option_or (option_map (λ ws. inst 0 ws t) o) rest))
   arm_owned c p t v None rest x e u h k r = r
   arm_owned c p t v (Some ws) rest x e u h k r = loosen (inst 0 ws t) c (inst_owned t c 0 ws (fit_owned p c v [] ws e u h tt) k)
 
@@ -234,12 +235,12 @@ module _ (q : Home → Bytes × Bytes → Bool) where
     NewsOf None = Unit {0}
     NewsOf (Some r) = NewsOwned z r.home r.term
 
-    news_left : (o p : Option Redex) → NewsOf (or_else o p) → NewsOf o
+    news_left : (o p : Option Redex) → NewsOf (option_or o p) → NewsOf o
     news_left None p h = tt
     news_left (Some r) p h = h
 
-    within_owned : {S T A B : Type 0} (f : S → Type 0) (f' : T → Type 0) (g : A → Type 0) (g' : B → Type 0) (wrap : S → T) (done : A → Act T B) (catch : Exception → Act T B) (o p : Option Redex) (a : Act S A) → AtRest a o → NewsOf (or_else o p) → (NewsOf o → ActOwned f g a) → ((s : S) → f s → f' (wrap s)) → ((v : A) → a ≡ Is v → NewsOf p → g v → ActOwned f' g' (done v)) → ((x : Exception) → ActOwned f' g' (catch x)) → ActOwned f' g' (within wrap done catch a)
-    within_owned f f' g g' wrap done catch o p (Is v) r n h w k x = k v refl (subst (λ o. NewsOf (or_else o p)) r n) (h (news_left o p n))
+    within_owned : {S T A B : Type 0} (f : S → Type 0) (f' : T → Type 0) (g : A → Type 0) (g' : B → Type 0) (wrap : S → T) (done : A → Act T B) (catch : Exception → Act T B) (o p : Option Redex) (a : Act S A) → AtRest a o → NewsOf (option_or o p) → (NewsOf o → ActOwned f g a) → ((s : S) → f s → f' (wrap s)) → ((v : A) → a ≡ Is v → NewsOf p → g v → ActOwned f' g' (done v)) → ((x : Exception) → ActOwned f' g' (catch x)) → ActOwned f' g' (within wrap done catch a)
+    within_owned f f' g g' wrap done catch o p (Is v) r n h w k x = k v refl (subst (λ o. NewsOf (option_or o p)) r n) (h (news_left o p n))
     within_owned f f' g g' wrap done catch o p (Goes s) r n h w k x = w s (h (news_left o p n))
     within_owned f f' g g' wrap done catch o p (Turns y s) r n h w k x = w s (h (news_left o p n))
     within_owned f f' g g' wrap done catch o p (Applies s) r n h w k x = w s (h (news_left o p n))
@@ -247,7 +248,7 @@ module _ (q : Home → Bytes × Bytes → Bool) where
     within_owned f f' g g' wrap done catch o p Wrong r n h w k x = tt
 
     -- the part stands in home b
-    one_part : (b c : Home) (wrap : Expr → Expr) (done : Value → Act Expr Value) (o p : Option Redex) (a : Act Expr Value) → AtRest a o → NewsOf (or_else o p) → (NewsOf o → Good b a) → ((s : Expr) → O! true b s → O! true c (wrap s)) → ((v : Value) → a ≡ Is v → NewsOf p → V! b v → Good c (done v)) → Good c (part wrap done a)
+    one_part : (b c : Home) (wrap : Expr → Expr) (done : Value → Act Expr Value) (o p : Option Redex) (a : Act Expr Value) → AtRest a o → NewsOf (option_or o p) → (NewsOf o → Good b a) → ((s : Expr) → O! true b s → O! true c (wrap s)) → ((v : Value) → a ≡ Is v → NewsOf p → V! b v → Good c (done v)) → Good c (part wrap done a)
     one_part b c wrap done o p a r n h w k = within_owned (Owned q true b) (Owned q true c) (ValueOwned q b) (ValueOwned q c) wrap done Raises o p a r n h w k (λ x. tt)
 
     sent_owned : (c : Home) (b : Bool) (s : Bytes) → Good c (sending spelled b s z)
@@ -375,7 +376,7 @@ module _ (q : Home → Bytes × Bytes → Bool) where
     seen c e = look Coloured z c e
 
     -- what a value becomes at once has no redex of its own
-    alone : (o : Option Redex) → NewsOf o → NewsOf (or_else o None)
+    alone : (o : Option Redex) → NewsOf o → NewsOf (option_or o None)
     alone o n = subst NewsOf (sym (none_else o)) n
 
     mutual
@@ -397,7 +398,7 @@ module _ (q : Home → Bytes × Bytes → Bool) where
           one_part c c (λ x. Cons x b) (λ v. part (λ y. Cons a y) (λ w. Is (VCons v w)) (seen c b)) (redex c a) (redex c b) (seen c a) (rest Coloured z a c) n (λ m. conserved a c m h.0) (λ s p. (p, h.1))
           (λ v g m p. one_part c c (λ y. Cons a y) (λ w. Is (VCons v w)) (redex c b) None (seen c b) (rest Coloured z b c) (alone (redex c b) m) (λ m'. conserved b c m' h.1) (λ s r. (h.0, r)) (λ w g m' r. (p, r)))
       conserved (App f a) c n h =
-          one_part c c (λ x. App x a) (λ v. part (λ y. App f y) (λ w. apply c v w) (seen c a)) (redex c f) (or_else (redex c a) (stands_next c (App f a))) (seen c f) (rest Coloured z f c) n (λ m. conserved f c m h.0) (λ s p. (p, h.1))
+          one_part c c (λ x. App x a) (λ v. part (λ y. App f y) (λ w. apply c v w) (seen c a)) (redex c f) (option_or (redex c a) (stands_next c (App f a))) (seen c f) (rest Coloured z f c) n (λ m. conserved f c m h.0) (λ s p. (p, h.1))
           (λ v g m p. one_part c c (λ y. App f y) (λ w. apply c v w) (redex c a) (stands_next c (App f a)) (seen c a) (rest Coloured z a c) m (λ m'. conserved a c m' h.1) (λ s r. (h.0, r)) (λ w g m' r. apply_owned c v w p r))
       conserved (Let T e b) c n h = one_part c c (λ x. Let T x b) (λ v. Goes (inst 0 ((T, v) ∷ []) b)) (redex c e) (stands_next c (Let T e b)) (seen c e) (rest Coloured z e c) n (λ m. conserved e c m h.1) (λ s p. (h.0, p, h.2)) (λ v g m p. loosen (inst 0 ((T, v) ∷ []) b) c (inst_owned b c 0 ((T, v) ∷ []) ((h.0, p), tt) h.2))
       conserved (If e a b) c n h = one_part c c (λ x. If x a b) (λ v. branch v a b) (redex c e) (stands_next c (If e a b)) (seen c e) (rest Coloured z e c) n (λ m. conserved e c m h.0) (λ s p. (p, h.1, h.2)) (λ v g m p. branch_owned c v a b h.1 h.2)
@@ -412,7 +413,7 @@ module _ (q : Home → Bytes × Bytes → Bool) where
       conserved (Prim k es) c n h =
           within_owned (AllOwned q true c) (Owned q true c) (ValuesOwned q c) (ValueOwned q c) (Prim k) (λ vs. answered spelled (raising TStr) z (primitive k vs)) Raises (redex_all c es) (stands_next c (Prim k es)) (look_all Coloured z c es) (rest_all Coloured z es c) n (λ m. all_conserved es c m h) (λ s p. p) (λ vs g m p. answer_owned c (primitive k vs)) (λ x. tt)
       conserved (Marshal T m e) c n h =
-          one_part c c (λ x. Marshal T x e) (λ v. part (λ y. Marshal T m y) (λ w. marshal_step z c T v w) (seen c e)) (redex c m) (or_else (redex c e) (stands_next c (Marshal T m e))) (seen c m) (rest Coloured z m c) n (λ k. conserved m c k h.1) (λ s p. (h.0, p, h.2))
+          one_part c c (λ x. Marshal T x e) (λ v. part (λ y. Marshal T m y) (λ w. marshal_step z c T v w) (seen c e)) (redex c m) (option_or (redex c e) (stands_next c (Marshal T m e))) (seen c m) (rest Coloured z m c) n (λ k. conserved m c k h.1) (λ s p. (h.0, p, h.2))
           (λ v g k p. one_part c c (λ y. Marshal T m y) (λ w. marshal_step z c T v w) (redex c e) (stands_next c (Marshal T m e)) (seen c e) (rest Coloured z e c) k (λ k'. conserved e c k' h.2) (λ s r. (h.0, h.1, r)) (λ w g k' r. marshal_owned c T v w))
       conserved (Unmarshal T e) c n h =
           one_part c c (Unmarshal T) (unmarshal_step Coloured z c T) (redex c e) (stands_next c (Unmarshal T e)) (seen c e) (rest Coloured z e c) n (λ m. conserved e c m h.1) (λ s p. (h.0, p))

@@ -4,19 +4,18 @@ use Rattle.std.specs.Prelude.{◌&&◌, is_some, option_map, option_and_then}
 use Rattle.std.specs.List.{list_all}
 use Rattle.std.specs.Option.{option_map_or}
 use mathlib.Core.Bool.{true≢false}
-use Rattle.ac_types.specs.First.{given}
+use Rattle.ac_types.specs.Partial.{given, agree, also, both_same}
 use Rattle.ac_types.proofs.FirstLaws.{given_some}
 use Rattle.ac_types.proofs.Same.{both_true, same_eq, same_refl}
-use Rattle.ac_types.specs.Types.{Typ, TInt, TBool, TStr, TUnit, TExn, TTuple, TList, TOpt, TFun, TAbs, TMine, Typs, no_types, typ, agree, mentions, mentions_of_all, is_small}
+use Rattle.ac_types.specs.Types.{Typ, TInt, TBool, TStr, TUnit, TExn, TTuple, TList, TOpt, TFun, TAbs, TMine, Typs, no_types, typ, mentions, mentions_of_all, is_small}
 use Rattle.ac_terms.specs.Terms.{Home, Expr, Int, Boolean, Str, Unit', Exn, ExnOf, Tuple, Nil, Empty, Present, Cons, Var, Own, Ref, Lam, Rec, App, Let, If, Seq, Match, Try, Raise, Prim, Marshal, Unmarshal, Val, Evaluated, Bracket, Exprs, no_exprs, expr, Arms, no_arms, arm, PValue, KInt, KBool, KStr, KUnit, KExn, KTuple, KList, KAbsent, KPresent, KFun, PValues, no_pvalues, pvalue, Value, VInt, VBool, VStr, VUnit, VExn, VTuple, VAbsent, VPresent, VLam, VRec, VProxy}
 use Rattle.ac_terms.specs.Defs.{Environment, find_name}
 use Rattle.ac_terms.specs.Bounds.{fits_term, fit_terms, fit_arms, fits_value, fit_values}
 use Rattle.ac_types.specs.Exceptions.{has_text}
 use Rattle.ac_terms.specs.PrimitiveTypes.{is_exception, primitive_type}
-use Rattle.ac_terms.specs.TermTyping.{also, both_same, last_of}
 use Rattle.ac_terms.proofs.AllLaws.{all_left, all_right}
 use Rattle.ac_rules.specs.Views.{Coloured, view, opens, opened, representation, rounds, unsealed, head, is_known, are_known}
-use Rattle.ac_rules.specs.Typing.{Scope, bind, bind_all, all_of, type_of, types_of, arm_types, variables, one_of, kept_in, is_home, is_function, is_function_home, holds, all_hold, each_holds, tuple_parts, list_item, option_item, a_list, an_option}
+use Rattle.ac_rules.specs.Typing.{Scope, bind, bind_all, all_of, type_of, types_of, arm_types, variables, one_of, kept_in, is_home, is_function, is_function_home, holds, all_hold, each_holds, tuple_parts, list_item, option_item, a_list, an_option, last_of}
 use Rattle.ac_rules.specs.Coherent.{IsCoherent}
 use Rattle.ac_rules.proofs.BareLaws.{known_has}
 use Rattle.ac_rules.proofs.GrowthTyping.{More, map_more, then_more, kept_more, given_more, has_more, agree_more, both_more, also_more, applied_more, and_more}

@@ -1,6 +1,6 @@
 -- The next redex of a term is typed, within the bounds, writes what its home may, and has seals of which holds what holds of the term's.
 use Rattle.std.proofs.Common.{◌≡◌, refl, Bool, true, false, [], Option, Some, None}
-use Rattle.ac_types.specs.First.{or_else}
+use Rattle.std.specs.Option.{option_or}
 use Rattle.ac_types.specs.Types.{Bytes, Typ, TStr, TExn, TBool, TFun, TList, Typs}
 use Rattle.ac_terms.specs.Terms.{Home, Expr, Int, Boolean, Str, Unit', Exn, ExnOf, Tuple, Nil, Empty, Present, Cons, Var, Own, Ref, Lam, Rec, App, Let, If, Seq, Match, Try, Raise, Prim, Marshal, Unmarshal, Val, Evaluated, Bracket, Exprs, no_exprs, expr}
 use Rattle.ac_terms.specs.Defs.{Environment}
@@ -22,7 +22,7 @@ module _ (E : Environment) (q : Home → Bytes × Bytes → Bool) (P : Saying) w
   Sound None = Unit {0}
   Sound (Some r) = (X : Typ) × IsHome Coloured E r.home × Typed Coloured E r.term r.home [] X × Within false r.term × Owned q true r.home r.term × Sealed P r.term × IsInnermost r.home r.term
 
-  or_sound : (o p : Option Redex) → Sound o → (o ≡ None → Sound p) → Sound (or_else o p)
+  or_sound : (o p : Option Redex) → Sound o → (o ≡ None → Sound p) → Sound (option_or o p)
   or_sound None p h k = k refl
   or_sound (Some r) p h k = h
 
@@ -47,7 +47,7 @@ module _ (E : Environment) (q : Home → Bytes × Bytes → Bool) (P : Saying) w
     sound (Present e) c T i h w o s = sound e c h.0 i h.2 w o s
     sound (Cons a b) c T i h w o s = or_sound (redex c a) (redex c b) (sound a c h.0 i h.2 w.0 o.0 s.0) (λ n. sound b c (TList h.0) i h.3 w.1 o.1 s.1)
     sound (App f a) c T i h w o s =
-        or_sound (redex c f) (or_else (redex c a) (stands_next c (App f a))) (sound f c (TFun h.0 T) i h.1 w.0 o.0 s.0) (λ n. or_sound (redex c a) (stands_next c (App f a)) (sound a c h.0 i h.2 w.1 o.1 s.1) (λ m. (T, i, h, w, o, s, tt)))
+        or_sound (redex c f) (option_or (redex c a) (stands_next c (App f a))) (sound f c (TFun h.0 T) i h.1 w.0 o.0 s.0) (λ n. or_sound (redex c a) (stands_next c (App f a)) (sound a c h.0 i h.2 w.1 o.1 s.1) (λ m. (T, i, h, w, o, s, tt)))
     sound (Let A e b) c T i h w o s = or_sound (redex c e) (stands_next c (Let A e b)) (sound e c (as_seen Coloured E c A) i h.0 w.1 o.1 s.0) (λ n. (T, i, h, w, o, s, tt))
     sound (If e a b) c T i h w o s = or_sound (redex c e) (stands_next c (If e a b)) (sound e c TBool i h.0 w.0 o.0 s.0) (λ n. (T, i, h, w, o, s, tt))
     sound (Match e arms) c T i h w o s = or_sound (redex c e) (stands_next c (Match e arms)) (sound e c h.0 i h.1 w.0 o.0 s.0) (λ n. (T, i, h, w, o, s, tt))
@@ -58,7 +58,7 @@ module _ (E : Environment) (q : Home → Bytes × Bytes → Bool) (P : Saying) w
     sound (Try e arms) c T i h w o s = or_sound (redex c e) (stands_next c (Try e arms)) (sound e c T i h.0 w.0 o.0 s.0) (λ n. (T, i, h, w, o, s, tt))
     sound (Prim k es) c T i h w o s = or_sound (redex_all c es) (stands_next c (Prim k es)) (all_sound es c h.0 i h.1 w.1 o s) (λ n. (T, i, h, w, o, s, tt))
     sound (Marshal A m e) c T i h w o s =
-        or_sound (redex c m) (or_else (redex c e) (stands_next c (Marshal A m e))) (sound m c TStr i h.1 w.1 o.1 s.0) (λ n. or_sound (redex c e) (stands_next c (Marshal A m e)) (sound e c (as_seen Coloured E c A) i h.2 w.2 o.2 s.1) (λ l. (T, i, h, w, o, s, tt)))
+        or_sound (redex c m) (option_or (redex c e) (stands_next c (Marshal A m e))) (sound m c TStr i h.1 w.1 o.1 s.0) (λ n. or_sound (redex c e) (stands_next c (Marshal A m e)) (sound e c (as_seen Coloured E c A) i h.2 w.2 o.2 s.1) (λ l. (T, i, h, w, o, s, tt)))
     sound (Unmarshal A e) c T i h w o s = or_sound (redex c e) (stands_next c (Unmarshal A e)) (sound e c TStr i h.1 w.1 o.1 s) (λ n. (T, i, h, w, o, s, n))
     sound (Own f) c T i h w o s = (T, i, h, w, o, s, tt)
     sound (Ref j x) c T i h w o s = (T, i, h, w, o, s, tt)

@@ -2,23 +2,23 @@
 use Rattle.std.proofs.Common.{◌≡◌, refl, sym, ap, ap₂, ◌∙◌, subst, ℕ, zero, suc, Bool, true, false, nat_lt, cond, length, List, [], ◌∷◌, ◌++◌, Option, Some, None, ◌⊎◌, inl, inr}
 use Rattle.std.specs.Prelude.{◌&&◌, option_map, option_and_then, is_some, slice_get}
 use Rattle.std.specs.List.{list_all}
+use Rattle.std.specs.Option.{option_or}
 use mathlib.Core.Bool.{true≢false}
-use Rattle.ac_types.specs.First.{given, or_else}
+use Rattle.ac_types.specs.Partial.{given, agree, has, also, both_same}
 use Rattle.ac_types.proofs.FirstLaws.{none≢some, some_eq, given_some}
 use Rattle.ac_types.proofs.Same.{both_true, and_true, same_refl, bytes_refl}
-use Rattle.ac_types.specs.Types.{Bytes, Typ, TInt, TBool, TStr, TUnit, TExn, TTuple, TList, TOpt, TFun, TAbs, TMine, Typs, no_types, typ, same, agree, mentions, mentions_of_all, is_small}
+use Rattle.ac_types.specs.Types.{Bytes, Typ, TInt, TBool, TStr, TUnit, TExn, TTuple, TList, TOpt, TFun, TAbs, TMine, Typs, no_types, typ, same, mentions, mentions_of_all, is_small}
 use Rattle.ac_terms.specs.Terms.{Home, Main, In, Pattern, Expr, Int, Boolean, Str, Unit', Exn, ExnOf, Tuple, Nil, Empty, Present, Cons, Var, Own, Ref, Lam, Rec, App, Let, If, Seq, Match, Try, Raise, Prim, Marshal, Unmarshal, Val, Evaluated, Bracket, Exprs, no_exprs, expr, Arms, no_arms, arm, Value, VInt, VBool, VStr, VUnit, VExn, VTuple, VNil, VCons, VAbsent, VPresent, VLam, VRec, VProxy, VSeal, Values, value}
 use Rattle.ac_terms.specs.Defs.{Environment, Field}
 use Rattle.ac_types.specs.Exceptions.{has_text}
 use Rattle.ac_terms.specs.PrimitiveTypes.{is_exception, primitive_type}
-use Rattle.ac_terms.specs.TermTyping.{has, also, both_same, last_of}
 use Rattle.ac_terms.proofs.AllLaws.{all_left, all_right, all_append}
 use Rattle.ac_code.specs.Constants.{Const, CInt, CBool, CStr, CUnit, CPart, PrimitiveAnswer, Yields, Prints, Sends, Receives, Fails, NoSense, meaning}
 use Rattle.ac_outside.specs.Frames.{Frame, Whole, Bad, AtEnd, next_frame}
 use Rattle.ac_rules.specs.Growth.{Grows}
 use Rattle.ac_rules.specs.Plain.{packed}
 use Rattle.ac_rules.specs.Views.{Coloured, view, opens, representation, is_known, are_known}
-use Rattle.ac_rules.specs.Typing.{Scope, fields_of, value_in, ref_type, is_home, type_of, types_of, arm_types, variables, one_of, kept_in, type_applied, a_list, an_option}
+use Rattle.ac_rules.specs.Typing.{Scope, fields_of, value_in, ref_type, is_home, type_of, types_of, arm_types, variables, one_of, kept_in, type_applied, a_list, an_option, last_of}
 use Rattle.ac_rules.specs.Coherent.{IsCoherent}
 use Rattle.ac_rules.proofs.Growth.{grows_not, home_more, fields_same, not_shorter}
 use Rattle.ac_rules.proofs.GrowthTyping.{More, map_more, then_more, kept_more, given_more, has_more, agree_more, both_more, also_more, applied_more, and_more, has_type_more, seen_more, types_more, arms_more}
@@ -172,7 +172,7 @@ module _ (z : World) (coherent : IsCoherent z.environment) where
 
   -- arms
   arm_rules : (c : Home) (p : Pattern) (t : Expr) (v : Value) (A T : Typ) (Us : List Typ) (o : Option Written) (rest : Option Expr) (x : Exception) → fit p v [] ≡ o → ValueOf c A E v → variables Coloured false E c p A ≡ Some Us → type_at E c (Us ++ []) t ≡ Some T → Good c T (or_raises x rest) →
-      Good c T (or_raises x (or_else (option_map (λ ws. inst 0 ws t) o) rest))
+      Good c T (or_raises x (option_or (option_map (λ ws. inst 0 ws t) o) rest))
   arm_rules c p t v A T Us None rest x q h f k r = r
   arm_rules c p t v A T Us (Some ws) rest x q h f k r =
       inst_more E (home_scope E c []) t [] (Us ++ []) ws 0 refl (fit_written E (home_scope E c []) p v [] ws A [] Us q h f tt) T k

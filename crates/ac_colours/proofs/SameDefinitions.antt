@@ -1,7 +1,7 @@
 -- A step changes the definitions only where unmarshal is next, and what has crossed only where marshal or unmarshal is.
 use Rattle.std.proofs.Common.{◌≡◌, ◌⊎◌, inl, inr, refl, sym, subst, ℕ, Bool, true, false, cond, [], ◌∷◌, Option, Some, None}
 use Rattle.std.specs.Prelude.{option_map, is_some}
-use Rattle.ac_types.specs.First.{or_else}
+use Rattle.std.specs.Option.{option_or}
 use Rattle.ac_types.specs.Types.{Bytes, Typ, TInt, TBool, TStr, TUnit, TExn, TTuple, TList, TOpt, TFun, TAbs}
 use Rattle.ac_terms.specs.Terms.{Home, Expr, Int, Boolean, Str, Unit', Exn, ExnOf, Tuple, Nil, Empty, Present, Cons, Var, Own, Ref, Lam, Rec, App, Let, If, Seq, Match, Try, Raise, Prim, Marshal, Unmarshal, Val, Evaluated, Bracket, Exprs, no_exprs, expr, Value, VInt, VBool, VStr, VUnit, VExn, VTuple, VNil, VCons, VAbsent, VPresent, VLam, VRec, VProxy, value}
 use Rattle.ac_code.specs.Constants.{PrimitiveAnswer, Yields, Prints, Sends, Receives, Fails, NoSense}
@@ -60,20 +60,20 @@ module _ (mode : Mode) (z : World) where
       by (Unmarshal T e) u = inr tt
       by _ u = absurd u
 
-  before_it : (y : World) (o p : Option Redex) → ((y.environment ≡ z.environment) × (y.crossings ≡ z.crossings)) ⊎ CrossesNext y o → ((y.environment ≡ z.environment) × (y.crossings ≡ z.crossings)) ⊎ CrossesNext y (or_else o p)
+  before_it : (y : World) (o p : Option Redex) → ((y.environment ≡ z.environment) × (y.crossings ≡ z.crossings)) ⊎ CrossesNext y o → ((y.environment ≡ z.environment) × (y.crossings ≡ z.crossings)) ⊎ CrossesNext y (option_or o p)
   before_it y o p (inl e) = inl e
   before_it y None p (inr u) = absurd u
   before_it y (Some r) p (inr u) = inr u
 
-  then_stays : {S T A B : Type 0} (wrap : S → T) (done : A → Act T B) (catch : Exception → Act T B) (o p : Option Redex) (a : Act S A) → AtRest a o → Stays a o → ((v : A) → Stays (done v) p) → ((x : Exception) (q : Option Redex) → Stays (catch x) q) → Stays (within wrap done catch a) (or_else o p)
-  then_stays wrap done catch o p (Is v) r h k x = subst (λ o. Stays (done v) (or_else o p)) (sym r) (k v)
+  then_stays : {S T A B : Type 0} (wrap : S → T) (done : A → Act T B) (catch : Exception → Act T B) (o p : Option Redex) (a : Act S A) → AtRest a o → Stays a o → ((v : A) → Stays (done v) p) → ((x : Exception) (q : Option Redex) → Stays (catch x) q) → Stays (within wrap done catch a) (option_or o p)
+  then_stays wrap done catch o p (Is v) r h k x = subst (λ o. Stays (done v) (option_or o p)) (sym r) (k v)
   then_stays wrap done catch o p (Goes s) r h k x = tt
   then_stays wrap done catch o p (Turns y s) r h k x = before_it y o p h
   then_stays wrap done catch o p (Applies s) r h k x = tt
-  then_stays wrap done catch o p (Raises y) r h k x = x y (or_else o p)
+  then_stays wrap done catch o p (Raises y) r h k x = x y (option_or o p)
   then_stays wrap done catch o p Wrong r h k x = tt
 
-  part_stays : {S T A B : Type 0} (wrap : S → T) (done : A → Act T B) (o p : Option Redex) (a : Act S A) → AtRest a o → Stays a o → ((v : A) → Stays (done v) p) → Stays (part wrap done a) (or_else o p)
+  part_stays : {S T A B : Type 0} (wrap : S → T) (done : A → Act T B) (o p : Option Redex) (a : Act S A) → AtRest a o → Stays a o → ((v : A) → Stays (done v) p) → Stays (part wrap done a) (option_or o p)
   part_stays wrap done o p a r h k = then_stays wrap done Raises o p a r h k (λ x q. tt)
 
   last_stays : {S T A B : Type 0} (wrap : S → T) (done : A → Act T B) (o : Option Redex) (a : Act S A) → AtRest a o → Stays a o → ((v : A) → Stays (done v) None) → Stays (part wrap done a) o
@@ -187,7 +187,7 @@ module _ (mode : Mode) (z : World) where
         part_stays (λ x. Cons x b) (λ v. part (λ y. Cons a y) (λ w. Is (VCons v w)) (look mode z c b)) (redex c a) (redex c b) (look mode z c a) (rest mode z a c) (stays a c)
         (λ v. last_stays (λ y. Cons a y) (λ w. Is (VCons v w)) (redex c b) (look mode z c b) (rest mode z b c) (stays b c) (λ w. tt))
     stays (App f a) c =
-        part_stays (λ x. App x a) (λ v. part (λ y. App f y) (λ w. apply c v w) (look mode z c a)) (redex c f) (or_else (redex c a) (stands_next c (App f a))) (look mode z c f) (rest mode z f c) (stays f c)
+        part_stays (λ x. App x a) (λ v. part (λ y. App f y) (λ w. apply c v w) (look mode z c a)) (redex c f) (option_or (redex c a) (stands_next c (App f a))) (look mode z c f) (rest mode z f c) (stays f c)
         (λ v. part_stays (λ y. App f y) (λ w. apply c v w) (redex c a) (stands_next c (App f a)) (look mode z c a) (rest mode z a c) (stays a c) (λ w. apply_stays c v w (stands_next c (App f a))))
     stays (Let T e b) c = part_stays (λ x. Let T x b) (λ v. Goes (inst 0 ((T, v) ∷ []) b)) (redex c e) (stands_next c (Let T e b)) (look mode z c e) (rest mode z e c) (stays e c) (λ v. tt)
     stays (If e a b) c = part_stays (λ x. If x a b) (λ v. branch v a b) (redex c e) (stands_next c (If e a b)) (look mode z c e) (rest mode z e c) (stays e c) (λ v. branch_stays v a b (stands_next c (If e a b)))
@@ -201,7 +201,7 @@ module _ (mode : Mode) (z : World) where
     stays (Prim k es) c =
         part_stays (Prim k) (λ vs. answered spelled (raising TStr) z (primitive k vs)) (redex_all c es) (stands_next c (Prim k es)) (look_all mode z c es) (rest_all mode z es c) (stays_all es c) (λ vs. answer_stays (primitive k vs) (stands_next c (Prim k es)))
     stays (Marshal T m e) c =
-        part_stays (λ x. Marshal T x e) (λ v. part (λ y. Marshal T m y) (λ w. marshal_step z c T v w) (look mode z c e)) (redex c m) (or_else (redex c e) (stands_next c (Marshal T m e))) (look mode z c m) (rest mode z m c) (stays m c)
+        part_stays (λ x. Marshal T x e) (λ v. part (λ y. Marshal T m y) (λ w. marshal_step z c T v w) (look mode z c e)) (redex c m) (option_or (redex c e) (stands_next c (Marshal T m e))) (look mode z c m) (rest mode z m c) (stays m c)
         (λ v. part_stays (λ y. Marshal T m y) (λ w. marshal_step z c T v w) (redex c e) (stands_next c (Marshal T m e)) (look mode z c e) (rest mode z e c) (stays e c) (λ w. marshal_stays c T m e v w))
     stays (Unmarshal T e) c = part_stays (Unmarshal T) (unmarshal_step mode z c T) (redex c e) (stands_next c (Unmarshal T e)) (look mode z c e) (rest mode z e c) (stays e c) (λ v. unmarshal_stays c T e v)
     stays (Own f) c = becomes_stays (own_field z.environment c f) (stands_next c (Own f))

@@ -8,8 +8,7 @@ use Rattle.ac_types.specs.Types.{Bytes, Typ, TInt, TBool, TStr, TUnit, TExn, TTu
 use Rattle.ac_terms.specs.Terms.{Home, Expr, Int, Boolean, Str, Unit', Exn, Nil, Empty, Var, Own, Ref, ExnOf, Tuple, Present, Cons, Lam, Rec, App, Let, If, Seq, Match, Try, Raise, Prim, Marshal, Unmarshal, Val, Evaluated, Bracket, Exprs, no_exprs, expr, Arms, no_arms, arm, PValue, KInt, KBool, KStr, KUnit, KExn, KTuple, KList, KAbsent, KPresent, KFun, PValues, no_pvalues, pvalue, Value, VInt, VBool, VStr, VUnit, VExn, VTuple, VNil, VCons, VAbsent, VPresent, VLam, VRec, VProxy, VSeal, Values, no_values, value}
 use Rattle.ac_terms.specs.Defs.{Environment}
 use Rattle.ac_rules.specs.Views.{Coloured, bare, opened, unsealed, head, rounds, is_known, are_known}
-use Rattle.ac_types.specs.First.{given}
-use Rattle.ac_types.specs.Types.{agree}
+use Rattle.ac_types.specs.Partial.{given, agree}
 use Rattle.ac_rules.specs.Typing.{tuple_parts, list_item, option_item, is_function, is_function_home, type_of, all_of, type_seen}
 use Rattle.ac_rules.specs.Plain.{stays, where_there, in_front, packed, all_packed, packed_term, packed_terms, packed_arms, may_travel, travelling, all_travel, plain}
 use Rattle.ac_rules.specs.Coherent.{IsCoherent}

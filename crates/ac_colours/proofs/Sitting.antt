@@ -3,7 +3,8 @@ use Rattle.std.proofs.Common.{◌≡◌, refl, sym, true, false, ◌&&◌, Some}
 use Rattle.std.specs.Option.{option_map_or}
 use mathlib.Core.Bool.{true≢false}
 use Rattle.ac_types.proofs.Same.{both_true}
-use Rattle.ac_types.specs.Types.{Typ, TStr, TExn, TTuple, TList, TOpt, TFun, Typs, no_types, typ, agree}
+use Rattle.ac_types.specs.Types.{Typ, TStr, TExn, TTuple, TList, TOpt, TFun, Typs, no_types, typ}
+use Rattle.ac_types.specs.Partial.{agree}
 use Rattle.ac_terms.specs.Terms.{Expr, ExnOf, Tuple, Present, Cons, Lam, Rec, App, Let, If, Seq, Match, Try, Raise, Prim, Marshal, Unmarshal, Val, Evaluated, Bracket, Exprs, no_exprs, expr, Arms, no_arms, arm, PValue, KTuple, KList, KPresent, KFun, PValues, no_pvalues, pvalue}
 use Rattle.ac_terms.specs.Defs.{Environment}
 use Rattle.ac_rules.specs.Views.{Coloured, view, head}

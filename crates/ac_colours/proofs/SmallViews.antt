@@ -1,7 +1,7 @@
 -- In a coherent environment what an abstract type stands for is small.
 use Rattle.std.proofs.Common.{◌≡◌, sym, ap, ◌∙◌, subst, ℕ, Bool, true, false, List, [], ◌∷◌, ◌++◌, map, Option, Some}
 use Rattle.std.specs.Prelude.{option_map, option_and_then, slice_get, flat_map}
-use Rattle.ac_types.specs.First.{given}
+use Rattle.ac_types.specs.Partial.{given}
 use Rattle.ac_types.proofs.FirstLaws.{none≢some, some_eq}
 use Rattle.ac_types.proofs.Same.{both_true}
 use Rattle.ac_types.specs.Types.{Bytes, Typ, TAbs, is_small, same_bytes}

@@ -1,14 +1,13 @@
 -- What a value looks like that has a type by the rules.
 use Rattle.std.proofs.Common.{◌≡◌, refl, sym, ap, ap₂, ◌∙◌, subst, ℕ, Bool, true, false, Option, Some, ◌⊎◌, inl, inr}
 use Rattle.std.specs.Prelude.{ℤ, ◌&&◌, not, option_map, option_and_then}
-use Rattle.ac_types.specs.First.{given}
+use Rattle.ac_types.specs.Partial.{given, agree, has}
 use Rattle.ac_types.proofs.FirstLaws.{some_eq, given_some}
 use Rattle.ac_types.proofs.Same.{both_true, and_true, same_refl}
-use Rattle.ac_types.specs.Types.{Bytes, Typ, TInt, TBool, TStr, TUnit, TExn, TTuple, TList, TOpt, TFun, TAbs, TMine, Typs, no_types, typ, agree, is_small}
+use Rattle.ac_types.specs.Types.{Bytes, Typ, TInt, TBool, TStr, TUnit, TExn, TTuple, TList, TOpt, TFun, TAbs, TMine, Typs, no_types, typ, is_small}
 use Rattle.ac_terms.specs.Terms.{Home, Value, VInt, VBool, VStr, VUnit, VExn, VTuple, VNil, VCons, VAbsent, VPresent, VLam, VRec, VProxy, VSeal, Values, no_values, value}
 use Rattle.ac_terms.specs.Defs.{Environment}
 use Rattle.ac_terms.specs.PrimitiveTypes.{is_exception}
-use Rattle.ac_terms.specs.TermTyping.{has}
 use Rattle.ac_rules.specs.Views.{Coloured, view, opens, are_known}
 use Rattle.ac_rules.specs.Typing.{all_of, bind, is_home, type_of, type_seen, value_type, value_types, a_list, an_option, kept_in}
 use Rattle.ac_rules.proofs.Rules.{map_some, then_some, both_some, also_some, kept_some, agree_some}

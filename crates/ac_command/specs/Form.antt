@@ -84,11 +84,10 @@ with_next id _ = None
 
 -- an option before other arguments: one that the command has, with a value exactly where it has to have one
 abbrev pub with_option : Option (Text × Bool) → Option Text → List Argument → Option (List Argument)
-with_option None value more = None
 with_option (Some (id, true)) (Some value) more = Some (option id (value ∷ []) ∷ more)
 with_option (Some (id, true)) None more = with_next id more
-with_option (Some (id, false)) (Some value) more = None
 with_option (Some (id, false)) None more = Some (option id [] ∷ more)
+with_option _ _ _ = None
 
 -- a word before other arguments
 abbrev pub with_word : Form → Text → Look → List Argument → Option (List Argument)

@@ -28,7 +28,6 @@
 #![tactic(auto)]
 
 mod call;
-mod child;
 mod children;
 mod desk;
 mod faults;
@@ -36,8 +35,7 @@ mod fronts;
 mod pairs;
 
 use ac_page::Page;
-use ac_top::Status;
-use child::{call_really, words_of};
+use ac_top_system::{Status, call_really, words_of};
 use desk::Desk;
 use faults::{Fault, place_of};
 use pairs::join_pair;

@@ -5,7 +5,7 @@ use Rattle.std.specs.List.{list_all}
 use Rattle.std.proofs.Math.Path.{fun_ext}
 use Rattle.std.proofs.lemmas.Bool.Decides.{nat_tests}
 use Rattle.std.proofs.lemmas.Option.{unwrap_or-slice_get}
-use Rattle.ac_types.specs.First.{given, first_some}
+use Rattle.ac_types.specs.Partial.{given, first_some}
 use Rattle.ac_types.specs.Limits.{longest_packet}
 use Rattle.ac_types.specs.Types.{Bytes, Typ}
 use Rattle.ac_types.specs.declared.text.Text.{Text}

@@ -1,4 +1,5 @@
 pub mod PackFaults
 pub mod Needs
+pub mod Ready
 pub mod Wholes
 pub mod Landed

@@ -1,23 +1,22 @@
 // Packing.
 
-ghost use Rattle.std.specs.Prelude.{◌≡◌, ◌≤◌, Some, None, Err, length, MatchResult};
-ghost use Rattle.ac_types.specs.Limits.{longest_packet, deepest_nesting, most_entries};
+ghost use Rattle.std.specs.Prelude.{◌≡◌, ◌≤◌, Some, Err, length, MatchResult};
+ghost use Rattle.ac_types.specs.Limits.{most_entries};
 ghost use Rattle.ac_types.specs.ReadTypes.{typ_of};
-ghost use Rattle.ac_terms.specs.Heads.{packed_heads};
 ghost use Rattle.ac_terms.specs.Read.{environment_of};
 ghost use Rattle.ac_terms.specs.Terms.{PValue};
 ghost use Rattle.ac_code.specs.ReadCode.{table_code};
 ghost use Rattle.ac_values.specs.Values.{stands_as};
 ghost use Rattle.ac_rules.specs.Coherent.{IsCoherent};
 ghost use Rattle.ac_terms.specs.Defs.{Packet};
-ghost use Rattle.ac_rules.specs.Faults.{first_fault, whole, whole_fault, marshalled};
+ghost use Rattle.ac_rules.specs.Faults.{whole, whole_fault, marshalled};
 ghost use Rattle.ac_rules.specs.Needed.{mark_at, packet_of_entries};
 ghost use Rattle.ac_meaning.specs.BarePacking.{bare_packed};
 ghost use Rattle.ac_stands.specs.Stands.{stands};
-ghost use Rattle.ac_forms.specs.Forms.{AllBelow};
 ghost use Rattle.ac_crossing.specs.Packs.{Packed};
 ghost use Rattle.ac_crossing.specs.inner.PackFaults.{of_stop, of_need};
 ghost use Rattle.ac_crossing.specs.inner.Needs.{AreChosen};
+ghost use Rattle.ac_crossing.specs.inner.Ready.{IsReady};
 
 use crate::packet::bytes;
 use ac_closure::{NeedFault, mark_at, needed};
@@ -156,12 +155,9 @@ fn whole(
     value: Value,
     ty: &Ty,
 ) -> Result<Text, PackFault>
-    requires few { length env.now.entries ≤ most_entries }
-    requires short { length chosen.now ≤ most_entries }
-    requires below { AllBelow (length env.now.entries) chosen.now }
-    requires sound { first_fault deepest_nesting longest_packet 0 (packed_heads (typ_of ty.now)
+    requires { IsReady (length env.now.entries) chosen.now (typ_of ty.now)
         (bare_packed (environment_of env.now)
-        (stands (table_code table.now) (stands_as store.now value.0)) (typ_of ty.now))) ≡ None }
+        (stands (table_code table.now) (stands_as store.now value.0)) (typ_of ty.now)) }
     ensures { let p : Packet = packet_of_entries (environment_of env.now) mark chosen.now
         (typ_of ty.now) (bare_packed (environment_of env.now)
         (stands (table_code table.now) (stands_as store.now value.0)) (typ_of ty.now)) in

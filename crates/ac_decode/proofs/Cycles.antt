@@ -1,7 +1,7 @@
 -- Steps of reading a pattern, a term and a packed value.
 use Rattle.std.proofs.Common.{◌≡◌, ap, ◌∙◌, ℕ, suc, Bool, true, Some, None}
 use Rattle.std.specs.Prelude.{option_and_then, slice_get}
-use Rattle.ac_types.specs.First.{given}
+use Rattle.ac_types.specs.Partial.{given}
 use Rattle.ac_types.specs.Types.{Bytes, Typ}
 use Rattle.ac_terms.specs.Terms.{Pattern, Expr, PValue}
 use Rattle.ac_terms.specs.PacketReading.{ReadsPart, read_byte}

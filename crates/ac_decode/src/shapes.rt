@@ -2,7 +2,7 @@
 
 ghost use Rattle.std.specs.Prelude.{◌≡◌, Some};
 ghost use Rattle.ac_types.specs.Types.{Bytes};
-ghost use Rattle.ac_types.specs.First.{given};
+ghost use Rattle.ac_types.specs.Partial.{given};
 ghost use Rattle.ac_terms.specs.Read.{expr_of};
 ghost use Rattle.ac_terms.specs.Bounds.{is_lambda};
 ghost use Rattle.ac_pieces.specs.Readers.{ReadsAs};

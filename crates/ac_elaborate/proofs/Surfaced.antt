@@ -4,7 +4,7 @@ use Rattle.std.specs.Prelude.{option_map, option_and_then}
 use Rattle.std.proofs.lemmas.Bool.Decides.{nat_tests}
 use Rattle.std.proofs.lemmas.List.{length-append}
 use Rattle.sha2.specs.Sha256.{sha256}
-use Rattle.ac_types.specs.First.{first_some}
+use Rattle.ac_types.specs.Partial.{first_some}
 use Rattle.ac_terms.specs.Defs.{Environment, Def, Entry}
 use Rattle.ac_syntax.specs.Trees.{Tree, FieldTree, DefTree, ModuleDef, ImportDef, MarkDef, ProgramTree}
 use Rattle.ac_scopes.specs.Scopes.{NameScope, with_entry, each_in}

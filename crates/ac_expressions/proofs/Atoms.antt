@@ -14,12 +14,13 @@ use Rattle.ac_syntax.specs.declared.sign.Symbol.TheVariants.{Open, Close, OpenSq
 use Rattle.ac_syntax.proofs.Exceptions.{nothing_there}
 use Rattle.ac_syntax.proofs.UniqueTypes.{tail_eq}
 use Rattle.ac_syntax.proofs.Fronts.{begins_not, front_positive, part_stops, semicolon_goes_on}
-use Rattle.ac_syntax.proofs.UniquePatterns.{same_pattern}
 use Rattle.ac_syntax.proofs.UniqueExpressions.{unique, at_same}
-use Rattle.ac_expressions.specs.inner.Pieces.{Nothing, Before, Behind, last, more, Made, IsAscribed}
-use Rattle.ac_expressions.specs.inner.Forms.{NoTree, base_expr, FormLeafAt, NoFormLeaf, IsLastPart, IsParts, sequence_tree, IsItems, tuple_tree, IsArm, IsArms, IsChoice}
+use Rattle.ac_expressions.specs.inner.Levels.{NoTree, base_expr, FormLeafAt, NoFormLeaf, IsLastPart, IsParts, sequence_tree, IsItems, tuple_tree, IsArm, IsArms, IsChoice}
+use Rattle.ac_parser_patterns.proofs.PatSteps.{one_pattern}
+use Rattle.ac_parser_patterns.specs.Reading.{Nothing}
+use Rattle.ac_parser_patterns.specs.Pieces.{Before, Behind, last, more, Made, IsAscribed}
 use Rattle.ac_expressions.proofs.Levels.{one_tree, closed_atom}
-use Rattle.ac_expressions.proofs.Readers.{One, ManyRead, SoFar, start, next, ended, before, before_none, symbol_none, one_before, one_then, before_apart, next_read, next_none, all_read, chain_none}
+use Rattle.ac_parser_patterns.proofs.Readers.{One, ManyRead, SoFar, start, next, ended, before, before_none, symbol_none, one_before, one_then, before_apart, next_read, next_none, all_read, chain_none}
 use Rattle.ac_expressions.proofs.Words.{expr_at}
 
 -- the items of a tuple
@@ -289,9 +290,6 @@ arms_back (more b c) = more_arms (pattern_at b.first.first) (body_at b) (arms_ba
 arms_low : (D : ℕ) {ts s : List Sign} {list : List (PatTree × Tree)} → IsArms D ts list s → highest_arm (arm_trees list) ≤ D
 arms_low D (last {x = x} b) = let low : height x.1 ≤ D = b.first.second.low in omega arith
 arms_low D (more {x = x} b c) = let low : height x.1 ≤ D = b.first.second.low in let h = arms_low D c in omega arith
-
-pub one_pattern : One IsPattern
-one_pattern ts r s x y p q = let d = same_pattern p q in (d.tree, d.rest)
 
 pub one_arm : (D : ℕ) → One (IsArm D)
 one_arm D = one_then (one_before Arrow one_pattern) (one_tree D Expr)

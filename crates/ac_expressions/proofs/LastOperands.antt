@@ -3,8 +3,8 @@ use Rattle.std.proofs.Common.{◌-◌, ℕ, List, subst}
 use Rattle.ac_syntax.specs.Signs.{Sign}
 use Rattle.ac_syntax.specs.Trees.{Tree}
 use Rattle.ac_syntax.specs.Expressions.{Operator, Binary, IsTree}
-use Rattle.ac_expressions.specs.inner.Pieces.{Nothing}
-use Rattle.ac_expressions.specs.inner.Forms.{NoTree, OperatorAt, IsLastOperand}
+use Rattle.ac_expressions.specs.inner.Levels.{NoTree, OperatorAt, IsLastOperand}
+use Rattle.ac_parser_patterns.specs.Reading.{Nothing}
 use Rattle.ac_expressions.proofs.Levels.{one_tree}
 
 pub no_operand : {level depth : ℕ} {ts : List Sign} → NoTree depth (Binary (level - 1)) ts → Nothing (IsLastOperand level depth) ts

@@ -11,12 +11,13 @@ use Rattle.ac_syntax.specs.declared.sign.Symbol.TheVariants.{Semicolon, Minus, N
 use Rattle.ac_syntax.proofs.Exceptions.{nothing_there, same_value}
 use Rattle.ac_syntax.proofs.Fronts.{begins_not, with_string_rank, front_positive, front_operator, front_stops, operator_goes_on, argument_goes_on}
 use Rattle.ac_syntax.proofs.UniqueExpressions.{unique, at_same}
-use Rattle.ac_expressions.specs.declared.front.Prefix.{Prefix}
-use Rattle.ac_expressions.specs.declared.front.Prefix.TheVariants as prefix
-use Rattle.ac_expressions.specs.inner.Pieces.{LoneNumber, NoLoneNumber, IsPrefix, PrefixAt, NoPrefix}
-use Rattle.ac_expressions.specs.inner.Forms.{Same, NoTree, prefixed, OperatorAt, NoOperator}
-use Rattle.ac_expressions.proofs.PatSteps.{found}
-use Rattle.ac_expressions.proofs.Readers.{One}
+use Rattle.ac_expressions.specs.inner.Levels.{NoTree, Same, OperatorAt, NoOperator}
+use Rattle.ac_parser_patterns.specs.declared.front.Prefix.{Prefix}
+use Rattle.ac_parser_patterns.specs.declared.front.Prefix.TheVariants as prefix
+use Rattle.ac_parser_patterns.specs.Pieces.{LoneNumber, NoLoneNumber, IsPrefix, PrefixAt, NoPrefix}
+use Rattle.ac_parser_patterns.specs.Forms.{prefixed}
+use Rattle.ac_parser_patterns.proofs.PatSteps.{found}
+use Rattle.ac_parser_patterns.proofs.Readers.{One}
 
 -- heights
 

@@ -1,9 +1,6 @@
-pub mod PatLaws
-pub mod ExprLaws
-pub mod Readers
-pub mod PatSteps
 pub mod Levels
 pub mod Words
 pub mod Atoms
 pub mod NoForms
 pub mod LastOperands
+pub mod Following

@@ -7,11 +7,12 @@ use Rattle.ac_syntax.specs.Expressions.{after_bar, Expr, Part, Atom, IsTree}
 use Rattle.ac_syntax.specs.PartParsing.{SymbolAt, NoSymbol}
 use Rattle.ac_syntax.specs.declared.sign.Symbol.{Symbol}
 use Rattle.ac_syntax.specs.declared.sign.Symbol.TheVariants.{Arrow, As, Colon, Else, Equals, In, Then, With}
-use Rattle.ac_expressions.specs.inner.Pieces.{Nothing, Before, Behind, IsTypedBinder, IsArgument, IsHead, IsLastType}
-use Rattle.ac_expressions.specs.inner.Forms.{NoTree, IsArm, IsArms, IsChoice, IsLet, IsLetRec, IsFun, IsRec, IsIf, IsMarshal, IsUnmarshal, IsRaise}
-use Rattle.ac_expressions.proofs.Readers.{first_none, later_none, no_symbol, behind_none, symbol_none, one_before, one_typed, one_argument, one_head}
+use Rattle.ac_expressions.specs.inner.Levels.{NoTree, IsLet, IsLetRec, IsFun, IsRec, IsIf, IsMarshal, IsUnmarshal, IsRaise, IsArm, IsArms, IsChoice}
+use Rattle.ac_parser_patterns.proofs.PatSteps.{one_pattern}
+use Rattle.ac_parser_patterns.specs.Reading.{Nothing}
+use Rattle.ac_parser_patterns.specs.Pieces.{Before, Behind, IsTypedBinder, IsArgument, IsHead, IsLastType}
+use Rattle.ac_parser_patterns.proofs.Readers.{first_none, later_none, no_symbol, behind_none, symbol_none, one_before, one_typed, one_argument, one_head}
 use Rattle.ac_expressions.proofs.Levels.{one_tree}
-use Rattle.ac_expressions.proofs.Atoms.{one_pattern}
 
 pub unbefore : (D : ℕ) (t : Symbol) (e : Tree) (ts m : List Sign) → IsTree D Expr ts e m → NoSymbol t m → Nothing (Before t (IsTree D Expr)) ts
 unbefore D t e ts m p none = symbol_none (one_tree D Expr) p none

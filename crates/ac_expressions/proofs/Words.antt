@@ -10,9 +10,11 @@ use Rattle.ac_syntax.specs.declared.sign.Symbol.{Symbol}
 use Rattle.ac_syntax.specs.declared.sign.Symbol.TheVariants.{Open, Close, Colon, Equals, Fun, If, Let, Marshal, Raise, Rec, Unmarshal}
 use Rattle.ac_syntax.proofs.Fronts.{begins_not, front_positive}
 use Rattle.ac_syntax.proofs.UniqueExpressions.{at_same}
+use Rattle.ac_expressions.specs.inner.Levels.{NoTree, NoKeyword, IsLet, IsLetRec, IsFun, IsRec, IsIf, IsMarshal, IsUnmarshal, IsRaise}
+use Rattle.ac_parser_patterns.specs.Reading.{Nothing}
 use Rattle.ac_expressions.specs.declared.keywords.Keyword.TheVariants as keyword
-use Rattle.ac_expressions.specs.inner.Pieces.{Nothing, Before, Made, IsTypedBinder, IsArgument, IsHead}
-use Rattle.ac_expressions.specs.inner.Forms.{NoTree, NoKeyword, IsLet, let_tree, IsLetRec, let_rec_tree, IsFun, fun_tree, IsRec, rec_tree, IsIf, if_tree, IsMarshal, marshal_tree, IsUnmarshal, unmarshal_tree, IsRaise, raise_tree}
+use Rattle.ac_parser_patterns.specs.Pieces.{Before, Made, IsTypedBinder, IsArgument, IsHead}
+use Rattle.ac_parser_patterns.specs.Forms.{let_tree, let_rec_tree, fun_tree, rec_tree, if_tree, marshal_tree, unmarshal_tree, raise_tree}
 use Rattle.ac_expressions.proofs.Levels.{closed_atom, closed_binary}
 
 -- operators

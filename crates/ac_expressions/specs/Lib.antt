@@ -1,2 +1,1 @@
-pub mod ExpressionParsing
 pub mod inner

@@ -1,3 +1,1 @@
-pub mod Forms
-pub mod PatternPieces
-pub mod Pieces
+pub mod Levels

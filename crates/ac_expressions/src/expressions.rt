@@ -1,22 +1,24 @@
 // Expressions, by recursive descent. What would be higher than `depth` is refused on the way down.
 
-ghost use Rattle.std.specs.Prelude.{◌≡◌, ◌<◌, ◌≤◌, ◌-◌, ◌^◌, ◌∷◌, length, map, IfOk, IfErr};
+ghost use Rattle.std.specs.Prelude.{◌<◌, ◌-◌, ◌^◌};
 ghost use Rattle.ac_syntax.specs.Signs.{Fixed};
-ghost use Rattle.ac_syntax.specs.Trees.{ExApp, arm_trees, height, highest_arm};
+ghost use Rattle.ac_syntax.specs.Trees.{ExApp};
 ghost use Rattle.ac_syntax.specs.Expressions.{Expr, Part, App, Atom, IsTree};
 ghost use Rattle.ac_syntax.specs.ReadSigns.{read_signs};
-ghost use Rattle.ac_syntax.specs.ReadTrees.{tree_of, arm_tree_of};
-ghost use Rattle.ac_syntax.specs.PartParsing.{OnSyntax, NoSymbol};
-ghost use Rattle.ac_expressions.specs.inner.Pieces.{Nothing, Before, Made, NoPrefix};
-ghost use Rattle.ac_expressions.specs.inner.Forms.{keyword_symbol, NoTree, measured, IsLet, let_tree, IsLetRec, let_rec_tree, IsFun, fun_tree, IsRec, rec_tree, IsIf, if_tree, IsMarshal, marshal_tree, IsUnmarshal, unmarshal_tree, IsRaise, raise_tree, IsParts, sequence_tree, IsItems, tuple_tree, IsArm, IsArms, IsChoice};
+ghost use Rattle.ac_syntax.specs.ReadTrees.{tree_of};
+ghost use Rattle.ac_syntax.specs.PartParsing.{NoSymbol};
+ghost use Rattle.ac_expressions.specs.inner.Levels.{ReadsArm, ReadsArms, ReadsChoice, keyword_symbol, IsLet, IsLetRec, IsFun, IsRec, IsIf, IsMarshal, IsUnmarshal, IsRaise, IsParts, IsItems, ReadsTree, ReadsMade, sequence_tree, tuple_tree};
+ghost use Rattle.ac_parser_patterns.specs.Pieces.{Before, NoPrefix, Past};
+ghost use Rattle.ac_parser_patterns.specs.Forms.{measured, let_tree, let_rec_tree, fun_tree, rec_tree, if_tree, marshal_tree, unmarshal_tree, raise_tree};
 
-use crate::binders::{argument, function_head, type_behind, typed};
-use crate::build::{self, Choice, Parsed};
-use crate::front::{begins_atom, expect, followed, next_prefix};
 use crate::keywords::{Keyword, after_bar, next_keyword};
 use crate::leaves::{absent, nil, parsed_leaf};
 use crate::operators::binary;
-use crate::patterns::arm_pattern;
+use ac_parser_patterns::build::{self, Choice, Parsed};
+use ac_parser_patterns::{
+    argument, arm_pattern, begins_atom, expect, followed, function_head, next_prefix, type_behind,
+    typed,
+};
 use ac_syntax::{SArm, Sign, Stop, Symbol, after, here, refused_at};
 use ac_types::Many;
 use std::alloc::Global;
@@ -29,13 +31,7 @@ fn before<'s, 't>(
     depth: u32,
     signs: &'s [Sign<'t>],
 ) -> Result<(Parsed, &'s [Sign<'t>]), Stop>
-    ensures tree { IfOk result (λ x. Before symbol (IsTree depth Expr) (read_signs signs.now)
-        (tree_of x.0.tree) (read_signs x.1.now)) }
-    ensures height { IfOk result (λ x. measured x.0) }
-    ensures low { IfOk result (λ x. x.0.height ≤ depth) }
-    ensures shorter { IfOk result (λ x. length x.1.now < length signs.now) }
-    ensures none { IfErr result (λ e. OnSyntax e
-        (Nothing (Before symbol (IsTree depth Expr)) (read_signs signs.now))) }
+    ensures { ReadsTree (Before symbol (IsTree depth Expr)) signs.now result }
 {
     let (tree, behind) = expr(alloc, depth, signs)?;
     followed(symbol, tree, behind)
@@ -48,11 +44,7 @@ fn arm<'s, 't>(
     depth: u32,
     signs: &'s [Sign<'t>],
 ) -> Result<((SArm, u32), &'s [Sign<'t>]), Stop>
-    ensures tree { IfOk result (λ x. IsArm depth (read_signs signs.now) (arm_tree_of x.0.0)
-        (read_signs x.1.now)) }
-    ensures height { IfOk result (λ x. x.0.1 ≡ height (arm_tree_of x.0.0).1) }
-    ensures shorter { IfOk result (λ x. length x.1.now < length signs.now) }
-    ensures none { IfErr result (λ e. OnSyntax e (Nothing (IsArm depth) (read_signs signs.now))) }
+    ensures { ReadsArm depth signs.now result }
 {
     let (pat, behind) = arm_pattern(alloc, signs)?;
     let (body, rest) = expr(alloc, depth, behind)?;
@@ -68,12 +60,7 @@ fn arms<'s, 't>(
     depth: u32,
     signs: &'s [Sign<'t>],
 ) -> Result<((Many<SArm>, u32), &'s [Sign<'t>]), Stop>
-    ensures tree { IfOk result (λ x. IsArms depth (read_signs signs.now) (map arm_tree_of x.0.0)
-        (read_signs x.1.now)) }
-    ensures height { IfOk result (λ x. x.0.1 ≡ highest_arm (arm_trees (map arm_tree_of x.0.0))) }
-    ensures low { IfOk result (λ x. x.0.1 ≤ depth) }
-    ensures shorter { IfOk result (λ x. length x.1.now < length signs.now) }
-    ensures none { IfErr result (λ e. OnSyntax e (Nothing (IsArms depth) (read_signs signs.now))) }
+    ensures { ReadsArms depth signs.now result }
 {
     let ((first, mut height), mut rest) = arm(alloc, depth, signs)?;
     let mut arms = build::with_arm(Many::new(alloc), first)?;
@@ -93,14 +80,7 @@ fn choice<'s, 't>(
     depth: u32,
     signs: &'s [Sign<'t>],
 ) -> Result<(Choice, &'s [Sign<'t>]), Stop>
-    ensures tree { IfOk result (λ x. IsChoice depth (read_signs signs.now)
-        (tree_of x.0.of.tree, map arm_tree_of x.0.arms) (read_signs x.1.now)) }
-    ensures of_height { IfOk result (λ x. measured x.0.of) }
-    ensures height { IfOk result (λ x. x.0.height ≡ highest_arm (arm_trees (map arm_tree_of x.0.arms))) }
-    ensures low { IfOk result (λ x. x.0.height ≤ depth) }
-    ensures shorter { IfOk result (λ x. length x.1.now < length signs.now) }
-    ensures none { IfErr result (λ e. OnSyntax e
-        (Nothing (IsChoice depth) (read_signs signs.now))) }
+    ensures { ReadsChoice depth signs.now result }
 {
     let (of, behind) = before(alloc, Symbol::With, depth, signs)?;
     let ((arms, height), rest) = arms(alloc, depth, after_bar(behind))?;
@@ -119,11 +99,7 @@ fn tuple<'s, 't>(
     requires low { first.height < 2 ^ 32 - 1 }
     requires small { depth < 2 ^ 32 - 1 }
     requires first { measured first }
-    ensures tree { IfOk result (λ x. Made (IsItems depth) (tuple_tree at (tree_of first.tree))
-        (read_signs signs.now) (tree_of x.0.tree) (read_signs x.1.now)) }
-    ensures height { IfOk result (λ x. measured x.0) }
-    ensures shorter { IfOk result (λ x. length x.1.now < length signs.now) }
-    ensures none { IfErr result (λ e. OnSyntax e (Nothing (IsItems depth) (read_signs signs.now))) }
+    ensures { ReadsMade (IsItems depth) (tuple_tree at (tree_of first.tree)) signs.now result }
 {
     let (second, mut rest) = expr(alloc, depth, signs)?;
     let mut height = first.height.max(second.height);
@@ -148,12 +124,7 @@ fn enclosed<'s, 't>(
     requires unclosed { NoSymbol Symbol.Close (read_signs signs.now) }
     requires no_nil { NoSymbol Symbol.OpenSquare (read_signs signs.now) }
     requires no_absent { NoSymbol Symbol.NoneWord (read_signs signs.now) }
-    ensures tree { IfOk result (λ x. IsTree depth Atom (Fixed at Symbol.Open ∷ read_signs signs.now)
-        (tree_of x.0.tree) (read_signs x.1.now)) }
-    ensures height { IfOk result (λ x. measured x.0) }
-    ensures shorter { IfOk result (λ x. length x.1.now < length signs.now) }
-    ensures none { IfErr result (λ e. OnSyntax e
-        (NoTree depth Atom (Fixed at Symbol.Open ∷ read_signs signs.now))) }
+    ensures { ReadsTree (Past (Fixed at Symbol.Open) (IsTree depth Atom)) signs.now result }
 {
     let (first, rest) = expr(alloc, depth, signs)?;
     if let Some(end) = after(Symbol::Close, rest) {
@@ -175,12 +146,7 @@ fn opened<'s, 't>(
     signs: &'s [Sign<'t>],
 ) -> Result<(Parsed, &'s [Sign<'t>]), Stop>
     requires { 0 < depth }
-    ensures tree { IfOk result (λ x. IsTree depth Atom (Fixed at Symbol.Open ∷ read_signs signs.now)
-        (tree_of x.0.tree) (read_signs x.1.now)) }
-    ensures height { IfOk result (λ x. measured x.0) }
-    ensures shorter { IfOk result (λ x. length x.1.now < length signs.now) }
-    ensures none { IfErr result (λ e. OnSyntax e
-        (NoTree depth Atom (Fixed at Symbol.Open ∷ read_signs signs.now))) }
+    ensures { ReadsTree (Past (Fixed at Symbol.Open) (IsTree depth Atom)) signs.now result }
 {
     if let Some(rest) = after(Symbol::Close, signs) {
         return build::unit(alloc, at, rest);
@@ -201,11 +167,7 @@ fn atom<'s, 't>(
     depth: u32,
     signs: &'s [Sign<'t>],
 ) -> Result<(Parsed, &'s [Sign<'t>]), Stop>
-    ensures tree { IfOk result (λ x. IsTree depth Atom (read_signs signs.now) (tree_of x.0.tree)
-        (read_signs x.1.now)) }
-    ensures height { IfOk result (λ x. measured x.0) }
-    ensures shorter { IfOk result (λ x. length x.1.now < length signs.now) }
-    ensures none { IfErr result (λ e. OnSyntax e (NoTree depth Atom (read_signs signs.now))) }
+    ensures { ReadsTree (IsTree depth Atom) signs.now result }
 {
     if depth == 0 {
         return Err(refused_at(signs));
@@ -232,11 +194,7 @@ pub fn app<'s, 't>(
     depth: u32,
     signs: &'s [Sign<'t>],
 ) -> Result<(Parsed, &'s [Sign<'t>]), Stop>
-    ensures tree { IfOk result (λ x. IsTree depth App (read_signs signs.now) (tree_of x.0.tree)
-        (read_signs x.1.now)) }
-    ensures height { IfOk result (λ x. measured x.0) }
-    ensures shorter { IfOk result (λ x. length x.1.now < length signs.now) }
-    ensures none { IfErr result (λ e. OnSyntax e (NoTree depth App (read_signs signs.now))) }
+    ensures { ReadsTree (IsTree depth App) signs.now result }
 {
     let Some((prefix, at, behind)) = next_prefix(signs) else {
         return applied(alloc, depth, signs);
@@ -256,11 +214,7 @@ fn applied<'s, 't>(
     signs: &'s [Sign<'t>],
 ) -> Result<(Parsed, &'s [Sign<'t>]), Stop>
     requires { NoPrefix (read_signs signs.now) }
-    ensures tree { IfOk result (λ x. IsTree depth App (read_signs signs.now) (tree_of x.0.tree)
-        (read_signs x.1.now)) }
-    ensures height { IfOk result (λ x. measured x.0) }
-    ensures shorter { IfOk result (λ x. length x.1.now < length signs.now) }
-    ensures none { IfErr result (λ e. OnSyntax e (NoTree depth App (read_signs signs.now))) }
+    ensures { ReadsTree (IsTree depth App) signs.now result }
 {
     let at = here(signs);
     let (mut function, mut rest) = atom(alloc, depth, signs)?;
@@ -287,11 +241,7 @@ fn next_argument<'s, 't>(
     requires low { function.height < 2 ^ 32 - 1 }
     requires small { depth < 2 ^ 32 - 1 }
     requires function { measured function }
-    ensures tree { IfOk result (λ x. Made (IsTree depth Atom) (ExApp at (tree_of function.tree))
-        (read_signs signs.now) (tree_of x.0.tree) (read_signs x.1.now)) }
-    ensures height { IfOk result (λ x. measured x.0) }
-    ensures shorter { IfOk result (λ x. length x.1.now < length signs.now) }
-    ensures none { IfErr result (λ e. OnSyntax e (NoTree depth Atom (read_signs signs.now))) }
+    ensures { ReadsMade (IsTree depth Atom) (ExApp at (tree_of function.tree)) signs.now result }
 {
     let (argument, rest) = atom(alloc, depth, signs)?;
     build::application(alloc, at, function, argument, rest)
@@ -306,11 +256,7 @@ fn let_in<'s, 't>(
     signs: &'s [Sign<'t>],
 ) -> Result<(Parsed, &'s [Sign<'t>]), Stop>
     requires { depth < 2 ^ 32 - 1 }
-    ensures tree { IfOk result (λ x. Made (IsLet depth) (let_tree at) (read_signs signs.now)
-        (tree_of x.0.tree) (read_signs x.1.now)) }
-    ensures height { IfOk result (λ x. measured x.0) }
-    ensures shorter { IfOk result (λ x. length x.1.now < length signs.now) }
-    ensures none { IfErr result (λ e. OnSyntax e (Nothing (IsLet depth) (read_signs signs.now))) }
+    ensures { ReadsMade (IsLet depth) (let_tree at) signs.now result }
 {
     let (binder, behind) = typed(alloc, Symbol::Equals, signs)?;
     let (bound, later) = before(alloc, Symbol::In, depth, behind)?;
@@ -327,12 +273,7 @@ fn let_rec<'s, 't>(
     signs: &'s [Sign<'t>],
 ) -> Result<(Parsed, &'s [Sign<'t>]), Stop>
     requires { depth < 2 ^ 32 - 1 }
-    ensures tree { IfOk result (λ x. Made (IsLetRec depth) (let_rec_tree at) (read_signs signs.now)
-        (tree_of x.0.tree) (read_signs x.1.now)) }
-    ensures height { IfOk result (λ x. measured x.0) }
-    ensures shorter { IfOk result (λ x. length x.1.now < length signs.now) }
-    ensures none { IfErr result (λ e. OnSyntax e
-        (Nothing (IsLetRec depth) (read_signs signs.now))) }
+    ensures { ReadsMade (IsLetRec depth) (let_rec_tree at) signs.now result }
 {
     let (head, behind) = function_head(alloc, signs)?;
     let (bound, later) = before(alloc, Symbol::In, depth, behind)?;
@@ -349,11 +290,7 @@ fn fun<'s, 't>(
     signs: &'s [Sign<'t>],
 ) -> Result<(Parsed, &'s [Sign<'t>]), Stop>
     requires { depth < 2 ^ 32 - 1 }
-    ensures tree { IfOk result (λ x. Made (IsFun depth) (fun_tree at) (read_signs signs.now)
-        (tree_of x.0.tree) (read_signs x.1.now)) }
-    ensures height { IfOk result (λ x. measured x.0) }
-    ensures shorter { IfOk result (λ x. length x.1.now < length signs.now) }
-    ensures none { IfErr result (λ e. OnSyntax e (Nothing (IsFun depth) (read_signs signs.now))) }
+    ensures { ReadsMade (IsFun depth) (fun_tree at) signs.now result }
 {
     let (binder, behind) = argument(alloc, signs)?;
     let later = expect(Symbol::Arrow, behind)?;
@@ -370,11 +307,7 @@ fn rec<'s, 't>(
     signs: &'s [Sign<'t>],
 ) -> Result<(Parsed, &'s [Sign<'t>]), Stop>
     requires { depth < 2 ^ 32 - 1 }
-    ensures tree { IfOk result (λ x. Made (IsRec depth) (rec_tree at) (read_signs signs.now)
-        (tree_of x.0.tree) (read_signs x.1.now)) }
-    ensures height { IfOk result (λ x. measured x.0) }
-    ensures shorter { IfOk result (λ x. length x.1.now < length signs.now) }
-    ensures none { IfErr result (λ e. OnSyntax e (Nothing (IsRec depth) (read_signs signs.now))) }
+    ensures { ReadsMade (IsRec depth) (rec_tree at) signs.now result }
 {
     let (head, behind) = function_head(alloc, signs)?;
     let (body, rest) = expr(alloc, depth, behind)?;
@@ -390,11 +323,7 @@ fn if_else<'s, 't>(
     signs: &'s [Sign<'t>],
 ) -> Result<(Parsed, &'s [Sign<'t>]), Stop>
     requires { depth < 2 ^ 32 - 1 }
-    ensures tree { IfOk result (λ x. Made (IsIf depth) (if_tree at) (read_signs signs.now)
-        (tree_of x.0.tree) (read_signs x.1.now)) }
-    ensures height { IfOk result (λ x. measured x.0) }
-    ensures shorter { IfOk result (λ x. length x.1.now < length signs.now) }
-    ensures none { IfErr result (λ e. OnSyntax e (Nothing (IsIf depth) (read_signs signs.now))) }
+    ensures { ReadsMade (IsIf depth) (if_tree at) signs.now result }
 {
     let (test, behind) = before(alloc, Symbol::Then, depth, signs)?;
     let (so, later) = before(alloc, Symbol::Else, depth, behind)?;
@@ -411,12 +340,7 @@ fn marshal<'s, 't>(
     signs: &'s [Sign<'t>],
 ) -> Result<(Parsed, &'s [Sign<'t>]), Stop>
     requires { depth < 2 ^ 32 - 1 }
-    ensures tree { IfOk result (λ x. Made (IsMarshal depth) (marshal_tree at) (read_signs signs.now)
-        (tree_of x.0.tree) (read_signs x.1.now)) }
-    ensures height { IfOk result (λ x. measured x.0) }
-    ensures shorter { IfOk result (λ x. length x.1.now < length signs.now) }
-    ensures none { IfErr result (λ e. OnSyntax e
-        (Nothing (IsMarshal depth) (read_signs signs.now))) }
+    ensures { ReadsMade (IsMarshal depth) (marshal_tree at) signs.now result }
 {
     let (mark, behind) = atom(alloc, depth, signs)?;
     let (value, later) = atom(alloc, depth, behind)?;
@@ -433,12 +357,7 @@ fn unmarshal<'s, 't>(
     signs: &'s [Sign<'t>],
 ) -> Result<(Parsed, &'s [Sign<'t>]), Stop>
     requires { depth < 2 ^ 32 - 1 }
-    ensures tree { IfOk result (λ x. Made (IsUnmarshal depth) (unmarshal_tree at)
-        (read_signs signs.now) (tree_of x.0.tree) (read_signs x.1.now)) }
-    ensures height { IfOk result (λ x. measured x.0) }
-    ensures shorter { IfOk result (λ x. length x.1.now < length signs.now) }
-    ensures none { IfErr result (λ e. OnSyntax e
-        (Nothing (IsUnmarshal depth) (read_signs signs.now))) }
+    ensures { ReadsMade (IsUnmarshal depth) (unmarshal_tree at) signs.now result }
 {
     let (text, behind) = atom(alloc, depth, signs)?;
     let (ty, rest) = type_behind(alloc, Symbol::As, behind)?;
@@ -454,11 +373,7 @@ fn raise<'s, 't>(
     signs: &'s [Sign<'t>],
 ) -> Result<(Parsed, &'s [Sign<'t>]), Stop>
     requires { depth < 2 ^ 32 - 1 }
-    ensures tree { IfOk result (λ x. Made (IsRaise depth) (raise_tree at) (read_signs signs.now)
-        (tree_of x.0.tree) (read_signs x.1.now)) }
-    ensures height { IfOk result (λ x. measured x.0) }
-    ensures shorter { IfOk result (λ x. length x.1.now < length signs.now) }
-    ensures none { IfErr result (λ e. OnSyntax e (Nothing (IsRaise depth) (read_signs signs.now))) }
+    ensures { ReadsMade (IsRaise depth) (raise_tree at) signs.now result }
 {
     let (exception, behind) = atom(alloc, depth, signs)?;
     let (ty, rest) = type_behind(alloc, Symbol::Colon, behind)?;
@@ -475,13 +390,8 @@ fn keyword_part<'s, 't>(
     signs: &'s [Sign<'t>],
 ) -> Result<(Parsed, &'s [Sign<'t>]), Stop>
     requires { 0 < depth }
-    ensures tree { IfOk result (λ x. IsTree depth Part
-        (Fixed at (keyword_symbol keyword) ∷ read_signs signs.now) (tree_of x.0.tree)
-        (read_signs x.1.now)) }
-    ensures height { IfOk result (λ x. measured x.0) }
-    ensures shorter { IfOk result (λ x. length x.1.now < length signs.now) }
-    ensures none { IfErr result (λ e. OnSyntax e
-        (NoTree depth Part (Fixed at (keyword_symbol keyword) ∷ read_signs signs.now))) }
+    ensures { ReadsTree (Past (Fixed at (keyword_symbol keyword)) (IsTree depth Part))
+        signs.now result }
 {
     let depth = depth - 1;
     match keyword {
@@ -505,11 +415,7 @@ fn part<'s, 't>(
     depth: u32,
     signs: &'s [Sign<'t>],
 ) -> Result<(Parsed, &'s [Sign<'t>]), Stop>
-    ensures tree { IfOk result (λ x. IsTree depth Part (read_signs signs.now) (tree_of x.0.tree)
-        (read_signs x.1.now)) }
-    ensures height { IfOk result (λ x. measured x.0) }
-    ensures shorter { IfOk result (λ x. length x.1.now < length signs.now) }
-    ensures none { IfErr result (λ e. OnSyntax e (NoTree depth Part (read_signs signs.now))) }
+    ensures { ReadsTree (IsTree depth Part) signs.now result }
 {
     let Some((keyword, behind)) = next_keyword(signs) else {
         return binary(alloc, 6, depth, signs);
@@ -532,11 +438,7 @@ fn sequence<'s, 't>(
     requires low { first.height < 2 ^ 32 - 1 }
     requires small { depth < 2 ^ 32 - 1 }
     requires first { measured first }
-    ensures tree { IfOk result (λ x. Made (IsParts depth) (sequence_tree at (tree_of first.tree))
-        (read_signs signs.now) (tree_of x.0.tree) (read_signs x.1.now)) }
-    ensures height { IfOk result (λ x. measured x.0) }
-    ensures shorter { IfOk result (λ x. length x.1.now < length signs.now) }
-    ensures none { IfErr result (λ e. OnSyntax e (Nothing (IsParts depth) (read_signs signs.now))) }
+    ensures { ReadsMade (IsParts depth) (sequence_tree at (tree_of first.tree)) signs.now result }
 {
     let (second, mut rest) = part(alloc, depth, signs)?;
     let mut height = first.height.max(second.height);
@@ -557,11 +459,7 @@ pub fn expr<'s, 't>(
     depth: u32,
     signs: &'s [Sign<'t>],
 ) -> Result<(Parsed, &'s [Sign<'t>]), Stop>
-    ensures tree { IfOk result (λ x. IsTree depth Expr (read_signs signs.now) (tree_of x.0.tree)
-        (read_signs x.1.now)) }
-    ensures height { IfOk result (λ x. measured x.0) }
-    ensures shorter { IfOk result (λ x. length x.1.now < length signs.now) }
-    ensures none { IfErr result (λ e. OnSyntax e (NoTree depth Expr (read_signs signs.now))) }
+    ensures { ReadsTree (IsTree depth Expr) signs.now result }
 {
     let (first, rest) = part(alloc, depth, signs)?;
     let Some(behind) = after(Symbol::Semicolon, rest) else {

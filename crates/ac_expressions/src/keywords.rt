@@ -1,12 +1,14 @@
 // Words that begin a part, the bar in front of arms, and operators.
 
-ghost use Rattle.std.specs.Prelude.{◌≡◌, ◌<◌, ◌≤◌, length, IfSome, MatchOption};
+ghost use Rattle.std.specs.Prelude.{◌≡◌, ◌≤◌, length, MatchOption};
 ghost use Rattle.ac_syntax.specs.Expressions.{after_bar};
 ghost use Rattle.ac_syntax.specs.ReadSigns.{read_signs};
 ghost use Rattle.ac_syntax.specs.PartParsing.{SymbolAt};
-ghost use Rattle.ac_expressions.specs.inner.Forms.{keyword_symbol, NoKeyword, operator_read, OperatorAt, NoOperator};
+ghost use Rattle.ac_expressions.specs.inner.Levels.{OperatorAt, NoOperator, keyword_symbol, NoKeyword};
+ghost use Rattle.ac_parser_patterns.specs.Reading.{Taken};
+ghost use Rattle.ac_parser_patterns.specs.Forms.{operator_read};
 
-use crate::build::{Operator, operator_of};
+use ac_parser_patterns::build::{Operator, operator_of};
 use ac_syntax::{Sign, SignKind, Symbol, after, next};
 
 /// A word that begins a part.
@@ -39,9 +41,8 @@ fn keyword_of(symbol: Symbol) -> Option<Keyword>
 
 /// A word at the front that begins a part.
 pub fn next_keyword<'s, 't>(signs: &'s [Sign<'t>]) -> Option<(Keyword, &'s [Sign<'t>])>
-    ensures found { MatchOption result (NoKeyword (read_signs signs.now))
-        (λ x. SymbolAt (keyword_symbol x.0) (read_signs signs.now) (read_signs x.1.now)) }
-    ensures shorter { IfSome result (λ x. length x.1.now < length signs.now) }
+    ensures { MatchOption result (NoKeyword (read_signs signs.now))
+        (λ x. Taken (SymbolAt (keyword_symbol x.0)) signs.now x.1.now) }
 {
     let (first, rest) = next(signs)?;
     let SignKind::Fixed(symbol) = first.kind else {
@@ -64,9 +65,8 @@ pub fn after_bar<'s, 't>(signs: &'s [Sign<'t>]) -> &'s [Sign<'t>]
 
 /// An operator of this level at the front.
 pub fn operator<'s, 't>(level: u32, signs: &'s [Sign<'t>]) -> Option<(Operator, &'s [Sign<'t>])>
-    ensures found { MatchOption result (NoOperator level (read_signs signs.now))
-        (λ x. OperatorAt level (operator_read x.0) (read_signs signs.now) (read_signs x.1.now)) }
-    ensures shorter { IfSome result (λ x. length x.1.now < length signs.now) }
+    ensures { MatchOption result (NoOperator level (read_signs signs.now))
+        (λ x. Taken (OperatorAt level (operator_read x.0)) signs.now x.1.now) }
 {
     let (first, rest) = next(signs)?;
     let SignKind::Fixed(symbol) = first.kind else {

@@ -1,17 +1,15 @@
 // Expressions that are leaves.
 
-ghost use Rattle.std.specs.Prelude.{◌≡◌, ◌<◌, ℕ, ◌∷◌, length, IfOk, IfErr, MatchOption, Some, None};
+ghost use Rattle.std.specs.Prelude.{◌≡◌, ℕ, ◌∷◌, MatchOption, Some, None};
 ghost use Rattle.ac_syntax.specs.Signs.{Upper};
 ghost use Rattle.ac_syntax.specs.Trees.{ExNil, ExAbsent};
-ghost use Rattle.ac_syntax.specs.ReadSigns.{read_signs};
 ghost use Rattle.ac_syntax.specs.ReadTrees.{tree_of, expr_kind_of};
-ghost use Rattle.ac_syntax.specs.PartParsing.{OnSyntax, NoSymbol};
-ghost use Rattle.ac_expressions.specs.inner.Pieces.{Nothing, Behind, IsAscribed, Made};
-ghost use Rattle.ac_expressions.specs.inner.Forms.{base_expr, measured, FormLeafAt, NoFormLeaf};
+ghost use Rattle.ac_expressions.specs.inner.Levels.{NoOtherLeaf, base_expr, FormLeafAt, NoFormLeaf, ReadsTreeOr, ReadsMade};
+ghost use Rattle.ac_parser_patterns.specs.Reading.{ReadsOr};
+ghost use Rattle.ac_parser_patterns.specs.Pieces.{Behind, IsAscribed, Past};
 
-use crate::binders::ascribed;
-use crate::build::{self, Parsed};
-use crate::front::{constant, expect, name};
+use ac_parser_patterns::build::{self, Parsed};
+use ac_parser_patterns::{ascribed, constant, expect, name};
 use ac_syntax::{SExpr, SExprKind, SName, Sign, SignKind, Stop, Symbol, next, refused_at};
 use ac_types::{BareExn, Box, Word};
 use std::alloc::Global;
@@ -39,11 +37,8 @@ fn field<'s, 't>(
     word: &Word,
     signs: &'s [Sign<'t>],
 ) -> Result<(SExpr, &'s [Sign<'t>]), Stop>
-    ensures found { IfOk result (λ x. FormLeafAt (Upper at word.now ∷ read_signs signs.now)
-        (tree_of x.0) (read_signs x.1.now)) }
-    ensures shorter { IfOk result (λ x. length x.1.now < length signs.now) }
-    ensures none { IfErr result (λ e. OnSyntax e
-        (NoFormLeaf (Upper at word.now ∷ read_signs signs.now))) }
+    ensures { ReadsOr (λ ts. NoFormLeaf (Upper at word.now ∷ ts))
+        (Past (Upper at word.now) FormLeafAt) tree_of signs.now result }
 {
     let behind = expect(Symbol::Dot, signs)?;
     let (field, rest) = name(alloc, behind)?;
@@ -54,12 +49,7 @@ fn field<'s, 't>(
 
 // An atom that is a leaf and begins with no `(`, `match` or `try`.
 fn leaf<'s, 't>(alloc: Global, signs: &'s [Sign<'t>]) -> Result<(SExpr, &'s [Sign<'t>]), Stop>
-    ensures found { IfOk result (λ x. FormLeafAt (read_signs signs.now) (tree_of x.0)
-        (read_signs x.1.now)) }
-    ensures shorter { IfOk result (λ x. length x.1.now < length signs.now) }
-    ensures none { IfErr result (λ e. OnSyntax e (NoSymbol Symbol.Open (read_signs signs.now) →
-        NoSymbol Symbol.Match (read_signs signs.now) → NoSymbol Symbol.Try (read_signs signs.now) →
-        NoFormLeaf (read_signs signs.now))) }
+    ensures { ReadsOr NoOtherLeaf FormLeafAt tree_of signs.now result }
 {
     let Some((first, rest)) = next(signs) else {
         return Err(refused_at(signs));
@@ -92,13 +82,7 @@ pub fn parsed_leaf<'s, 't>(
     alloc: Global,
     signs: &'s [Sign<'t>],
 ) -> Result<(Parsed, &'s [Sign<'t>]), Stop>
-    ensures found { IfOk result (λ x. FormLeafAt (read_signs signs.now) (tree_of x.0.tree)
-        (read_signs x.1.now)) }
-    ensures height { IfOk result (λ x. measured x.0) }
-    ensures shorter { IfOk result (λ x. length x.1.now < length signs.now) }
-    ensures none { IfErr result (λ e. OnSyntax e (NoSymbol Symbol.Open (read_signs signs.now) →
-        NoSymbol Symbol.Match (read_signs signs.now) → NoSymbol Symbol.Try (read_signs signs.now) →
-        NoFormLeaf (read_signs signs.now))) }
+    ensures { ReadsTreeOr NoOtherLeaf FormLeafAt signs.now result }
 {
     let (tree, rest) = leaf(alloc, signs)?;
     let tree = Box::new(alloc, tree)?;
@@ -111,12 +95,8 @@ pub fn nil<'s, 't>(
     at: u32,
     signs: &'s [Sign<'t>],
 ) -> Result<(Parsed, &'s [Sign<'t>]), Stop>
-    ensures tree { IfOk result (λ x. Made (Behind Symbol.CloseSquare (IsAscribed Symbol.Close))
-        (ExNil at) (read_signs signs.now) (tree_of x.0.tree) (read_signs x.1.now)) }
-    ensures height { IfOk result (λ x. measured x.0) }
-    ensures shorter { IfOk result (λ x. length x.1.now < length signs.now) }
-    ensures none { IfErr result (λ e. OnSyntax e
-        (Nothing (Behind Symbol.CloseSquare (IsAscribed Symbol.Close)) (read_signs signs.now))) }
+    ensures { ReadsMade (Behind Symbol.CloseSquare (IsAscribed Symbol.Close)) (ExNil at)
+        signs.now result }
 {
     let behind = expect(Symbol::CloseSquare, signs)?;
     let (ty, rest) = ascribed(alloc, Symbol::Close, behind)?;
@@ -129,12 +109,7 @@ pub fn absent<'s, 't>(
     at: u32,
     signs: &'s [Sign<'t>],
 ) -> Result<(Parsed, &'s [Sign<'t>]), Stop>
-    ensures tree { IfOk result (λ x. Made (IsAscribed Symbol.Close) (ExAbsent at)
-        (read_signs signs.now) (tree_of x.0.tree) (read_signs x.1.now)) }
-    ensures height { IfOk result (λ x. measured x.0) }
-    ensures shorter { IfOk result (λ x. length x.1.now < length signs.now) }
-    ensures none { IfErr result (λ e. OnSyntax e
-        (Nothing (IsAscribed Symbol.Close) (read_signs signs.now))) }
+    ensures { ReadsMade (IsAscribed Symbol.Close) (ExAbsent at) signs.now result }
 {
     let (ty, rest) = ascribed(alloc, Symbol::Close, signs)?;
     build::absent(alloc, at, ty, rest)

@@ -1,18 +1,18 @@
 // Operators by level, and what stands between them.
 
-ghost use Rattle.std.specs.Prelude.{◌≡◌, ◌<◌, ◌≤◌, ◌-◌, ◌^◌, ◌∷◌, length, IfOk, IfErr};
+ghost use Rattle.std.specs.Prelude.{◌≡◌, ◌<◌, ◌≤◌, ◌-◌, ◌^◌};
 ghost use Rattle.ac_syntax.specs.Signs.{Fixed};
 ghost use Rattle.ac_syntax.specs.Expressions.{Binary, After, Unary, front, ToLeft, ToRight, Once, operator_tree, side_of, IsTree};
 ghost use Rattle.ac_syntax.specs.ReadSigns.{read_signs};
 ghost use Rattle.ac_syntax.specs.ReadTrees.{tree_of};
-ghost use Rattle.ac_syntax.specs.PartParsing.{OnSyntax};
-ghost use Rattle.ac_expressions.specs.inner.Pieces.{Nothing, Made};
-ghost use Rattle.ac_expressions.specs.inner.Forms.{NoTree, measured, operator_read, IsLastOperand};
+ghost use Rattle.ac_expressions.specs.inner.Levels.{GoesOn, IsLastOperand, ReadsTree, ReadsMade};
+ghost use Rattle.ac_parser_patterns.specs.Pieces.{Past};
+ghost use Rattle.ac_parser_patterns.specs.Forms.{measured, operator_read};
 
-use crate::build::{self, Operator, Parsed};
 use crate::expressions::app;
-use crate::front::lone_number;
 use crate::keywords::operator;
+use ac_parser_patterns::build::{self, Operator, Parsed};
+use ac_parser_patterns::lone_number;
 use ac_syntax::{Sign, Stop, Symbol, after, here, refused_at};
 use ac_types::Primitive;
 use std::alloc::Global;
@@ -26,12 +26,7 @@ fn minus<'s, 't>(
     signs: &'s [Sign<'t>],
 ) -> Result<(Parsed, &'s [Sign<'t>]), Stop>
     requires { 0 < depth }
-    ensures tree { IfOk result (λ x. IsTree depth Unary
-        (Fixed at Symbol.Minus ∷ read_signs signs.now) (tree_of x.0.tree) (read_signs x.1.now)) }
-    ensures height { IfOk result (λ x. measured x.0) }
-    ensures shorter { IfOk result (λ x. length x.1.now < length signs.now) }
-    ensures none { IfErr result (λ e. OnSyntax e
-        (NoTree depth Unary (Fixed at Symbol.Minus ∷ read_signs signs.now))) }
+    ensures { ReadsTree (Past (Fixed at Symbol.Minus) (IsTree depth Unary)) signs.now result }
 {
     if let Some((n, rest)) = lone_number(signs) {
         return build::negative(alloc, at, n, rest);
@@ -47,11 +42,7 @@ fn unary<'s, 't>(
     depth: u32,
     signs: &'s [Sign<'t>],
 ) -> Result<(Parsed, &'s [Sign<'t>]), Stop>
-    ensures tree { IfOk result (λ x. IsTree depth Unary (read_signs signs.now) (tree_of x.0.tree)
-        (read_signs x.1.now)) }
-    ensures height { IfOk result (λ x. measured x.0) }
-    ensures shorter { IfOk result (λ x. length x.1.now < length signs.now) }
-    ensures none { IfErr result (λ e. OnSyntax e (NoTree depth Unary (read_signs signs.now))) }
+    ensures { ReadsTree (IsTree depth Unary) signs.now result }
 {
     let at = here(signs);
     if let Some(behind) = after(Symbol::Minus, signs) {
@@ -85,13 +76,8 @@ fn right_side<'s, 't>(
     requires low { left.height < 2 ^ 32 - 1 }
     requires small { depth < 2 ^ 32 - 1 }
     requires left { measured left }
-    ensures tree { IfOk result (λ x. Made (IsTree depth (Binary level))
-        (operator_tree at (operator_read operator) (tree_of left.tree)) (read_signs signs.now)
-        (tree_of x.0.tree) (read_signs x.1.now)) }
-    ensures height { IfOk result (λ x. measured x.0) }
-    ensures shorter { IfOk result (λ x. length x.1.now < length signs.now) }
-    ensures none { IfErr result (λ e. OnSyntax e
-        (NoTree depth (Binary level) (read_signs signs.now))) }
+    ensures { ReadsMade (IsTree depth (Binary level))
+        (operator_tree at (operator_read operator) (tree_of left.tree)) signs.now result }
 {
     let (right, rest) = binary(alloc, level, depth, signs)?;
     build::join(alloc, at, operator, left, right, rest)
@@ -107,12 +93,7 @@ fn to_left<'s, 't>(
 ) -> Result<(Parsed, &'s [Sign<'t>]), Stop>
     requires level { (0 < level) × (level ≤ 6) }
     requires side { side_of level ≡ ToLeft }
-    ensures tree { IfOk result (λ x. IsTree depth (Binary level) (read_signs signs.now)
-        (tree_of x.0.tree) (read_signs x.1.now)) }
-    ensures height { IfOk result (λ x. measured x.0) }
-    ensures shorter { IfOk result (λ x. length x.1.now < length signs.now) }
-    ensures none { IfErr result (λ e. OnSyntax e
-        (NoTree depth (Binary level) (read_signs signs.now))) }
+    ensures { ReadsTree (IsTree depth (Binary level)) signs.now result }
 {
     let at = here(signs);
     let (mut left, mut rest) = binary(alloc, level - 1, depth, signs)?;
@@ -142,12 +123,7 @@ fn to_right<'s, 't>(
     requires low { first.height ≤ depth }
     requires first { measured first }
     requires stops { level < front (read_signs signs.now) }
-    ensures tree { IfOk result (λ x. IsTree depth (After level at (tree_of first.tree))
-        (read_signs signs.now) (tree_of x.0.tree) (read_signs x.1.now)) }
-    ensures height { IfOk result (λ x. measured x.0) }
-    ensures within { IfOk result (λ x. length x.1.now ≤ length signs.now) }
-    ensures none { IfErr result (λ e. OnSyntax e
-        (NoTree depth (After level at (tree_of first.tree)) (read_signs signs.now))) }
+    ensures { GoesOn (IsTree depth (After level at (tree_of first.tree))) signs.now result }
 {
     let Some((operator, behind)) = operator(level, signs) else {
         return Ok((first, signs));
@@ -173,13 +149,8 @@ fn compared<'s, 't>(
     requires low { left.height < 2 ^ 32 - 1 }
     requires small { depth < 2 ^ 32 - 1 }
     requires left { measured left }
-    ensures tree { IfOk result (λ x. Made (IsLastOperand level depth)
-        (operator_tree at (operator_read operator) (tree_of left.tree)) (read_signs signs.now)
-        (tree_of x.0.tree) (read_signs x.1.now)) }
-    ensures height { IfOk result (λ x. measured x.0) }
-    ensures shorter { IfOk result (λ x. length x.1.now < length signs.now) }
-    ensures none { IfErr result (λ e. OnSyntax e
-        (Nothing (IsLastOperand level depth) (read_signs signs.now))) }
+    ensures { ReadsMade (IsLastOperand level depth)
+        (operator_tree at (operator_read operator) (tree_of left.tree)) signs.now result }
 {
     let (joined, rest) = right_side(alloc, level - 1, depth, at, operator, left, signs)?;
     match self::operator(level, rest) {
@@ -203,12 +174,7 @@ fn once<'s, 't>(
     requires low { first.height ≤ depth }
     requires first { measured first }
     requires stops { level < front (read_signs signs.now) }
-    ensures tree { IfOk result (λ x. IsTree depth (After level at (tree_of first.tree))
-        (read_signs signs.now) (tree_of x.0.tree) (read_signs x.1.now)) }
-    ensures height { IfOk result (λ x. measured x.0) }
-    ensures within { IfOk result (λ x. length x.1.now ≤ length signs.now) }
-    ensures none { IfErr result (λ e. OnSyntax e
-        (NoTree depth (After level at (tree_of first.tree)) (read_signs signs.now))) }
+    ensures { GoesOn (IsTree depth (After level at (tree_of first.tree))) signs.now result }
 {
     let Some((operator, behind)) = operator(level, signs) else {
         return Ok((first, signs));
@@ -228,12 +194,7 @@ pub fn binary<'s, 't>(
     signs: &'s [Sign<'t>],
 ) -> Result<(Parsed, &'s [Sign<'t>]), Stop>
     requires { level ≤ 6 }
-    ensures tree { IfOk result (λ x. IsTree depth (Binary level) (read_signs signs.now)
-        (tree_of x.0.tree) (read_signs x.1.now)) }
-    ensures height { IfOk result (λ x. measured x.0) }
-    ensures shorter { IfOk result (λ x. length x.1.now < length signs.now) }
-    ensures none { IfErr result (λ e. OnSyntax e
-        (NoTree depth (Binary level) (read_signs signs.now))) }
+    ensures { ReadsTree (IsTree depth (Binary level)) signs.now result }
 {
     if level == 0 {
         return unary(alloc, depth, signs);

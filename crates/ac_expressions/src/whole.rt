@@ -1,11 +1,8 @@
 // Expressions within their bound.
 
-ghost use Rattle.std.specs.Prelude.{◌<◌, length, IfOk, IfErr};
 ghost use Rattle.ac_syntax.specs.Expressions.{IsExpr};
-ghost use Rattle.ac_syntax.specs.ReadSigns.{read_signs};
 ghost use Rattle.ac_syntax.specs.ReadTrees.{tree_of};
-ghost use Rattle.ac_syntax.specs.PartParsing.{OnSyntax};
-ghost use Rattle.ac_expressions.specs.ExpressionParsing.{NoExpr};
+ghost use Rattle.ac_parser_patterns.specs.Reading.{Reads};
 
 use crate::expressions::expr;
 use ac_syntax::{SExpr, Sign, Stop};
@@ -19,10 +16,7 @@ pub fn expression<'s, 't>(
     alloc: Global,
     signs: &'s [Sign<'t>],
 ) -> Result<(SExpr, &'s [Sign<'t>]), Stop>
-    ensures tree { IfOk result (λ x. IsExpr (read_signs signs.now) (tree_of x.0)
-        (read_signs x.1.now)) }
-    ensures shorter { IfOk result (λ x. length x.1.now < length signs.now) }
-    ensures none { IfErr result (λ e. OnSyntax e (NoExpr (read_signs signs.now))) }
+    ensures { Reads IsExpr tree_of signs.now result }
 {
     let (parsed, rest) = expr(alloc, HIGHEST_EXPRESSION, signs)?;
     Ok((parsed.tree.into_inner(), rest))

@@ -11,9 +11,8 @@ module _ (files : Bytes → Reading) where
   -- the texts of these files, in their order
   abbrev pub AreTexts : List Bytes → List Text → Type 0
   AreTexts [] [] = Unit {0}
-  AreTexts [] (t ∷ texts) = ⊥
-  AreTexts (name ∷ names) [] = ⊥
   AreTexts (name ∷ names) (t ∷ texts) = IsTextOf (files name) t.0 × AreTexts names texts
+  AreTexts _ _ = ⊥
 
   -- a read failed: of the list; of a file that the list names; or of one of these files, behind those of the shelf
   pub data TextsFail (names : List Bytes) : Option Bytes → Type 0 where

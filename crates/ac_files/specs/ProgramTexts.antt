@@ -14,9 +14,8 @@ module _ (files : Bytes → Reading) where
   -- the texts of a shelf are those of the files that a list names, in its order
   abbrev pub AreListed : List Listed → List Shelved → Type 0
   AreListed [] [] = Unit {0}
-  AreListed [] (s ∷ shelf) = ⊥
-  AreListed (x ∷ xs) [] = ⊥
   AreListed (x ∷ xs) (s ∷ shelf) = (s.uri ≡ x.uri) × (IsTextOf (files x.file) s.text × AreListed xs shelf)
+  AreListed _ _ = ⊥
 
   -- the list of that file says so
   pub record ListSays (list : Bytes) (answer : ShelfAnswer) : Type 0 where

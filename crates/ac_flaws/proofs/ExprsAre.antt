@@ -1,8 +1,8 @@
 -- What is wrong with expressions by what is known is what is wrong with them in the scope.
 use Rattle.std.proofs.Common.{◌≡◌, ◌∙◌, ap, refl, ℕ, List, [], ◌∷◌, Option, Some, None}
 use Rattle.std.specs.Prelude.{is_some, ◌||◌, option_map}
+use Rattle.std.specs.Option.{option_or}
 use Rattle.ac_types.specs.Limits.{widest_tuple, most_arms}
-use Rattle.ac_types.specs.First.{or_else}
 use Rattle.ac_types.specs.Types.{Bytes}
 use Rattle.ac_terms.specs.Terms.{Var, Own}
 use Rattle.ac_syntax.specs.Trees.{TypeTree, Tree, ExInt, ExBool, ExStr, ExUnit, ExExn, ExExnOf, ExTuple, ExNil, ExAbsent, ExPresent, ExCons, ExVar, ExOf, ExFun, ExRec, ExApp, ExLet, ExLetRec, ExIf, ExSeq, ExMatch, ExTry, ExRaise, ExAnd, ExOr, ExOp, ExMarshal, ExUnmarshal, Trees, no_trees, tree, ArmTrees, no_arm_trees, arm_tree}
@@ -43,7 +43,7 @@ known_with_names : (K : KnownScope) (S : NameScope) (names : List Bytes) → Kno
 known_with_names K S names k = record { outer = k.outer; types = k.types; fields = k.fields }
 
 -- names
-plain-is : (i f : Option ℕ) (at : ℕ) → place_unless (is_some i || is_some f) at ≡ unless (or_else (option_map Var i) (option_map Own f)) at
+plain-is : (i f : Option ℕ) (at : ℕ) → place_unless (is_some i || is_some f) at ≡ unless (option_or (option_map Var i) (option_map Own f)) at
 plain-is (Some i) f at = refl
 plain-is None (Some f) at = refl
 plain-is None None at = refl

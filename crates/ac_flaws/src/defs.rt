@@ -12,10 +12,10 @@ ghost use Rattle.ac_signatures.specs.Reads.{known_in, members_of, externals_of};
 
 use crate::atoms::atom_flaws;
 use crate::exprs::flaws;
-use crate::lists::{field_types, field_values, like_types};
+use crate::lists::{FieldTypes, FieldValues, LikeTypes};
 use crate::scope::Scope;
 use ac_signatures::{
-    Externals, Flaws, Scan, Shown, list_flaws, name_flaws, outside_of, put_outside, sig,
+    Externals, Flaws, Scan, Shown, list_flaws, name_flaws, names_of, outside_of, put_outside, sig,
     type_flaws, walk_abbrev,
 };
 use ac_syntax::{SAbbrev, SDef, SDefKind, SField, SName, SSpec, SWants};
@@ -142,9 +142,9 @@ fn struct_flaws<'a>(
     ensures { IfOk result (λ f. f
         ≡ struct_flaws (externals_of externals.now) (map field_tree_of fields.now)) }
 {
-    let types = field_types(alloc, fields)?;
+    let types = names_of(alloc, fields, &FieldTypes)?;
     let type_list = list_flaws(alloc, types.as_slice())?;
-    let values = field_values(alloc, fields)?;
+    let values = names_of(alloc, fields, &FieldValues)?;
     let value_list = list_flaws(alloc, values.as_slice())?;
     let walked = walk_fields(alloc, externals, fields)?;
     Ok(type_list.join(value_list).join(walked))
@@ -191,6 +191,7 @@ fn walk_field<'a>(
 }
 
 // What is wrong with a likespec.
+#[tactic(auto, using(crate::proofs::Forms::like_names))]
 fn like_flaws<'a>(
     alloc: Global,
     externals: &Externals<'a>,
@@ -199,7 +200,7 @@ fn like_flaws<'a>(
     ensures { IfOk result (λ f. f
         ≡ like_flaws (externals_of externals.now) (map abbrev_of like.now)) }
 {
-    let types = like_types(alloc, like)?;
+    let types = names_of(alloc, like, &LikeTypes)?;
     let list = list_flaws(alloc, types.as_slice())?;
     let walked = walk_like(alloc, externals, like)?;
     Ok(list.join(walked))

@@ -1,13 +1,13 @@
 // Why patterns are refused for their names and counts, and the variables that they bind.
 
-ghost use Rattle.std.specs.Prelude.{◌≡◌, ◌++◌, map, IfOk};
+ghost use Rattle.std.specs.Prelude.{◌≡◌, ◌++◌, map, IfOk, OnOk};
 ghost use Rattle.ac_syntax.specs.Trees.{pat_trees};
 ghost use Rattle.ac_syntax.specs.ReadTrees.{pat_of};
 ghost use Rattle.ac_scopes.specs.Written.{variables, variables_of_all};
 ghost use Rattle.ac_flaws.specs.inner.PatFlaws.{pat_flaws, pats_flaws};
 ghost use Rattle.ac_signatures.specs.Reads.{known_in, named};
 
-use ac_signatures::{Flaws, Named, Scan, type_flaws, with_name};
+use ac_signatures::{Flaws, Named, Scan, type_flaws};
 use ac_syntax::{SPat, SPatKind};
 use ac_types::Memory;
 use ac_types::limits::WIDEST_TUPLE;
@@ -55,48 +55,48 @@ fn pats_flaws<'a>(trees: &'a [SPat], scan: &Scan<'_, 'a>) -> Flaws
 pub fn variables<'a>(alloc: Global, tree: &'a SPat) -> Result<Vec<Named<'a>>, Memory>
     ensures { IfOk result (λ names. map named names.items ≡ variables (pat_of tree.now)) }
 {
-    add_variables(tree, Vec::new(alloc))
+    let mut names = Vec::new(alloc);
+    add_variables(tree, &mut names)?;
+    Ok(names)
 }
 
-// These names, and behind them the variables of a pattern.
+// Appends the variables of a pattern.
 #[cycle(add_variables)]
 #[tactic(auto, using(crate::proofs::Forms::pat_forms))]
-fn add_variables<'a>(tree: &'a SPat, found: Vec<Named<'a>>) -> Result<Vec<Named<'a>>, Memory>
-    ensures { IfOk result (λ names.
-        map named names.items ≡ map named found.entry.items ++ variables (pat_of tree.now)) }
+fn add_variables<'a>(tree: &'a SPat, names: &mut Vec<Named<'a>>) -> Result<(), Memory>
+    ensures { OnOk result (map named names.new.items ≡ map named names.old.items ++ variables
+        (pat_of tree.now)) }
 {
     match &tree.kind {
-        SPatKind::Wild => Ok(found),
-        SPatKind::Var(name, _) => with_name(found, name),
-        SPatKind::Int(_) => Ok(found),
-        SPatKind::Bool(_) => Ok(found),
-        SPatKind::Str(_) => Ok(found),
-        SPatKind::Unit => Ok(found),
-        SPatKind::Tuple(parts) => add_variables_of_all(parts.as_slice(), found),
-        SPatKind::Nil => Ok(found),
-        SPatKind::Cons(head, tail) => {
-            let found = add_variables(head, found)?;
-            add_variables(tail, found)
+        SPatKind::Wild => Ok(()),
+        SPatKind::Var(name, _) => {
+            names.push(Named::of(name))?;
+            Ok(())
         }
-        SPatKind::Absent => Ok(found),
-        SPatKind::Present(item) => add_variables(item, found),
-        SPatKind::Exn(_) => Ok(found),
-        SPatKind::ExnOf(_, item) => add_variables(item, found),
+        SPatKind::Int(_) => Ok(()),
+        SPatKind::Bool(_) => Ok(()),
+        SPatKind::Str(_) => Ok(()),
+        SPatKind::Unit => Ok(()),
+        SPatKind::Tuple(parts) => add_variables_of_all(parts.as_slice(), names),
+        SPatKind::Nil => Ok(()),
+        SPatKind::Cons(head, tail) => {
+            add_variables(head, names)?;
+            add_variables(tail, names)
+        }
+        SPatKind::Absent => Ok(()),
+        SPatKind::Present(item) => add_variables(item, names),
+        SPatKind::Exn(_) => Ok(()),
+        SPatKind::ExnOf(_, item) => add_variables(item, names),
     }
 }
 
 #[cycle(add_variables)]
-fn add_variables_of_all<'a>(
-    trees: &'a [SPat],
-    found: Vec<Named<'a>>,
-) -> Result<Vec<Named<'a>>, Memory>
-    ensures { IfOk result (λ names. map named names.items
-        ≡ map named found.entry.items ++ variables_of_all (pat_trees (map pat_of trees.now))) }
+fn add_variables_of_all<'a>(trees: &'a [SPat], names: &mut Vec<Named<'a>>) -> Result<(), Memory>
+    ensures { OnOk result (map named names.new.items
+        ≡ map named names.old.items ++ variables_of_all (pat_trees (map pat_of trees.now))) }
 {
-    let mut names = found;
     for tree in trees {
-        let more = add_variables(tree, names)?;
-        names = more;
+        add_variables(tree, names)?;
     }
-    Ok(names)
+    Ok(())
 }

@@ -12,9 +12,9 @@ ghost use Rattle.ac_signatures.specs.Reads.{externals_of};
 use crate::defs::def_flaws;
 use crate::exprs::flaws;
 use crate::fault::{FirstFault, first};
-use crate::lists::marks;
+use crate::lists::Marks;
 use crate::scope::Scope;
-use ac_signatures::{Externals, Flaws, Scan, entries_in_front, repeated_name};
+use ac_signatures::{Externals, Flaws, Scan, entries_in_front, names_of, repeated_name};
 use ac_syntax::{SDef, SExpr, Surface};
 use ac_terms::{Entry, Env};
 use ac_types::Memory;
@@ -67,7 +67,7 @@ fn first_externals<'a>(
 fn defs_flaws(alloc: Global, defs: &[SDef]) -> Result<Flaws, Memory>
     ensures { IfOk result (λ f. f ≡ defs_flaws (map def_tree_of defs.now)) }
 {
-    let names = marks(alloc, defs)?;
+    let names = names_of(alloc, defs, &Marks)?;
     let repeated = repeated_name(alloc, names.as_slice())?;
     let counted = Flaws::counted(MOST_DEFINITIONS, defs.len());
     Ok(Flaws {

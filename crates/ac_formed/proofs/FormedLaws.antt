@@ -7,14 +7,13 @@ use Rattle.std.proofs.lemmas.List.Folds.{list_all-append}
 use mathlib.Core.Bool.{true≢false}
 use Rattle.ac_types.proofs.Same.{both_true, and_true, same_eq, same_refl}
 use Rattle.ac_types.specs.Types.{Bytes, Typ, mentions, same, is_small}
-use Rattle.ac_types.specs.First.{given, first_wrong}
+use Rattle.ac_types.specs.Partial.{given, first_wrong, has}
 use Rattle.ac_terms.specs.Terms.{In}
 use Rattle.ac_terms.specs.declared.def.Entry as code
 use Rattle.ac_terms.specs.Read.{entry_of}
 use Rattle.ac_terms.specs.Defs.{Environment, Entry, Field, Def, AModule, AnImport, AMark, signature_at}
 use Rattle.ac_terms.specs.Parts.{Portion, OfType, OfRef, OfHome, Captured, part_refs, part_mentions, has_captured, def_parts, sig_types, term_parts}
 use Rattle.ac_terms.specs.Bounds.{has_small_types}
-use Rattle.ac_terms.specs.TermTyping.{has}
 use Rattle.ac_terms.proofs.AllLaws.{all_left}
 use Rattle.ac_rules.specs.Views.{Coloured, is_known, are_known, declares, view}
 use Rattle.ac_rules.specs.Typing.{type_of, type_seen, of_field}

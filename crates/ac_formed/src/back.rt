@@ -26,10 +26,12 @@ impl<'a> Test for Back<'a> {
 
     #[tactic(auto, using(crate::proofs::BackLaws::taken_entries))]
     fn passes_type(&self, ty: &Ty) -> bool {
+        // `&`, not `&&`: one branch fewer in the proof
         small(ty) & are_known(ty, front(self.env, self.below))
     }
 
     fn passes_reference(&self, entry: u32, _field: &Word) -> bool {
+        // `&`, not `&&`: one branch fewer in the proof
         (entry < self.below) & has_sig(self.env, entry)
     }
 

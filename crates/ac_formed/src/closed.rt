@@ -15,6 +15,7 @@ use ac_types::{Sig, SigType, Ty, TyField};
 pub fn is_closed_sig(sig: &Sig) -> bool
     ensures { result ≡ is_closed_sig (sig_of sig.now) }
 {
+    // `&`, not `&&`: one branch fewer in the proof
     manifest_closed(sig, sig.types.as_slice()) & vals_closed(sig, sig.vals.as_slice())
 }
 
@@ -62,6 +63,7 @@ fn is_closed(ty: &Ty, sig: &Sig) -> bool
         Ty::Tuple(parts) => are_closed(parts.as_slice(), sig),
         Ty::List(item) => is_closed(item, sig),
         Ty::Opt(item) => is_closed(item, sig),
+        // `&`, not `&&`: one branch fewer in the proof
         Ty::Fun(from, to) => is_closed(from, sig) & is_closed(to, sig),
         Ty::Mine(word) => is_abstract_in(sig, word),
         Ty::Int => true,

@@ -70,6 +70,7 @@ fn are_distinct<T: Named>(xs: &[T]) -> bool
 fn is_distinct_sig(sig: &Sig) -> bool
     ensures { result ≡ is_distinct_sig (sig_of sig.now) }
 {
+    // `&`, not `&&`: one branch fewer in the proof
     are_distinct(sig.types.as_slice()) & are_distinct(sig.vals.as_slice())
 }
 
@@ -78,6 +79,7 @@ fn is_distinct_sig(sig: &Sig) -> bool
 pub fn has_distinct_names(def: &Def) -> bool
     ensures { result ≡ has_distinct_names (def_of_code def.now) }
 {
+    // `&`, not `&&`, between parts: one branch fewer in the proof of each arm
     match def {
         Def::Module(m) => {
             is_distinct_sig(&m.sig)

@@ -2,7 +2,7 @@
 
 ghost use Rattle.std.specs.Prelude.{◌≡◌, ◌<◌, ◌^◌, IfOk, IsTrue, length, map};
 ghost use Rattle.std.specs.List.{list_all};
-ghost use Rattle.ac_types.specs.First.{first_wrong};
+ghost use Rattle.ac_types.specs.Partial.{first_wrong};
 ghost use Rattle.ac_terms.specs.Bounds.{fits_def};
 ghost use Rattle.ac_terms.specs.Defs.{Entry, AnImport};
 ghost use Rattle.ac_terms.specs.Read.{environment_of, def_of_code, import_of_code};
@@ -76,6 +76,7 @@ fn is_well_formed(alloc: Global, env: &Env, i: u32, def: &Def) -> Result<bool, M
         (def_of_code def.now)) }
 {
     let spoken = speaks_back(env, i, def);
+    // `&`, not `&&`: one branch fewer in the proof
     let asked = has_distinct_names(def) & (has_closed_sig(def) & has_sound_likes(def));
     if !(spoken & asked) {
         return Ok(false);

@@ -8,7 +8,6 @@ ghost use Rattle.ac_terms.specs.Read.{pattern_of, expr_of, arm_of, value_of};
 use ac_terms::{Arm, PVal, Pat, Term};
 
 // Whether a pattern nests at most so far.
-// Each part is looked at (`&`): an `&&` would be one more branch of the proof.
 #[cycle(pat)]
 #[tactic(auto, using(crate::proofs::NestingLaws::pattern_laws))]
 fn pattern_nests(pat: &Pat, most: u32) -> bool
@@ -27,6 +26,7 @@ fn pattern_nests(pat: &Pat, most: u32) -> bool
         Pat::Unit => true,
         Pat::Tuple(parts) => patterns_nest(parts.as_slice(), under),
         Pat::Nil => true,
+        // `&`, not `&&`: one branch fewer in the proof
         Pat::Cons(head, tail) => pattern_nests(head, under) & pattern_nests(tail, under),
         Pat::Absent => true,
         Pat::Present(inner) => pattern_nests(inner, under),
@@ -58,6 +58,7 @@ pub fn term_nests(term: &Term, most: u32) -> bool
         return false;
     }
     let under = most - 1;
+    // `&`, not `&&`, between parts: one branch fewer in the proof of each arm
     match term {
         Term::Int(_) => true,
         Term::Bool(_) => true,
@@ -122,6 +123,7 @@ fn arm_nests(case: &Arm, most: u32) -> bool
     ensures { result ≡ (nat_le (pattern_nesting (arm_of case.now).0) most &&
         nat_le (nesting (arm_of case.now).1) most) }
 {
+    // `&`, not `&&`: one branch fewer in the proof
     pattern_nests(&case.pat, most) & term_nests(&case.body, most)
 }
 

@@ -1,7 +1,7 @@
 -- What is written of some parts, and their first fault, which is the same whatever numbers are written.
 use Rattle.std.proofs.Common.{◌≡◌, refl, sym, ap, ap₂, ◌∙◌, ℕ, suc, ◌+◌, Bool, List, [], ◌∷◌, ◌++◌, length, length-append, append_assoc, append-nil, Option, Some, None}
 use native.Mathlib.Omega.{arith}
-use Rattle.ac_types.specs.First.{or_else}
+use Rattle.std.specs.Option.{option_or}
 use Rattle.ac_types.specs.Limits.{longest_packet}
 use Rattle.ac_types.specs.Types.{Bytes, Typ}
 use Rattle.ac_terms.specs.Terms.{Main, In, Expr, Int, Boolean, Str, Unit', Exn, ExnOf, Tuple, Nil, Empty, Present, Cons, Var, Own, Ref, Lam, Rec, App, Let, If, Seq, Match, Try, Raise, Prim, Marshal, Unmarshal, Val, Evaluated, Bracket, Exprs, no_exprs, expr, Arms, no_arms, arm, PValue, KInt, KBool, KStr, KUnit, KExn, KTuple, KList, KAbsent, KPresent, KFun, PValues, no_pvalues, pvalue}
@@ -26,7 +26,7 @@ after_faults bs (h ∷ hs) =
     (after_faults (bs ++ h.bytes) hs ∙ ap₂ (λ n xs. outcome (first_fault 500 longest_packet n hs) xs) (length-append bs h.bytes) (append_assoc bs h.bytes (spelling hs)))
   where
     by : (o : Option Fault) → walk_end (bs ++ h.bytes) hs ≡ outcome (first_fault 500 longest_packet (length bs + length h.bytes) hs) (bs ++ spelling (h ∷ hs)) →
-        unless_fault o (walk_end (bs ++ h.bytes) hs) ≡ outcome (or_else o (first_fault 500 longest_packet (length bs + length h.bytes) hs)) (bs ++ spelling (h ∷ hs))
+        unless_fault o (walk_end (bs ++ h.bytes) hs) ≡ outcome (option_or o (first_fault 500 longest_packet (length bs + length h.bytes) hs)) (bs ++ spelling (h ∷ hs))
     by None rest = rest
     by (Some f) rest = refl
 
@@ -47,7 +47,7 @@ alike_faults n [] [] a = refl
 alike_faults n [] (k ∷ ks) a = absurd a
 alike_faults n (h ∷ hs) [] a = absurd a
 alike_faults n (h ∷ hs) (k ∷ ks) a =
-    ap₂ or_else (same_fault h k n a.0 a.1 a.2) (ap (λ m. first_fault 500 longest_packet (n + m) hs) a.2 ∙ alike_faults (n + length k.bytes) hs ks a.3)
+    ap₂ option_or (same_fault h k n a.0 a.1 a.2) (ap (λ m. first_fault 500 longest_packet (n + m) hs) a.2 ∙ alike_faults (n + length k.bytes) hs ks a.3)
 
 alike : (hs : List Head) → Alike hs hs
 alike [] = tt

@@ -2,7 +2,7 @@
 
 ghost use Rattle.std.specs.Prelude.{◌≡◌, ◌+◌, ◌<◌, ◌^◌, length, map, option_map};
 ghost use Rattle.std.specs.Result.{result_err};
-ghost use Rattle.ac_types.specs.First.{first_failing, first_some};
+ghost use Rattle.ac_types.specs.Partial.{first_failing, first_some};
 ghost use Rattle.ac_types.specs.ReadTypes.{atom_of, range_of, sig_type_of, sig_of};
 ghost use Rattle.ac_terms.specs.Read.{name_of_code, module_of_code, import_of_code, environment_of};
 ghost use Rattle.ac_rules.specs.Links.{is_like, unlike, missing_spec, by_version, by_name, link_fault};

@@ -1,11 +1,12 @@
 // What a module's signature has of what an import's wants.
 
 ghost use Rattle.std.specs.Prelude.{◌≡◌, map, Some};
-ghost use Rattle.ac_types.specs.First.{first_failing};
+ghost use Rattle.ac_types.specs.Partial.{first_failing};
 ghost use Rattle.ac_types.specs.ReadTypes.{typ_of, typed_of, sig_type_of, sig_of};
 ghost use Rattle.ac_rules.specs.Links.{is_equal, has_type_spec, has_val_spec};
 
-use ac_types::{Sig, SigType, Ty, TyField, eq_under, same_types, spec_named, type_named};
+use ac_rules::eq_under;
+use ac_types::{Sig, SigType, Ty, TyField, same_types, spec_named, type_named};
 
 /// The first type of an import's signature that a module's lacks.
 pub fn missing_type(exact: bool, found: &Sig, wanted: &Sig) -> Option<usize>

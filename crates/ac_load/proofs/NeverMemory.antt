@@ -1,8 +1,9 @@
 -- No text is rejected for want of memory.
 use Rattle.std.proofs.Common.{◌≡◌, ◌∙◌, refl, sym, ap, ℕ, zero, suc, ◌+◌, Bool, true, false, not, List, [], ◌∷◌, length, Option, Some, None}
 use Rattle.std.specs.Prelude.{is_none, option_map}
+use Rattle.std.specs.Option.{option_or}
 use Rattle.sha2.specs.Sha256.{sha256}
-use Rattle.ac_types.specs.First.{given, first_failing, or_else}
+use Rattle.ac_types.specs.Partial.{given, first_failing}
 use Rattle.ac_types.specs.Types.{Bytes}
 use Rattle.ac_terms.specs.Defs.{Environment, Field, Def, AModule, AnImport, AMark, Seen, Entry}
 use Rattle.ac_rules.specs.Links.{is_exact}
@@ -29,7 +30,7 @@ abbrev told : Option Cause → Bool
 told None = true
 told (Some c) = speaks (kind_of c)
 
-either_told : (a b : Option Cause) → told a ≡ true → told b ≡ true → told (or_else a b) ≡ true
+either_told : (a b : Option Cause) → told a ≡ true → told b ≡ true → told (option_or a b) ≡ true
 either_told None b h k = k
 either_told (Some c) b h k = h
 

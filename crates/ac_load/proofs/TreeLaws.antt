@@ -2,10 +2,11 @@
 use Rattle.std.proofs.Common.{◌≡◌, ◌∙◌, ◌≤◌, refl, sym, ap, ap₂, subst, ℕ, suc, true, List, [], ◌∷◌, ◌++◌, length, take, drop, Option, Some, None, arith, length-append}
 use Rattle.std.specs.Prelude.{is_none, option_map}
 use Rattle.std.specs.List.{list_all}
+use Rattle.std.specs.Option.{option_or}
 use Rattle.std.proofs.Math.Seq.{take-append_seam, drop-append_seam}
 use Rattle.std.proofs.lemmas.List.{take-append-drop}
 use Rattle.sha2.specs.Sha256.{sha256}
-use Rattle.ac_types.specs.First.{given, or_else, first_some}
+use Rattle.ac_types.specs.Partial.{given, first_some}
 use Rattle.ac_types.specs.Types.{Typ}
 use Rattle.ac_terms.specs.Terms.{Expr}
 use Rattle.ac_terms.specs.Defs.{Environment, Entry, Seen}
@@ -61,7 +62,7 @@ module _ (E : Environment) (seen : Seen) (p : ProgramTree) where
 
   -- a fault of the scopes is the cause
   scopes_first : (f : SurfaceFault) → surface_fault sha256 E p ≡ Some f → cause sha256 E seen p ≡ Some (BadScopes f)
-  scopes_first f h = ap (λ o. or_else (option_map BadScopes o) (causes_with (added sha256 E seen p))) h
+  scopes_first f h = ap (λ o. option_or (option_map BadScopes o) (causes_with (added sha256 E seen p))) h
 
   pub scopes_refused : (f : ScopeFault) → RefusesScopes E p f → Says (fault_kind f) (IsTreeRefused E seen p (fault_kind f))
   scopes_refused (scope.Unbound at) h = of_cause {c = BadScopes (surface.Unbound at)} (scopes_first (surface.Unbound at) h)
@@ -97,7 +98,7 @@ module _ (E : Environment) (seen : Seen) (p : ProgramTree) where
       -- the causes are those of the entries
       pub cause_is : cause sha256 E seen p ≡ part_cause G n e
       cause_is =
-          ap (λ o. or_else (option_map BadScopes o) (causes_with (added sha256 E seen p))) x.sound
+          ap (λ o. option_or (option_map BadScopes o) (causes_with (added sha256 E seen p))) x.sound
           ∙ ap causes_with (sym (drop-append_seam E (added sha256 E seen p)))
           ∙ ap₂ (λ (k : ℕ) (f : Expr). part_cause (loaded sha256 E seen p) k f) (sym is) (sym x.is)
           ∙ ap (λ (H : Environment). part_cause H n e) (sym entries_are)

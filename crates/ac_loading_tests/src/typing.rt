@@ -3,7 +3,7 @@
 use crate::make::boxed;
 use ac_check::{CheckFault, type_of};
 use ac_terms::{Env, Home, Term};
-use ac_types::{Many, Ty, ty_eq};
+use ac_types::{Many, Ty, same_types};
 use std::alloc::Global;
 use std::process::Abort;
 
@@ -40,7 +40,7 @@ fn as_many_parts_as_a_type_may_have(rt: HostRuntime) {
     let found = type_alone(rt.alloc(), &nil).expect(&rt, "a type");
     drop(nil);
     let ty = wide(&rt, rt.alloc());
-    assert!(rt; ty_eq(&found, &ty));
+    assert!(rt; same_types(&found, &ty));
 }
 
 #[test]

@@ -1,13 +1,3 @@
-pub mod BindLaws
-pub mod CallLaws
-pub mod EachLaws
-pub mod FieldLaws
-pub mod GivingLaws
-pub mod HeldLaws
-pub mod KnownLaws
-pub mod PatternLaws
-pub mod PrimitiveLaws
 pub mod RunLaws
-pub mod TakenLaws
 pub mod TestLaws
 pub mod TogetherLaws

@@ -7,17 +7,18 @@ ghost use Rattle.ac_code.specs.ReadCode.{table_code};
 ghost use Rattle.ac_values.specs.declared.node.Node.{Node};
 ghost use Rattle.ac_values.specs.Below.{Below};
 ghost use Rattle.ac_values.specs.Values.{values, node_value};
-ghost use Rattle.ac_machine.specs.States.{Core, Run, beginning, push_value};
-ghost use Rattle.ac_machine.specs.Resumes.{At, awaits, resumed, paused_at, takes_unit, takes_text, takes_block, takes_raise, with_unit, resumed_text, with_block, with_raise};
-ghost use Rattle.ac_machine.specs.Held.{core, Sound};
-ghost use Rattle.ac_machine.specs.Seen.{standing, stands_at, ask_of};
-ghost use Rattle.ac_machine.specs.Runs.{Pauses, Went};
+ghost use Rattle.ac_machine_engine.specs.States.{Core, Run, beginning, push_value};
+ghost use Rattle.ac_machine_engine.specs.Resumes.{At, awaits, resumed, paused_at, takes_unit, takes_text, takes_block, takes_raise, with_unit, resumed_text, with_block, with_raise};
+ghost use Rattle.ac_machine_engine.specs.Held.{core, Sound};
+ghost use Rattle.ac_machine_engine.specs.Seen.{standing, stands_at, ask_of};
+ghost use Rattle.ac_machine_engine.specs.Runs.{Pauses, Went};
+ghost use Rattle.ac_machine_engine.specs.declared.pause.Pause.TheVariants as answers;
 ghost use Rattle.ac_machine.specs.inner.Going.{Advanced};
-ghost use Rattle.ac_machine.specs.declared.pause.Pause.TheVariants as answers;
 
-use crate::engine::{EMPTY, Engine, Step};
-use crate::pause::{Pause, Stand, Wait};
+use crate::step::run;
 use ac_code::{CodeId, CodeTable};
+use ac_machine_engine::engine::{EMPTY, Engine, Step};
+use ac_machine_engine::{Pause, Stand, Wait};
 use ac_terms::Env;
 use ac_types::{Exn, Memory, Text};
 use ac_values::{Node, Store};
@@ -34,8 +35,8 @@ pub struct Machine {
 
 impl Model for Machine {
     ghost use Rattle.std.specs.Prelude.{◌≡◌, false};
-    ghost use Rattle.ac_machine.specs.Seen.{MachineSeen};
-    ghost use Rattle.ac_machine.specs.Held.{Sound};
+    ghost use Rattle.ac_machine_engine.specs.Seen.{MachineSeen};
+    ghost use Rattle.ac_machine_engine.specs.Held.{Sound};
 
     ghost Value = { MachineSeen };
 
@@ -203,7 +204,7 @@ fn advance(
 {
     match stand {
         Stand::Running => {
-            let pause = engine.run(env, table)?;
+            let pause = run(engine, env, table)?;
             let stand = stand_at(engine.alloc, &pause)?;
             Ok((pause, stand))
         }

@@ -3,18 +3,18 @@ use Rattle.std.proofs.Common.{Bool, true, false, Option, Some, None, MatchOption
 use Rattle.ac_terms.specs.Defs.{Environment}
 use Rattle.ac_code.specs.Code.{Code}
 use Rattle.ac_values.specs.declared.node.Node.{Node}
-use Rattle.ac_machine.specs.declared.engine.Engine.{Engine}
-use Rattle.ac_machine.specs.declared.engine.Step.{Step}
-use Rattle.ac_machine.specs.declared.engine.Step.TheVariants.{On, Pausing, Wrong}
-use Rattle.ac_machine.specs.declared.pause.Pause.{Pause}
-use Rattle.ac_machine.specs.declared.pause.Pause.TheVariants as answers
-use Rattle.ac_machine.specs.States.{Core, Ask, MState, Run, Paused, Stuck, state_given}
-use Rattle.ac_machine.specs.Machine.{exec, after}
-use Rattle.ac_machine.specs.Resumes.{Wait, Standing, At, Waits, paused_at, resumed}
-use Rattle.ac_machine.specs.Held.{core}
-use Rattle.ac_machine.specs.Seen.{MachineSeen, standing, ask_of}
-use Rattle.ac_machine.specs.inner.Steps.{Does, Goes, StopsThere}
-use Rattle.ac_machine.specs.Runs.{Pauses, Reaches, Stopped, Went}
+use Rattle.ac_machine_engine.specs.declared.engine.Engine.{Engine}
+use Rattle.ac_machine_engine.specs.declared.engine.Step.{Step}
+use Rattle.ac_machine_engine.specs.declared.engine.Step.TheVariants.{On, Pausing, Wrong}
+use Rattle.ac_machine_engine.specs.declared.pause.Pause.{Pause}
+use Rattle.ac_machine_engine.specs.declared.pause.Pause.TheVariants as answers
+use Rattle.ac_machine_engine.specs.States.{Core, Ask, MState, Run, Paused, Stuck, state_given}
+use Rattle.ac_machine_engine.specs.Machine.{exec, after}
+use Rattle.ac_machine_engine.specs.Resumes.{Wait, Standing, At, Waits, paused_at, resumed}
+use Rattle.ac_machine_engine.specs.Held.{core}
+use Rattle.ac_machine_engine.specs.Seen.{MachineSeen, standing, ask_of}
+use Rattle.ac_machine_engine.specs.Steps.{Does, Goes, StopsThere}
+use Rattle.ac_machine_engine.specs.Runs.{Pauses, Reaches, Stopped, Went}
 use Rattle.ac_machine.proofs.RunLaws.{reaches_next, after_plus}
 
 -- each pause but want of memory asks for something

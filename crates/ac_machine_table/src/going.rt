@@ -6,17 +6,19 @@ ghost use Rattle.ac_types.specs.Exceptions.{failure};
 ghost use Rattle.ac_types.specs.ReadNumbers.{exn_number, exn_text};
 ghost use Rattle.ac_terms.specs.Read.{environment_of};
 ghost use Rattle.ac_code.specs.ReadCode.{table_code};
-ghost use Rattle.ac_machine.specs.States.{Ask, Core, Run, Paused};
-ghost use Rattle.ac_machine.specs.Resumes.{Wait, At, Waits, paused_at, takes_unit, takes_text, takes_block, takes_raise};
-ghost use Rattle.ac_machine.specs.Held.{core, Sound};
-ghost use Rattle.ac_machine.specs.Seen.{standing, ask_of};
-ghost use Rattle.ac_machine.specs.Runs.{Reaches};
-ghost use Rattle.ac_machine.specs.declared.pause.Pause.TheVariants as answers;
+ghost use Rattle.ac_machine_engine.specs.States.{Ask, Core, Run, Paused};
+ghost use Rattle.ac_machine_engine.specs.Resumes.{Wait, At, Waits, paused_at, takes_unit, takes_text, takes_block, takes_raise};
+ghost use Rattle.ac_machine_engine.specs.Held.{core, Sound};
+ghost use Rattle.ac_machine_engine.specs.Seen.{standing, ask_of};
+ghost use Rattle.ac_machine_engine.specs.Runs.{Reaches};
+ghost use Rattle.ac_machine_engine.specs.declared.pause.Pause.TheVariants as answers;
 
 use crate::notes::note_pause;
 use ac_code::{CodeId, CodeTable};
-use ac_machine::engine::{EMPTY, Engine, Step};
-use ac_machine::{Machine, Pause};
+use ac_machine::Machine;
+use ac_machine::step::step;
+use ac_machine_engine::Pause;
+use ac_machine_engine::engine::{EMPTY, Engine, Step};
 use ac_page::Page;
 use ac_terms::Env;
 use ac_types::{Exn, Memory, Text, TextExn};
@@ -43,7 +45,7 @@ fn ahead(engine: &mut Engine, env: &Env, table: &CodeTable) -> Result<(), Memory
         (Paused a (core engine.new))) }
 {
     for _ in 0..1000 {
-        match engine.step(env, table) {
+        match step(engine, env, table) {
             Ok(Step::On) => {}
             Ok(Step::Pausing(pause)) => return there(&pause),
             Ok(Step::Wrong) => return Err(Memory),

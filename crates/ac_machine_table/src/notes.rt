@@ -1,6 +1,6 @@
 // What is noted of a pause.
 
-use ac_machine::Pause;
+use ac_machine_engine::Pause;
 use ac_page::Page;
 use ac_values::Store;
 use ac_values::read::int_in;

@@ -4,17 +4,16 @@ use Rattle.std.specs.Prelude.{slice_get, nat_lt, ◌&&◌, is_some, option_map, 
 use Rattle.std.specs.Option.{option_map_or}
 use Rattle.std.specs.List.{list_all}
 use mathlib.Core.Bool.{true≢false}
-use Rattle.ac_types.specs.First.{given}
+use Rattle.ac_types.specs.Partial.{given, agree}
 use Rattle.ac_types.proofs.Same.{both_true, same_eq}
 use Rattle.ac_types.proofs.FirstLaws.{none≢some, some_eq, given_some}
-use Rattle.ac_types.specs.Types.{Bytes, Typ, TInt, TBool, TStr, TUnit, TExn, TTuple, TList, TOpt, TFun, TAbs, TMine, Typs, no_types, typ, same, same_all, agree, mentions, mentions_of_all}
+use Rattle.ac_types.specs.Types.{Bytes, Typ, TInt, TBool, TStr, TUnit, TExn, TTuple, TList, TOpt, TFun, TAbs, TMine, Typs, no_types, typ, same, same_all, mentions, mentions_of_all}
 use Rattle.ac_terms.specs.Terms.{Home, Pattern, PWild, PVar, PInt, PBool, PStr, PUnit, PTuple, PNil, PCons, PAbsent, PPresent, PExn, PExnOf, Patterns, no_patterns, pattern', Expr, Int, Boolean, Str, Unit', Exn, ExnOf, Tuple, Nil, Empty, Present, Cons, Var, Own, Ref, Lam, Rec, App, Let, If, Seq, Match, Try, Raise, Prim, Marshal, Unmarshal, Val, Evaluated, Bracket, Exprs, no_exprs, expr, Arms, no_arms, arm, PValue, KInt, KBool, KStr, KUnit, KExn, KTuple, KList, KAbsent, KPresent, KFun, PValues, no_pvalues, pvalue, Value, VInt, VBool, VStr, VUnit, VExn, VTuple, VAbsent, VPresent, VLam, VRec, VProxy}
 use Rattle.ac_terms.specs.Defs.{Environment, Entry, Def, AModule, AnImport, AMark, signature, names, find_name}
 use Rattle.ac_terms.specs.Bounds.{fits_term, fit_terms, fit_arms, fits_value, fit_values}
 use Rattle.ac_terms.specs.PrimitiveTypes.{Rule, arithmetic, comparison, by_rules, primitives, primitive_type}
-use Rattle.ac_terms.specs.TermTyping.{last_of}
 use Rattle.ac_rules.specs.Views.{Mode, Plain, Coloured, view, type_of_entry, representation, opened, unsealed, head, rounds, has_name, opens, is_known, are_known}
-use Rattle.ac_rules.specs.Typing.{Scope, bind, bind_all, all_of, HasType, type_of, type_seen, holds, all_hold, each_holds, tuple_parts, list_item, option_item, is_function, is_function_home, is_home, types_of, arm_types, variables, variables_of_all, are_all, one_of, a_list, an_option, value_in}
+use Rattle.ac_rules.specs.Typing.{Scope, bind, bind_all, all_of, HasType, type_of, type_seen, holds, all_hold, each_holds, tuple_parts, list_item, option_item, is_function, is_function_home, is_home, types_of, arm_types, variables, variables_of_all, are_all, one_of, a_list, an_option, value_in, last_of}
 use Rattle.ac_rules.specs.Coherent.{IsCoherent}
 use Rattle.ac_rules.proofs.Rules.{then_some, rule-Int, rule-Boolean, rule-Str, rule-Unit, rule-Exn, rule-ExnOf, rule-Tuple, rule-expr, rule-Nil, rule-Empty, rule-Present, rule-Cons, rule-Var, rule-Own, rule-Ref, rule-Lam, rule-App, rule-If, rule-Let, rule-Rec, rule-Seq, rule-Match, rule-Try, rule-Raise, rule-Prim, rule-Marshal, rule-Unmarshal, rule-Val, has_some, agree_some, also_some, joined_some, function_home}
 use Rattle.ac_rules.proofs.EarlierLaws.{found_keeps}

@@ -2,10 +2,10 @@
 use Rattle.std.proofs.Common.{◌≡◌, refl, sym, ap, ◌∙◌, subst, ℕ, Bool, true, false, nat_lt, cond, List, [], ◌∷◌, ◌++◌, Option, Some, None, ◌⊎◌, inl, inr}
 use Rattle.std.specs.Prelude.{option_map, is_some, slice_get}
 use Rattle.std.specs.List.{list_all}
+use Rattle.std.specs.Option.{option_or}
 use mathlib.Core.Bool.{true≢false}
 use Rattle.ac_types.proofs.Same.{and_true, bytes_refl}
 use Rattle.ac_types.proofs.FirstLaws.{none≢some, some_eq}
-use Rattle.ac_types.specs.First.{or_else}
 use Rattle.ac_types.specs.Types.{Bytes, Typ, TInt, TBool, TStr, TUnit, TExn, TTuple, TList, TOpt, TFun, TAbs, TMine, Typs, no_types, typ, mentions, mentions_of_all}
 use Rattle.ac_terms.specs.Terms.{Home, Main, In, Pattern, Expr, Int, Boolean, Str, Unit', Exn, ExnOf, Tuple, Nil, Empty, Present, Cons, Var, Own, Ref, Lam, Rec, App, Let, If, Seq, Match, Try, Raise, Prim, Marshal, Unmarshal, Val, Evaluated, Bracket, Exprs, no_exprs, expr, Arms, no_arms, arm, Value, VInt, VBool, VStr, VUnit, VExn, VTuple, VNil, VCons, VAbsent, VPresent, VLam, VRec, VProxy, VSeal, Values, value}
 use Rattle.ac_terms.specs.Defs.{Environment, Field}
@@ -134,7 +134,7 @@ module _ (arrives : Arrives) (mode : Mode) where
         by false = q
 
     -- arms
-    arm_ok : (c : Home) (p : Pattern) (t : Expr) (v : Value) (A T : Typ) (Us : List Typ) (o : Option Written) (rest : Option Expr) (x : Exception) → fit p v [] ≡ o → ValueTyped mode E v c A → Fits mode E p c A Us → Typed mode E t c (Us ++ []) T → Good c T (or_raises x rest) → Good c T (or_raises x (or_else (option_map (λ ws. inst 0 ws t) o) rest))
+    arm_ok : (c : Home) (p : Pattern) (t : Expr) (v : Value) (A T : Typ) (Us : List Typ) (o : Option Written) (rest : Option Expr) (x : Exception) → fit p v [] ≡ o → ValueTyped mode E v c A → Fits mode E p c A Us → Typed mode E t c (Us ++ []) T → Good c T (or_raises x rest) → Good c T (or_raises x (option_or (option_map (λ ws. inst 0 ws t) o) rest))
     arm_ok c p t v A T Us None rest x q h f k r = r
     arm_ok c p t v A T Us (Some ws) rest x q h f k r = inst_typed mode E t c [] (Us ++ []) T ws 0 refl (fit_typed mode E p v [] ws c A [] Us q h f refl) k
 

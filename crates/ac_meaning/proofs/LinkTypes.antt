@@ -5,10 +5,10 @@ use Rattle.std.specs.Option.{option_map_or}
 use Rattle.std.specs.List.{list_all}
 use mathlib.Core.Bool.{true≢false}
 use Rattle.sha2.specs.Sha256.{sha256}
-use Rattle.ac_types.specs.First.{first_failing, first_some}
+use Rattle.ac_types.specs.Partial.{first_failing, first_some, agree}
 use Rattle.ac_types.proofs.Same.{both_true, and_true, same_eq, bytes_eq, bytes_refl}
 use Rattle.ac_types.proofs.FirstLaws.{none≢some, some_eq}
-use Rattle.ac_types.specs.Types.{Bytes, same_bytes, Typ, TTuple, TList, TOpt, TFun, TAbs, TMine, Typs, no_types, typ, agree, mentions, mentions_of_all, all_with_each, with_mine, all_with_mine}
+use Rattle.ac_types.specs.Types.{Bytes, same_bytes, Typ, TTuple, TList, TOpt, TFun, TAbs, TMine, Typs, no_types, typ, mentions, mentions_of_all, all_with_each, with_mine, all_with_mine}
 use Rattle.ac_types.specs.Sigs.{Typed_name, Sig_type, Signature, Range, Constraint, Ranges, Exact, named_type, type_under, is_abstract, stand_in}
 use Rattle.ac_terms.specs.Terms.{Home, In}
 use Rattle.ac_terms.specs.Defs.{Environment, Entry, Field, Module, Import, Def, AModule, AnImport, AMark, signature, module_of, def_of, module_at, name_at, names, find_name, module_behind, field_number}

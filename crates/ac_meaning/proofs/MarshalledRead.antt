@@ -1,9 +1,9 @@
 -- In each state of a run what is marshalled is read again.
 use Rattle.std.proofs.Common.{◌≡◌, refl, ap, subst, ℕ, zero, suc, Bool, true, false, [], Option, Some, None, ◌∙◌}
 use Rattle.std.specs.Prelude.{IsTrue}
+use Rattle.std.specs.Option.{option_or}
 use native.Mathlib.Omega.{arith}
 use Rattle.ac_types.specs.Limits.{longest_packet, deepest_nesting}
-use Rattle.ac_types.specs.First.{or_else}
 use Rattle.ac_types.specs.Types.{Bytes, Typ, TStr, TExn, TBool, TFun, TList, Typs}
 use Rattle.ac_terms.specs.Terms.{Home, Main, Expr, Int, Boolean, Str, Unit', Exn, ExnOf, Tuple, Nil, Empty, Present, Cons, Var, Own, Ref, Lam, Rec, App, Let, If, Seq, Match, Try, Raise, Prim, Marshal, Unmarshal, Val, Evaluated, Bracket, Exprs, no_exprs, expr, PValue, Value, VStr}
 use Rattle.ac_terms.specs.Defs.{Environment}
@@ -72,7 +72,7 @@ module _ (mode : Mode) (E : Environment) where
   RedexFine None = Unit {0}
   RedexFine (Some r) = (X : Typ) × IsHome mode E r.home × Typed mode E r.term r.home [] X × Within false r.term
 
-  or_fine : (o p : Option Redex) → RedexFine o → RedexFine p → RedexFine (or_else o p)
+  or_fine : (o p : Option Redex) → RedexFine o → RedexFine p → RedexFine (option_or o p)
   or_fine None p h k = k
   or_fine (Some r) p h k = h
 
@@ -97,7 +97,7 @@ module _ (mode : Mode) (E : Environment) where
     redex_fine (Present e) c T i h w = redex_fine e c h.0 i h.2 w
     redex_fine (Cons a b) c T i h w = or_fine (redex c a) (redex c b) (redex_fine a c h.0 i h.2 w.0) (redex_fine b c (TList h.0) i h.3 w.1)
     redex_fine (App f a) c T i h w =
-        or_fine (redex c f) (or_else (redex c a) (stands_next c (App f a))) (redex_fine f c (TFun h.0 T) i h.1 w.0) (or_fine (redex c a) (stands_next c (App f a)) (redex_fine a c h.0 i h.2 w.1) (T, i, h, w))
+        or_fine (redex c f) (option_or (redex c a) (stands_next c (App f a))) (redex_fine f c (TFun h.0 T) i h.1 w.0) (or_fine (redex c a) (stands_next c (App f a)) (redex_fine a c h.0 i h.2 w.1) (T, i, h, w))
     redex_fine (Let A e b) c T i h w = or_fine (redex c e) (stands_next c (Let A e b)) (redex_fine e c (as_seen mode E c A) i h.0 w.1) (T, i, h, w)
     redex_fine (If e a b) c T i h w = or_fine (redex c e) (stands_next c (If e a b)) (redex_fine e c TBool i h.0 w.0) (T, i, h, w)
     redex_fine (Match e arms) c T i h w = or_fine (redex c e) (stands_next c (Match e arms)) (redex_fine e c h.0 i h.1 w.0) (T, i, h, w)
@@ -108,7 +108,7 @@ module _ (mode : Mode) (E : Environment) where
     redex_fine (Try e arms) c T i h w = or_fine (redex c e) (stands_next c (Try e arms)) (redex_fine e c T i h.0 w.0) (T, i, h, w)
     redex_fine (Prim k es) c T i h w = or_fine (redex_all c es) (stands_next c (Prim k es)) (all_redex_fine es c h.0 i h.1 w.1) (T, i, h, w)
     redex_fine (Marshal A m e) c T i h w =
-        or_fine (redex c m) (or_else (redex c e) (stands_next c (Marshal A m e))) (redex_fine m c TStr i h.1 w.1) (or_fine (redex c e) (stands_next c (Marshal A m e)) (redex_fine e c (as_seen mode E c A) i h.2 w.2) (T, i, h, w))
+        or_fine (redex c m) (option_or (redex c e) (stands_next c (Marshal A m e))) (redex_fine m c TStr i h.1 w.1) (or_fine (redex c e) (stands_next c (Marshal A m e)) (redex_fine e c (as_seen mode E c A) i h.2 w.2) (T, i, h, w))
     redex_fine (Unmarshal A e) c T i h w = or_fine (redex c e) (stands_next c (Unmarshal A e)) (redex_fine e c TStr i h.1 w.1) (T, i, h, w)
     redex_fine (Own f) c T i h w = (T, i, h, w)
     redex_fine (Ref j x) c T i h w = (T, i, h, w)

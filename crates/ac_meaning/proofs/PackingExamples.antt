@@ -2,11 +2,12 @@
 use Rattle.std.proofs.Common.{◌≡◌, refl, ap, ◌≤◌, ◌+◌}
 use native.Mathlib.Omega.{arith}
 use Rattle.std.proofs.lemmas.Bool.Decides.{nat_tests}
-use Rattle.ac_types.specs.First.{given, or_else}
+use Rattle.ac_types.specs.Partial.{given}
 use Rattle.ac_terms.specs.Spelling.{two_written, value_bytes}
 use Rattle.std.specs.Prelude.{ℕ, zero, suc, pos, Bool, true, false, [], ◌∷◌, ◌++◌, length, take, Option, Some, None, is_none, codes, replicate, nat_lt}
 use Rattle.std.specs.Int.{int_wrap}
 use Rattle.std.specs.Fmt.{digits}
+use Rattle.std.specs.Option.{option_or}
 use Rattle.ac_types.specs.Primitives as primitives
 use Rattle.ac_types.specs.Types.{Bytes, Typ, TInt, TStr, TBool, TUnit, TTuple, TList, TFun, typs}
 use Rattle.ac_types.specs.Words.{is_reserved}
@@ -275,5 +276,5 @@ more n m e = grind (arith, nat_tests)
 
 pub too_long : (s : Bytes) → length s ≡ 1048576 → marshalled (a_mark (codes "MK") ∷ []) (codes "MK") TStr (KStr s) ≡ NoString Size
 too_long s e =
-    ap (λ b. behind (a_mark (codes "MK") ∷ []) 0 TStr (KStr s) (or_else (or_else (given b (Some Size)) None) None))
+    ap (λ b. behind (a_mark (codes "MK") ∷ []) 0 TStr (KStr s) (option_or (option_or (given b (Some Size)) None) None))
     (more 1048576 (1 + length (value_bytes two_written (KStr s))) (omega (arith, e)))

@@ -5,17 +5,16 @@ use Rattle.std.specs.List.{list_all}
 use Rattle.std.proofs.lemmas.Bool.Decides.{nat_tests}
 use mathlib.Core.Bool.{true≢false}
 use native.Mathlib.Omega.{arith}
-use Rattle.ac_types.specs.First.{given}
+use Rattle.ac_types.specs.Partial.{given, has}
 use Rattle.ac_types.proofs.FirstLaws.{none≢some, some_eq, given_some}
 use Rattle.ac_types.proofs.Same.{both_true, and_true}
 use Rattle.ac_types.specs.Types.{Typ, TInt, TBool, TStr, TUnit, TExn, TTuple, TList, TOpt, TFun, Typs, no_types, typ, same, same_all, parts, parts_of_all, height, height_of_all, is_small}
 use Rattle.ac_terms.specs.Terms.{Home, Pattern, PWild, PVar, PInt, PBool, PStr, PUnit, PTuple, PNil, PCons, PAbsent, PPresent, PExn, PExnOf, Patterns, no_patterns, pattern', Expr, Int, Boolean, Str, Unit', Exn, ExnOf, Tuple, Nil, Empty, Present, Cons, Var, Own, Ref, Lam, Rec, App, Let, If, Seq, Match, Try, Raise, Prim, Marshal, Unmarshal, Val, Evaluated, Bracket, Exprs, no_exprs, expr, Arms, no_arms, arm}
 use Rattle.ac_terms.specs.Defs.{Environment}
 use Rattle.ac_terms.specs.PrimitiveTypes.{Rule, by_rules, primitives, primitive_type}
-use Rattle.ac_terms.specs.TermTyping.{has, last_of}
 use Rattle.ac_terms.specs.Parts.{OfType, pattern_types, all_pattern_types, term_parts, all_term_parts, arm_parts}
 use Rattle.ac_rules.specs.Views.{Coloured, view, opened_at_home, are_known}
-use Rattle.ac_rules.specs.Typing.{Scope, bind, bind_all, HasType, type_of, type_seen, types_of, arm_types, variables, variables_of_all, field_type, ref_type, a_list, an_option, are_all, one_of}
+use Rattle.ac_rules.specs.Typing.{Scope, bind, bind_all, HasType, type_of, type_seen, types_of, arm_types, variables, variables_of_all, field_type, ref_type, a_list, an_option, are_all, one_of, last_of}
 use Rattle.ac_terms.proofs.AllLaws.{all_append}
 use Rattle.ac_rules.proofs.Rules.{then_some, rule-Int, rule-Boolean, rule-Str, rule-Unit, rule-Exn, rule-ExnOf, rule-Tuple, rule-expr, rule-Nil, rule-Empty, rule-Present, rule-Cons, rule-Lam, rule-App, rule-If, rule-Let, rule-Rec, rule-Seq, rule-Match, rule-Try, rule-Raise, rule-Prim, rule-Marshal, rule-Unmarshal, has_some, joined_some, also_some}
 use Rattle.ac_meaning.specs.Laws.{is_source, are_source, arms_are_source}

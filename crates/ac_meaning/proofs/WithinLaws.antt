@@ -2,11 +2,12 @@
 use Rattle.std.proofs.Common.{◌≡◌, refl, sym, ap, ◌∙◌, subst, ℕ, zero, suc, ◌+◌, ◌≤◌, Bool, true, false, ◌&&◌, List, [], ◌∷◌, ◌++◌, Option, Some, None}
 use Rattle.std.specs.Prelude.{option_map, option_and_then, nat_eq, nat_le}
 use Rattle.std.specs.List.{list_all}
+use Rattle.std.specs.Option.{option_or}
 use Rattle.std.proofs.lemmas.Bool.Decides.{nat_tests}
 use native.Mathlib.Omega.{arith}
 use Rattle.ac_types.proofs.FirstLaws.{none≢some, some_eq, given_some}
 use Rattle.ac_types.proofs.Same.{both_true}
-use Rattle.ac_types.specs.First.{given, or_else}
+use Rattle.ac_types.specs.Partial.{given}
 use Rattle.ac_types.specs.Types.{is_small}
 use Rattle.ac_terms.specs.Terms.{Pattern, PWild, PVar, PInt, PBool, PStr, PUnit, PTuple, PNil, PCons, PAbsent, PPresent, PExn, PExnOf, Patterns, no_patterns, pattern', Expr, Int, Boolean, Str, Unit', Exn, ExnOf, Tuple, Nil, Empty, Present, Cons, Var, Own, Ref, Lam, Rec, App, Let, If, Seq, Match, Try, Raise, Prim, Marshal, Unmarshal, Val, Evaluated, Bracket, Exprs, no_exprs, expr, Arms, no_arms, arm, Value, VInt, VBool, VStr, VUnit, VExn, VTuple, VNil, VCons, VAbsent, VPresent, Values, no_values, value}
 use Rattle.ac_terms.specs.Spelling.{term_count, arm_count}
@@ -199,7 +200,7 @@ one_more [] w h k = (k, tt)
 one_more (x ∷ ws) w h k = (h.0, one_more ws w h.1 k)
 
 -- arms
-arm_within : (p : Pattern) (t : Expr) (v : Value) (o : Option Written) (rest : Option Expr) (x : Exception) → fit p v [] ≡ o → PatternFits p → ValueWithin v → Within true t → Good (or_raises x rest) → Good (or_raises x (or_else (option_map (λ ws. inst 0 ws t) o) rest))
+arm_within : (p : Pattern) (t : Expr) (v : Value) (o : Option Written) (rest : Option Expr) (x : Exception) → fit p v [] ≡ o → PatternFits p → ValueWithin v → Within true t → Good (or_raises x rest) → Good (or_raises x (option_or (option_map (λ ws. inst 0 ws t) o) rest))
 arm_within p t v None rest x q f h k r = r
 arm_within p t v (Some ws) rest x q f h k r = loosened (inst 0 ws t) (inst_within true t 0 ws (fit_within p v [] ws q f h tt) k)
 

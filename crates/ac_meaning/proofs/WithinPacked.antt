@@ -7,7 +7,8 @@ use mathlib.Core.Bool.{true≢false}
 use native.Mathlib.Omega.{arith}
 use Rattle.ac_types.specs.Limits.{longest_packet}
 use Rattle.ac_types.proofs.Same.{both_true, and_true}
-use Rattle.ac_types.specs.Types.{Bytes, Typ, Typs, no_types, typ, agree}
+use Rattle.ac_types.specs.Types.{Bytes, Typ, Typs, no_types, typ}
+use Rattle.ac_types.specs.Partial.{agree}
 use Rattle.ac_terms.specs.Terms.{Home, Main, In, Expr, Int, Boolean, Str, Unit', Exn, ExnOf, Tuple, Nil, Empty, Present, Cons, Var, Own, Ref, Lam, Rec, App, Let, If, Seq, Match, Try, Raise, Prim, Marshal, Unmarshal, Val, Evaluated, Bracket, Exprs, no_exprs, expr, Arms, no_arms, arm, PValue, KInt, KBool, KStr, KUnit, KExn, KTuple, KList, KAbsent, KPresent, KFun, PValues, no_pvalues, pvalue, Value, VInt, VBool, VStr, VUnit, VExn, VTuple, VNil, VCons, VAbsent, VPresent, VLam, VRec, VProxy, VSeal, Values, no_values, value}
 use Rattle.ac_terms.specs.Defs.{Environment, Entry, def_of, module_of, module_at}
 use Rattle.ac_terms.specs.PrimitiveTypes.{primitives}

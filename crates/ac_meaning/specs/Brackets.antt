@@ -14,47 +14,23 @@ enclosed b T v = Bracket b T (Evaluated T v)
 abbrev pub all_enclosed : Home → Typs → Values → Option Exprs
 all_enclosed b no_types no_values = Some no_exprs
 all_enclosed b (typ T Ts) (value v vs) = option_map (expr (enclosed b T v)) (all_enclosed b Ts vs)
-all_enclosed b no_types (value v vs) = None
-all_enclosed b (typ T Ts) no_values = None
+all_enclosed _ _ _ = None
 
 abbrev pub is_function_value : Value → Bool
 is_function_value (VLam T e) = true
 is_function_value (VRec T U e) = true
 is_function_value (VProxy b T U f) = true
-is_function_value (VInt n) = false
-is_function_value (VBool b) = false
-is_function_value (VStr s) = false
-is_function_value VUnit = false
-is_function_value (VExn k s) = false
-is_function_value (VTuple vs) = false
-is_function_value (VNil T) = false
-is_function_value (VCons v w) = false
-is_function_value (VAbsent T) = false
-is_function_value (VPresent v) = false
-is_function_value (VSeal b n t v) = false
+is_function_value _ = false
 
 -- what is inside a seal at n.t, with its home
 abbrev pub inside_seal : Bytes → Bytes → Value → Option (Home × Value)
 inside_seal n t (VSeal d m u w) = cond (same_bytes m n && same_bytes u t) (Some (d, w)) None
-inside_seal n t (VInt k) = None
-inside_seal n t (VBool b) = None
-inside_seal n t (VStr s) = None
-inside_seal n t VUnit = None
-inside_seal n t (VExn k s) = None
-inside_seal n t (VTuple vs) = None
-inside_seal n t (VNil T) = None
-inside_seal n t (VCons v w) = None
-inside_seal n t (VAbsent T) = None
-inside_seal n t (VPresent v) = None
-inside_seal n t (VLam T e) = None
-inside_seal n t (VRec T U e) = None
-inside_seal n t (VProxy b T U f) = None
+inside_seal _ _ _ = None
 
 -- a bracket of the seal's home
 abbrev pub unsealed_term : Option (Home × Value) → Option Typ → Option Expr
 unsealed_term (Some p) (Some T) = Some (enclosed p.0 T p.1)
-unsealed_term (Some p) None = None
-unsealed_term None R = None
+unsealed_term _ _ = None
 
 -- `Bracket(b, n.t, v)` in a home, where n.t is R, by whether b opens n and whether the home does
 abbrev pub at_name : Home → Bytes → Bytes → Option Typ → Value → Bool → Bool → Act Expr Value

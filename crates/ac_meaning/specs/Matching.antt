@@ -1,6 +1,7 @@
 -- Which values a pattern fits.
 use Rattle.std.specs.Prelude.{nat_eq, [], ◌∷◌, Option, Some, None, option_and_then, option_map}
-use Rattle.ac_types.specs.First.{given, or_else}
+use Rattle.std.specs.Option.{option_or}
+use Rattle.ac_types.specs.Partial.{given}
 use Rattle.ac_types.specs.Types.{same_bytes}
 use Rattle.ac_terms.specs.Terms.{Pattern, PWild, PVar, PInt, PBool, PStr, PUnit, PTuple, PNil, PCons, PAbsent, PPresent, PExn, PExnOf, Patterns, no_patterns, pattern', Expr, Arms, no_arms, arm, Value, VInt, VBool, VStr, VUnit, VExn, VTuple, VNil, VCons, VAbsent, VPresent, Values, no_values, value}
 use Rattle.ac_code.specs.Constants.{same_int, same_bool}
@@ -37,10 +38,9 @@ abbrev mutual
   pub fit_all : Patterns → Values → Written → Option Written
   fit_all no_patterns no_values ws = Some ws
   fit_all (pattern' p ps) (value v vs) ws = option_and_then (fit_all ps vs) (fit p v ws)
-  fit_all no_patterns (value v vs) ws = None
-  fit_all (pattern' p ps) no_values ws = None
+  fit_all _ _ _ = None
 
 -- the body of the first arm whose pattern fits
 abbrev pub chosen : Arms → Value → Option Expr
 chosen no_arms v = None
-chosen (arm p e rest) v = or_else (option_map (λ ws. inst 0 ws e) (fit p v [])) (chosen rest v)
+chosen (arm p e rest) v = option_or (option_map (λ ws. inst 0 ws e) (fit p v [])) (chosen rest v)

@@ -1,7 +1,7 @@
 -- Constants, exceptions and primitives.
 use Rattle.std.specs.Prelude.{ℕ, Bool, true, false, List, [], ◌∷◌, Option, Some, None}
 use Rattle.ac_types.specs.Types.{Bytes}
-use Rattle.ac_terms.specs.Terms.{Expr, Int, Boolean, Str, Unit', Tuple, exprs, Value, VInt, VBool, VStr, VUnit, VExn, VTuple, VNil, VCons, VAbsent, VPresent, VLam, VRec, VProxy, VSeal, Values, no_values, value}
+use Rattle.ac_terms.specs.Terms.{Expr, Int, Boolean, Str, Unit', Tuple, exprs, Value, VInt, VBool, VStr, VUnit, VExn, VTuple, Values, no_values, value}
 use Rattle.ac_code.specs.Constants.{Const, CInt, CBool, CStr, CUnit, CPart, PrimitiveAnswer, Yields, Prints, Sends, Receives, Fails, NoSense, Meaning, meaning, primitive_answer}
 use Rattle.ac_meaning.specs.Worlds.{Exception, World, exception, end_of_file_exn, no_channel, bad_frame, with_write, with_receive, with_left}
 use Rattle.ac_meaning.specs.Writes.{Print, Send}
@@ -19,20 +19,11 @@ const_of (VBool b) = Some (CBool b)
 const_of (VStr s) = Some (CStr s)
 const_of VUnit = Some CUnit
 const_of (VTuple vs) = const_of_parts vs
-const_of (VExn k s) = None
-const_of (VNil T) = None
-const_of (VCons v w) = None
-const_of (VAbsent T) = None
-const_of (VPresent v) = None
-const_of (VLam T e) = None
-const_of (VRec T U e) = None
-const_of (VProxy b T U f) = None
-const_of (VSeal b n t v) = None
+const_of _ = None
 
 abbrev pub all_there : Option Const → Option (List Const) → Option (List Const)
 all_there (Some c) (Some cs) = Some (c ∷ cs)
-all_there (Some c) None = None
-all_there None os = None
+all_there _ _ = None
 
 -- the constants that values are, where each is one
 abbrev pub consts_of : Values → Option (List Const)
@@ -50,8 +41,7 @@ spelled (CPart s i n) = Tuple (exprs (Str s ∷ Int i ∷ Int n ∷ []))
 -- what a primitive answers of values
 abbrev pub answer_at : Option Meaning → Option (List Const) → PrimitiveAnswer
 answer_at (Some m) (Some cs) = primitive_answer m cs
-answer_at (Some m) None = NoSense
-answer_at None cs = NoSense
+answer_at _ _ = NoSense
 
 abbrev pub primitive : ℕ → Values → PrimitiveAnswer
 primitive k vs = answer_at (meaning k) (consts_of vs)
@@ -83,19 +73,7 @@ module _ {T A : Type 0} (spell : Const → T) where
 -- an exception with a text, and an exception as a value
 abbrev pub exception_of : ℕ → Value → Act Expr Value
 exception_of k (VStr s) = Is (VExn k (Some s))
-exception_of k (VInt n) = Wrong
-exception_of k (VBool b) = Wrong
-exception_of k VUnit = Wrong
-exception_of k (VExn j s) = Wrong
-exception_of k (VTuple vs) = Wrong
-exception_of k (VNil T) = Wrong
-exception_of k (VCons v w) = Wrong
-exception_of k (VAbsent T) = Wrong
-exception_of k (VPresent v) = Wrong
-exception_of k (VLam T e) = Wrong
-exception_of k (VRec T U e) = Wrong
-exception_of k (VProxy b T U f) = Wrong
-exception_of k (VSeal b n t v) = Wrong
+exception_of _ _ = Wrong
 
 abbrev pub exception_value : Exception → Value
 exception_value x = VExn x.number x.text
@@ -103,16 +81,4 @@ exception_value x = VExn x.number x.text
 -- an exception is raised
 abbrev pub thrown : Value → Act Expr Value
 thrown (VExn k s) = Raises (exception k s)
-thrown (VInt n) = Wrong
-thrown (VBool b) = Wrong
-thrown (VStr s) = Wrong
-thrown VUnit = Wrong
-thrown (VTuple vs) = Wrong
-thrown (VNil T) = Wrong
-thrown (VCons v w) = Wrong
-thrown (VAbsent T) = Wrong
-thrown (VPresent v) = Wrong
-thrown (VLam T e) = Wrong
-thrown (VRec T U e) = Wrong
-thrown (VProxy b T U f) = Wrong
-thrown (VSeal b n t v) = Wrong
+thrown _ = Wrong

@@ -1,7 +1,7 @@
 -- The reduction of the whole language, in call by value and from the left, in both modes: a step of a term, and how a run ends.
 use Rattle.std.specs.Prelude.{ℕ, Bool, true, false, [], ◌∷◌, None}
 use Rattle.ac_types.specs.Types.{Bytes, TStr, TFun}
-use Rattle.ac_terms.specs.Terms.{Home, Main, Expr, Int, Boolean, Str, Unit', Exn, ExnOf, Tuple, Nil, Empty, Present, Cons, Var, Own, Ref, Lam, Rec, App, Let, If, Seq, Match, Try, Raise, Prim, Marshal, Unmarshal, Val, Evaluated, Bracket, Exprs, no_exprs, expr, Value, VInt, VBool, VStr, VUnit, VExn, VTuple, VNil, VCons, VAbsent, VPresent, VLam, VRec, VProxy, VSeal, Values, no_values, value}
+use Rattle.ac_terms.specs.Terms.{Home, Main, Expr, Int, Boolean, Str, Unit', Exn, ExnOf, Tuple, Nil, Empty, Present, Cons, Var, Own, Ref, Lam, Rec, App, Let, If, Seq, Match, Try, Raise, Prim, Marshal, Unmarshal, Val, Evaluated, Bracket, Exprs, no_exprs, expr, Value, VInt, VBool, VStr, VUnit, VExn, VTuple, VNil, VCons, VAbsent, VPresent, VLam, VRec, VProxy, Values, no_values, value}
 use Rattle.ac_terms.specs.Defs.{Environment}
 use Rattle.ac_rules.specs.Views.{Mode}
 use Rattle.ac_meaning.specs.Worlds.{World, match_failure_exn, fresh}
@@ -18,35 +18,13 @@ abbrev pub apply : Home → Value → Value → Act Expr Value
 apply c (VLam T e) w = Applies (inst 0 ((T, w) ∷ []) e)
 apply c (VRec T U e) w = Applies (inst 0 ((T, w) ∷ (TFun T U, VRec T U e) ∷ []) e)
 apply c (VProxy b T U f) w = Goes (Bracket b U (App (Evaluated (TFun T U) f) (enclosed c T w)))
-apply c (VInt n) w = Wrong
-apply c (VBool b) w = Wrong
-apply c (VStr s) w = Wrong
-apply c VUnit w = Wrong
-apply c (VExn k s) w = Wrong
-apply c (VTuple vs) w = Wrong
-apply c (VNil T) w = Wrong
-apply c (VCons u v) w = Wrong
-apply c (VAbsent T) w = Wrong
-apply c (VPresent v) w = Wrong
-apply c (VSeal b n t v) w = Wrong
+apply _ _ _ = Wrong
 
 -- a value chooses between two terms
 abbrev pub branch : Value → Expr → Expr → Act Expr Value
 branch (VBool true) a b = Goes a
 branch (VBool false) a b = Goes b
-branch (VInt n) a b = Wrong
-branch (VStr s) a b = Wrong
-branch VUnit a b = Wrong
-branch (VExn k s) a b = Wrong
-branch (VTuple vs) a b = Wrong
-branch (VNil T) a b = Wrong
-branch (VCons v w) a b = Wrong
-branch (VAbsent T) a b = Wrong
-branch (VPresent v) a b = Wrong
-branch (VLam T e) a b = Wrong
-branch (VRec T U e) a b = Wrong
-branch (VProxy d T U f) a b = Wrong
-branch (VSeal d n t v) a b = Wrong
+branch _ _ _ = Wrong
 
 module _ (mode : Mode) (z : World) where
   abbrev mutual

@@ -3,7 +3,7 @@ use Rattle.std.specs.Prelude.{ℕ, Bool, true, false, not, Option, Some, None, o
 use Rattle.std.specs.Option.{option_map_or}
 use Rattle.ac_types.specs.Types.{Bytes, Typ}
 use Rattle.ac_terms.specs.Terms.{Home, In, Expr, Bracket}
-use Rattle.ac_terms.specs.Defs.{Environment, Field, Def, AModule, AnImport, AMark, def_of, module_behind, field_number}
+use Rattle.ac_terms.specs.Defs.{Environment, Field, Def, AnImport, def_of, module_behind, field_number}
 use Rattle.ac_rules.specs.Views.{Coloured, view}
 use Rattle.ac_rules.specs.Links.{is_exact}
 use Rattle.ac_rules.specs.Typing.{fields_of, value_in}
@@ -19,8 +19,7 @@ target E j x =
 
 abbrev pub is_by_version : Def → Bool
 is_by_version (AnImport i) = not (is_exact i.constraint)
-is_by_version (AModule m) = false
-is_by_version (AMark k) = false
+is_by_version _ = false
 
 -- the way of a value to the field of a module, by their numbers. T is the value's type in its own entry, and S its type in the module, as the module itself sees it
 pub data Route : Type 0 where
@@ -31,13 +30,9 @@ pub data Route : Type 0 where
   Twice : ℕ → ℕ → Typ → Typ → Route
 
 abbrev pub through : Bool → Option (ℕ × ℕ) → Option Typ → Option Typ → Route
-through false None T S = Nowhere
-through false (Some p) None S = Nowhere
 through false (Some p) (Some T) S = Once p.0 p.1 T
-through true None T S = Nowhere
-through true (Some p) None S = Nowhere
-through true (Some p) (Some T) None = Nowhere
 through true (Some p) (Some T) (Some S) = Twice p.0 p.1 T S
+through _ _ _ _ = Nowhere
 
 abbrev pub seen_inside : Environment → Bytes → ℕ × ℕ → Option Typ
 seen_inside E x p = option_map (view Coloured E (In p.0)) (value_in E p.0 x)

@@ -2,7 +2,7 @@
 
 ghost use Rattle.std.specs.Prelude.{◌≡◌, ◌+◌, ◌<◌, ◌^◌, length, map};
 ghost use Rattle.std.specs.Result.{result_err};
-ghost use Rattle.ac_types.specs.First.{first_failing};
+ghost use Rattle.ac_types.specs.Partial.{first_failing};
 ghost use Rattle.ac_types.specs.Types.{same, same_all, typs};
 ghost use Rattle.ac_types.specs.ReadTypes.{typ_of, typed_of, sig_type_of};
 ghost use Rattle.ac_terms.specs.Read.{module_of_code};

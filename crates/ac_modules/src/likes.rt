@@ -1,7 +1,7 @@
 // Likespecs.
 
 ghost use Rattle.std.specs.Prelude.{◌≡◌, ◌<◌, ◌^◌, length, map};
-ghost use Rattle.ac_types.specs.First.{first_failing};
+ghost use Rattle.ac_types.specs.Partial.{first_failing};
 ghost use Rattle.ac_types.specs.ReadTypes.{typed_of, sig_type_of};
 ghost use Rattle.ac_terms.specs.Read.{import_of_code};
 ghost use Rattle.ac_rules.specs.Modules.{like_missing};

@@ -82,6 +82,7 @@ impl NameTable {
     pub fn names_are_distinct(&self)
         ensures { HasDistinctNames self.now }
     {
+        // for the proof alone, to which it says that the names differ
         let _unique = self.texts.len();
     }
 }

@@ -2,7 +2,7 @@
 use Rattle.std.proofs.Common.{◌≡◌, ◌∙◌, ap, refl, arith, ℕ, ◌<◌, ◌≤◌, Bool, true, false, not, List, [], ◌∷◌, map, length, Option, Some, None}
 use Rattle.std.specs.Prelude.{option_map, option_and_then, unwrap_or, slice_get}
 use Rattle.std.proofs.lemmas.List.{length-map}
-use Rattle.ac_types.specs.First.{given}
+use Rattle.ac_types.specs.Partial.{given}
 use Rattle.ac_types.specs.Types.{Bytes, Typ, TAbs, TMine, with_mine, same_bytes}
 use Rattle.ac_types.specs.Sigs.{Signature, named_type, type_under}
 use Rattle.ac_types.specs.ReadTypes.{typ_of}

@@ -18,8 +18,7 @@ pub data Reader : Type 0 where
 -- the bytes that it has taken and not given
 abbrev pub held : Reader → Bytes
 held (Keeps bytes) = bytes
-held (Refused n g) = []
-held Lost = []
+held _ = []
 
 -- there are bytes that are no frame for this reason
 pub record IsBad (n g : ℕ) : Type 0 where

@@ -93,6 +93,7 @@ fn text_of<'a>(files: &'a [MemoryFile], name: &str) -> Option<&'a Text>
 {
     let at = place_of(files, name)?;
     let text = &files[at].bytes;
+    // for the proof alone, to which it says that a text has fewer than 2^64 bytes
     let _len = text.as_slice().len();
     Some(text)
 }

@@ -51,6 +51,9 @@ module _ (ts : List Sign) where
       pub untyped : NoType 100 Whole behind → NoAbbrev ts
       untyped none a end x = none a.ty end (type_at (tail_eq (tail_eq (sym opened ∙ x.is))) x.ty)
 
+      pub abbreviated : (T : TypeTree) (end : List Sign) → IsType behind T end → AbbrevAt ts (record { name = name; ty = T }) end
+      abbreviated T end t = record { inner = behind; equals = e.at; is = opened; ty = t }
+
 pub same_abbrev : {ts r s : List Sign} {a b : AbbrevTree} → AbbrevAt ts a r → AbbrevAt ts b s → (a ≡ b) × (r ≡ s)
 same_abbrev {a = a} {b = b} x y =
     let e = sym x.is ∙ y.is in

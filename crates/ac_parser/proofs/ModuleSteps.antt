@@ -10,7 +10,7 @@ use Rattle.ac_syntax.specs.PartParsing.{SymbolAt, NoSymbol, LowerAt, NoLower, No
 use Rattle.ac_syntax.specs.declared.sign.Symbol.TheVariants.{Colon, End, Equals, Module, Struct, TypeWord, Val}
 use Rattle.ac_syntax.proofs.UniqueTypes.{tail_eq, same_type}
 use Rattle.ac_syntax.proofs.UniqueExpressions.{same_expr}
-use Rattle.ac_expressions.specs.ExpressionParsing.{NoExpr}
+use Rattle.ac_parser_patterns.specs.Reading.{Nothing}
 use Rattle.ac_parser.specs.inner.ProgramParsing.{OnlyRead, NoRead, Anything, NoComma, StructOf, Others, ItemAt, AbbrevAt, NoAbbrev, HeadAt, VersionAt}
 use Rattle.ac_parser.proofs.Fronts.{lower_eq, name_eq, type_at, type_to, same_abbrev}
 use Rattle.ac_parser.proofs.Lists.{item_at}
@@ -126,7 +126,7 @@ module _ (ts : List Sign) where
         no_body none = no_value (λ n U e end x. none x.body (record { at = x.equals; is = left x }))
 
         module _ (inner : List Sign) (e : SymbolAt Equals later inner) where
-          pub no_expr : NoExpr inner → (a : ℕ) → NoRead ParsesFields Anything (Fixed a Val ∷ ts)
+          pub no_expr : Nothing IsExpr inner → (a : ℕ) → NoRead ParsesFields Anything (Fixed a Val ∷ ts)
           no_expr none = no_value (λ n U f end x. none f end (expr_at (tail_eq (sym e.is ∙ left x)) x.expr))
 
           pub value : (f : Tree) (end : List Sign) → IsExpr inner f end → (a : ℕ) → ItemAt ParsesFields (Fixed a Val ∷ ts) (ValField name T f) end

@@ -13,7 +13,7 @@ use Rattle.ac_syntax.specs.declared.sign.Symbol.TheVariants.{Comma, Import, Mark
 use Rattle.ac_syntax.proofs.UniqueTypes.{tail_eq}
 use Rattle.ac_syntax.proofs.UniqueExpressions.{same_expr}
 use Rattle.ac_syntax.proofs.Fronts.{begins_not}
-use Rattle.ac_expressions.specs.ExpressionParsing.{NoExpr}
+use Rattle.ac_parser_patterns.specs.Reading.{Nothing}
 use Rattle.ac_parser.specs.inner.ProgramParsing.{TextAt, NoText, OnlyRead, NoRead, Anything, NoComma, NothingGoesOn, DefsSoFar, NoProgramTree}
 use Rattle.ac_syntax.proofs.Depth.{head_eq}
 use Rattle.ac_parser.proofs.Lists.{none_at}
@@ -125,7 +125,7 @@ nothing_none : {ts : List Sign} {ds : List DefTree} {e : Tree} → NothingGoesOn
 nothing_none none (main p) = none.no_expr _ _ p
 nothing_none none (definition c q) = none.no_def _ _ c (program_no_comma q)
 
-no_main : {ts : List Sign} {ds : List DefTree} {e : Tree} → NoRead ParsesDef Anything ts → NoExpr ts → ParsesProgram ts ds e → ⊥
+no_main : {ts : List Sign} {ds : List DefTree} {e : Tree} → NoRead ParsesDef Anything ts → Nothing IsExpr ts → ParsesProgram ts ds e → ⊥
 no_main none absent (main p) = absent _ _ p
 no_main none absent (definition c q) = none _ _ c tt
 
@@ -150,7 +150,7 @@ module _ (ts : List Sign) (done : List DefTree) (rest : List Sign) (so : DefsSoF
   stuck none p is = program_parts is (λ ds e q. nothing_none none (so.forth ds e q).parses)
 
   module _ (none : NoRead ParsesDef Anything rest) where
-    pub no_expression : NoExpr rest → NoProgramTree IsProgram ts
+    pub no_expression : Nothing IsExpr rest → NoProgramTree IsProgram ts
     no_expression absent p is = program_parts is (λ ds e q. no_main none absent (so.forth ds e q).parses)
 
     pub more_behind : (f : Tree) (end : List Sign) → IsExpr rest f end → (end ≡ [] → ⊥) → NoProgramTree IsProgram ts

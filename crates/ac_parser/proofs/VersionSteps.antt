@@ -98,12 +98,21 @@ equals_behind : {a : ℕ} {rest : List Sign} → BeginsEquals (Fixed a Equals �
 equals_behind {a} {rest} = (rest, record { at = a; is = refl })
 
 module _ (ts : List Sign) where
+  pub no_version_at : NoRead ParsesVersion BeginsEquals ts → NoRead VersionAt Anything ts
+  no_version_at none b other x next = none b _ x.parses equals_behind
+
   module _ (v : Option (List Atom)) (rest : List Sign) (o : OnlyRead ParsesVersion BeginsEquals ts v rest) where
     left : {b : Option (List Atom)} {other : List Sign} (x : VersionAt ts b other) → (b ≡ v) × (Fixed x.equals Equals ∷ other ≡ rest)
     left x = o.only _ _ x.parses equals_behind
 
     pub no_equals : NoSymbol Equals rest → NoRead VersionAt Anything ts
     no_equals none b other x next = none _ (record { at = x.equals; is = sym (left x).1 })
+
+    pub version_at_equals : (end : List Sign) → SymbolAt Equals rest end → OnlyRead VersionAt Anything ts v end
+    version_at_equals end s = record {
+      reads = record { equals = s.at; parses = subst (λ (l : List Sign). ParsesVersion ts v l) s.is o.reads };
+      only = λ b other x next. let d = left x in (d.0, tail_eq (d.1 ∙ s.is));
+    }
 
 -- constraints
 

@@ -1,10 +1,10 @@
 // What stands at the front of the signs.
 
-ghost use Rattle.std.specs.Prelude.{◌<◌, length, IfOk, IfErr, IfSome, MatchOption};
+ghost use Rattle.std.specs.Prelude.{◌<◌, length, IfOk, IfSome, MatchOption};
 ghost use Rattle.ac_syntax.specs.ReadSigns.{read_signs};
-ghost use Rattle.ac_syntax.specs.ReadTrees.{name_of, abbrev_of, sig_tree_of};
-ghost use Rattle.ac_syntax.specs.PartParsing.{OnSyntax};
-ghost use Rattle.ac_parser.specs.inner.ProgramParsing.{UpperAt, NoUpper, TextAt, NoText, OnlyRead, NoRead, Anything, AbbrevAt, NoAbbrev, HeadAt};
+ghost use Rattle.ac_syntax.specs.ReadTrees.{name_of, abbrev_of};
+ghost use Rattle.ac_parser.specs.inner.ProgramParsing.{UpperAt, NoUpper, TextAt, NoText, Anything, AbbrevAt, HeadAt, head_read, ReadsOnly};
+ghost use Rattle.ac_parser_patterns.specs.Reading.{Reads};
 
 use ac_syntax::{
     SAbbrev, SName, SSig, Sign, SignKind, Stop, Symbol, after, next, next_name, refused_at, sig,
@@ -57,10 +57,7 @@ pub fn abbreviation<'s, 't>(
     alloc: Global,
     signs: &'s [Sign<'t>],
 ) -> Result<(SAbbrev, &'s [Sign<'t>]), Stop>
-    ensures found { IfOk result (λ x. AbbrevAt (read_signs signs.now) (abbrev_of x.0)
-        (read_signs x.1.now)) }
-    ensures shorter { IfOk result (λ x. length x.1.now < length signs.now) }
-    ensures none { IfErr result (λ e. OnSyntax e (NoAbbrev (read_signs signs.now))) }
+    ensures { Reads AbbrevAt abbrev_of signs.now result }
 {
     let Some((name, rest)) = next_name(alloc, signs)? else {
         return Err(refused_at(signs));
@@ -77,10 +74,7 @@ pub fn head<'s, 't>(
     alloc: Global,
     signs: &'s [Sign<'t>],
 ) -> Result<((SName, SSig), &'s [Sign<'t>]), Stop>
-    ensures head { IfOk result (λ x. OnlyRead HeadAt Anything (read_signs signs.now)
-        (name_of x.0.0, sig_tree_of x.0.1) (read_signs x.1.now)) }
-    ensures shorter { IfOk result (λ x. length x.1.now < length signs.now) }
-    ensures none { IfErr result (λ e. OnSyntax e (NoRead HeadAt Anything (read_signs signs.now))) }
+    ensures { ReadsOnly HeadAt Anything head_read signs.now result }
 {
     let Some((name, rest)) = next_upper(alloc, signs)? else {
         return Err(refused_at(signs));

@@ -1,13 +1,13 @@
 // Imports: what they ask for, and where they look.
 
-ghost use Rattle.std.specs.Prelude.{◌≡◌, ◌<◌, ◌∷◌, ℕ, Some, None, map, option_map, length, IfOk, IfErr, IfSome, MatchOption};
+ghost use Rattle.std.specs.Prelude.{◌<◌, ◌∷◌, ℕ, map, option_map, length, IfOk, IfSome, MatchOption};
 ghost use Rattle.ac_syntax.specs.Signs.{Fixed};
 ghost use Rattle.ac_syntax.specs.Programs.{ParsesResolve, ParsesDef};
 ghost use Rattle.ac_types.specs.ReadTypes.{resolve_of};
 ghost use Rattle.ac_syntax.specs.ReadSigns.{read_signs};
-ghost use Rattle.ac_syntax.specs.ReadTrees.{name_of, abbrevs_of, wants_of, def_tree_of};
-ghost use Rattle.ac_syntax.specs.PartParsing.{OnSyntax};
-ghost use Rattle.ac_parser.specs.inner.ProgramParsing.{OnlyRead, NoRead, Anything, NoComma, LikeAt, NameWanted, DemandAt, ResolveAt, NoResolve};
+ghost use Rattle.ac_syntax.specs.ReadTrees.{name_of, abbrevs_of, def_tree_of};
+ghost use Rattle.ac_parser.specs.inner.ProgramParsing.{NoRead, Anything, NoComma, LikeAt, NameWanted, DemandAt, demand_read, ResolveAt, NoResolve, ReadsOnly, ReadsBehind};
+ghost use Rattle.ac_parser_patterns.specs.Reading.{ReadsOr};
 
 use crate::front::{head, next_upper};
 use crate::modules::abbreviations;
@@ -23,10 +23,7 @@ fn likespec<'s, 't>(
     alloc: Global,
     signs: &'s [Sign<'t>],
 ) -> Result<(Option<Many<SAbbrev>>, &'s [Sign<'t>]), Stop>
-    ensures like { IfOk result (λ x. OnlyRead LikeAt Anything (read_signs signs.now)
-        (option_map abbrevs_of x.0) (read_signs x.1.now)) }
-    ensures shorter { IfOk result (λ x. length x.1.now < length signs.now) }
-    ensures none { IfErr result (λ e. OnSyntax e (NoRead LikeAt Anything (read_signs signs.now))) }
+    ensures { ReadsOnly LikeAt Anything (option_map abbrevs_of) signs.now result }
 {
     if let Some(rest) = after(Symbol::By, signs) {
         return Ok((None, rest));
@@ -46,12 +43,9 @@ fn name_wanted<'s, 't>(
     alloc: Global,
     signs: &'s [Sign<'t>],
 ) -> Result<(SName, &'s [Sign<'t>]), Stop>
-    ensures name { IfOk result (λ x. (a : ℕ) →
-        NameWanted (Fixed a Symbol.NameWord ∷ read_signs signs.now) (name_of x.0)
-        (read_signs x.1.now)) }
-    ensures shorter { IfOk result (λ x. length x.1.now < length signs.now) }
-    ensures none { IfErr result (λ e. OnSyntax e ((a : ℕ) →
-        NoRead NameWanted Anything (Fixed a Symbol.NameWord ∷ read_signs signs.now))) }
+    ensures { ReadsOr (λ ts. (a : ℕ) → NoRead NameWanted Anything (Fixed a Symbol.NameWord ∷ ts))
+        (λ ts x rest. (a : ℕ) → NameWanted (Fixed a Symbol.NameWord ∷ ts) x rest) name_of
+        signs.now result }
 {
     let Some(behind) = after(Symbol::Equals, signs) else {
         return Err(refused_at(signs));
@@ -70,11 +64,7 @@ fn demand<'s, 't>(
     alloc: Global,
     signs: &'s [Sign<'t>],
 ) -> Result<((SWants, Option<Many<SAbbrev>>), &'s [Sign<'t>]), Stop>
-    ensures demand { IfOk result (λ x. OnlyRead DemandAt Anything (read_signs signs.now)
-        (wants_of x.0.0, option_map abbrevs_of x.0.1) (read_signs x.1.now)) }
-    ensures shorter { IfOk result (λ x. length x.1.now < length signs.now) }
-    ensures none { IfErr result (λ e. OnSyntax e
-        (NoRead DemandAt Anything (read_signs signs.now))) }
+    ensures { ReadsOnly DemandAt Anything demand_read signs.now result }
 {
     if let Some(behind) = after(Symbol::NameWord, signs) {
         let (name, rest) = name_wanted(alloc, behind)?;
@@ -113,11 +103,7 @@ fn resolves<'s, 't>(
     alloc: Global,
     signs: &'s [Sign<'t>],
 ) -> Result<(Many<Resolve>, &'s [Sign<'t>]), Stop>
-    ensures places { IfOk result (λ x. OnlyRead ParsesResolve NoComma (read_signs signs.now)
-        (map resolve_of x.0) (read_signs x.1.now)) }
-    ensures shorter { IfOk result (λ x. length x.1.now < length signs.now) }
-    ensures none { IfErr result (λ e. OnSyntax e
-        (NoRead ParsesResolve NoComma (read_signs signs.now))) }
+    ensures { ReadsOnly ParsesResolve NoComma (map resolve_of) signs.now result }
 {
     let Some((first, mut rest)) = next_resolve(alloc, signs)? else {
         return Err(refused_at(signs));
@@ -140,11 +126,7 @@ pub fn import<'s, 't>(
     at: u32,
     signs: &'s [Sign<'t>],
 ) -> Result<(SDef, &'s [Sign<'t>]), Stop>
-    ensures import { IfOk result (λ x. OnlyRead ParsesDef NoComma
-        (Fixed at Symbol.Import ∷ read_signs signs.now) (def_tree_of x.0) (read_signs x.1.now)) }
-    ensures shorter { IfOk result (λ x. length x.1.now < length signs.now) }
-    ensures none { IfErr result (λ e. OnSyntax e
-        (NoRead ParsesDef NoComma (Fixed at Symbol.Import ∷ read_signs signs.now))) }
+    ensures { ReadsBehind (Fixed at Symbol.Import) ParsesDef NoComma def_tree_of signs.now result }
 {
     let ((name, sig), rest) = head(alloc, signs)?;
     let Some(asked) = after(Symbol::Version, rest) else {

@@ -1,12 +1,12 @@
 // Modules, and the lists of their fields.
 
-ghost use Rattle.std.specs.Prelude.{◌≡◌, ◌<◌, ◌∷◌, ℕ, map, length, IfOk, IfErr};
+ghost use Rattle.std.specs.Prelude.{◌∷◌, ℕ, map};
 ghost use Rattle.ac_syntax.specs.Signs.{Fixed};
 ghost use Rattle.ac_syntax.specs.Programs.{ParsesFields, ParsesAbbrevs, ParsesDef};
-ghost use Rattle.ac_syntax.specs.ReadSigns.{read_signs};
 ghost use Rattle.ac_syntax.specs.ReadTrees.{abbrev_of, field_tree_of, def_tree_of};
-ghost use Rattle.ac_syntax.specs.PartParsing.{OnSyntax, NoSymbol};
-ghost use Rattle.ac_parser.specs.inner.ProgramParsing.{OnlyRead, NoRead, Anything, NoComma, StructOf, ItemAt};
+ghost use Rattle.ac_syntax.specs.PartParsing.{NoSymbol};
+ghost use Rattle.ac_parser.specs.inner.ProgramParsing.{NoRead, Anything, NoComma, StructOf, ItemAt, ReadsOnly, ReadsBehind};
+ghost use Rattle.ac_parser_patterns.specs.Reading.{ReadsOr};
 
 use crate::front::{abbreviation, head};
 use crate::versions::version;
@@ -23,11 +23,7 @@ pub fn abbreviations<'s, 't>(
     alloc: Global,
     signs: &'s [Sign<'t>],
 ) -> Result<(Many<SAbbrev>, &'s [Sign<'t>]), Stop>
-    ensures abbreviations { IfOk result (λ x. OnlyRead (StructOf ParsesAbbrevs) Anything
-        (read_signs signs.now) (map abbrev_of x.0) (read_signs x.1.now)) }
-    ensures shorter { IfOk result (λ x. length x.1.now < length signs.now) }
-    ensures none { IfErr result (λ e. OnSyntax e
-        (NoRead (StructOf ParsesAbbrevs) Anything (read_signs signs.now))) }
+    ensures { ReadsOnly (StructOf ParsesAbbrevs) Anything (map abbrev_of) signs.now result }
 {
     let Some(inner) = after(Symbol::Struct, signs) else {
         return Err(refused_at(signs));
@@ -52,12 +48,9 @@ fn value_field<'s, 't>(
     alloc: Global,
     signs: &'s [Sign<'t>],
 ) -> Result<(SField, &'s [Sign<'t>]), Stop>
-    ensures field { IfOk result (λ x. (a : ℕ) →
-        ItemAt ParsesFields (Fixed a Symbol.Val ∷ read_signs signs.now) (field_tree_of x.0)
-        (read_signs x.1.now)) }
-    ensures shorter { IfOk result (λ x. length x.1.now < length signs.now) }
-    ensures none { IfErr result (λ e. OnSyntax e ((a : ℕ) →
-        NoRead ParsesFields Anything (Fixed a Symbol.Val ∷ read_signs signs.now))) }
+    ensures { ReadsOr (λ ts. (a : ℕ) → NoRead ParsesFields Anything (Fixed a Symbol.Val ∷ ts))
+        (λ ts x rest. (a : ℕ) → ItemAt ParsesFields (Fixed a Symbol.Val ∷ ts) x rest)
+        field_tree_of signs.now result }
 {
     let Some((name, rest)) = next_name(alloc, signs)? else {
         return Err(refused_at(signs));
@@ -75,11 +68,8 @@ fn value_field<'s, 't>(
 
 // The field at the front.
 fn field<'s, 't>(alloc: Global, signs: &'s [Sign<'t>]) -> Result<(SField, &'s [Sign<'t>]), Stop>
-    ensures field { IfOk result (λ x. ItemAt ParsesFields (read_signs signs.now) (field_tree_of x.0)
-        (read_signs x.1.now)) }
-    ensures shorter { IfOk result (λ x. length x.1.now < length signs.now) }
-    ensures none { IfErr result (λ e. OnSyntax e (NoSymbol Symbol.End (read_signs signs.now) →
-        NoRead ParsesFields Anything (read_signs signs.now))) }
+    ensures { ReadsOr (λ ts. NoSymbol Symbol.End ts → NoRead ParsesFields Anything ts)
+        (ItemAt ParsesFields) field_tree_of signs.now result }
 {
     if let Some(behind) = after(Symbol::Val, signs) {
         return value_field(alloc, behind);
@@ -96,11 +86,7 @@ fn fields<'s, 't>(
     alloc: Global,
     signs: &'s [Sign<'t>],
 ) -> Result<(Many<SField>, &'s [Sign<'t>]), Stop>
-    ensures fields { IfOk result (λ x. OnlyRead (StructOf ParsesFields) Anything
-        (read_signs signs.now) (map field_tree_of x.0) (read_signs x.1.now)) }
-    ensures shorter { IfOk result (λ x. length x.1.now < length signs.now) }
-    ensures none { IfErr result (λ e. OnSyntax e
-        (NoRead (StructOf ParsesFields) Anything (read_signs signs.now))) }
+    ensures { ReadsOnly (StructOf ParsesFields) Anything (map field_tree_of) signs.now result }
 {
     let Some(inner) = after(Symbol::Struct, signs) else {
         return Err(refused_at(signs));
@@ -123,11 +109,7 @@ pub fn module<'s, 't>(
     at: u32,
     signs: &'s [Sign<'t>],
 ) -> Result<(SDef, &'s [Sign<'t>]), Stop>
-    ensures module { IfOk result (λ x. OnlyRead ParsesDef NoComma
-        (Fixed at Symbol.Module ∷ read_signs signs.now) (def_tree_of x.0) (read_signs x.1.now)) }
-    ensures shorter { IfOk result (λ x. length x.1.now < length signs.now) }
-    ensures none { IfErr result (λ e. OnSyntax e
-        (NoRead ParsesDef NoComma (Fixed at Symbol.Module ∷ read_signs signs.now))) }
+    ensures { ReadsBehind (Fixed at Symbol.Module) ParsesDef NoComma def_tree_of signs.now result }
 {
     let ((name, sig), rest) = head(alloc, signs)?;
     let (version, behind) = version(alloc, rest)?;

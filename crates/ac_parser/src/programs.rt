@@ -1,11 +1,11 @@
 // Whole programs, and modules alone.
 
-ghost use Rattle.std.specs.Prelude.{◌≡◌, [], map, IfOk, IfErr};
-ghost use Rattle.ac_syntax.specs.Programs.{ParsesDef, IsProgram, IsModule};
+ghost use Rattle.std.specs.Prelude.{◌≡◌, [], map};
+ghost use Rattle.ac_syntax.specs.Programs.{IsProgram, IsModule};
 ghost use Rattle.ac_syntax.specs.ReadSigns.{read_signs};
 ghost use Rattle.ac_syntax.specs.ReadTrees.{def_tree_of, surface_of};
-ghost use Rattle.ac_syntax.specs.PartParsing.{OnSyntax};
-ghost use Rattle.ac_parser.specs.inner.ProgramParsing.{NoRead, Anything, DefsSoFar, NoProgramTree};
+ghost use Rattle.ac_parser.specs.inner.ProgramParsing.{NoProgramTree, DefsRead};
+ghost use Rattle.ac_parser_patterns.specs.Reading.{Finds};
 
 use crate::defs::next_def;
 use crate::modules::module;
@@ -19,10 +19,8 @@ fn definitions<'s, 't>(
     alloc: Global,
     signs: &'s [Sign<'t>],
 ) -> Result<(Many<SDef>, &'s [Sign<'t>]), Stop>
-    ensures defs { IfOk result (λ x. DefsSoFar (read_signs signs.now) (map def_tree_of x.0)
-        (read_signs x.1.now)) }
-    ensures end { IfOk result (λ x. NoRead ParsesDef Anything (read_signs x.1.now)) }
-    ensures none { IfErr result (λ e. OnSyntax e (NoProgramTree IsProgram (read_signs signs.now))) }
+    ensures { Finds result (λ x. DefsRead (read_signs signs.now) (map def_tree_of x.0)
+        (read_signs x.1.now)) (NoProgramTree IsProgram (read_signs signs.now)) }
 {
     let mut defs = Many::new(alloc);
     let (first, mut rest) = next_def(alloc, signs)?;
@@ -42,9 +40,8 @@ fn definitions<'s, 't>(
 
 // The tree behind which nothing is left.
 fn at_end<T: Drop>(tree: T, rest: &[Sign<'_>]) -> Result<T, Stop>
-    ensures same { IfOk result (λ t. t ≡ tree) }
-    ensures end { IfOk result (λ _. read_signs rest.now ≡ []) }
-    ensures none { IfErr result (λ e. OnSyntax e (read_signs rest.now ≡ [] → ⊥)) }
+    ensures { Finds result (λ t. (t ≡ tree) × (read_signs rest.now ≡ []))
+        (read_signs rest.now ≡ [] → ⊥) }
 {
     if rest.is_empty() {
         Ok(tree)
@@ -55,8 +52,8 @@ fn at_end<T: Drop>(tree: T, rest: &[Sign<'_>]) -> Result<T, Stop>
 
 /// The program of these signs.
 pub fn program(alloc: Global, signs: &[Sign<'_>]) -> Result<Surface, Stop>
-    ensures tree { IfOk result (λ x. IsProgram (read_signs signs.now) (surface_of x)) }
-    ensures none { IfErr result (λ e. OnSyntax e (NoProgramTree IsProgram (read_signs signs.now))) }
+    ensures { Finds result (λ x. IsProgram (read_signs signs.now) (surface_of x))
+        (NoProgramTree IsProgram (read_signs signs.now)) }
 {
     let (defs, rest) = definitions(alloc, signs)?;
     let (expr, end) = expression(alloc, rest)?;
@@ -69,8 +66,8 @@ pub fn program(alloc: Global, signs: &[Sign<'_>]) -> Result<Surface, Stop>
 
 /// The module that all these signs are.
 pub fn module_alone(alloc: Global, signs: &[Sign<'_>]) -> Result<Surface, Stop>
-    ensures tree { IfOk result (λ x. IsModule (read_signs signs.now) (surface_of x)) }
-    ensures none { IfErr result (λ e. OnSyntax e (NoProgramTree IsModule (read_signs signs.now))) }
+    ensures { Finds result (λ x. IsModule (read_signs signs.now) (surface_of x))
+        (NoProgramTree IsModule (read_signs signs.now)) }
 {
     let Some(behind) = after(Symbol::Module, signs) else {
         return Err(refused_at(signs));

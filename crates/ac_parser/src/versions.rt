@@ -1,12 +1,11 @@
 // The versions of modules and the constraints of imports.
 
-ghost use Rattle.std.specs.Prelude.{◌≡◌, ◌<◌, ◌≤◌, ℕ, length, option_map, IfOk, IfErr};
+ghost use Rattle.std.specs.Prelude.{◌≡◌, ◌≤◌, length, option_map, IfOk};
 ghost use Rattle.ac_types.specs.ReadTypes.{constraint_of};
 ghost use Rattle.ac_syntax.specs.Programs.{vtoken_of, VTokens, ParsesVersion};
 ghost use Rattle.ac_syntax.specs.ReadSigns.{read_sign, read_signs};
 ghost use Rattle.ac_syntax.specs.ReadTrees.{version_of};
-ghost use Rattle.ac_syntax.specs.PartParsing.{OnSyntax};
-ghost use Rattle.ac_parser.specs.inner.ProgramParsing.{OnlyRead, NoRead, Anything, BeginsEquals, NoVToken, VersionAt, ConstraintAt, stopped};
+ghost use Rattle.ac_parser.specs.inner.ProgramParsing.{OnlyRead, Anything, BeginsEquals, NoVToken, VersionAt, ConstraintAt, stopped, ReadsOnly, ReadsWithin};
 
 use ac_syntax::{Sign, SignKind, Stop, Symbol, after, refused_at};
 use ac_types::{Constraint, Memory, Version};
@@ -64,11 +63,7 @@ fn written<'s, 't>(
     alloc: Global,
     signs: &'s [Sign<'t>],
 ) -> Result<(Option<Version>, &'s [Sign<'t>]), Stop>
-    ensures version { IfOk result (λ x. OnlyRead ParsesVersion BeginsEquals (read_signs signs.now)
-        (option_map version_of x.0) (read_signs x.1.now)) }
-    ensures within { IfOk result (λ x. length x.1.now ≤ length signs.now) }
-    ensures none { IfErr result (λ e. OnSyntax e
-        (NoRead ParsesVersion BeginsEquals (read_signs signs.now))) }
+    ensures { ReadsWithin ParsesVersion BeginsEquals (option_map version_of) signs.now result }
 {
     let Some(behind) = after(Symbol::Version, signs) else {
         return Ok((None, signs));
@@ -85,11 +80,7 @@ pub fn version<'s, 't>(
     alloc: Global,
     signs: &'s [Sign<'t>],
 ) -> Result<(Option<Version>, &'s [Sign<'t>]), Stop>
-    ensures version { IfOk result (λ x. OnlyRead VersionAt Anything (read_signs signs.now)
-        (option_map version_of x.0) (read_signs x.1.now)) }
-    ensures shorter { IfOk result (λ x. length x.1.now < length signs.now) }
-    ensures none { IfErr result (λ e. OnSyntax e
-        (NoRead VersionAt Anything (read_signs signs.now))) }
+    ensures { ReadsOnly VersionAt Anything (option_map version_of) signs.now result }
 {
     let (version, rest) = written(alloc, signs)?;
     let Some(end) = after(Symbol::Equals, rest) else {
@@ -103,11 +94,7 @@ pub fn constraint<'s, 't>(
     alloc: Global,
     signs: &'s [Sign<'t>],
 ) -> Result<(Constraint, &'s [Sign<'t>]), Stop>
-    ensures constraint { IfOk result (λ x. OnlyRead ConstraintAt NoVToken (read_signs signs.now)
-        (constraint_of x.0) (read_signs x.1.now)) }
-    ensures within { IfOk result (λ x. length x.1.now ≤ length signs.now) }
-    ensures none { IfErr result (λ e. OnSyntax e
-        (NoRead ConstraintAt NoVToken (read_signs signs.now))) }
+    ensures { ReadsWithin ConstraintAt NoVToken constraint_of signs.now result }
 {
     let (tokens, rest) = vtokens(alloc, signs)?;
     match read_constraint(alloc, tokens.as_slice()) {

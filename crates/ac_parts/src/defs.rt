@@ -19,6 +19,7 @@ use ac_types::{Sig, SigType, TyField};
 pub fn module_passes<T: Test>(m: &Module, test: &T) -> bool
     ensures { result ≡ list_all (T.passes test.now) (def_parts (AModule (module_of_code m.now))) }
 {
+    // `&`, not `&&`: one branch fewer in the proof
     (sig_passes(&m.sig, test) & typed_pass(m.types.as_slice(), test))
         & fields_pass(m.fields.as_slice(), test)
 }
@@ -27,6 +28,7 @@ pub fn module_passes<T: Test>(m: &Module, test: &T) -> bool
 pub fn import_passes<T: Test>(i: &Import, test: &T) -> bool
     ensures { result ≡ list_all (T.passes test.now) (def_parts (AnImport (import_of_code i.now))) }
 {
+    // `&`, not `&&`: one branch fewer in the proof
     sig_passes(&i.sig, test) & typed_pass(i.like.as_slice(), test)
 }
 
@@ -34,6 +36,7 @@ pub fn import_passes<T: Test>(i: &Import, test: &T) -> bool
 fn sig_passes<T: Test>(sig: &Sig, test: &T) -> bool
     ensures { result ≡ list_all (T.passes test.now) (map OfType (sig_types (sig_of sig.now))) }
 {
+    // `&`, not `&&`: one branch fewer in the proof
     manifest_pass(sig.types.as_slice(), test) & typed_pass(sig.vals.as_slice(), test)
 }
 
@@ -87,5 +90,6 @@ fn field_passes<T: Test>(f: &Field, test: &T) -> bool
     ensures { result ≡ (T.passes test.now (OfType (field_of f.now).ty) &&
         list_all (T.passes test.now) (term_parts (field_of f.now).term)) }
 {
+    // `&`, not `&&`: one branch fewer in the proof
     test.passes_type(&f.ty) & term_passes(&f.term, test)
 }

@@ -11,7 +11,6 @@ use crate::test::Test;
 use ac_terms::Pat;
 use ac_types::{Box, Many};
 
-// Each part is looked at (`&`): an `&&` would be one more branch of the proof.
 /// Whether the type of each variable of a pattern passes.
 #[cycle(pat)]
 pub fn pattern_passes<T: Test>(pat: &Pat, test: &T) -> bool
@@ -21,6 +20,7 @@ pub fn pattern_passes<T: Test>(pat: &Pat, test: &T) -> bool
     match pat {
         Pat::Var(ty) => test.passes_type(ty),
         Pat::Tuple(parts) => patterns_pass(parts, test),
+        // `&`, not `&&`: one branch fewer in the proof
         Pat::Cons(head, tail) => boxed_passes(head, test) & boxed_passes(tail, test),
         Pat::Present(inner) => boxed_passes(inner, test),
         Pat::ExnOf(_, text) => boxed_passes(text, test),

@@ -12,12 +12,12 @@ use crate::test::Test;
 use ac_terms::{Arm, PVal, Term};
 use ac_types::{Box, Many};
 
-// Each part is looked at (`&`): an `&&` would be one more branch of the proof.
 /// Whether each part of a term passes.
 #[cycle(term)]
 pub fn term_passes<T: Test>(term: &Term, test: &T) -> bool
     ensures { result ≡ list_all (T.passes test.now) (term_parts (expr_of term.now)) }
 {
+    // `&`, not `&&`, between parts: one branch fewer in the proof of each arm
     match term {
         Term::Int(_) => true,
         Term::Bool(_) => true,
@@ -100,6 +100,7 @@ fn arm_passes<T: Test>(case: &Arm, test: &T) -> bool
         (pattern_types (arm_of case.now).0) &&
         list_all (T.passes test.now) (term_parts (arm_of case.now).1)) }
 {
+    // `&`, not `&&`: one branch fewer in the proof
     pattern_passes(&case.pat, test) & term_passes(&case.body, test)
 }
 
@@ -118,6 +119,7 @@ pub fn value_passes<T: Test>(value: &PVal, test: &T) -> bool
         PVal::List(parts) => values_pass(parts, test),
         PVal::Absent => true,
         PVal::Present(inner) => value_passes(inner, test),
+        // `&`, not `&&`: one branch fewer in the proof
         PVal::Fun(home, term) => test.passes_home(*home) & boxed_passes(term, test),
     }
 }

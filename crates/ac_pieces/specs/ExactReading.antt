@@ -1,7 +1,7 @@
 -- How pieces are read exactly: only a spelling within the bounds is taken, so bytes are read where they spell and nowhere else.
 use Rattle.std.specs.Prelude.{ℕ, ℤ, ◌==◌, Bool, true, ◌&&◌, ◌||◌, ◌++◌, nat_le, slice_index, List, [], ◌∷◌, length, Some, option_and_then}
 use Rattle.ac_types.specs.Limits.{most_version_atoms, longest_uri, most_resolves}
-use Rattle.ac_types.specs.First.{given}
+use Rattle.ac_types.specs.Partial.{given}
 use Rattle.ac_types.specs.Types.{Bytes, same_bytes}
 use Rattle.ac_types.specs.Words.{is_word, is_between}
 use Rattle.ac_types.specs.Sigs.{Atom, Number, MyName, Range, One, Between, UpTo, From, Constraint, Ranges, Exact, Resolve, StaticLink, HereAlready, Uri}

@@ -24,5 +24,4 @@ ReadsOn on (Err e) read = NoneRead e read
 abbrev pub MadeOfRead : {X Y A B : Type 0} → (X → A) → (Y → B) → (A → B) → Result X Fault → Result Y Fault → Type 0
 MadeOfRead view seen c (Ok x) (Ok y) = seen y ≡ c (view x)
 MadeOfRead view seen c (Err e) (Err f) = f ≡ e
-MadeOfRead view seen c (Ok x) (Err f) = ⊥
-MadeOfRead view seen c (Err e) (Ok y) = ⊥
+MadeOfRead _ _ _ _ _ = ⊥

@@ -7,9 +7,10 @@ use Rattle.ac_terms.specs.Read.{entry_of}
 use Rattle.std.specs.Ordering.{nat_cmp}
 use Rattle.std.specs.Cmp.Lexicographic.{slice_cmp}
 use Rattle.std.specs.BTreeMap.{BTreeMap, IsEmpty, Updates, get, get_by}
+use Rattle.std.specs.Option.{option_or}
 use Rattle.ac_types.proofs.Same.{bytes_eq}
 use Rattle.ac_types.specs.Types.{Bytes, same_bytes}
-use Rattle.ac_types.specs.First.{or_else, given}
+use Rattle.ac_types.specs.Partial.{given}
 use Rattle.ac_terms.specs.Defs.{Environment, Entry}
 use Rattle.ac_clashes.proofs.KnownLaws.{same_order, position_more, noted_none}
 use Rattle.ac_placing.specs.inner.Keys.{key_bytes, keyed}
@@ -33,30 +34,30 @@ put old new kept i u k = u.0 k ∙ ap (λ b. cond b (Some i) (get key_cmp old k)
 
 -- a key that isn't there goes in
 pub noted_new : (old new : BTreeMap Key ℕ) (kept : Key) (i : ℕ) → key_found old kept ≡ None → Updates key_cmp old new kept (Some i) →
-    (k : Key) → key_found new k ≡ or_else (key_found old k) (given (same_bytes kept.items k.items) (Some i))
+    (k : Key) → key_found new k ≡ option_or (key_found old k) (given (same_bytes kept.items k.items) (Some i))
 noted_new old new kept i h u k = put old new kept i u k ∙ by (same_bytes kept.items k.items) refl
   where
-    by : (b : Bool) → same_bytes kept.items k.items ≡ b → cond b (Some i) (key_found old k) ≡ or_else (key_found old k) (given b (Some i))
-    by true e = ap (λ o. or_else o (Some i)) (sym (by_bytes old k kept (sym (bytes_eq kept.items k.items e)) ∙ h))
+    by : (b : Bool) → same_bytes kept.items k.items ≡ b → cond b (Some i) (key_found old k) ≡ option_or (key_found old k) (given b (Some i))
+    by true e = ap (λ o. option_or o (Some i)) (sym (by_bytes old k kept (sym (bytes_eq kept.items k.items e)) ∙ h))
     by false e = noted_none (key_found old k) (Some i)
 
 -- one that is there stays
 pub noted_old : (old : BTreeMap Key ℕ) (kept : Key) (i j : ℕ) → key_found old kept ≡ Some j →
-    (k : Key) → key_found old k ≡ or_else (key_found old k) (given (same_bytes kept.items k.items) (Some i))
+    (k : Key) → key_found old k ≡ option_or (key_found old k) (given (same_bytes kept.items k.items) (Some i))
 noted_old old kept i j h k = by (same_bytes kept.items k.items) refl
   where
-    by : (b : Bool) → same_bytes kept.items k.items ≡ b → key_found old k ≡ or_else (key_found old k) (given b (Some i))
-    by true e = let at = by_bytes old k kept (sym (bytes_eq kept.items k.items e)) ∙ h in at ∙ sym (ap (λ o. or_else o (Some i)) at)
+    by : (b : Bool) → same_bytes kept.items k.items ≡ b → key_found old k ≡ option_or (key_found old k) (given b (Some i))
+    by true e = let at = by_bytes old k kept (sym (bytes_eq kept.items k.items e)) ∙ h in at ∙ sym (ap (λ o. option_or o (Some i)) at)
     by false e = noted_none (key_found old k) (Some i)
 
 -- one more entry
-pub keyed_more : (E : Environment) (e : Entry) (bs : Bytes) → keyed (E ++ e ∷ []) bs ≡ or_else (keyed E bs) (given (same_bytes (key_bytes e.def e.link) bs) (Some (length E)))
+pub keyed_more : (E : Environment) (e : Entry) (bs : Bytes) → keyed (E ++ e ∷ []) bs ≡ option_or (keyed E bs) (given (same_bytes (key_bytes e.def e.link) bs) (Some (length E)))
 keyed_more E e bs = position_more (λ (x : Entry). same_bytes (key_bytes x.def x.link) bs) E e
 
 pub keys_next : (E : Environment) (e : Entry) (n : ℕ) → length E ≡ n → (old new : Key → Option ℕ) → ((k : Key) → old k ≡ keyed E k.items) → (key : Bytes) → key ≡ key_bytes e.def e.link →
-    ((k : Key) → new k ≡ or_else (old k) (given (same_bytes key k.items) (Some n))) → (k : Key) → new k ≡ keyed (E ++ e ∷ []) k.items
+    ((k : Key) → new k ≡ option_or (old k) (given (same_bytes key k.items) (Some n))) → (k : Key) → new k ≡ keyed (E ++ e ∷ []) k.items
 keys_next E e n many old new h key is u k =
-    u k ∙ ap₂ (λ a b. or_else a b) (h k) (ap₂ (λ (x : Bytes) m. given (same_bytes x k.items) (Some m)) is (sym many)) ∙ sym (keyed_more E e k.items)
+    u k ∙ ap₂ (λ a b. option_or a b) (h k) (ap₂ (λ (x : Bytes) m. given (same_bytes x k.items) (Some m)) is (sym many)) ∙ sym (keyed_more E e k.items)
 
 pub ruleset noted = (noted_new, noted_old)
 

@@ -6,11 +6,12 @@ use Rattle.std.proofs.lemmas.Bool.Decides.{nat_tests}
 use Rattle.sha2.specs.Sha256.{sha256}
 use Rattle.ac_types.proofs.FirstLaws.{none≢some, some_eq}
 use Rattle.std.specs.List.{list_all, list_any}
+use Rattle.std.specs.Option.{option_or}
 use Rattle.std.proofs.lemmas.List.{map-append, length-map}
 use native.Mathlib.Omega.{arith}
 use Rattle.ac_types.proofs.Same.{and_true}
 use Rattle.ac_types.specs.Types.{Bytes, same_bytes}
-use Rattle.ac_types.specs.First.{or_else, given}
+use Rattle.ac_types.specs.Partial.{given}
 use Rattle.ac_terms.specs.declared.def.Entry as code
 use Rattle.ac_terms.specs.Defs.{Environment, Entry, Module, Import, Def, AModule, AnImport, AMark, Arrived}
 use Rattle.ac_terms.specs.Names.{name_by}
@@ -38,6 +39,10 @@ use Rattle.ac_placing.specs.Placed.{state_of, place_number}
 use Rattle.ac_placing.specs.inner.State.{has_short_link, IsSound}
 use Rattle.ac_placing.proofs.FindLaws.{keys_next}
 use Rattle.ac_placing.proofs.KeyLaws.{keyed_is}
+
+-- one more behind what stays
+pub behind : {A : Type 0} (xs ys zs : List A) (x : A) → ys ≡ xs → zs ≡ ys ++ x ∷ [] → zs ≡ xs ++ x ∷ []
+behind xs ys zs x e h = h ∙ ap (λ l. l ++ x ∷ []) e
 
 module _ (E : Environment) (old new : Placing) (sound : IsSound E old) (at : Option ℕ) (u : Bool) where
   abbrev q : code_place.Place
@@ -76,7 +81,7 @@ module _ (E : Environment) (old new : Placing) (sound : IsSound E old) (d : code
   many h = length-append E (map entry_of old.more) ∙ ap (λ k. length E + k) (length-map old.more entry_of) ∙ sym h
 
   pub put_sound : is_short l ≡ true → key ≡ key_bytes (def_of_code d) l → n ≡ length E + length old.more → new.more ≡ old.more ++ e ∷ [] → new.numbers ≡ old.numbers ++ n ∷ [] →
-      new.places ≡ old.places ++ record { at = Some n; unresolved = u } ∷ [] → ((k : Key) → key_found new.keys k ≡ or_else (key_found old.keys k) (given (same_bytes key k.items) (Some n))) → IsSound E new
+      new.places ≡ old.places ++ record { at = Some n; unresolved = u } ∷ [] → ((k : Key) → key_found new.keys k ≡ option_or (key_found old.keys k) (given (same_bytes key k.items) (Some n))) → IsSound E new
   put_sound s is h more num p k = record {
     numbers = numbers_more E old new sound (Some n) u num p;
     keys = λ x. keys_next X (entry_of e) n (many h) (key_found old.keys) (key_found new.keys) sound.keys key is k x ∙ ap (λ Y. keyed Y x.items) (sym (grown more));

@@ -1,5 +1,6 @@
 pub mod Behind
 pub mod Keys
+pub mod Links
 pub mod Maps
 pub mod Open
 pub mod State

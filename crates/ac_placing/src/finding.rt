@@ -1,8 +1,9 @@
 // Maps from keys to the least entries that have them.
 
 ghost use Rattle.std.specs.Prelude.{◌≡◌, ◌<◌, ◌^◌, Some, length, map, IfOk, OnOk};
+ghost use Rattle.std.specs.Option.{option_or};
 ghost use Rattle.ac_types.specs.Types.{same_bytes};
-ghost use Rattle.ac_types.specs.First.{or_else, given};
+ghost use Rattle.ac_types.specs.Partial.{given};
 ghost use Rattle.ac_terms.specs.Read.{entry_of};
 ghost use Rattle.ac_placing.specs.inner.Keys.{keyed};
 ghost use Rattle.ac_placing.specs.inner.Maps.{Key, key_found};
@@ -27,7 +28,7 @@ pub fn found(keys: &Keys, key: &Vec<u8>) -> Option<u32>
 /// Notes an entry under a key that has none, and leaves one that has.
 #[tactic(auto, using(crate::proofs::FindLaws::noted))]
 pub fn note(keys: &mut Keys, key: Vec<u8>, i: u32) -> Result<(), Memory>
-    ensures { OnOk result ((k : Key) → key_found keys.new k ≡ or_else (key_found keys.old k)
+    ensures { OnOk result ((k : Key) → key_found keys.new k ≡ option_or (key_found keys.old k)
         (given (same_bytes key.items k.items) (Some i))) }
 {
     if found(keys, &key).is_some() {

@@ -6,6 +6,7 @@
 
 mod finding;
 mod keys;
+mod link;
 mod names;
 mod places;
 mod placing;

@@ -2,17 +2,16 @@
 use Rattle.std.proofs.Common.{ℕ, Bool, ◌≡◌, refl, sym, ap, ◌∙◌, true, false, List, ◌++◌, Option, Some, None}
 use Rattle.std.specs.Prelude.{ℤ, is_some, is_none, option_map, option_and_then, slice_get}
 use mathlib.Core.Bool.{true≢false}
-use Rattle.ac_types.specs.First.{given}
+use Rattle.ac_types.specs.Partial.{given, agree, has, both_same, also}
 use Rattle.ac_types.proofs.FirstLaws.{none≢some, some_eq, given_some}
 use Rattle.ac_types.proofs.Same.{both_true, same_eq}
-use Rattle.ac_types.specs.Types.{Bytes, Typ, TInt, TBool, TStr, TUnit, TExn, TTuple, TFun, TOpt, TList, Typs, typ, agree}
+use Rattle.ac_types.specs.Types.{Bytes, Typ, TInt, TBool, TStr, TUnit, TExn, TTuple, TFun, TOpt, TList, Typs, typ}
 use Rattle.ac_terms.specs.Terms.{Home, Main, In, PValue, Expr, Exprs, expr, Arms, Int, Boolean, Str, Unit', Exn, ExnOf, Tuple, Nil, Empty, Var, App, Lam, Let, If, Seq, Match, Try, Raise, Rec, Prim, Unmarshal, Marshal, Val, Present, Cons, Own, Ref}
 use Rattle.ac_terms.specs.Defs.{Environment, Module, Def, AModule, AnImport, AMark, module_of, signature, def_of, module_at}
 use Rattle.ac_types.specs.Exceptions.{has_text}
 use Rattle.ac_terms.specs.PrimitiveTypes.{is_exception, primitive_type}
-use Rattle.ac_terms.specs.TermTyping.{has, both_same, also, last_of}
 use Rattle.ac_rules.specs.Views.{Mode, Plain, Coloured, view, are_known}
-use Rattle.ac_rules.specs.Typing.{Scope, bind, field_type, ref_type, HasType, type_applied, kept_in, holds, type_seen, types_of, arm_types, one_of, a_list, an_option, variables_joined, is_home, is_function_home}
+use Rattle.ac_rules.specs.Typing.{Scope, bind, field_type, ref_type, HasType, type_applied, kept_in, holds, type_seen, types_of, arm_types, one_of, a_list, an_option, variables_joined, is_home, is_function_home, last_of}
 
 pub has_some : (o : Option Typ) (U : Typ) → has o U ≡ true → o ≡ Some U
 has_some None U e = absurd (true≢false (sym e))

@@ -2,11 +2,12 @@
 use Rattle.std.proofs.Common.{◌≡◌, refl, sym, ap, subst, ◌∙◌, ℕ, ◌+◌, ◌<◌, ◌≤◌, Bool, true, false, List, [], ◌∷◌, ◌++◌, length, length-append, Option, Some, None}
 use Rattle.std.specs.Prelude.{◌||◌, nat_lt, not, is_some, Contains}
 use Rattle.std.specs.List.{list_all}
+use Rattle.std.specs.Option.{option_or}
 use Rattle.std.proofs.lemmas.Bool.Decides.{nat_tests}
 use mathlib.Core.Bool.{true≢false}
 use native.Mathlib.Omega.{arith}
 use Rattle.sha2.specs.Sha256.{sha256}
-use Rattle.ac_types.specs.First.{given, or_else, first_some}
+use Rattle.ac_types.specs.Partial.{given, first_some}
 use Rattle.ac_types.specs.Limits.{longest_tabled}
 use Rattle.ac_types.specs.Types.{Bytes, Typ}
 use Rattle.ac_terms.specs.Terms.{PValue}
@@ -111,7 +112,7 @@ more_passes : (m n l : ℕ) → nat_lt m n ≡ true → nat_lt m (n + l) ≡ tru
 more_passes m n l e = let h = lt_true m n e in lt_is m (n + l) (omega (arith, h))
 
 abbrev step_fault : Bool → Bool → Option Fault → Option Fault
-step_fault deep long rest = or_else (or_else (given deep (Some Depth)) (or_else (given long (Some Size)) None)) rest
+step_fault deep long rest = option_or (option_or (given deep (Some Depth)) (option_or (given long (Some Size)) None)) rest
 
 one_or_two : (d a z : Bool) (rest : Option Fault) → (a ≡ true → z ≡ true) → step_fault d z rest ≡ step_fault d a (step_fault false z rest)
 one_or_two true a z rest h = refl
@@ -131,11 +132,11 @@ type_in_head k m n d bs cs hs =
 abbrev fault_of : ℕ → ℕ → ℕ → List Shape → Option Fault
 fault_of k m n [] = None
 fault_of k m n (s ∷ ss) =
-    or_else (first_some (given (nat_lt k s.0.0) (Some Depth) ∷ given (not s.0.1) (Some Function) ∷ given (nat_lt m (n + s.1)) (Some Size) ∷ [])) (fault_of k m (n + s.1) ss)
+    option_or (first_some (given (nat_lt k s.0.0) (Some Depth) ∷ given (not s.0.1) (Some Function) ∷ given (nat_lt m (n + s.1)) (Some Size) ∷ [])) (fault_of k m (n + s.1) ss)
 
 by_shape : (k m n : ℕ) (hs : List Head) → first_fault k m n hs ≡ fault_of k m n (shapes hs)
 by_shape k m n [] = refl
-by_shape k m n (h ∷ hs) = ap (or_else (part_fault k m (n + length h.bytes) h)) (by_shape k m (n + length h.bytes) hs)
+by_shape k m n (h ∷ hs) = ap (option_or (part_fault k m (n + length h.bytes) h)) (by_shape k m (n + length h.bytes) hs)
 
 pub numbers_alike : (table : List Typ) (k m n : ℕ) (T : Typ) (v : PValue) →
     first_fault k m n (type_heads (numbered table) T ++ value_heads (numbered table) two_written 1 v) ≡ first_fault k m n (numbered_heads T v)

@@ -2,11 +2,12 @@
 use Rattle.std.proofs.Common.{◌≡◌, refl, sym, ap, ◌∙◌, subst, ℕ, zero, suc, ◌<◌, Bool, true, false, not, length, List, [], ◌∷◌, ◌++◌, map, flat_map, Option, Some, None, take}
 use Rattle.std.specs.Prelude.{option_map, option_and_then, slice_get, unwrap_or}
 use Rattle.std.specs.List.{list_all}
+use Rattle.std.specs.Option.{option_or}
 use mathlib.Core.Bool.{true≢false}
 use mathlib.Core.Path.{ap₂}
 use native.Mathlib.Omega.{arith}
 use Rattle.sha2.specs.Sha256.{sha256}
-use Rattle.ac_types.specs.First.{or_else, first_some}
+use Rattle.ac_types.specs.Partial.{first_some}
 use Rattle.ac_types.proofs.Same.{both_true, bytes_eq}
 use Rattle.ac_types.proofs.FirstLaws.{none≢some, some_eq}
 use Rattle.ac_types.specs.Types.{Bytes, Typ, TInt, TBool, TStr, TUnit, TExn, TTuple, TList, TOpt, TFun, TAbs, TMine, Typs, no_types, typ, mentions, mentions_of_all, with_each, all_with_each}
@@ -25,11 +26,11 @@ use Rattle.ac_terms.proofs.AllLaws.{all_left, all_right, all_implies}
 use Rattle.ac_terms.proofs.TestLaws.{not_true, not_where}
 
 -- where the first of some is none, each is none
-pub or_none : {A : Type 0} (a b : Option A) → or_else a b ≡ None → b ≡ None
+pub or_none : {A : Type 0} (a b : Option A) → option_or a b ≡ None → b ≡ None
 or_none None b e = e
 or_none (Some x) b e = absurd (none≢some (sym e))
 
-pub or_none_left : {A : Type 0} (a b : Option A) → or_else a b ≡ None → a ≡ None
+pub or_none_left : {A : Type 0} (a b : Option A) → option_or a b ≡ None → a ≡ None
 or_none_left None b e = refl
 or_none_left (Some x) b e = absurd (none≢some (sym e))
 

@@ -37,12 +37,11 @@ abbrev pub uri_of : Entry → Option Bytes
 uri_of e = elim e.seen [ Own' ↦ None | Shelf u ↦ Some u | Arrived ↦ None ]
 
 abbrev pub mark_of : Entry → Option Bytes
-mark_of e = elim e.def [ AModule m ↦ None | AnImport i ↦ None | AMark t ↦ Some t ]
+mark_of e = elim e.def [ AMark t ↦ Some t | _ ↦ None ]
 
 abbrev pub IsAModule : Def → Type 0
 IsAModule (AModule m) = Unit {0}
-IsAModule (AnImport i) = ⊥
-IsAModule (AMark t) = ⊥
+IsAModule _ = ⊥
 
 pub record IsCoherent (E : Environment) : Type 0 where
   -- there are at most so many entries: those of the shelf, own ones, arrived ones

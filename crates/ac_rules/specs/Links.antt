@@ -1,8 +1,8 @@
 -- What an import may link to, and what it is linked to.
-use Rattle.std.specs.Prelude.{◌≡◌, ℕ, zero, suc, ◌+◌, Bool, true, false, ◌&&◌, ◌||◌, not, is_some, is_none, List, [], ◌∷◌, length, Option, Some, None, option_and_then, option_map, slice_get, map}
-use Rattle.std.specs.Option.{option_map_or}
-use Rattle.ac_types.specs.First.{first_failing, or_else, first_some}
-use Rattle.ac_types.specs.Types.{Bytes, Typ, same, same_bytes, agree}
+use Rattle.std.specs.Prelude.{◌≡◌, ℕ, zero, suc, ◌+◌, Bool, true, false, ◌&&◌, ◌||◌, not, is_some, is_none, List, [], ◌∷◌, length, Option, Some, None, option_map, slice_get, map}
+use Rattle.std.specs.Option.{option_map_or, option_or, option_flatten}
+use Rattle.ac_types.specs.Partial.{first_failing, first_some, agree}
+use Rattle.ac_types.specs.Types.{Bytes, Typ, same, same_bytes}
 use Rattle.ac_types.specs.Sigs.{Signature, Sig_type, Typed_name, Range, Constraint, Ranges, Exact, Resolve, StaticLink, HereAlready, Uri, named_type, type_under, is_manifest, is_abstract, equal_under}
 use Rattle.ac_terms.specs.Defs.{Environment, Entry, Module, Import, Seen, Own', Shelf, Arrived, module_at, name_at, names}
 use Rattle.ac_version.specs.Versions.{fit}
@@ -28,13 +28,10 @@ is_equal true s (Some T) U = same T U
 is_equal false s (Some T) U = equal_under s T U
 
 -- an abstract type of the import is abstract in the module, or by version manifest; a manifest type is manifest there and equal
-abbrev pub manifest_of : Option (Option Typ) → Option Typ
-manifest_of o = option_and_then (λ m. m) o
-
 abbrev pub has_type_spec : Bool → Signature → Sig_type → Bool
 has_type_spec exact s spec = elim spec.manifest [
   | None ↦ is_abstract (type_under spec.name s.types) || (not exact && is_manifest (type_under spec.name s.types))
-  | Some T ↦ is_equal exact s (manifest_of (type_under spec.name s.types)) T
+  | Some T ↦ is_equal exact s (option_flatten (type_under spec.name s.types)) T
 ]
 
 -- a value is there with an equal type
@@ -44,7 +41,7 @@ has_val_spec exact s spec = is_equal exact s (named_type spec.name s.vals) spec.
 -- the first spec that a module's signature lacks, types first
 abbrev pub missing_spec : Bool → Signature → Signature → Option ℕ
 missing_spec exact s wanted =
-    or_else (first_failing (has_type_spec exact s) wanted.types)
+    option_or (first_failing (has_type_spec exact s) wanted.types)
     (option_map (λ k. length wanted.types + k) (first_failing (has_val_spec exact s) wanted.vals))
 
 -- the first abstract type whose representation in the module isn't the likespec's type
@@ -98,18 +95,15 @@ last_below test (suc k) = elim (test k) [ true ↦ Some k | false ↦ last_below
 -- the kinds of entries among which an import looks
 abbrev pub is_own : Seen → Bool
 is_own Own' = true
-is_own (Shelf u) = false
-is_own Arrived = false
+is_own _ = false
 
 abbrev pub has_arrived : Seen → Bool
-has_arrived Own' = false
-has_arrived (Shelf u) = false
 has_arrived Arrived = true
+has_arrived _ = false
 
 abbrev pub has_uri : Bytes → Seen → Bool
-has_uri u Own' = false
 has_uri u (Shelf v) = same_bytes u v
-has_uri u Arrived = false
+has_uri _ _ = false
 
 -- the latest entry of a kind that the import may link to
 abbrev pub latest : (Seen → Bool) → Environment → Import → Option ℕ
@@ -127,7 +121,7 @@ gives E i AtLoad StaticLink = latest is_own E i
 gives E i InPacket StaticLink = None
 gives E i AtLoad HereAlready = latest is_own E i
 gives E i InPacket HereAlready =
-    or_else (latest is_own E i) (elim (is_exact i.constraint) [ true ↦ latest has_arrived E i | false ↦ None ])
+    option_or (latest is_own E i) (elim (is_exact i.constraint) [ true ↦ latest has_arrived E i | false ↦ None ])
 gives E i when (Uri u) = latest (has_uri u) E i
 
 -- the entry of the first atom that gives one

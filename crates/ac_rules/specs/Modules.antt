@@ -1,8 +1,8 @@
 -- What is asked of a definition.
 use Rattle.std.specs.Prelude.{ℕ, suc, ◌+◌, ◌&&◌, ◌||◌, not, Bool, true, false, nat_lt, is_some, is_none, List, [], ◌∷◌, ◌++◌, length, take, map, Option, Some, None, option_map}
 use Rattle.std.specs.List.{list_all, list_any}
-use Rattle.std.specs.Option.{option_map_or}
-use Rattle.ac_types.specs.First.{first_failing, or_else}
+use Rattle.std.specs.Option.{option_map_or, option_or}
+use Rattle.ac_types.specs.Partial.{first_failing, has}
 use Rattle.ac_types.specs.Types.{Bytes, Typ, TInt, TBool, TStr, TUnit, TExn, TTuple, TList, TOpt, TFun, TAbs, TMine, Typs, no_types, typ, same_bytes, with_mine}
 use Rattle.ac_types.specs.Sigs.{Typed_name, Sig_type, Signature, Constraint, Ranges, Exact, named_type, type_under, is_abstract}
 use Rattle.ac_terms.specs.Terms.{In, Expr, Int, Boolean, Str, Unit', Exn, ExnOf, Tuple, Nil, Empty, Present, Cons, Var, Own, Ref, Lam, Rec, App, Let, If, Seq, Match, Try, Raise, Prim, Marshal, Unmarshal, Val, Evaluated, Bracket, Exprs, no_exprs, expr}
@@ -11,7 +11,6 @@ use Rattle.ac_terms.specs.Parts.{part_refs, part_mentions, def_parts, has_captur
 use Rattle.ac_terms.specs.Bounds.{has_small_types}
 use Rattle.ac_rules.specs.Views.{Coloured, view, is_known}
 use Rattle.ac_rules.specs.Typing.{type_of, of_field}
-use Rattle.ac_terms.specs.TermTyping.{has}
 
 -- valuable: an expression that a field may have, since it computes nothing
 abbrev mutual
@@ -69,7 +68,7 @@ covers_val m v = has (field_named v.name m.fields) (inside_struct m v.ty)
 -- the first spec that a struct doesn't cover, types first
 abbrev pub uncovered : Module → Option ℕ
 uncovered m =
-    or_else (first_failing (covers_type m) m.sig.types)
+    option_or (first_failing (covers_type m) m.sig.types)
     (option_map (λ k. length m.sig.types + k) (first_failing (covers_val m) m.sig.vals))
 
 -- the first abstract type without a likespec

@@ -4,13 +4,13 @@ use Rattle.std.specs.List.{list_any}
 use Rattle.ac_types.specs.Types.{Bytes, Typ, mentions, same_bytes}
 use Rattle.ac_terms.specs.Terms.{PValue}
 use Rattle.ac_types.specs.Sigs.{Exact, Resolve, HereAlready, Uri}
-use Rattle.ac_terms.specs.Defs.{Environment, Entry, Module, Def, AModule, AnImport, AMark, Seen, Own', Shelf, Arrived, Packet, find_name}
+use Rattle.ac_terms.specs.Defs.{Environment, Entry, Module, Def, AModule, AnImport, AMark, Seen, Shelf, Packet, find_name}
 use Rattle.ac_terms.specs.Parts.{Portion, part_refs, part_homes, part_mentions, def_parts, value_parts}
 use Rattle.ac_terms.specs.Renumbered.{def_renumbered, value_renumbered}
 
 -- whether an entry is the mark of that name
 abbrev pub is_mark : Bytes → Entry → Bool
-is_mark t e = elim e.def [ AModule m ↦ false | AnImport i ↦ false | AMark s ↦ same_bytes s t ]
+is_mark t e = elim e.def [ AMark s ↦ same_bytes s t | _ ↦ false ]
 
 -- the entry of the mark of that name
 abbrev pub mark_at : Environment → Bytes → Option ℕ
@@ -18,9 +18,8 @@ mark_at E t = position (is_mark t) E
 
 -- where a cut module is looked for after what is there
 abbrev pub uri_atoms : Seen → List Resolve
-uri_atoms Own' = []
 uri_atoms (Shelf u) = Uri u ∷ []
-uri_atoms Arrived = []
+uri_atoms _ = []
 
 -- a module before the mark is cut to an import by its exact name, by what is there and then by its URI
 abbrev pub cut : Module → Bytes → Seen → Def
@@ -29,9 +28,7 @@ cut m n seen = AnImport (record { name = m.name; sig = m.sig; constraint = Exact
 -- every other definition travels as it is
 abbrev pub form_of : Def → Option Bytes → Seen → Bool → Def
 form_of (AModule m) (Some n) seen true = cut m n seen
-form_of (AModule m) n seen before = AModule m
-form_of (AnImport i) n seen before = AnImport i
-form_of (AMark t) n seen before = AMark t
+form_of d n seen before = d
 
 -- the packet form of entry i
 abbrev pub packet_form : ℕ → ℕ → Entry → Def

@@ -1,7 +1,7 @@
 -- Which packets are accepted, and what they add.
 use Rattle.std.specs.Prelude.{◌≡◌, ℕ, suc, ◌&&◌, not, Bool, true, false, nat_lt, is_some, List, [], ◌∷◌, ◌++◌, length, position, Option, Some, None, option_and_then, option_map, slice_get, unwrap_or, nat_eq}
 use Rattle.std.specs.List.{list_all, list_any}
-use Rattle.std.specs.Option.{option_map_or}
+use Rattle.std.specs.Option.{option_map_or, option_eq}
 use Rattle.sha2.specs.Sha256.{sha256}
 use Rattle.ac_types.specs.Limits.{most_entries}
 use Rattle.ac_types.specs.Types.{Bytes, Typ, mentions, same, same_bytes}
@@ -9,7 +9,7 @@ use Rattle.ac_terms.specs.Terms.{PValue}
 use Rattle.ac_terms.specs.Defs.{Environment, Entry, Import, Def, AModule, AnImport, AMark, Arrived, Packet}
 use Rattle.ac_rules.specs.Views.{Coloured, is_known}
 use Rattle.ac_rules.specs.Typing.{holds}
-use Rattle.ac_types.specs.First.{given, first_some, first_failing, first_wrong}
+use Rattle.ac_types.specs.Partial.{given, first_some, first_failing, first_wrong, alike, differ}
 use Rattle.ac_terms.specs.Spelling.{def_bytes, four_written, module_bytes}
 use Rattle.ac_terms.specs.Names.{name_by, text_of_entry}
 use Rattle.ac_rules.specs.Links.{linked, InPacket, is_exact}
@@ -39,16 +39,9 @@ wide_bytes (AMark t) = def_bytes (AMark t)
 abbrev pub same_def : Def → Def → Bool
 same_def d c = same_bytes (wide_bytes d) (wide_bytes c)
 
--- two links are equal
-abbrev pub same_link : Option ℕ → Option ℕ → Bool
-same_link None None = true
-same_link None (Some j) = false
-same_link (Some i) None = false
-same_link (Some i) (Some j) = nat_eq i j
-
 -- the least entry that equals a definition, in definition and in link
 abbrev pub find_def : Environment → Def → Option ℕ → Option ℕ
-find_def E d link = position (λ (e : Entry). same_def d e.def && same_link link e.link) E
+find_def E d link = position (λ (e : Entry). same_def d e.def && option_eq nat_eq link e.link) E
 
 -- why a packet is refused, in the order of the causes
 pub data PacketCause : Type 0 where
@@ -117,18 +110,7 @@ module _ (digest : Bytes → Bytes) where
   abbrev pub ill_formed : List Def → Option PacketCause
   ill_formed ds = option_map Definition (first_wrong 0 (is_well_formed (alone ds)) ds)
 
-  -- 2: the first definition with the name of an entry or an earlier definition that has another text, and the least such; the packet's definitions are counted after the entries
-  abbrev pub differ : Option Bytes → Option Bytes → Bool
-  differ None b = false
-  differ (Some s) None = false
-  differ (Some s) (Some t) = not (same_bytes s t)
-
-  abbrev pub alike : Option Bytes → Option Bytes → Bool
-  alike None b = false
-  alike (Some m) None = false
-  alike (Some m) (Some n) = same_bytes m n
-
-  -- the names and texts of the entries
+  -- 2: the first definition with the name of an entry or an earlier definition that has another text, and the least such; the packet's definitions are counted after the entries. Of each its name and its text
   abbrev pub Named : Type 0
   Named = Option Bytes × Option Bytes
 

@@ -1,7 +1,7 @@
 -- Why a value isn't marshalled, and the string that it is marshalled to, where its packet has a table of types.
 use Rattle.std.specs.Prelude.{ℕ, ◌||◌, not, nat_lt, List, [], ◌∷◌, ◌++◌, length, Option, Some, None}
 use Rattle.std.specs.List.{list_all}
-use Rattle.ac_types.specs.First.{given, first_some}
+use Rattle.ac_types.specs.Partial.{given, first_some}
 use Rattle.ac_types.specs.Limits.{longest_tabled, deepest_nesting}
 use Rattle.ac_types.specs.Types.{Bytes, Typ}
 use Rattle.ac_terms.specs.Terms.{PValue}

@@ -2,7 +2,7 @@
 use Rattle.std.specs.Prelude.{◌≡◌, ℕ, zero, suc, Bool, true, false, ◌&&◌, length, Option, None, option_and_then, unwrap_or, slice_get}
 use Rattle.std.specs.List.{list_all, list_any}
 use Rattle.std.specs.Option.{option_map_or}
-use Rattle.ac_types.specs.Types.{Bytes, Typ, TInt, TBool, TStr, TUnit, TExn, TTuple, TList, TOpt, TFun, TAbs, TMine, with_each, has_function, mentions}
+use Rattle.ac_types.specs.Types.{Bytes, Typ, TAbs, with_each, has_function, mentions}
 use Rattle.ac_types.specs.Sigs.{Signature, Constraint, Ranges, Exact, named_type, type_under, is_abstract}
 use Rattle.ac_terms.specs.Terms.{Home, Main, In}
 use Rattle.ac_terms.specs.Defs.{Environment, Entry, Def, AModule, AnImport, AMark, Module, Import, module_at, signature, name_at, names, find_name}
@@ -69,17 +69,8 @@ IsFirstOrder E n t = has_function (bare E (TAbs n t)) ≡ false
 
 -- a type whose outermost abstract types are replaced: what a value of the type looks like
 abbrev pub unsealed : Environment → Typ → Typ
-unsealed E TInt = TInt
-unsealed E TBool = TBool
-unsealed E TStr = TStr
-unsealed E TUnit = TUnit
-unsealed E TExn = TExn
-unsealed E (TTuple Ts) = TTuple Ts
-unsealed E (TList T) = TList T
-unsealed E (TOpt T) = TOpt T
-unsealed E (TFun T U) = TFun T U
 unsealed E (TAbs n t) = opened E n t
-unsealed E (TMine t) = TMine t
+unsealed E T = T
 
 abbrev pub head : Environment → Typ → Typ
 head E T = rounds (length E) (unsealed E) T

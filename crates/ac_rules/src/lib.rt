@@ -5,6 +5,8 @@
 pub mod laws;
 mod loaded;
 mod reps;
+mod under;
 
 pub use loaded::Loaded;
 pub use reps::rep;
+pub use under::eq_under;

@@ -11,8 +11,8 @@ use Rattle.ac_types.specs.declared.exceptions.Exn.{Exn}
 use Rattle.ac_outside.specs.Frames.{Frame, Whole, Bad, AtEnd, frame_of, next_frame}
 use Rattle.ac_outside.specs.FrameReaders.{IsBad}
 use Rattle.ac_outside.proofs.FrameLaws.{frame_back}
-use Rattle.ac_machine.specs.Resumes.{resumed, resumed_text, with_raise}
-use Rattle.ac_machine.specs.Seen.{MachineSeen, standing}
+use Rattle.ac_machine_engine.specs.Resumes.{resumed, resumed_text, with_raise}
+use Rattle.ac_machine_engine.specs.Seen.{MachineSeen, standing}
 use Rattle.ac_meaning.specs.ReadExn.{exn_of}
 use Rattle.ac_meaning.specs.Worlds.{end_of_file_exn, bad_frame}
 use Rattle.ac_run.specs.Sessions.{Streams}

@@ -8,9 +8,9 @@ use Rattle.ac_outside.specs.Outside.{Extends}
 use Rattle.ac_outside.specs.Frames.{Bad, frame_of, next_frame}
 use Rattle.ac_rules.specs.Views.{Mode}
 use Rattle.ac_rules.specs.declared.loaded.Loaded.{Loaded}
-use Rattle.ac_machine.specs.States.{Core, Ask, AskDone, AskRaised, AskSpent, Paused}
-use Rattle.ac_machine.specs.Resumes as standing
-use Rattle.ac_machine.specs.Seen.{MachineSeen, standing}
+use Rattle.ac_machine_engine.specs.States.{Core, Ask, AskDone, AskRaised, AskSpent, Paused}
+use Rattle.ac_machine_engine.specs.Resumes as standing
+use Rattle.ac_machine_engine.specs.Seen.{MachineSeen, standing}
 use Rattle.ac_meaning.specs.Writes.{Write, Print, Send, Console, Channel, written}
 use Rattle.ac_meaning.specs.Worlds.{Crossing, Trace, World}
 use Rattle.ac_meaning.specs.ReadExn.{exn_of}

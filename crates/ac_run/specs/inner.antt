@@ -1,3 +1,4 @@
 pub mod Inboxes
 pub mod Turns
 pub mod Notes
+pub mod Crossed

@@ -2,7 +2,8 @@
 use Rattle.std.proofs.Common.{◌≡◌, ◌∙◌, ap, refl, ℕ, Bool, true, false, List, [], ◌∷◌, ◌++◌, map, Option, Some, None}
 use Rattle.std.specs.Prelude.{not, is_some, flat_map, option_map, option_and_then, unwrap_or}
 use Rattle.std.specs.List.{list_all}
-use Rattle.ac_types.specs.First.{given, or_else}
+use Rattle.std.specs.Option.{option_or}
+use Rattle.ac_types.specs.Partial.{given}
 use Rattle.ac_types.specs.Types.{Bytes, Typ}
 use Rattle.ac_types.specs.Sigs.{Typed_name, Signature, named_type}
 use Rattle.ac_types.proofs.Same.{and_true, both_true}
@@ -50,7 +51,7 @@ module _ (E : Environment) where
   typed_alone (x ∷ xs) = typed_alone xs
 
   -- what a name means
-  plain_into : (i f : Option ℕ) → Into (term_parts (unwrap_or (or_else (option_map Var i) (option_map Own f)) (Var 0)))
+  plain_into : (i f : Option ℕ) → Into (term_parts (unwrap_or (option_or (option_map Var i) (option_map Own f)) (Var 0)))
   plain_into None None = refl
   plain_into None (Some f) = refl
   plain_into (Some i) f = refl
@@ -64,7 +65,7 @@ module _ (E : Environment) where
     on (Some T) = and_true (ap is_some is) refl
 
   dotted_into : (x : Bytes) (p : Option NamedPrimitive) (b : Bool) (d : Option ℕ)
-      → Into (term_parts (unwrap_or (or_else (option_map primitive_function p) (option_and_then (value_outside E x) (given b d))) Unit'))
+      → Into (term_parts (unwrap_or (option_or (option_map primitive_function p) (option_and_then (value_outside E x) (given b d))) Unit'))
   dotted_into x (Some p) b d = refl
   dotted_into x None false d = refl
   dotted_into x None true None = refl

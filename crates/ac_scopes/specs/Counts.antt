@@ -2,7 +2,7 @@
 use Rattle.std.specs.Prelude.{ℕ, suc, nat_le, if◌then◌else◌, List, [], length, Option, Some, None, unwrap_or}
 use Rattle.ac_types.specs.Limits.{most_items, most_arms, widest_tuple, most_variables, most_resolves, longest_uri, most_type_parts, highest_type}
 use Rattle.ac_types.specs.Types.{parts, height}
-use Rattle.ac_types.specs.Sigs.{Resolve, StaticLink, HereAlready, Uri}
+use Rattle.ac_types.specs.Sigs.{Resolve, Uri}
 use Rattle.ac_syntax.specs.Trees.{TypeTree, TyInt, TyBool, TyStr, TyUnit, TyExn, TyLocal, TyOf, TyTuple, TyList, TyOpt, TyFun, TypeTrees, no_type_trees, type_tree, PatTree, PatWild, PatVar, PatInt, PatBool, PatStr, PatUnit, PatTuple, PatNil, PatCons, PatAbsent, PatPresent, PatExn, PatExnOf, PatTrees, no_pat_trees, pat_tree, SigTree, FieldTree, DefTree, ModuleDef, ImportDef, MarkDef}
 use Rattle.ac_scopes.specs.Scopes.{NameScope, each_in}
 use Rattle.ac_scopes.specs.Written.{type_in}
@@ -91,8 +91,7 @@ many_in_struct S fields = many_items (each_in after_field item_type S fields) (e
 
 abbrev pub long_uri : Resolve → Option ℕ
 long_uri (Uri u) = over longest_uri (length u)
-long_uri StaticLink = None
-long_uri HereAlready = None
+long_uri _ = None
 
 abbrev pub many_atoms : List Resolve → Option ℕ
 many_atoms by = least (over most_resolves (length by)) (least_of long_uri by)

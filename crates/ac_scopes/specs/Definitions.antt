@@ -28,9 +28,8 @@ spec_type S (ManifestSpec a) = record { name = a.name.word; manifest = Some (typ
 spec_type S (ValSpec name ty) = []
 
 abbrev pub spec_value : NameScope → SpecTree → List Typed_name
-spec_value S (AbstractSpec name) = []
-spec_value S (ManifestSpec a) = []
 spec_value S (ValSpec name ty) = record { name = name.word; ty = type_in S ty } ∷ []
+spec_value _ _ = []
 
 abbrev pub signature_in : NameScope → SigTree → Signature
 signature_in S σ = record { types = each_in after_spec spec_type S σ.specs; vals = each_in after_spec spec_value S σ.specs }

@@ -40,9 +40,8 @@ spec_type_name (ManifestSpec a) = a.name ∷ []
 spec_type_name (ValSpec name ty) = []
 
 abbrev pub spec_value_name : SpecTree → List NameAt
-spec_value_name (AbstractSpec name) = []
-spec_value_name (ManifestSpec a) = []
 spec_value_name (ValSpec name ty) = name ∷ []
+spec_value_name _ = []
 
 abbrev pub field_type_name : FieldTree → List NameAt
 field_type_name (AbbrevField a) = a.name ∷ []
@@ -75,6 +74,5 @@ repeated_in_def S d = least (repeated_in_lists d) (found_in_def repeated S d)
 
 -- the names of marks, at the place of their strings
 abbrev pub mark_name : DefTree → List NameAt
-mark_name (ModuleDef at name σ version fields) = []
-mark_name (ImportDef at name σ wants like by) = []
 mark_name (MarkDef at text_at text) = record { at = text_at; word = text } ∷ []
+mark_name _ = []

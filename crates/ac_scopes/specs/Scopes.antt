@@ -1,6 +1,7 @@
 -- The scope of a place in a text: what each name means there.
 use Rattle.std.specs.Prelude.{ℕ, suc, not, true, false, List, [], ◌∷◌, ◌++◌, length, Option, Some, None, option_map, option_and_then, unwrap_or}
-use Rattle.ac_types.specs.First.{given, or_else}
+use Rattle.std.specs.Option.{option_or}
+use Rattle.ac_types.specs.Partial.{given}
 use Rattle.ac_types.specs.Types.{Bytes, Typ, TAbs, TMine, same_bytes, with_mine}
 use Rattle.ac_types.specs.Sigs.{Signature, named_type, type_under}
 use Rattle.ac_terms.specs.Terms.{Expr, Var, Own, Ref, Lam, Prim, no_exprs, expr}
@@ -66,10 +67,10 @@ dotted_type S m t = option_and_then (type_outside S.entries t) (before_dot S m)
 
 -- what `x` and `M.x` mean: a variable hides a field
 abbrev pub plain_value : NameScope → Bytes → Option Expr
-plain_value S x = or_else (option_map Var (binders_to x S.variables)) (option_map Own (own_number x S.fields))
+plain_value S x = option_or (option_map Var (binders_to x S.variables)) (option_map Own (own_number x S.fields))
 
 abbrev pub dotted_value : NameScope → Bytes → Bytes → Option Expr
-dotted_value S m x = or_else (option_map primitive_function (primitive_named m x)) (option_and_then (value_outside S.entries x) (before_dot S m))
+dotted_value S m x = option_or (option_map primitive_function (primitive_named m x)) (option_and_then (value_outside S.entries x) (before_dot S m))
 
 -- behind variables that are bound one after another
 abbrev pub scope_with : List NameAt → List Bytes → List Bytes

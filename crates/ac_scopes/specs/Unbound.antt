@@ -1,6 +1,6 @@
 -- The search for names that aren't in scope: variables and fields, types, definitions, and what stands behind a dot. What is found is the place of the name.
 use Rattle.std.specs.Prelude.{ℕ, ◌||◌, Bool, true, false, is_some, Option, Some, None}
-use Rattle.ac_syntax.specs.Trees.{NameAt, TypeTree, TyInt, TyBool, TyStr, TyUnit, TyExn, TyLocal, TyOf, TyTuple, TyList, TyOpt, TyFun, TypeTrees, no_type_trees, type_tree, PatTree, PatWild, PatVar, PatInt, PatBool, PatStr, PatUnit, PatTuple, PatNil, PatCons, PatAbsent, PatPresent, PatExn, PatExnOf, PatTrees, no_pat_trees, pat_tree, WantsTree, WantsVersion, WantsName, DefTree, ModuleDef, ImportDef, MarkDef}
+use Rattle.ac_syntax.specs.Trees.{NameAt, TypeTree, TyInt, TyBool, TyStr, TyUnit, TyExn, TyLocal, TyOf, TyTuple, TyList, TyOpt, TyFun, TypeTrees, no_type_trees, type_tree, PatTree, PatWild, PatVar, PatInt, PatBool, PatStr, PatUnit, PatTuple, PatNil, PatCons, PatAbsent, PatPresent, PatExn, PatExnOf, PatTrees, no_pat_trees, pat_tree, WantsTree, WantsVersion, WantsName, DefTree, ImportDef}
 use Rattle.ac_scopes.specs.Standard.{is_standard}
 use Rattle.ac_scopes.specs.Scopes.{NameScope, definition, before_dot, plain_type, dotted_type, plain_value, dotted_value}
 use Rattle.ac_scopes.specs.Searches.{Search, least, found_in_def}
@@ -71,9 +71,8 @@ unbound_wants S (WantsVersion constraint) = None
 unbound_wants S (WantsName name) = unless (definition S name.word) name.at
 
 abbrev pub unbound_demand : NameScope → DefTree → Option ℕ
-unbound_demand S (ModuleDef at name σ version fields) = None
 unbound_demand S (ImportDef at name σ wants like by) = unbound_wants S wants
-unbound_demand S (MarkDef at text_at text) = None
+unbound_demand _ _ = None
 
 abbrev pub unbound_in_def : NameScope → DefTree → Option ℕ
 unbound_in_def S d = least (unbound_demand S d) (found_in_def unbound S d)

@@ -76,33 +76,7 @@ in_arm p = with_variables (variables p)
 -- the primitive that a tree names; an applied one takes its argument
 abbrev pub primitive_at : Tree → Option NamedPrimitive
 primitive_at (ExOf at m x) = primitive_named m.word x.word
-primitive_at (ExInt at n) = None
-primitive_at (ExBool at b) = None
-primitive_at (ExStr at text) = None
-primitive_at (ExUnit at) = None
-primitive_at (ExExn at number) = None
-primitive_at (ExExnOf at number argument) = None
-primitive_at (ExTuple at parts) = None
-primitive_at (ExNil at ty) = None
-primitive_at (ExAbsent at ty) = None
-primitive_at (ExPresent at item) = None
-primitive_at (ExCons at head tail) = None
-primitive_at (ExVar at x) = None
-primitive_at (ExFun at name ty body) = None
-primitive_at (ExRec at name argument ty result body) = None
-primitive_at (ExApp at f a) = None
-primitive_at (ExLet at name ty bound body) = None
-primitive_at (ExLetRec at name argument ty result bound body) = None
-primitive_at (ExIf at test so otherwise) = None
-primitive_at (ExSeq at parts) = None
-primitive_at (ExMatch at of arms) = None
-primitive_at (ExTry at of arms) = None
-primitive_at (ExRaise at exception ty) = None
-primitive_at (ExAnd at a b) = None
-primitive_at (ExOr at a b) = None
-primitive_at (ExOp at number parts) = None
-primitive_at (ExMarshal at mark value ty) = None
-primitive_at (ExUnmarshal at text ty) = None
+primitive_at _ = None
 
 abbrev pub applied_tree : Option NamedPrimitive → Expr → Expr → Expr
 applied_tree (Some p) f a = primitive_of p a

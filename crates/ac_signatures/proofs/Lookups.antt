@@ -3,11 +3,11 @@ use Rattle.std.proofs.Common.{◌≡◌, ◌∙◌, ap, refl, sym, ℕ, ◌+◌,
 use Rattle.std.specs.Prelude.{option_map, is_some, if◌then◌else◌}
 use Rattle.std.specs.Ordering.{nat_cmp}
 use Rattle.std.specs.Cmp.Lexicographic.{slice_cmp}
+use Rattle.std.specs.Option.{option_or}
 use Rattle.std.specs.BTreeMap as tree_map
 use Rattle.std.specs.BTreeSet as tree_set
 use Rattle.std.proofs.Math.Path.{fun_ext}
 use Rattle.std.proofs.lemmas.Map.Text.{is_eq-slice_cmp, btree_map_updates_str}
-use Rattle.ac_types.specs.First.{or_else}
 use Rattle.ac_types.specs.Types.{Bytes, Typ, same_bytes}
 use Rattle.ac_types.specs.Sigs.{named_type, type_under}
 use Rattle.ac_types.proofs.Same.{bytes_eq}
@@ -61,41 +61,41 @@ pub definition_put : (old new : tree_map.BTreeMap (Bor Bytes) Outside) (k : Bor 
 definition_put old new k o u = fun_ext (λ m. ap (λ (f : Bytes → Option Outside). option_map members_of (f m)) (entry_put old new k o u) ∙ outside_put (same_bytes k.now m) o (under old m))
 
 -- a size that is kept where another stands already, and one that is put where none does
-kept : (o p : Option Size) → is_some o ≡ true → o ≡ or_else o p
+kept : (o p : Option Size) → is_some o ≡ true → o ≡ option_or o p
 kept (Some s) p h = refl
 kept None p h = cc
 
-put_where_none : (o : Option Size) (s : Size) → is_some o ≡ false → Some s ≡ or_else o (Some s)
+put_where_none : (o : Option Size) (s : Size) → is_some o ≡ false → Some s ≡ option_or o (Some s)
 put_where_none None s h = refl
 put_where_none (Some r) s h = cc
 
-else_none : (o : Option Size) → or_else o None ≡ o
+else_none : (o : Option Size) → option_or o None ≡ o
 else_none None = refl
 else_none (Some s) = refl
 
-there_at : (b : Bool) (o p : Option Size) (s : Size) → (b ≡ true → o ≡ p) → is_some o ≡ true → p ≡ or_else p (elim b [ true ↦ Some s | false ↦ None ])
+there_at : (b : Bool) (o p : Option Size) (s : Size) → (b ≡ true → o ≡ p) → is_some o ≡ true → p ≡ option_or p (elim b [ true ↦ Some s | false ↦ None ])
 there_at true o p s e h = kept p (Some s) (ap is_some (sym (e refl)) ∙ h)
 there_at false o p s e h = sym (else_none p)
 
-put_at : (b : Bool) (o p : Option Size) (s : Size) → (b ≡ true → o ≡ p) → is_some o ≡ false → (if b then Some s else p) ≡ or_else p (elim b [ true ↦ Some s | false ↦ None ])
+put_at : (b : Bool) (o p : Option Size) (s : Size) → (b ≡ true → o ≡ p) → is_some o ≡ false → (if b then Some s else p) ≡ option_or p (elim b [ true ↦ Some s | false ↦ None ])
 put_at true o p s e h = put_where_none p s (ap is_some (sym (e refl)) ∙ h)
 put_at false o p s e h = sym (else_none p)
 
-pub keep_there : (f : Bytes → Option Size) (w t : Bytes) (s : Size) → is_some (f w) ≡ true → f t ≡ or_else (f t) (beside_name t ((w, s) ∷ []))
+pub keep_there : (f : Bytes → Option Size) (w t : Bytes) (s : Size) → is_some (f w) ≡ true → f t ≡ option_or (f t) (beside_name t ((w, s) ∷ []))
 keep_there f w t s h = there_at (same_bytes w t) (f w) (f t) s (λ e. ap f (bytes_eq w t e)) h
 
-pub keep_put : (f : Bytes → Option Size) (w t : Bytes) (s : Size) → is_some (f w) ≡ false → updated w s f t ≡ or_else (f t) (beside_name t ((w, s) ∷ []))
+pub keep_put : (f : Bytes → Option Size) (w t : Bytes) (s : Size) → is_some (f w) ≡ false → updated w s f t ≡ option_or (f t) (beside_name t ((w, s) ∷ []))
 keep_put f w t s h = put_at (same_bytes w t) (f w) (f t) s (λ e. ap f (bytes_eq w t e)) h
 
-else_else : (o p q : Option Size) → or_else (or_else o p) q ≡ or_else o (or_else p q)
+else_else : (o p q : Option Size) → option_or (option_or o p) q ≡ option_or o (option_or p q)
 else_else None p q = refl
 else_else (Some s) p q = refl
 
-beside_more : (b : Bool) (s : Size) (o p : Option Size) → elim b [ true ↦ Some s | false ↦ or_else o p ] ≡ or_else (elim b [ true ↦ Some s | false ↦ o ]) p
+beside_more : (b : Bool) (s : Size) (o p : Option Size) → elim b [ true ↦ Some s | false ↦ option_or o p ] ≡ option_or (elim b [ true ↦ Some s | false ↦ o ]) p
 beside_more true s o p = refl
 beside_more false s o p = refl
 
-pub beside_name-append : (t : Bytes) (xs ys : List (Bytes × Size)) → beside_name t (xs ++ ys) ≡ or_else (beside_name t xs) (beside_name t ys)
+pub beside_name-append : (t : Bytes) (xs ys : List (Bytes × Size)) → beside_name t (xs ++ ys) ≡ option_or (beside_name t xs) (beside_name t ys)
 beside_name-append t [] ys = refl
 beside_name-append t (x ∷ xs) ys = ap (λ o. elim (same_bytes x.0 t) [ true ↦ Some x.1 | false ↦ o ]) (beside_name-append t xs ys) ∙ beside_more (same_bytes x.0 t) x.1 (beside_name t xs) (beside_name t ys)
 
@@ -104,21 +104,21 @@ abbrev left : Bytes → KnownScope → List SSpec → Option Size
 left t K xs = beside_name t (spec_sizes K (map spec_of xs))
 
 pub next_sizes : (old new : Option Size) (K L : KnownScope) (t : Bytes) (i : ℕ) (xs : List SSpec) (x : SSpec) (all : Option Size) → i < length xs → x ≡ get_or xs i x
-    → or_else old (left t K (drop i xs)) ≡ all → L ≡ past_spec K (spec_of x) → new ≡ or_else old (beside_name t (spec_size K (spec_of x))) → or_else new (left t L (drop (i + 1) xs)) ≡ all
+    → option_or old (left t K (drop i xs)) ≡ all → L ≡ past_spec K (spec_of x) → new ≡ option_or old (beside_name t (spec_size K (spec_of x))) → option_or new (left t L (drop (i + 1) xs)) ≡ all
 next_sizes old new K L t i xs x all lt is so to n =
-    ap (λ o. or_else o (left t L (drop (i + 1) xs))) n
+    ap (λ o. option_or o (left t L (drop (i + 1) xs))) n
     ∙ else_else old (beside_name t (spec_size K (spec_of x))) (left t L (drop (i + 1) xs))
-    ∙ ap (λ M. or_else old (or_else (beside_name t (spec_size K (spec_of x))) (left t M (drop (i + 1) xs)))) to
-    ∙ ap (or_else old) (sym (beside_name-append t (spec_size K (spec_of x)) (spec_sizes (past_spec K (spec_of x)) (map spec_of (drop (i + 1) xs)))))
-    ∙ ap (λ ys. or_else old (left t K ys)) (sym (drop_next i xs x lt is))
+    ∙ ap (λ M. option_or old (option_or (beside_name t (spec_size K (spec_of x))) (left t M (drop (i + 1) xs)))) to
+    ∙ ap (option_or old) (sym (beside_name-append t (spec_size K (spec_of x)) (spec_sizes (past_spec K (spec_of x)) (map spec_of (drop (i + 1) xs)))))
+    ∙ ap (λ ys. option_or old (left t K ys)) (sym (drop_next i xs x lt is))
     ∙ so
 
-pub last_sizes : (o : Option Size) (K : KnownScope) (t : Bytes) (i : ℕ) (xs : List SSpec) (all : Option Size) → i ≡ length xs → or_else o (left t K (drop i xs)) ≡ all → o ≡ all
-last_sizes o K t i xs all e so = sym (else_none o) ∙ ap (λ ys. or_else o (left t K ys)) (sym (drop_end i xs e)) ∙ so
+pub last_sizes : (o : Option Size) (K : KnownScope) (t : Bytes) (i : ℕ) (xs : List SSpec) (all : Option Size) → i ≡ length xs → option_or o (left t K (drop i xs)) ≡ all → o ≡ all
+last_sizes o K t i xs all e so = sym (else_none o) ∙ ap (λ ys. option_or o (left t K ys)) (sym (drop_end i xs e)) ∙ so
 
 -- the same of an entry's types
 manifest_more : (b : Bool) (o : Option Size) (s : Size) (m : Option Typ) (rest : Option (Option Typ)) → s ≡ size_of_manifest m
-    → or_else (or_else o (elim b [ true ↦ Some s | false ↦ None ])) (option_map size_of_manifest rest) ≡ or_else o (option_map size_of_manifest (elim b [ true ↦ Some m | false ↦ rest ]))
+    → option_or (option_or o (elim b [ true ↦ Some s | false ↦ None ])) (option_map size_of_manifest rest) ≡ option_or o (option_map size_of_manifest (elim b [ true ↦ Some m | false ↦ rest ]))
 manifest_more true None s m rest e = ap Some e
 manifest_more false None s m rest e = refl
 manifest_more true (Some r) s m rest e = refl
@@ -128,15 +128,15 @@ abbrev manifests : Bytes → List code_type.SigType → Option Size
 manifests t xs = option_map size_of_manifest (type_under t (map sig_type_of xs))
 
 pub next_manifest : (t : Bytes) (old new : Option Size) (s : Size) (i : ℕ) (xs : List code_type.SigType) (x : code_type.SigType) (all : Option Size) → i < length xs → x ≡ get_or xs i x
-    → or_else old (manifests t (drop i xs)) ≡ all → s ≡ size_of_manifest (option_map typ_of x.manifest) → new ≡ or_else old (beside_name t ((x.name, s) ∷ [])) → or_else new (manifests t (drop (i + 1) xs)) ≡ all
+    → option_or old (manifests t (drop i xs)) ≡ all → s ≡ size_of_manifest (option_map typ_of x.manifest) → new ≡ option_or old (beside_name t ((x.name, s) ∷ [])) → option_or new (manifests t (drop (i + 1) xs)) ≡ all
 next_manifest t old new s i xs x all lt is so e n =
-    ap (λ o. or_else o (manifests t (drop (i + 1) xs))) n
+    ap (λ o. option_or o (manifests t (drop (i + 1) xs))) n
     ∙ manifest_more (same_bytes x.name t) old s (option_map typ_of x.manifest) (type_under t (map sig_type_of (drop (i + 1) xs))) e
-    ∙ ap (λ ys. or_else old (manifests t ys)) (sym (drop_next i xs x lt is))
+    ∙ ap (λ ys. option_or old (manifests t ys)) (sym (drop_next i xs x lt is))
     ∙ so
 
-pub last_manifest : (t : Bytes) (o : Option Size) (i : ℕ) (xs : List code_type.SigType) (all : Option Size) → i ≡ length xs → or_else o (manifests t (drop i xs)) ≡ all → o ≡ all
-last_manifest t o i xs all e so = sym (else_none o) ∙ ap (λ ys. or_else o (manifests t ys)) (sym (drop_end i xs e)) ∙ so
+pub last_manifest : (t : Bytes) (o : Option Size) (i : ℕ) (xs : List code_type.SigType) (all : Option Size) → i ≡ length xs → option_or o (manifests t (drop i xs)) ≡ all → o ≡ all
+last_manifest t o i xs all e so = sym (else_none o) ∙ ap (λ ys. option_or o (manifests t ys)) (sym (drop_end i xs e)) ∙ so
 
 -- and of its values
 abbrev value_in : Bytes → List code_value.TyField → Bool

@@ -1,7 +1,7 @@
 -- What is wrong with a name behind a dot by what is known is what is wrong with it in the scope.
 use Rattle.std.proofs.Common.{◌≡◌, ◌∙◌, ap, refl, Bool, true, false, Option, Some, None}
 use Rattle.std.specs.Prelude.{is_some, ◌||◌, option_map, option_and_then}
-use Rattle.ac_types.specs.First.{or_else}
+use Rattle.std.specs.Option.{option_or}
 use Rattle.ac_terms.specs.Terms.{Expr}
 use Rattle.ac_syntax.specs.Trees.{NameAt}
 use Rattle.ac_scopes.specs.Standard.{NamedPrimitive, is_standard, primitive_named}
@@ -11,7 +11,7 @@ use Rattle.ac_signatures.specs.KnownScopes.{KnownScope, is_value_behind}
 use Rattle.ac_signatures.specs.NameFlaws.{place_behind}
 use Rattle.ac_signatures.proofs.Knowing.{Knows, outer-is, is_value_behind-is}
 
-behind-is : (b : Bool) (p : Option NamedPrimitive) (o : Option Expr) (m x : NameAt) → place_behind b (is_some p || is_some o) m x ≡ unbound_behind b (or_else (option_map primitive_function p) o) m x
+behind-is : (b : Bool) (p : Option NamedPrimitive) (o : Option Expr) (m x : NameAt) → place_behind b (is_some p || is_some o) m x ≡ unbound_behind b (option_or (option_map primitive_function p) o) m x
 behind-is false p o m x = refl
 behind-is true (Some p) o m x = refl
 behind-is true None (Some e) m x = refl

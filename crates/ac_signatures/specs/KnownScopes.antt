@@ -2,7 +2,7 @@
 use Rattle.std.specs.Prelude.{◌+◌, min, max, Bool, true, false, not, if◌then◌else◌, Option, Some, None, option_and_then}
 use Rattle.std.specs.Option.{option_map_or}
 use Rattle.ac_types.specs.Limits.{most_type_parts, highest_type}
-use Rattle.ac_types.specs.First.{given}
+use Rattle.ac_types.specs.Partial.{given}
 use Rattle.ac_types.specs.Types.{Bytes, Typ, parts, height, same_bytes}
 use Rattle.ac_scopes.specs.Standard.{is_standard}
 use Rattle.ac_signatures.specs.declared.size.Size.{Size}

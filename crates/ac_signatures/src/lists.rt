@@ -1,13 +1,15 @@
 // The names of the types and of the values of signatures.
 
-ghost use Rattle.std.specs.Prelude.{◌≡◌, ◌++◌, map, flat_map, IfOk};
+ghost use Rattle.std.specs.Prelude.{◌≡◌, map, IfOk};
+ghost use Rattle.ac_syntax.specs.Trees.{SpecTree};
 ghost use Rattle.ac_syntax.specs.ReadTrees.{spec_of};
 ghost use Rattle.ac_scopes.specs.Repeated.{spec_type_name, spec_value_name};
 ghost use Rattle.ac_signatures.specs.SigFlaws.{list_flaws};
 ghost use Rattle.ac_signatures.specs.Reads.{named};
 
 use crate::flaws::Flaws;
-use crate::named::{Named, repeated_name, with_name};
+use crate::named::{Named, repeated_name};
+use crate::pick::Pick;
 use ac_syntax::SSpec;
 use ac_types::Memory;
 use ac_types::limits::MOST_ITEMS;
@@ -27,49 +29,41 @@ pub fn list_flaws(alloc: Global, names: &[Named]) -> Result<Flaws, Memory>
 }
 
 /// The types of a signature.
-pub fn spec_types<'a>(alloc: Global, specs: &'a [SSpec]) -> Result<Vec<Named<'a>>, Memory>
-    ensures { IfOk result (λ names. map named names.items
-        ≡ flat_map spec_type_name (map spec_of specs.now)) }
-{
-    let mut names = Vec::new(alloc);
-    for spec in specs {
-        let more = with_spec_type(names, spec)?;
-        names = more;
-    }
-    Ok(names)
-}
+#[derive(Clone, Copy)]
+pub struct SpecTypes;
 
-fn with_spec_type<'a>(found: Vec<Named<'a>>, spec: &'a SSpec) -> Result<Vec<Named<'a>>, Memory>
-    ensures { IfOk result (λ names. map named names.items
-        ≡ map named found.entry.items ++ spec_type_name (spec_of spec.now)) }
-{
-    match spec {
-        SSpec::Abstract(name) => with_name(found, name),
-        SSpec::Manifest(alias) => with_name(found, &alias.name),
-        SSpec::Val(_, _) => Ok(found),
+impl Pick<SSpec> for SpecTypes {
+    ghost Tree = { SpecTree };
+
+    ghost read = { spec_of };
+
+    ghost picks = { spec_type_name };
+
+    fn pick<'a>(&self, spec: &'a SSpec) -> Option<Named<'a>> {
+        match spec {
+            SSpec::Abstract(name) => Some(Named::of(name)),
+            SSpec::Manifest(alias) => Some(Named::of(&alias.name)),
+            SSpec::Val(_, _) => None,
+        }
     }
 }
 
 /// The values of a signature.
-pub fn spec_values<'a>(alloc: Global, specs: &'a [SSpec]) -> Result<Vec<Named<'a>>, Memory>
-    ensures { IfOk result (λ names. map named names.items
-        ≡ flat_map spec_value_name (map spec_of specs.now)) }
-{
-    let mut names = Vec::new(alloc);
-    for spec in specs {
-        let more = with_spec_value(names, spec)?;
-        names = more;
-    }
-    Ok(names)
-}
+#[derive(Clone, Copy)]
+pub struct SpecValues;
 
-fn with_spec_value<'a>(found: Vec<Named<'a>>, spec: &'a SSpec) -> Result<Vec<Named<'a>>, Memory>
-    ensures { IfOk result (λ names. map named names.items
-        ≡ map named found.entry.items ++ spec_value_name (spec_of spec.now)) }
-{
-    match spec {
-        SSpec::Abstract(_) => Ok(found),
-        SSpec::Manifest(_) => Ok(found),
-        SSpec::Val(name, _) => with_name(found, name),
+impl Pick<SSpec> for SpecValues {
+    ghost Tree = { SpecTree };
+
+    ghost read = { spec_of };
+
+    ghost picks = { spec_value_name };
+
+    fn pick<'a>(&self, spec: &'a SSpec) -> Option<Named<'a>> {
+        match spec {
+            SSpec::Abstract(_) => None,
+            SSpec::Manifest(_) => None,
+            SSpec::Val(name, _) => Some(Named::of(name)),
+        }
     }
 }

@@ -1,6 +1,6 @@
 // Names where they are written, and which of them are repeated.
 
-ghost use Rattle.std.specs.Prelude.{◌≡◌, ◌++◌, ◌∷◌, [], map, Some, None, IfOk, if◌then◌else◌};
+ghost use Rattle.std.specs.Prelude.{◌≡◌, [], map, Some, None, IfOk, if◌then◌else◌};
 ghost use Rattle.ac_types.specs.Types.{Bytes};
 ghost use Rattle.ac_syntax.specs.ReadTrees.{name_of};
 ghost use Rattle.ac_scopes.specs.Repeated.{repeated_name};
@@ -32,16 +32,6 @@ impl<'a> Named<'a> {
             word: name.word.text().as_slice(),
         }
     }
-}
-
-/// These names, and behind them this one.
-pub fn with_name<'a>(found: Vec<Named<'a>>, name: &'a SName) -> Result<Vec<Named<'a>>, Memory>
-    ensures { IfOk result (λ names.
-        map named names.items ≡ map named found.entry.items ++ (name_of name.now ∷ [])) }
-{
-    let mut names = found;
-    names.push(Named::of(name))?;
-    Ok(names)
 }
 
 // Some names.

@@ -1,9 +1,8 @@
 // What is seen of definitions from outside.
 
 ghost use Rattle.std.specs.Prelude.{◌≡◌, ◌∷◌, OnOk, [], option_map};
-ghost use Rattle.std.specs.Option.{option_copied};
+ghost use Rattle.std.specs.Option.{option_copied, option_or};
 ghost use Rattle.ac_types.specs.Types.{Bytes};
-ghost use Rattle.ac_types.specs.First.{or_else};
 ghost use Rattle.ac_scopes.specs.Standard.{beside_name};
 ghost use Rattle.ac_signatures.specs.KnownScopes.{updated, inserted};
 ghost use Rattle.ac_signatures.specs.Reads.{under, contains_name, members_of, externals_of};
@@ -62,7 +61,7 @@ pub fn put_size<'a>(sizes: &mut Sizes<'a>, word: &'a Word, size: Size) -> Result
 /// Puts the size of one more type, unless a type has its name.
 pub fn keep_size<'a>(sizes: &mut Sizes<'a>, word: &'a Word, size: Size) -> Result<(), Memory>
     ensures { OnOk result ((t : Bytes) → under sizes.new t
-        ≡ or_else (under sizes.old t) (beside_name t ((word.now, size) ∷ []))) }
+        ≡ option_or (under sizes.old t) (beside_name t ((word.now, size) ∷ []))) }
 {
     match size_under(sizes, word) {
         Some(_) => Ok(()),

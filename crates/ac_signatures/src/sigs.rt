@@ -1,8 +1,8 @@
 // Signatures: what is wrong with them, and what they show behind a dot.
 
 ghost use Rattle.std.specs.Prelude.{◌≡◌, ◌∷◌, [], map, IfOk, OnOk};
+ghost use Rattle.std.specs.Option.{option_or};
 ghost use Rattle.ac_types.specs.Types.{Bytes};
-ghost use Rattle.ac_types.specs.First.{or_else};
 ghost use Rattle.ac_syntax.specs.ReadTrees.{spec_of};
 ghost use Rattle.ac_scopes.specs.Standard.{beside_name};
 ghost use Rattle.ac_signatures.specs.KnownScopes.{known_outside, with_size};
@@ -11,9 +11,10 @@ ghost use Rattle.ac_signatures.specs.Reads.{under, known_in, members_of, externa
 
 use crate::flaws::Flaws;
 use crate::known::Scan;
-use crate::lists::{list_flaws, spec_types, spec_values};
+use crate::lists::{SpecTypes, SpecValues, list_flaws};
 use crate::named::words_of;
 use crate::outside::{Externals, Outside, Sizes, keep_size};
+use crate::pick::names_of;
 use crate::size::Size;
 use crate::types::{measure, type_flaws};
 use ac_syntax::{SName, SSpec};
@@ -41,9 +42,9 @@ pub fn sig<'a>(
     ensures outside { IfOk result (λ s. members_of s.outside
         ≡ spec_members (known_outside (externals_of externals.now)) (map spec_of specs.now)) }
 {
-    let types = spec_types(alloc, specs)?;
+    let types = names_of(alloc, specs, &SpecTypes)?;
     let type_list = list_flaws(alloc, types.as_slice())?;
-    let names = spec_values(alloc, specs)?;
+    let names = names_of(alloc, specs, &SpecValues)?;
     let value_list = list_flaws(alloc, names.as_slice())?;
     let values = words_of(alloc, names.as_slice())?;
     let walked = walk(alloc, externals, specs)?;
@@ -89,7 +90,7 @@ fn walk_spec<'a>(
     ensures flaws { IfOk result (λ f. f ≡ spec_flaws (known_in scan.old) (spec_of spec.now)) }
     ensures scan { OnOk result (known_in scan.new
         ≡ past_spec (known_in scan.old) (spec_of spec.now)) }
-    ensures types { OnOk result ((t : Bytes) → under types.new t ≡ or_else (under types.old t)
+    ensures types { OnOk result ((t : Bytes) → under types.new t ≡ option_or (under types.old t)
         (beside_name t (spec_size (known_in scan.old) (spec_of spec.now)))) }
 {
     match spec {
@@ -115,7 +116,7 @@ fn put<'a>(
 ) -> Result<(), Memory>
     ensures scan { OnOk result (known_in scan.new
         ≡ with_size name.now.word size (known_in scan.old)) }
-    ensures types { OnOk result ((t : Bytes) → under types.new t ≡ or_else (under types.old t)
+    ensures types { OnOk result ((t : Bytes) → under types.new t ≡ option_or (under types.old t)
         (beside_name t ((name.now.word, size) ∷ []))) }
 {
     keep_size(types, &name.word, size)?;

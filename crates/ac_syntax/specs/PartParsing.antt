@@ -111,9 +111,7 @@ NoSig ts = (sig : SigTree) (rest : List Sign) → IsSig ts sig rest → ⊥
 abbrev pub OnFault : ParseFault → Type 0 → Type 0
 OnFault fault.Memory P = Unit {0}
 OnFault (fault.Syntax at) P = P
-OnFault (fault.TooLong len) P = ⊥
-OnFault (fault.Lexical at) P = ⊥
-OnFault (fault.TooDeep at) P = ⊥
+OnFault _ _ = ⊥
 
 -- the fault that a stop is answered by
 abbrev pub faulted : Stop → ParseFault → Type 0

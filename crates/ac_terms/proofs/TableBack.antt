@@ -2,11 +2,12 @@
 use Rattle.std.proofs.Common.{◌≡◌, refl, sym, ap, subst, ◌∙◌, ℕ, ◌<◌, ◌≤◌, ◌^◌, Bool, true, false, ◌&&◌, List, [], ◌++◌, length, Option, Some, None, append-nil}
 use Rattle.std.specs.Prelude.{slice_get, nat_le, nat_eq, option_and_then, option_map}
 use Rattle.std.specs.List.{list_all}
+use Rattle.std.specs.Option.{option_or}
 use mathlib.Core.Bool.{true≢false}
 use native.Mathlib.Omega.{arith}
 use Rattle.ac_types.proofs.FirstLaws.{none≢some, some_eq}
 use Rattle.ac_types.proofs.Same.{both_true, and_true, bytes_eq, bytes_refl}
-use Rattle.ac_types.specs.First.{given, or_else}
+use Rattle.ac_types.specs.Partial.{given}
 use Rattle.ac_types.specs.Limits.{longest_tabled}
 use Rattle.ac_types.specs.Types.{Bytes, Typ, same_bytes}
 use Rattle.ac_terms.specs.Terms.{Pattern, Expr, PValue}
@@ -150,14 +151,14 @@ table_spelled_is_read bytes p s =
 pub any_read_is_spelled : (bytes : Bytes) (p : Packet) → any_packet_of bytes ≡ Some p → SpellsIn bytes p
 any_read_is_spelled bytes p e = by (packet_of bytes) refl e
   where
-    by : (o : Option Packet) → packet_of bytes ≡ o → or_else o (tabled_packet_of bytes) ≡ Some p → SpellsIn bytes p
+    by : (o : Option Packet) → packet_of bytes ≡ o → option_or o (tabled_packet_of bytes) ≡ Some p → SpellsIn bytes p
     by None q h = ByTable (table_read_is_spelled bytes p h)
     by (Some r) q h = InFull (read_is_spelled bytes p (q ∙ h))
 
 pub any_spelled_is_read : (bytes : Bytes) (p : Packet) → SpellsIn bytes p → any_packet_of bytes ≡ Some p
-any_spelled_is_read bytes p (InFull s) = ap (λ o. or_else o (tabled_packet_of bytes)) (spelled_is_read bytes p s)
+any_spelled_is_read bytes p (InFull s) = ap (λ o. option_or o (tabled_packet_of bytes)) (spelled_is_read bytes p s)
 any_spelled_is_read bytes p (ByTable s) = by (packet_of bytes) refl
   where
-    by : (o : Option Packet) → packet_of bytes ≡ o → or_else o (tabled_packet_of bytes) ≡ Some p
+    by : (o : Option Packet) → packet_of bytes ≡ o → option_or o (tabled_packet_of bytes) ≡ Some p
     by None q = table_spelled_is_read bytes p s
     by (Some r) q = absurd (one_version bytes r p (read_is_spelled bytes r q) s)

@@ -91,67 +91,15 @@ takes ((r ∷ rs) ∷ rest) (suc k) n = takes rest k n
 
 -- a function travels as a lambda or a recursive lambda
 abbrev pub is_lambda : Expr → Bool
-is_lambda (Int n) = false
-is_lambda (Boolean b) = false
-is_lambda (Str s) = false
-is_lambda Unit' = false
-is_lambda (Exn k) = false
-is_lambda (ExnOf k e) = false
-is_lambda (Tuple es) = false
-is_lambda (Nil T) = false
-is_lambda (Empty T) = false
-is_lambda (Present e) = false
-is_lambda (Cons a b) = false
-is_lambda (Var i) = false
-is_lambda (Own f) = false
-is_lambda (Ref j x) = false
 is_lambda (Lam T e) = true
 is_lambda (Rec T U e) = true
-is_lambda (App f a) = false
-is_lambda (Let T e b) = false
-is_lambda (If c a b) = false
-is_lambda (Seq es) = false
-is_lambda (Match e arms) = false
-is_lambda (Try e arms) = false
-is_lambda (Raise T e) = false
-is_lambda (Prim k es) = false
-is_lambda (Marshal T m e) = false
-is_lambda (Unmarshal T e) = false
-is_lambda (Val T v) = false
-is_lambda (Evaluated T v) = false
-is_lambda (Bracket c T e) = false
+is_lambda _ = false
 
 -- whether a term is a lambda, or a recursive one where that is wanted
 abbrev pub is_wanted : Expr → Bool → Bool
-is_wanted (Int n) r = false
-is_wanted (Boolean b) r = false
-is_wanted (Str s) r = false
-is_wanted Unit' r = false
-is_wanted (Exn k) r = false
-is_wanted (ExnOf k e) r = false
-is_wanted (Tuple es) r = false
-is_wanted (Nil T) r = false
-is_wanted (Empty T) r = false
-is_wanted (Present e) r = false
-is_wanted (Cons a b) r = false
-is_wanted (Var i) r = false
-is_wanted (Own f) r = false
-is_wanted (Ref j x) r = false
 is_wanted (Lam T e) r = not r
 is_wanted (Rec T U e) r = r
-is_wanted (App f a) r = false
-is_wanted (Let T e b) r = false
-is_wanted (If c a b) r = false
-is_wanted (Seq es) r = false
-is_wanted (Match e arms) r = false
-is_wanted (Try e arms) r = false
-is_wanted (Raise T e) r = false
-is_wanted (Prim k es) r = false
-is_wanted (Marshal T m e) r = false
-is_wanted (Unmarshal T e) r = false
-is_wanted (Val T v) r = false
-is_wanted (Evaluated T v) r = false
-is_wanted (Bracket c T e) r = false
+is_wanted _ _ = false
 
 abbrev pub fits_home : Home → Bool
 fits_home Main = true

@@ -1,6 +1,7 @@
 -- How packets with a table of types are read. The law that ties the definitions to `SpellsByTable` says all that a reader has to believe.
 use Rattle.std.specs.Prelude.{ℕ, Bool, ◌&&◌, nat_le, List, length, Option, Some, None, option_and_then, option_map, slice_get}
-use Rattle.ac_types.specs.First.{given, or_else}
+use Rattle.std.specs.Option.{option_or}
+use Rattle.ac_types.specs.Partial.{given}
 use Rattle.ac_types.specs.Limits.{longest_tabled, deepest_nesting}
 use Rattle.ac_types.specs.Types.{Bytes, Typ, same_bytes}
 use Rattle.ac_terms.specs.Defs.{Packet}
@@ -31,7 +32,7 @@ tabled_packet_of bytes = option_and_then (λ (r : Packet × Bytes). given (spell
 
 -- the packet that bytes spell in one of its versions
 abbrev pub any_packet_of : Bytes → Option Packet
-any_packet_of bytes = or_else (packet_of bytes) (tabled_packet_of bytes)
+any_packet_of bytes = option_or (packet_of bytes) (tabled_packet_of bytes)
 
 -- a string renewed: where it spells a packet, the one that spells it with a table; any other stays
 abbrev pub renewed : Bytes → Bytes

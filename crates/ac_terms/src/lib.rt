@@ -7,10 +7,12 @@ mod env;
 mod lambda;
 pub mod laws;
 mod pat;
+mod renumber;
 pub mod tags;
 mod term;
 
 pub use def::{Def, Entry, Field, Import, Module, PDef, Packet, Seen};
 pub use env::Env;
 pub use pat::Pat;
+pub use renumber::{Copier, Numbering};
 pub use term::{Arm, Home, PVal, Term};

@@ -21,11 +21,12 @@ use Rattle.ac_answers.specs.declared.status.Status.{Status}
 use Rattle.ac_top.specs.inner.Told.{tells, left_in, sent_in}
 use Rattle.ac_top.specs.Channels.{of_channel, of_console, GetsInput}
 use Rattle.ac_acceptance.specs.Accepting.{Shelved}
-use Rattle.ac_files.specs.Files.{FilesSeen, IsTextOf, Since}
+use Rattle.ac_files.specs.Files.{FilesSeen, IsTextOf, Since, files_read}
 use Rattle.ac_files.specs.ProgramTexts.{IsShelfBy}
 use Rattle.ac_top.specs.Streams.{Feeding, Writing, AllWritten, writing}
-use Rattle.ac_top.specs.Handed.{Handed, what_is_handed, is_told, input_of, IsMade, Untouched, MadeAtMost, MakingFailed}
+use Rattle.ac_top.specs.Handed.{Handed, is_told, input_of, IsMade, Untouched, MadeAtMost, MakingFailed}
 use Rattle.ac_top.specs.Saying.{Said, said, failed, no_memory}
+use Rattle.ac_top.specs.Traits.{SinkOf}
 use Rattle.ac_top.specs.RunEndings.{HasRead}
 use Rattle.ac_top.specs.inner.Runs.{ErrorsApart, Prepared, is_there, MakesFile}
 use Rattle.ac_top.proofs.ChannelLaws.{third}
@@ -88,28 +89,28 @@ said_earlier errors x line status end le (no_memory p) = no_memory p
 abbrev errors_behind : Option ChannelName → Writing → List ℕ → Writing
 errors_behind to e mid = of_console to e (record e { old = mid })
 
-pub said_behind : {Errors : Type 0} (told : Bool) (written : Errors → List ℕ) (faults : Errors → ℕ) (to : Option ChannelName) (e : Writing) (old mid new : Errors) (line : List ℕ) (status end : Status) → e ≡ writing told written faults old new → ErrorsApart to old mid → faults old ≤ faults mid
-    → Said (writing told written faults mid new) line status end → Said (errors_behind to e (written mid)) line status end
-said_behind {Errors} told written faults None e old mid new line status end is apart le s =
-    subst (λ (w : Writing). Said w line status end) (sym is) (subst (λ (m : Errors). Said (writing told written faults m new) line status end) apart s)
-said_behind {Errors} told written faults (Some standard) e old mid new line status end is apart le s =
-    subst (λ (w : Writing). Said (record w { old = written mid }) line status end) (sym is) (said_earlier (writing told written faults mid new) (faults old) line status end le s)
-said_behind {Errors} told written faults (Some (file name)) e old mid new line status end is apart le s =
-    subst (λ (w : Writing). Said w line status end) (sym is) (subst (λ (m : Errors). Said (writing told written faults m new) line status end) apart s)
+pub said_behind : {Errors : Type 0} (sink : SinkOf Errors) (to : Option ChannelName) (e : Writing) (old mid new : Errors) (line : List ℕ) (status end : Status) → e ≡ writing sink old new → ErrorsApart to old mid → sink.faults old ≤ sink.faults mid
+    → Said (writing sink mid new) line status end → Said (errors_behind to e (sink.written mid)) line status end
+said_behind {Errors} sink None e old mid new line status end is apart le s =
+    subst (λ (w : Writing). Said w line status end) (sym is) (subst (λ (m : Errors). Said (writing sink m new) line status end) apart s)
+said_behind {Errors} sink (Some standard) e old mid new line status end is apart le s =
+    subst (λ (w : Writing). Said (record w { old = sink.written mid }) line status end) (sym is) (said_earlier (writing sink mid new) (sink.faults old) line status end le s)
+said_behind {Errors} sink (Some (file name)) e old mid new line status end is apart le s =
+    subst (λ (w : Writing). Said w line status end) (sym is) (subst (λ (m : Errors). Said (writing sink m new) line status end) apart s)
 
-pub told_behind : {Errors : Type 0} (told : Bool) (written : Errors → List ℕ) (faults : Errors → ℕ) (to : Option ChannelName) (e : Writing) (old mid new : Errors) (line other : List ℕ) (status others end : Status) → e ≡ writing told written faults old new → ErrorsApart to old mid → faults old ≤ faults mid
-    → Said (writing told written faults mid new) line status end ⊎ Said (writing told written faults mid new) other others end → Said (errors_behind to e (written mid)) line status end ⊎ Said (errors_behind to e (written mid)) other others end
-told_behind told written faults to e old mid new line other status others end is apart le (inl s) = inl (said_behind told written faults to e old mid new line status end is apart le s)
-told_behind told written faults to e old mid new line other status others end is apart le (inr s) = inr (said_behind told written faults to e old mid new other others end is apart le s)
+pub told_behind : {Errors : Type 0} (sink : SinkOf Errors) (to : Option ChannelName) (e : Writing) (old mid new : Errors) (line other : List ℕ) (status others end : Status) → e ≡ writing sink old new → ErrorsApart to old mid → sink.faults old ≤ sink.faults mid
+    → Said (writing sink mid new) line status end ⊎ Said (writing sink mid new) other others end → Said (errors_behind to e (sink.written mid)) line status end ⊎ Said (errors_behind to e (sink.written mid)) other others end
+told_behind sink to e old mid new line other status others end is apart le (inl s) = inl (said_behind sink to e old mid new line status end is apart le s)
+told_behind sink to e old mid new line other status others end is apart le (inr s) = inr (said_behind sink to e old mid new other others end is apart le s)
 
 -- no line behind a run
-pub still_behind : {Errors : Type 0} (told : Bool) (written : Errors → List ℕ) (faults : Errors → ℕ) (to : Option ChannelName) (e : Writing) (old mid : Errors) → e ≡ writing told written faults old mid → ErrorsApart to old mid → AllWritten (errors_behind to e (written mid)) []
-still_behind told written faults None e old mid is apart =
-    subst (λ (w : Writing). AllWritten w []) (sym is) (λ t. ap written apart ∙ sym (append-nil (written old)))
-still_behind told written faults (Some standard) e old mid is apart =
-    subst (λ (w : Writing). AllWritten (record w { old = written mid }) []) (sym is) (λ t. sym (append-nil (written mid)))
-still_behind told written faults (Some (file name)) e old mid is apart =
-    subst (λ (w : Writing). AllWritten w []) (sym is) (λ t. ap written apart ∙ sym (append-nil (written old)))
+pub still_behind : {Errors : Type 0} (sink : SinkOf Errors) (to : Option ChannelName) (e : Writing) (old mid : Errors) → e ≡ writing sink old mid → ErrorsApart to old mid → AllWritten (errors_behind to e (sink.written mid)) []
+still_behind sink None e old mid is apart =
+    subst (λ (w : Writing). AllWritten w []) (sym is) (λ t. ap sink.written apart ∙ sym (append-nil (sink.written old)))
+still_behind sink (Some standard) e old mid is apart =
+    subst (λ (w : Writing). AllWritten (record w { old = sink.written mid }) []) (sym is) (λ t. sym (append-nil (sink.written mid)))
+still_behind sink (Some (file name)) e old mid is apart =
+    subst (λ (w : Writing). AllWritten w []) (sym is) (λ t. ap sink.written apart ∙ sym (append-nil (sink.written old)))
 
 -- what a run leaves, from other streams in front of it that are the same where they are told
 module _ (told : Bool) (old there new : Streams) (same : IsTrue told → old ≡ there) where
@@ -176,8 +177,21 @@ gets_all (Some channel) t o = λ told. refl
 abbrev pub read_all : (prog : ProgramFiles) (steps : ℕ) (from to : Option ChannelName) (o : Handed) (shelf : List Shelved) → IsShelfBy o.files prog.shelf shelf → (text : Bytes) → IsTextOf (o.files prog.file) text → HasRead prog steps from to o
 read_all prog steps from to o shelf is_shelf text is_text = record { shelf = shelf; is_shelf = is_shelf; text = text; is_text = is_text; input = input_of from o; is_input = gets_all from (is_told from to o) o }
 
+-- what is handed, by what files had and have
+abbrev of_files : Bool → FilesSeen → FilesSeen → Feeding → Bool → Writing → Writing → Handed
+of_files told start now input idle output errors = record {
+  files = files_read told start now;
+  made = λ name. record { told = told; old = or_empty (start.contents name); new = or_empty (now.contents name); before = start.write_faults name; after = now.write_faults name };
+  was = start.contents;
+  is = now.contents;
+  input = input;
+  idle = idle;
+  output = output;
+  errors = errors;
+}
+
 -- files that are as they were
-pub untouched_by : (told : Bool) (start now : FilesSeen) (input : Feeding) (idle : Bool) (output errors : Writing) (to : Option ChannelName) → (IsTrue told → now.contents ≡ start.contents) → Untouched to (what_is_handed told start now input idle output errors)
+pub untouched_by : (told : Bool) (start now : FilesSeen) (input : Feeding) (idle : Bool) (output errors : Writing) (to : Option ChannelName) → (IsTrue told → now.contents ≡ start.contents) → Untouched to (of_files told start now input idle output errors)
 untouched_by told start now input idle output errors None same = tt
 untouched_by told start now input idle output errors (Some standard) same = tt
 untouched_by told start now input idle output errors (Some (file name)) same = λ t. ap (λ (k : Contents). k name) (same t)
@@ -198,7 +212,7 @@ prepared told start old now (Some (file n)) since m = record {
 }
 
 -- a file that has been made empty, and is there still
-pub made_still : (told : Bool) (start old now : FilesSeen) (input : Feeding) (idle : Bool) (output errors : Writing) (to : Option ChannelName) → Prepared told to start old → (IsTrue told → IsTrue (is_there to old.contents) → IsTrue (is_there to now.contents)) → IsMade to (what_is_handed told start now input idle output errors)
+pub made_still : (told : Bool) (start old now : FilesSeen) (input : Feeding) (idle : Bool) (output errors : Writing) (to : Option ChannelName) → Prepared told to start old → (IsTrue told → IsTrue (is_there to old.contents) → IsTrue (is_there to now.contents)) → IsMade to (of_files told start now input idle output errors)
 made_still told start old now input idle output errors None p still = tt
 made_still told start old now input idle output errors (Some standard) p still = tt
 made_still told start old now input idle output errors (Some (file name)) p still = λ t. still t (ap is_some (p.emptied t))
@@ -213,7 +227,7 @@ at_most told start old now name put.Done undone since m t = absurd (undone refl)
 at_most told start old now name put.Failed undone since m t = made_or_not start old now name (since.same t) (m t)
 at_most told start old now name put.Memory undone since m t = made_or_not start old now name (since.same t) (m t)
 
-pub made_at_most : (told : Bool) (start old now : FilesSeen) (input : Feeding) (idle : Bool) (output errors : Writing) (to : Option ChannelName) (p : Put) → (p ≡ put.Done → ⊥) → Since told start old → MakesFile to told p old now → MadeAtMost to (what_is_handed told start now input idle output errors)
+pub made_at_most : (told : Bool) (start old now : FilesSeen) (input : Feeding) (idle : Bool) (output errors : Writing) (to : Option ChannelName) (p : Put) → (p ≡ put.Done → ⊥) → Since told start old → MakesFile to told p old now → MadeAtMost to (of_files told start now input idle output errors)
 made_at_most told start old now input idle output errors None p undone since m = tt
 made_at_most told start old now input idle output errors (Some standard) p undone since m = tt
 made_at_most told start old now input idle output errors (Some (file name)) p undone since m = at_most told start old now name p undone since m.0
@@ -221,7 +235,7 @@ made_at_most told start old now input idle output errors (Some (file name)) p un
 failed≢done : put.Failed ≡ put.Done → ⊥
 failed≢done is = absurd cc
 
-pub making_failed : (told : Bool) (start old now : FilesSeen) (input : Feeding) (idle : Bool) (output errors : Writing) (to : Option ChannelName) → Since told start old → MakesFile to told put.Failed old now → MakingFailed to (what_is_handed told start now input idle output errors)
+pub making_failed : (told : Bool) (start old now : FilesSeen) (input : Feeding) (idle : Bool) (output errors : Writing) (to : Option ChannelName) → Since told start old → MakesFile to told put.Failed old now → MakingFailed to (of_files told start now input idle output errors)
 making_failed told start old now input idle output errors None since m = absurd (failed≢done m.0)
 making_failed told start old now input idle output errors (Some standard) since m = absurd (failed≢done m.0)
 making_failed told start old now input idle output errors (Some (file name)) since m = rose_earlier (start.write_faults name) (old.write_faults name) (now.write_faults name) (since.writes name) (m.1.1.0 refl)

@@ -7,7 +7,7 @@ use Rattle.ac_types.specs.declared.exceptions.Exn.{Exn}
 use Rattle.ac_terms.specs.Read.{environment_of, expr_of}
 use Rattle.ac_rules.specs.Views.{Mode, Coloured}
 use Rattle.ac_rules.specs.declared.loaded.Loaded.{Loaded}
-use Rattle.ac_machine.specs.Seen.{MachineSeen}
+use Rattle.ac_machine_engine.specs.Seen.{MachineSeen}
 use Rattle.ac_meaning.specs.Reduction.{Ends}
 use Rattle.ac_meaning.specs.Worlds.{Exception}
 use Rattle.ac_meaning.specs.Acts.{Outcome, Returned, Raised, Spent, Stuck, writes_of, receives_of}

@@ -4,8 +4,9 @@ use Rattle.ac_outside.specs.Outside.{Contents, Rose, or_empty}
 use Rattle.ac_command.specs.Commands.{ChannelName, standard, file}
 use Rattle.ac_run.specs.Sessions.{Streams, streams}
 use Rattle.ac_top.specs.Channels.{of_channel, of_console}
-use Rattle.ac_files.specs.Files.{FilesSeen, Reading, files_read}
-use Rattle.ac_top.specs.Streams.{Feeding, Writing}
+use Rattle.ac_files.specs.Files.{FilesSeen, Reading, files_seen, files_read}
+use Rattle.ac_top.specs.Streams.{Feeding, Writing, feeding, writing}
+use Rattle.ac_top.specs.Traits.{FilesOf, SourceOf, SinkOf}
 
 -- the files as they are read and as they are written, what each has before and after, the streams, and whether input is known to be as it was
 pub record Handed : Type 0 where
@@ -18,18 +19,41 @@ pub record Handed : Type 0 where
   pub output : Writing
   pub errors : Writing
 
--- files whose contents are told or not, before a call and after it, and the streams
-abbrev pub what_is_handed : Bool → FilesSeen → FilesSeen → Feeding → Bool → Writing → Writing → Handed
-what_is_handed told old new input idle output errors = record {
-  files = files_read told old new;
-  made = λ name. record { told = told; old = or_empty (old.contents name); new = or_empty (new.contents name); before = old.write_faults name; after = new.write_faults name };
-  was = old.contents;
-  is = new.contents;
-  input = input;
-  idle = idle;
-  output = output;
-  errors = errors;
-}
+-- what a call works on
+pub record Call (F I O E : Type 0) : Type 0 where
+  pub files : F
+  pub input : I
+  pub output : O
+  pub errors : E
+
+abbrev pub call : {F I O E : Type 0} → F → I → O → E → Call F I O E
+call files input output errors = record { files = files; input = input; output = output; errors = errors }
+
+-- what files have and count
+abbrev pub seen : {F : Type 0} → FilesOf F → F → FilesSeen
+seen f files = files_seen f.contents f.read_faults f.write_faults files
+
+-- files as they are read, before a call and after it
+abbrev pub reading : {F : Type 0} → FilesOf F → F → F → List ℕ → Reading
+reading f old new = files_read f.told (seen f old) (seen f new)
+
+module _ {F I O E : Type 0} (f : FilesOf F) (i : SourceOf I) (o : SinkOf O) (e : SinkOf E) where
+  -- what is handed from the start of a call on, when files were so, streams as the first of these has them, and all is now as in the second
+  abbrev pub handed_since : FilesSeen → Call F I O E → Call F I O E → Bool → Handed
+  handed_since start old new idle = record {
+    files = files_read f.told start (seen f new.files);
+    made = λ name. record { told = f.told; old = or_empty (start.contents name); new = or_empty (f.contents new.files name); before = start.write_faults name; after = f.write_faults new.files name };
+    was = start.contents;
+    is = f.contents new.files;
+    input = feeding i old.input new.input;
+    idle = idle;
+    output = writing o old.output new.output;
+    errors = writing e old.errors new.errors;
+  }
+
+  -- what a call is handed, before it and after it
+  abbrev pub handed : Call F I O E → Call F I O E → Bool → Handed
+  handed old new idle = handed_since (seen f old.files) old new idle
 
 -- whether all is told of what a run with these channels reads from and writes to
 abbrev pub is_told : Option ChannelName → Option ChannelName → Handed → Bool

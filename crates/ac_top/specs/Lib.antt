@@ -7,4 +7,5 @@ pub mod Requests
 pub mod RunEndings
 pub mod Saying
 pub mod Streams
+pub mod Traits
 pub mod inner

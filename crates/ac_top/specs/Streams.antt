@@ -2,6 +2,7 @@
 use Rattle.std.specs.Prelude.{◌≡◌, ℕ, Bool, IsTrue, List, [], ◌∷◌, ◌++◌, codes}
 use Rattle.std.specs.Fmt.{decimal}
 use Rattle.ac_outside.specs.Outside.{Extends}
+use Rattle.ac_top.specs.Traits.{SourceOf, SinkOf}
 
 -- a stream or a file: what was written to it before and after the call, where that is told, and its count of failed writes
 pub record Writing : Type 0 where
@@ -20,14 +21,14 @@ pub record Feeding : Type 0 where
   pub after : ℕ
 
 -- such a stream, by what it has left and counts, before and after the call
-abbrev pub feeding : {Source : Type 0} → Bool → (Source → List ℕ) → (Source → ℕ) → Source → Source → Feeding
-feeding told left faults old new =
-    record { told = told; old = left old; new = left new; before = faults old; after = faults new }
+abbrev pub feeding : {S : Type 0} → SourceOf S → S → S → Feeding
+feeding source old new =
+    record { told = source.told; old = source.left old; new = source.left new; before = source.read_faults old; after = source.read_faults new }
 
 -- a stream, by what it has and counts, before and after the call
-abbrev pub writing : {Sink : Type 0} → Bool → (Sink → List ℕ) → (Sink → ℕ) → Sink → Sink → Writing
-writing told bytes faults old new =
-    record { told = told; old = bytes old; new = bytes new; before = faults old; after = faults new }
+abbrev pub writing : {S : Type 0} → SinkOf S → S → S → Writing
+writing sink old new =
+    record { told = sink.told; old = sink.written old; new = sink.written new; before = sink.faults old; after = sink.faults new }
 
 -- exactly this was written
 abbrev pub AllWritten : Writing → List ℕ → Type 0

@@ -1,5 +1,6 @@
 pub mod Counts
 pub mod Runs
+pub mod RunCommands
 pub mod Apart
 pub mod ChainDelivered
 pub mod Asked

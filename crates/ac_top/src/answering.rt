@@ -1,10 +1,11 @@
 // The commands that print what they find.
 ghost use Rattle.std.specs.Prelude.{◌≡◌, None, IsTrue, map, option_map};
 ghost use Rattle.ac_types.specs.Types.{Bytes};
-ghost use Rattle.ac_files.specs.Files.{Reading, files_seen, files_read};
+ghost use Rattle.ac_files.specs.Files.{Reading};
 ghost use Rattle.ac_files.specs.ManyTexts.{ReadInTurn};
 ghost use Rattle.ac_command.specs.Commands.{check, files_of, make};
 ghost use Rattle.ac_top.specs.Streams.{writing};
+ghost use Rattle.ac_top.specs.Handed.{reading};
 ghost use Rattle.ac_top.specs.Endings.{AnswerEnded};
 ghost use Rattle.ac_top.specs.inner.Asked.{showing};
 
@@ -26,11 +27,9 @@ pub fn show_file<F: Files, O: Sink, E: Sink>(
     output: &mut O,
     errors: &mut E,
 ) -> Status
-    ensures ends { AnswerEnded (showing what (files_of program.entry)) (files_read F.told
-        (files_seen F.contents F.read_faults F.write_faults files.old)
-        (files_seen F.contents F.read_faults F.write_faults files.new))
-        (writing O.told O.written O.faults output.old output.new)
-        (writing E.told E.written E.faults errors.old errors.new) result }
+    ensures ends { AnswerEnded (showing what (files_of program.entry))
+        (reading F.Files files.old files.new) (writing O.Sink output.old output.new)
+        (writing E.Sink errors.old errors.new) result }
     ensures same { IsTrue F.told → F.contents files.new ≡ F.contents files.old }
     ensures only { (files_of program.entry).shelf ≡ None →
         F.reads (files_of program.entry).file files.old files.new }
@@ -56,11 +55,8 @@ pub fn check_files<R: Threads + Sync, F: Files, O: Sink, E: Sink, G: Gate + Sync
     gate: &G,
 ) -> Status
     ensures ends { AnswerEnded (check (map (λ s. s.now) names.now)
-        (option_map (λ s. s.now) list.entry)) (files_read F.told
-        (files_seen F.contents F.read_faults F.write_faults files.old)
-        (files_seen F.contents F.read_faults F.write_faults files.new))
-        (writing O.told O.written O.faults output.old output.new)
-        (writing E.told E.written E.faults errors.old errors.new) result }
+        (option_map (λ s. s.now) list.entry)) (reading F.Files files.old files.new)
+        (writing O.Sink output.old output.new) (writing E.Sink errors.old errors.new) result }
     ensures same { IsTrue F.told → F.contents files.new ≡ F.contents files.old }
     ensures only { option_map (λ s. s.now) list.entry ≡ None →
         ReadInTurn F.reads (map (λ s. s.now) names.now) files.old files.new }
@@ -83,8 +79,7 @@ pub fn make_program<O: Sink, E: Sink>(
 ) -> Status
     ensures { (files : Bytes → Reading) → AnswerEnded
         (make program.seed program.modules program.runs) files
-        (writing O.told O.written O.faults output.old output.new)
-        (writing E.told E.written E.faults errors.old errors.new) result }
+        (writing O.Sink output.old output.new) (writing E.Sink errors.old errors.new) result }
 {
     let found = make(alloc, program.seed, program.modules, program.runs);
     deliver(found, output, errors)

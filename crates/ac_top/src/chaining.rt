@@ -3,10 +3,10 @@ ghost use Rattle.std.specs.Prelude.{◌≡◌, ◌<◌, ◌≤◌, ◌^◌, None
 ghost use Rattle.ac_types.specs.Limits.{most_shelf_entries, most_chained};
 ghost use Rattle.ac_acceptance.specs.Accepting.{IsShelf};
 ghost use Rattle.ac_load.specs.Loading.{shelf_of};
-ghost use Rattle.ac_files.specs.Files.{files_seen, files_read};
 ghost use Rattle.ac_files.specs.ManyTexts.{ReadInTurn};
 ghost use Rattle.ac_chain.specs.ChainTexts.{texts_of};
 ghost use Rattle.ac_top.specs.Streams.{writing};
+ghost use Rattle.ac_top.specs.Handed.{reading};
 ghost use Rattle.ac_top.specs.ChainEndings.{ChainEnded};
 ghost use Rattle.ac_top.specs.inner.ChainDelivered.{ChainDelivered};
 
@@ -32,11 +32,8 @@ pub fn chain_files<F: Files, O: Sink, E: Sink>(
 ) -> Status
     requires { length programs.now ≤ most_chained }
     ensures ends { ChainEnded (map (λ s. s.now) programs.now) (option_map (λ s. s.now) list.entry)
-        steps (files_read F.told
-        (files_seen F.contents F.read_faults F.write_faults files.old)
-        (files_seen F.contents F.read_faults F.write_faults files.new))
-        (writing O.told O.written O.faults output.old output.new)
-        (writing E.told E.written E.faults errors.old errors.new) result }
+        steps (reading F.Files files.old files.new)
+        (writing O.Sink output.old output.new) (writing E.Sink errors.old errors.new) result }
     ensures same { IsTrue F.told → F.contents files.new ≡ F.contents files.old }
     ensures only { option_map (λ s. s.now) list.entry ≡ None →
         ReadInTurn F.reads (map (λ s. s.now) programs.now) files.old files.new }
@@ -60,8 +57,7 @@ fn chain_texts<O: Sink, E: Sink>(
     requires few { length shelf.now.0 ≤ most_shelf_entries }
     requires shelved { IsShelf (shelf_of shelf.now) }
     ensures { ChainDelivered (texts_of texts.now) (shelf_of shelf.now) steps
-        (writing O.told O.written O.faults output.old output.new)
-        (writing E.told E.written E.faults errors.old errors.new) result }
+        (writing O.Sink output.old output.new) (writing E.Sink errors.old errors.new) result }
 {
     match run_chain(alloc, texts, shelf, steps, output) {
         Ok(answer) => deliver_answer(&answer, output, errors),

@@ -16,8 +16,8 @@ pub fn deliver<O: Sink, E: Sink>(
     output: &mut O,
     errors: &mut E,
 ) -> Status
-    ensures { DeliveredIfFound found (writing O.told O.written O.faults output.old output.new)
-        (writing E.told E.written E.faults errors.old errors.new) result }
+    ensures { DeliveredIfFound found (writing O.Sink output.old output.new)
+        (writing E.Sink errors.old errors.new) result }
 {
     match found {
         Ok(answer) => deliver_answer(&answer, output, errors),
@@ -27,8 +27,8 @@ pub fn deliver<O: Sink, E: Sink>(
 
 /// Prints what an answer prints, and then writes its line.
 pub fn deliver_answer<O: Sink, E: Sink>(answer: &Answer, output: &mut O, errors: &mut E) -> Status
-    ensures { Delivered answer.now (writing O.told O.written O.faults output.old output.new)
-        (writing E.told E.written E.faults errors.old errors.new) result }
+    ensures { Delivered answer.now (writing O.Sink output.old output.new)
+        (writing E.Sink errors.old errors.new) result }
 {
     match print(answer.printed.as_slice(), output) {
         Put::Done => say_if_any(answer.line.as_slice(), answer.status, errors),
@@ -52,8 +52,7 @@ fn print<O: Sink>(bytes: &[u8], output: &mut O) -> Put
 
 // Writes a line, if it is one, before an end with this status.
 fn say_if_any<E: Sink>(line: &[u8], status: Status, errors: &mut E) -> Status
-    ensures { SaidIfAny (writing E.told E.written E.faults errors.old errors.new) line.now status
-        result }
+    ensures { SaidIfAny (writing E.Sink errors.old errors.new) line.now status result }
 {
     if line.is_empty() {
         return status;

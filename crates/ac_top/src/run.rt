@@ -1,20 +1,16 @@
 // The command that runs the program of a file.
-ghost use Rattle.std.specs.Prelude.{◌≡◌, ◌≤◌, Bool, List, None, false, IsTrue, length, is_some, option_map};
+ghost use Rattle.std.specs.Prelude.{◌≡◌, ◌≤◌, Bool, None, false, IsTrue, length, option_map};
 ghost use Rattle.ac_types.specs.Limits.{most_shelf_entries};
-ghost use Rattle.ac_types.specs.Types.{Bytes};
 ghost use Rattle.ac_types.specs.ReadTypes.{typ_of};
 ghost use Rattle.ac_terms.specs.Read.{environment_of, expr_of};
 ghost use Rattle.ac_meaning.specs.Loads.{IsLoaded};
-ghost use Rattle.ac_acceptance.specs.Accepting.{IsShelf, Shelved};
-ghost use Rattle.ac_load.specs.Loading.{Loads, shelf_of};
-ghost use Rattle.ac_files.specs.Files.{FilesSeen, files_seen, IsTextOf, Since};
-ghost use Rattle.ac_files.specs.ProgramTexts.{IsShelfBy};
-ghost use Rattle.ac_run.specs.Course.{begun};
+ghost use Rattle.ac_acceptance.specs.Accepting.{IsShelf};
+ghost use Rattle.ac_load.specs.Loading.{shelf_of};
+ghost use Rattle.ac_files.specs.Files.{FilesSeen};
 ghost use Rattle.ac_command.specs.Commands.{are_one, channel_of, files_of};
 ghost use Rattle.ac_top.specs.Channels.{KeptBut, NoFile, NotStandard};
-ghost use Rattle.ac_top.specs.Streams.{feeding, writing};
-ghost use Rattle.ac_top.specs.Handed.{what_is_handed};
-ghost use Rattle.ac_top.specs.RunEndings.{RunEnded};
+ghost use Rattle.ac_top.specs.Handed.{call, seen, handed, handed_since};
+ghost use Rattle.ac_top.specs.inner.RunCommands.{from_of, to_of, HasRun, HasRunText, HasRunLoaded, HasRunBegun, HoldsSince};
 ghost use Rattle.ac_top.specs.inner.Runs.{Prepared, MakesFile};
 
 use crate::saying::{no_memory, refuse, say, tell_spent, tell_uncaught, tell_unread};
@@ -37,22 +33,15 @@ pub fn run_file<F: Files, I: Source, O: Sink, E: Sink>(
     output: &mut O,
     errors: &mut E,
 ) -> Status
-    requires { are_one (option_map channel_of run.input) (option_map channel_of run.output) ≡
-        false }
+    requires { are_one (from_of run) (to_of run) ≡ false }
     ensures ends { (idle : Bool) × (IsTrue idle → input.new ≡ input.old) ×
-        RunEnded (files_of run.entry.program) run.entry.steps
-        (option_map channel_of run.entry.input)
-        (option_map channel_of run.entry.output) (what_is_handed F.told
-        (files_seen F.contents F.read_faults F.write_faults files.old)
-        (files_seen F.contents F.read_faults F.write_faults files.new)
-        (feeding I.told I.left I.read_faults input.old input.new) idle
-        (writing O.told O.written O.faults output.old output.new)
-        (writing E.told E.written E.faults errors.old errors.new)) result }
-    ensures kept { IsTrue F.told → KeptBut (option_map channel_of run.entry.output)
-        (F.contents files.old) (F.contents files.new) }
-    ensures idle { NotStandard (option_map channel_of run.entry.input) → input.new ≡ input.old }
-    ensures only { NoFile (option_map channel_of run.entry.input) →
-        NoFile (option_map channel_of run.entry.output) →
+        HasRun run.entry (handed F.Files I.Source O.Sink E.Sink
+        (call files.old input.old output.old errors.old)
+        (call files.new input.new output.new errors.new) idle) result }
+    ensures kept { IsTrue F.told →
+        KeptBut (to_of run.entry) (F.contents files.old) (F.contents files.new) }
+    ensures idle { NotStandard (from_of run.entry) → input.new ≡ input.old }
+    ensures only { NoFile (from_of run.entry) → NoFile (to_of run.entry) →
         (files_of run.entry.program).shelf ≡ None →
         F.reads (files_of run.entry.program).file files.old files.new }
 {
@@ -72,28 +61,18 @@ fn run_texts<F: Files, I: Source, O: Sink, E: Sink>(
     output: &mut O,
     errors: &mut E,
 ) -> Status
-    requires apart { are_one (option_map channel_of run.input) (option_map channel_of run.output)
-        ≡ false }
+    requires apart { are_one (from_of run) (to_of run) ≡ false }
     requires few { length texts.shelf.0 ≤ most_shelf_entries }
     requires shelved { IsShelf (shelf_of texts.shelf) }
-    ensures ends { (idle : Bool) × (IsTrue idle → input.new ≡ input.old) ×
-        ((start : FilesSeen) → Since F.told start
-        (files_seen F.contents F.read_faults F.write_faults files.old) →
-        let o = what_is_handed F.told start (files_seen F.contents F.read_faults F.write_faults
-        files.new)
-        (feeding I.told I.left I.read_faults input.old input.new) idle
-        (writing O.told O.written O.faults output.old output.new)
-        (writing E.told E.written E.faults errors.old errors.new) in
-        IsShelfBy o.files (files_of run.entry.program).shelf (shelf_of texts.shelf) →
-        IsTextOf (o.files (files_of run.entry.program).file) texts.program.0 →
-        RunEnded (files_of run.entry.program) run.entry.steps
-        (option_map channel_of run.entry.input)
-        (option_map channel_of run.entry.output) o result) }
-    ensures kept { IsTrue F.told → KeptBut (option_map channel_of run.entry.output)
-        (F.contents files.old) (F.contents files.new) }
-    ensures idle { NotStandard (option_map channel_of run.entry.input) → input.new ≡ input.old }
-    ensures only { NoFile (option_map channel_of run.entry.input) →
-        NoFile (option_map channel_of run.entry.output) → files.new ≡ files.old }
+    ensures ends { HoldsSince F.Files I.Source O.Sink E.Sink
+        (call files.old input.old output.old errors.old)
+        (call files.new input.new output.new errors.new)
+        (λ o. HasRunText run.entry (shelf_of texts.shelf) texts.program.0 o result) }
+    ensures kept { IsTrue F.told →
+        KeptBut (to_of run.entry) (F.contents files.old) (F.contents files.new) }
+    ensures idle { NotStandard (from_of run.entry) → input.new ≡ input.old }
+    ensures only { NoFile (from_of run.entry) → NoFile (to_of run.entry) →
+        files.new ≡ files.old }
 {
     match load(alloc, texts.program.as_slice(), &texts.shelf) {
         Ok(loaded) => run_program(alloc, loaded, run, files, input, output, errors),
@@ -111,29 +90,18 @@ fn run_program<F: Files, I: Source, O: Sink, E: Sink>(
     output: &mut O,
     errors: &mut E,
 ) -> Status
-    requires apart { are_one (option_map channel_of run.input) (option_map channel_of run.output)
-        ≡ false }
+    requires apart { are_one (from_of run) (to_of run) ≡ false }
     requires loaded { IsLoaded (environment_of loaded.env) (expr_of loaded.main)
         (typ_of loaded.ty) }
-    ensures ends { (idle : Bool) × (IsTrue idle → input.new ≡ input.old) ×
-        ((start : FilesSeen) → Since F.told start
-        (files_seen F.contents F.read_faults F.write_faults files.old) →
-        let o = what_is_handed F.told start (files_seen F.contents F.read_faults F.write_faults
-        files.new)
-        (feeding I.told I.left I.read_faults input.old input.new) idle
-        (writing O.told O.written O.faults output.old output.new)
-        (writing E.told E.written E.faults errors.old errors.new) in
-        (shelf : List Shelved) → IsShelfBy o.files (files_of run.entry.program).shelf shelf →
-        (text : Bytes) → IsTextOf (o.files (files_of run.entry.program).file) text →
-        Loads text shelf (environment_of loaded.env) (expr_of loaded.main) (typ_of loaded.ty) →
-        RunEnded (files_of run.entry.program) run.entry.steps
-        (option_map channel_of run.entry.input)
-        (option_map channel_of run.entry.output) o result) }
-    ensures kept { IsTrue F.told → KeptBut (option_map channel_of run.entry.output)
-        (F.contents files.old) (F.contents files.new) }
-    ensures idle { NotStandard (option_map channel_of run.entry.input) → input.new ≡ input.old }
-    ensures only { NoFile (option_map channel_of run.entry.input) →
-        NoFile (option_map channel_of run.entry.output) → files.new ≡ files.old }
+    ensures ends { HoldsSince F.Files I.Source O.Sink E.Sink
+        (call files.old input.old output.old errors.old)
+        (call files.new input.new output.new errors.new)
+        (λ o. HasRunLoaded run.entry loaded o result) }
+    ensures kept { IsTrue F.told →
+        KeptBut (to_of run.entry) (F.contents files.old) (F.contents files.new) }
+    ensures idle { NotStandard (from_of run.entry) → input.new ≡ input.old }
+    ensures only { NoFile (from_of run.entry) → NoFile (to_of run.entry) →
+        files.new ≡ files.old }
 {
     match Session::new(alloc, loaded, run.steps, run.output.is_some()) {
         Ok(mut session) => {
@@ -155,31 +123,16 @@ fn make_and_run<F: Files, I: Source, O: Sink, E: Sink>(
     output: &mut O,
     errors: &mut E,
 ) -> Status
-    requires apart { are_one (option_map channel_of run.input) (option_map channel_of run.output)
-        ≡ false }
-    ensures ends { (idle : Bool) × (IsTrue idle → input.new ≡ input.old) ×
-        ((start : FilesSeen) → Since F.told start
-        (files_seen F.contents F.read_faults F.write_faults files.old) →
-        let o = what_is_handed F.told start (files_seen F.contents F.read_faults F.write_faults
-        files.new)
-        (feeding I.told I.left I.read_faults input.old input.new) idle
-        (writing O.told O.written O.faults output.old output.new)
-        (writing E.told E.written E.faults errors.old errors.new) in
-        (shelf : List Shelved) → IsShelfBy o.files (files_of run.entry.program).shelf shelf →
-        (text : Bytes) → IsTextOf (o.files (files_of run.entry.program).file) text →
-        (loaded : Loaded) →
-        IsLoaded (environment_of loaded.env) (expr_of loaded.main) (typ_of loaded.ty) →
-        Loads text shelf (environment_of loaded.env) (expr_of loaded.main) (typ_of loaded.ty) →
-        session.old ≡ begun loaded run.entry.steps
-        (is_some (option_map channel_of run.entry.output)) session.old.machine →
-        RunEnded (files_of run.entry.program) run.entry.steps
-        (option_map channel_of run.entry.input)
-        (option_map channel_of run.entry.output) o result) }
-    ensures kept { IsTrue F.told → KeptBut (option_map channel_of run.entry.output)
-        (F.contents files.old) (F.contents files.new) }
-    ensures idle { NotStandard (option_map channel_of run.entry.input) → input.new ≡ input.old }
-    ensures only { NoFile (option_map channel_of run.entry.input) →
-        NoFile (option_map channel_of run.entry.output) → files.new ≡ files.old }
+    requires apart { are_one (from_of run) (to_of run) ≡ false }
+    ensures ends { HoldsSince F.Files I.Source O.Sink E.Sink
+        (call files.old input.old output.old errors.old)
+        (call files.new input.new output.new errors.new)
+        (λ o. HasRunBegun run.entry session.old o result) }
+    ensures kept { IsTrue F.told →
+        KeptBut (to_of run.entry) (F.contents files.old) (F.contents files.new) }
+    ensures idle { NotStandard (from_of run.entry) → input.new ≡ input.old }
+    ensures only { NoFile (from_of run.entry) → NoFile (to_of run.entry) →
+        files.new ≡ files.old }
 {
     match make_channel(run.output, files) {
         Put::Done => run_session(alloc, session, run, files, input, output, errors),
@@ -191,8 +144,7 @@ fn make_and_run<F: Files, I: Source, O: Sink, E: Sink>(
 // Makes the file of a channel empty, if the channel is one.
 fn make_channel<F: Files>(to: Option<Channel>, files: &mut F) -> Put
     ensures makes { MakesFile (option_map channel_of to.entry) F.told result
-        (files_seen F.contents F.read_faults F.write_faults files.old)
-        (files_seen F.contents F.read_faults F.write_faults files.new) }
+        (seen F.Files files.old) (seen F.Files files.new) }
     ensures only { NoFile (option_map channel_of to.entry) → files.new ≡ files.old }
 {
     match to {
@@ -211,31 +163,17 @@ fn run_session<F: Files, I: Source, O: Sink, E: Sink>(
     output: &mut O,
     errors: &mut E,
 ) -> Status
-    requires apart { are_one (option_map channel_of run.input) (option_map channel_of run.output)
-        ≡ false }
-    ensures ends { (start : FilesSeen) → Prepared F.told
-        (option_map channel_of run.entry.output) start
-        (files_seen F.contents F.read_faults F.write_faults files.old) →
-        let o = what_is_handed F.told start (files_seen F.contents F.read_faults F.write_faults
-        files.new)
-        (feeding I.told I.left I.read_faults input.old input.new) false
-        (writing O.told O.written O.faults output.old output.new)
-        (writing E.told E.written E.faults errors.old errors.new) in
-        (shelf : List Shelved) → IsShelfBy o.files (files_of run.entry.program).shelf shelf →
-        (text : Bytes) → IsTextOf (o.files (files_of run.entry.program).file) text →
-        (loaded : Loaded) →
-        IsLoaded (environment_of loaded.env) (expr_of loaded.main) (typ_of loaded.ty) →
-        Loads text shelf (environment_of loaded.env) (expr_of loaded.main) (typ_of loaded.ty) →
-        session.old ≡ begun loaded run.entry.steps
-        (is_some (option_map channel_of run.entry.output)) session.old.machine →
-        RunEnded (files_of run.entry.program) run.entry.steps
-        (option_map channel_of run.entry.input)
-        (option_map channel_of run.entry.output) o result }
-    ensures kept { IsTrue F.told → KeptBut (option_map channel_of run.entry.output)
-        (F.contents files.old) (F.contents files.new) }
-    ensures idle { NotStandard (option_map channel_of run.entry.input) → input.new ≡ input.old }
-    ensures only { NoFile (option_map channel_of run.entry.input) →
-        NoFile (option_map channel_of run.entry.output) → files.new ≡ files.old }
+    requires apart { are_one (from_of run) (to_of run) ≡ false }
+    ensures ends { (start : FilesSeen) →
+        Prepared F.told (to_of run.entry) start (seen F.Files files.old) →
+        HasRunBegun run.entry session.old (handed_since F.Files I.Source O.Sink E.Sink start
+        (call files.old input.old output.old errors.old)
+        (call files.new input.new output.new errors.new) false) result }
+    ensures kept { IsTrue F.told →
+        KeptBut (to_of run.entry) (F.contents files.old) (F.contents files.new) }
+    ensures idle { NotStandard (from_of run.entry) → input.new ≡ input.old }
+    ensures only { NoFile (from_of run.entry) → NoFile (to_of run.entry) →
+        files.new ≡ files.old }
 {
     let (from, to) = (run.input, run.output);
     match run_among(alloc, session, from, to, files, input, output, errors) {

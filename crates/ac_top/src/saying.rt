@@ -16,7 +16,7 @@ use std::alloc::{AllocError, Global};
 
 /// Writes the line of a refusal.
 pub fn refuse<E: Sink>(alloc: Global, refusal: Refusal, errors: &mut E) -> Status
-    ensures { let stream = writing E.told E.written E.faults errors.old errors.new
+    ensures { let stream = writing E.Sink errors.old errors.new
         in (Said stream (refusal_line refusal.part refusal.kind) REFUSED result ×
         (refusal.kind ≡ Kind.Memory → ⊥)) ⊎ Said stream memory_line OUT_OF_MEMORY result }
 {
@@ -28,7 +28,7 @@ pub fn refuse<E: Sink>(alloc: Global, refusal: Refusal, errors: &mut E) -> Statu
 
 /// Says why texts weren't read.
 pub fn tell_unread<E: Sink>(alloc: Global, fault: TextsFault, errors: &mut E) -> Status
-    ensures { SaysUnread fault (writing E.told E.written E.faults errors.old errors.new) result }
+    ensures { SaysUnread fault (writing E.Sink errors.old errors.new) result }
 {
     match fault {
         TextsFault::Line(number) => tell_bad_line(alloc, number, errors),
@@ -39,7 +39,7 @@ pub fn tell_unread<E: Sink>(alloc: Global, fault: TextsFault, errors: &mut E) ->
 
 // Writes the line of a shelf's list that has a bad line.
 fn tell_bad_line<E: Sink>(alloc: Global, number: u32, errors: &mut E) -> Status
-    ensures { let stream = writing E.told E.written E.faults errors.old errors.new
+    ensures { let stream = writing E.Sink errors.old errors.new
         in Said stream (shelf_line number) SHELF_REFUSED result ⊎
         Said stream memory_line OUT_OF_MEMORY result }
 {
@@ -57,7 +57,7 @@ fn shelf_line(alloc: Global, number: u32) -> Result<String, AllocError>
 
 /// Writes the line of an exception.
 pub fn tell_uncaught<E: Sink>(alloc: Global, exn: &Exn, errors: &mut E) -> Status
-    ensures { let stream = writing E.told E.written E.faults errors.old errors.new
+    ensures { let stream = writing E.Sink errors.old errors.new
         in Said stream (uncaught_line (exn_of exn.now)) UNCAUGHT result ⊎
         Said stream memory_line OUT_OF_MEMORY result }
 {
@@ -69,7 +69,7 @@ pub fn tell_uncaught<E: Sink>(alloc: Global, exn: &Exn, errors: &mut E) -> Statu
 
 /// Writes the line of a budget that is spent.
 pub fn tell_spent<E: Sink>(alloc: Global, budget: u64, errors: &mut E) -> Status
-    ensures { let stream = writing E.told E.written E.faults errors.old errors.new
+    ensures { let stream = writing E.Sink errors.old errors.new
         in Said stream (spent_line budget) SPENT result ⊎
         Said stream memory_line OUT_OF_MEMORY result }
 {
@@ -81,24 +81,21 @@ pub fn tell_spent<E: Sink>(alloc: Global, budget: u64, errors: &mut E) -> Status
 
 /// Writes the line of words that give no command.
 pub fn refuse_words<E: Sink>(errors: &mut E) -> Status
-    ensures { Said (writing E.told E.written E.faults errors.old errors.new) words_line
-        WORDS_REFUSED result }
+    ensures { Said (writing E.Sink errors.old errors.new) words_line WORDS_REFUSED result }
 {
     say(errors, b"acute: words refused\n", Status::WORDS_REFUSED)
 }
 
 /// Writes the line of want of memory.
 pub fn no_memory<E: Sink>(errors: &mut E) -> Status
-    ensures { Said (writing E.told E.written E.faults errors.old errors.new) memory_line
-        OUT_OF_MEMORY result }
+    ensures { Said (writing E.Sink errors.old errors.new) memory_line OUT_OF_MEMORY result }
 {
     say(errors, b"acute: out of memory\n", Status::OUT_OF_MEMORY)
 }
 
 /// Writes a line on errors, before an end with this status.
 pub fn say<E: Sink>(errors: &mut E, line: &[u8], status: Status) -> Status
-    ensures said { Said (writing E.told E.written E.faults errors.old errors.new) line.now status
-        result }
+    ensures said { Said (writing E.Sink errors.old errors.new) line.now status result }
     ensures later { E.faults errors.old ≤ E.faults errors.new }
 {
     match errors.write(line) {

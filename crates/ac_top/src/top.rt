@@ -1,10 +1,8 @@
 // The top call: what the words ask for, from files and input to output.
 ghost use Rattle.std.specs.Prelude.{◌≡◌, Bool, Some, IsTrue};
-ghost use Rattle.ac_files.specs.Files.{files_seen};
 ghost use Rattle.ac_command.specs.Commands.{command_of, request_of};
 ghost use Rattle.ac_top.specs.Channels.{KeptBut, NotStandard};
-ghost use Rattle.ac_top.specs.Streams.{feeding, writing};
-ghost use Rattle.ac_top.specs.Handed.{what_is_handed};
+ghost use Rattle.ac_top.specs.Handed.{call, handed};
 ghost use Rattle.ac_top.specs.Requests.{Touches, channel_read, channel_written};
 ghost use Rattle.ac_top.specs.Endings.{texts, Ended};
 ghost use Rattle.ac_top.specs.inner.Apart.{IsApart, HasFewPrograms};
@@ -34,12 +32,9 @@ pub fn acute<R: Threads + Sync, F: Files, I: Source, O: Sink, E: Sink, G: Gate +
     // How the call ends: a row for each way. Those without a run ask that input is idle, which it
     // is only where it is as it was.
     ensures ends { (idle : Bool) × (IsTrue idle → input.new ≡ input.old) ×
-        Ended (command_of (texts words.now)) (what_is_handed F.told
-        (files_seen F.contents F.read_faults F.write_faults files.old)
-        (files_seen F.contents F.read_faults F.write_faults files.new)
-        (feeding I.told I.left I.read_faults input.old input.new) idle
-        (writing O.told O.written O.faults output.old output.new)
-        (writing E.told E.written E.faults errors.old errors.new)) result }
+        Ended (command_of (texts words.now)) (handed F.Files I.Source O.Sink E.Sink
+        (call files.old input.old output.old errors.old)
+        (call files.new input.new output.new errors.new) idle) result }
     // No file is created or changed but that of the channel to which the run sends.
     ensures kept { IsTrue F.told → KeptBut (channel_written (command_of (texts words.now)))
         (F.contents files.old) (F.contents files.new) }
@@ -71,12 +66,9 @@ fn obey<R: Threads + Sync, F: Files, I: Source, O: Sink, E: Sink, G: Gate + Sync
     requires apart { IsApart (request_of command) }
     requires short { HasFewPrograms (request_of command) }
     ensures ends { (idle : Bool) × (IsTrue idle → input.new ≡ input.old) ×
-        Ended (Some (request_of command.entry)) (what_is_handed F.told
-        (files_seen F.contents F.read_faults F.write_faults files.old)
-        (files_seen F.contents F.read_faults F.write_faults files.new)
-        (feeding I.told I.left I.read_faults input.old input.new) idle
-        (writing O.told O.written O.faults output.old output.new)
-        (writing E.told E.written E.faults errors.old errors.new)) result }
+        Ended (Some (request_of command.entry)) (handed F.Files I.Source O.Sink E.Sink
+        (call files.old input.old output.old errors.old)
+        (call files.new input.new output.new errors.new) idle) result }
     ensures kept { IsTrue F.told → KeptBut (channel_written (Some (request_of command.entry)))
         (F.contents files.old) (F.contents files.new) }
     ensures idle { NotStandard (channel_read (Some (request_of command.entry))) →

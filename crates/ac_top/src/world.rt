@@ -5,9 +5,10 @@ ghost use Rattle.ac_outside.specs.Outside.{Rose, Contents, NeverFall};
 ghost use Rattle.ac_command.specs.Commands.{ChannelName, are_one, channel_of};
 ghost use Rattle.ac_run.specs.Sessions.{streams};
 ghost use Rattle.ac_top.specs.inner.Told.{tells, left_in, stream_left, sent_in};
-ghost use Rattle.ac_top.specs.Channels.{of_channel, of_console, KeptBut, NoFile, NotStandard};
+ghost use Rattle.ac_top.specs.Channels.{of_channel, KeptBut, NoFile, NotStandard};
 ghost use Rattle.ac_top.specs.inner.Counts.{count_of_both};
-ghost use Rattle.ac_top.specs.inner.Runs.{RanIn, ErrorsApart, is_there};
+ghost use Rattle.ac_top.specs.Handed.{call};
+ghost use Rattle.ac_top.specs.inner.Runs.{RanAmong, WritesRose, ReadsRose, RanIn, ErrorsApart, is_there};
 
 use crate::no_files::NoFiles;
 use crate::no_input::NoInput;
@@ -170,27 +171,17 @@ pub fn run_among<F: Files, I: Source, O: Sink, E: Sink>(
     errors: &mut E,
 ) -> RunEnd
     requires { are_one (option_map channel_of from) (option_map channel_of to) ≡ false }
-    ensures ends { let a = option_map channel_of from.entry in let b = option_map channel_of
-        to.entry in
-        session.old.end ≡ None → RanIn a
-        (tells a b F.told I.told (of_console b O.told E.told) O.told)
-        (left_in a (F.contents files.old) (I.left input.old) 0)
-        (stream_left a (I.left input.new))
-        (streams (of_console b (O.written output.old) (E.written errors.old))
-        (sent_in b (F.contents files.old) (O.written output.old)))
-        (streams (of_console b (O.written output.new) (E.written errors.new))
-        (sent_in b (F.contents files.new) (O.written output.new)))
-        session.old session.new result }
-    ensures cause { let b = option_map channel_of to.entry in
-        session.old.end ≡ None → result ≡ RunEnd.WriteFault →
-        Rose (of_console b (O.faults output.old) (E.faults errors.old))
-        (of_console b (O.faults output.new) (E.faults errors.new)) ⊎
-        Rose (of_channel b 0 (O.faults output.old) (F.write_faults files.old))
-        (of_channel b 0 (O.faults output.new) (F.write_faults files.new)) }
-    ensures cause_read { let a = option_map channel_of from.entry in
-        session.old.end ≡ None → result ≡ RunEnd.ReadFault →
-        Rose (of_channel a 0 (I.read_faults input.old) (F.read_faults files.old))
-        (of_channel a 0 (I.read_faults input.new) (F.read_faults files.new)) }
+    ensures ends { RanAmong F.Files I.Source O.Sink E.Sink (option_map channel_of from.entry)
+        (option_map channel_of to.entry) (call files.old input.old output.old errors.old)
+        (call files.new input.new output.new errors.new) session.old session.new result }
+    ensures cause { session.old.end ≡ None → result ≡ RunEnd.WriteFault →
+        WritesRose F.Files I.Source O.Sink E.Sink (option_map channel_of to.entry)
+        (call files.old input.old output.old errors.old)
+        (call files.new input.new output.new errors.new) }
+    ensures cause_read { session.old.end ≡ None → result ≡ RunEnd.ReadFault →
+        ReadsRose F.Files I.Source O.Sink E.Sink (option_map channel_of from.entry)
+        (call files.old input.old output.old errors.old)
+        (call files.new input.new output.new errors.new) }
     ensures later { E.faults errors.old ≤ E.faults errors.new }
     ensures apart { ErrorsApart (option_map channel_of to.entry) errors.old errors.new }
     ensures kept { IsTrue F.told →
@@ -199,48 +190,70 @@ pub fn run_among<F: Files, I: Source, O: Sink, E: Sink>(
         IsTrue (is_there (option_map channel_of to.entry) (F.contents files.old)) →
         IsTrue (is_there (option_map channel_of to.entry) (F.contents files.new)) }
     ensures idle { NotStandard (option_map channel_of from.entry) → input.new ≡ input.old }
-    ensures only { NoFile (option_map channel_of from.entry) → NoFile
-        (option_map channel_of to.entry) →
-        files.new ≡ files.old }
+    ensures only { NoFile (option_map channel_of from.entry) →
+        NoFile (option_map channel_of to.entry) → files.new ≡ files.old }
 {
-    match (is_file(from) || is_file(to), is_standard(from)) {
-        (true, true) => run_between(alloc, session, from, to, files, input, output, errors),
-        (true, false) => {
-            run_between(
-                alloc,
-                session,
-                from,
-                to,
-                files,
-                &mut NoInput,
-                output,
-                errors,
-            )
-        }
-        (false, true) => {
-            run_between(
-                alloc,
-                session,
-                from,
-                to,
-                &mut NoFiles,
-                input,
-                output,
-                errors,
-            )
-        }
-        (false, false) => {
-            run_between(
-                alloc,
-                session,
-                from,
-                to,
-                &mut NoFiles,
-                &mut NoInput,
-                output,
-                errors,
-            )
-        }
+    if is_file(from) || is_file(to) {
+        run_with(alloc, session, from, to, files, input, output, errors)
+    } else {
+        run_with(
+            alloc,
+            session,
+            from,
+            to,
+            &mut NoFiles,
+            input,
+            output,
+            errors,
+        )
+    }
+}
+
+// Runs it with these files, and with input only where that is a channel.
+fn run_with<F: Files, I: Source, O: Sink, E: Sink>(
+    alloc: Global,
+    session: &mut Session,
+    from: Option<Channel>,
+    to: Option<Channel>,
+    files: &mut F,
+    input: &mut I,
+    output: &mut O,
+    errors: &mut E,
+) -> RunEnd
+    requires { are_one (option_map channel_of from) (option_map channel_of to) ≡ false }
+    ensures ends { RanAmong F.Files I.Source O.Sink E.Sink (option_map channel_of from.entry)
+        (option_map channel_of to.entry) (call files.old input.old output.old errors.old)
+        (call files.new input.new output.new errors.new) session.old session.new result }
+    ensures cause { session.old.end ≡ None → result ≡ RunEnd.WriteFault →
+        WritesRose F.Files I.Source O.Sink E.Sink (option_map channel_of to.entry)
+        (call files.old input.old output.old errors.old)
+        (call files.new input.new output.new errors.new) }
+    ensures cause_read { session.old.end ≡ None → result ≡ RunEnd.ReadFault →
+        ReadsRose F.Files I.Source O.Sink E.Sink (option_map channel_of from.entry)
+        (call files.old input.old output.old errors.old)
+        (call files.new input.new output.new errors.new) }
+    ensures later { E.faults errors.old ≤ E.faults errors.new }
+    ensures apart { ErrorsApart (option_map channel_of to.entry) errors.old errors.new }
+    ensures kept { IsTrue F.told →
+        KeptBut (option_map channel_of to.entry) (F.contents files.old) (F.contents files.new) }
+    ensures there { IsTrue F.told →
+        IsTrue (is_there (option_map channel_of to.entry) (F.contents files.old)) →
+        IsTrue (is_there (option_map channel_of to.entry) (F.contents files.new)) }
+    ensures idle { NotStandard (option_map channel_of from.entry) → input.new ≡ input.old }
+{
+    if is_standard(from) {
+        run_between(alloc, session, from, to, files, input, output, errors)
+    } else {
+        run_between(
+            alloc,
+            session,
+            from,
+            to,
+            files,
+            &mut NoInput,
+            output,
+            errors,
+        )
     }
 }
 
@@ -276,27 +289,17 @@ fn run_between<F: Files, I: Source, O: Sink, E: Sink>(
     errors: &mut E,
 ) -> RunEnd
     requires { are_one (option_map channel_of from) (option_map channel_of to) ≡ false }
-    ensures ends { let a = option_map channel_of from.entry in let b = option_map channel_of
-        to.entry in
-        session.old.end ≡ None → RanIn a
-        (tells a b F.told I.told (of_console b O.told E.told) O.told)
-        (left_in a (F.contents files.old) (I.left input.old) 0)
-        (stream_left a (I.left input.new))
-        (streams (of_console b (O.written output.old) (E.written errors.old))
-        (sent_in b (F.contents files.old) (O.written output.old)))
-        (streams (of_console b (O.written output.new) (E.written errors.new))
-        (sent_in b (F.contents files.new) (O.written output.new)))
-        session.old session.new result }
-    ensures cause { let b = option_map channel_of to.entry in
-        session.old.end ≡ None → result ≡ RunEnd.WriteFault →
-        Rose (of_console b (O.faults output.old) (E.faults errors.old))
-        (of_console b (O.faults output.new) (E.faults errors.new)) ⊎
-        Rose (of_channel b 0 (O.faults output.old) (F.write_faults files.old))
-        (of_channel b 0 (O.faults output.new) (F.write_faults files.new)) }
-    ensures cause_read { let a = option_map channel_of from.entry in
-        session.old.end ≡ None → result ≡ RunEnd.ReadFault →
-        Rose (of_channel a 0 (I.read_faults input.old) (F.read_faults files.old))
-        (of_channel a 0 (I.read_faults input.new) (F.read_faults files.new)) }
+    ensures ends { RanAmong F.Files I.Source O.Sink E.Sink (option_map channel_of from.entry)
+        (option_map channel_of to.entry) (call files.old input.old output.old errors.old)
+        (call files.new input.new output.new errors.new) session.old session.new result }
+    ensures cause { session.old.end ≡ None → result ≡ RunEnd.WriteFault →
+        WritesRose F.Files I.Source O.Sink E.Sink (option_map channel_of to.entry)
+        (call files.old input.old output.old errors.old)
+        (call files.new input.new output.new errors.new) }
+    ensures cause_read { session.old.end ≡ None → result ≡ RunEnd.ReadFault →
+        ReadsRose F.Files I.Source O.Sink E.Sink (option_map channel_of from.entry)
+        (call files.old input.old output.old errors.old)
+        (call files.new input.new output.new errors.new) }
     ensures later { E.faults errors.old ≤ E.faults errors.new }
     ensures apart { ErrorsApart (option_map channel_of to.entry) errors.old errors.new }
     ensures kept { IsTrue F.told →
@@ -369,6 +372,7 @@ fn run_on<F: Files, I: Source, C: Sink, S: Sink>(
         IsTrue (is_there (option_map channel_of to.entry) (F.contents files.new)) }
 {
     let mut end = RunEnd::Memory;
+    // the references that it gives back are for the proof alone
     let _ = run_at::<F, I, C, S, Brand>(session, from, to, files, input, console, stream, &mut end);
     end
 }

@@ -1,12 +1,11 @@
 -- Arms of one type, and the last part of a sequence.
 use Rattle.std.proofs.Common.{ℕ, ◌≡◌, ◌+◌, ◌<◌, refl, ap, ◌∙◌, Bool, true, false, ◌&&◌, List, [], ◌∷◌, ◌++◌, length, map, get_or, drop, Option, Some, None}
 use Rattle.std.proofs.lemmas.List.{map-append}
-use Rattle.ac_types.specs.First.{given}
+use Rattle.ac_types.specs.Partial.{given, also}
 use Rattle.ac_types.specs.Types.{Typ, TUnit, Typs, no_types, typs, same}
 use Rattle.ac_types.specs.ReadTypes.{typ_of}
 use Rattle.ac_types.specs.declared.ty.Ty.{Ty}
-use Rattle.ac_terms.specs.TermTyping.{also, last_of}
-use Rattle.ac_rules.specs.Typing.{are_all}
+use Rattle.ac_rules.specs.Typing.{are_all, last_of}
 use Rattle.ac_views.specs.Sites.{typs_of}
 use Rattle.ac_typing.specs.inner.Parts.{arms_after, arms_from}
 use Rattle.ac_views.proofs.PairLaws.{from_item, from_end}

@@ -3,7 +3,7 @@ use Rattle.std.proofs.Common.{ℕ, ◌≡◌, ◌+◌, ◌<◌, refl, sym, ap, �
 use Rattle.ac_types.specs.Types.{Typ, Typs, no_types, typs}
 use Rattle.ac_types.specs.ReadTypes.{typ_of}
 use Rattle.ac_types.specs.declared.ty.Ty.{Ty}
-use Rattle.ac_terms.specs.TermTyping.{also}
+use Rattle.ac_types.specs.Partial.{also}
 use Rattle.ac_views.proofs.PairLaws.{from_item, from_end}
 
 -- the types so far, before those that follow

@@ -1,7 +1,7 @@
 -- Equal types, and tests of numbers.
 use Rattle.std.proofs.Common.{◌≡◌, sym, ap, ◌∙◌, Bool, true, Some}
 use Rattle.std.proofs.lemmas.Bool.Decides.{nat_tests}
-use Rattle.ac_types.specs.First.{given}
+use Rattle.ac_types.specs.Partial.{given}
 use Rattle.ac_types.specs.Types.{Typ, TTuple, TStr, TInt, no_types, typ, same}
 use Rattle.ac_types.proofs.Same.{same_eq}
 

@@ -2,7 +2,7 @@
 use Rattle.std.proofs.Common.{◌≡◌, refl, sym, ap, ◌∙◌, subst, true, false, List, [], ◌∷◌, ◌++◌, Option, Some, None}
 use Rattle.std.specs.Prelude.{option_map, option_and_then, Result, IfOk}
 use Rattle.std.proofs.lemmas.List.{append-nil}
-use Rattle.ac_types.specs.First.{given}
+use Rattle.ac_types.specs.Partial.{given, has}
 use Rattle.ac_types.specs.Types.{Typ, TInt, TBool, TStr, TUnit, TExn, TTuple, TList, TOpt, TFun, TAbs, TMine, function_parts}
 use Rattle.ac_types.specs.ReadTypes.{typ_of}
 use Rattle.ac_types.specs.declared.memory.Memory.{Memory}
@@ -10,7 +10,6 @@ use Rattle.ac_types.specs.declared.ty.Ty.{Ty}
 use Rattle.ac_terms.specs.Terms.{Expr, Pattern, Lam, Rec, Let}
 use Rattle.ac_terms.specs.Defs.{Environment}
 use Rattle.ac_terms.specs.Read.{home_of}
-use Rattle.ac_terms.specs.TermTyping.{has}
 use Rattle.ac_rules.specs.Views.{Coloured}
 use Rattle.ac_rules.specs.Typing.{type_of, type_applied, variables, variables_joined, type_seen}
 use Rattle.ac_views.specs.Sites.{scope_at}

@@ -2,11 +2,10 @@
 use Rattle.std.proofs.Common.{◌≡◌, refl, sym, ap, ap₂, ◌∙◌, arith, Bool, true, false, Option, Some, None}
 use Rattle.std.specs.Prelude.{option_map, option_and_then, is_some}
 use mathlib.Core.Bool.{true≢false}
-use Rattle.ac_types.specs.First.{given}
+use Rattle.ac_types.specs.Partial.{given, has}
 use Rattle.ac_types.specs.Types.{Typ, TList, TOpt, TFun, same, is_small}
 use Rattle.ac_types.proofs.FirstLaws.{none≢some, some_eq, given_some}
 use Rattle.ac_types.proofs.Same.{same_eq, same_refl}
-use Rattle.ac_terms.specs.TermTyping.{has}
 use Rattle.ac_views.proofs.SmallLaws.{not_small}
 use Rattle.ac_rules.specs.Views.{Coloured}
 use Rattle.ac_rules.specs.Typing.{kept_in, a_list, an_option, list_item, option_item}

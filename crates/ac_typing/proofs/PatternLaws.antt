@@ -2,7 +2,7 @@
 use Rattle.std.proofs.Common.{ℕ, ◌≡◌, ◌+◌, ◌<◌, suc, refl, sym, ap, ap₂, ◌∙◌, append_assoc, Bool, true, false, List, [], ◌∷◌, ◌++◌, length, map, reverse, get_or, drop, Option, Some, None}
 use Rattle.std.specs.Prelude.{is_some}
 use Rattle.std.proofs.lemmas.List.{reverse-append, map-append}
-use Rattle.ac_types.specs.First.{given}
+use Rattle.ac_types.specs.Partial.{given}
 use Rattle.ac_types.specs.Types.{Typ, TStr, TExn, TTuple, TList, TOpt, same}
 use Rattle.ac_types.specs.ReadTypes.{typ_of}
 use Rattle.ac_types.specs.declared.ty.Ty.{Ty}
@@ -115,6 +115,9 @@ module _ (E : Environment) (c : Home) where
     pub pattern_some : (us : List Ty) → Some (newest_first us) ≡ variables_joined (Some (newest_first before)) (vars (pattern_of p) (typ_of t))
         → all ≡ variables_joined (Some (newest_first us)) (vars_of_all (drop (i + 1) ps) (drop (i + 1) ts))
     pattern_some us q = step ∙ ap (λ (o : Option (List Typ)). variables_joined o (vars_of_all (drop (i + 1) ps) (drop (i + 1) ts))) (sym q)
+
+    pub pattern_none : None ≡ variables_joined (Some (newest_first before)) (vars (pattern_of p) (typ_of t)) → all ≡ None
+    pattern_none q = step ∙ ap (λ (o : Option (List Typ)). variables_joined o (vars_of_all (drop (i + 1) ps) (drop (i + 1) ts))) (sym q)
 
 pub ruleset form_laws = (pattern_out, the_lemmas)
 

@@ -5,7 +5,7 @@ use Rattle.ac_terms.proofs.ExceptionLaws.{exception_laws}
 use Rattle.ac_types.specs.Types.{Typ}
 use Rattle.ac_terms.specs.Terms.{exprs, arms}
 use Rattle.ac_terms.specs.Read.{expr_of, arm_of, pattern_of}
-use Rattle.ac_terms.specs.TermTyping.{also}
+use Rattle.ac_types.specs.Partial.{also}
 use Rattle.ac_terms.specs.Defs.{Environment}
 use Rattle.ac_terms.specs.declared.term.Term.{Term}
 use Rattle.ac_terms.specs.declared.term.Arm.{Arm}

@@ -2,14 +2,14 @@
 
 ghost use Rattle.std.specs.Prelude.{◌≡◌, Option, Some, option_map, option_and_then};
 ghost use Rattle.ac_types.specs.ReadTypes.{typ_of};
-ghost use Rattle.ac_terms.specs.TermTyping.{both_same, has, also, last_of};
-ghost use Rattle.ac_types.specs.First.{given};
+ghost use Rattle.ac_types.specs.Partial.{both_same, has, also, given};
+ghost use Rattle.ac_rules.specs.Typing.{last_of};
 ghost use Rattle.ac_types.specs.Types.{TBool, Typs};
 ghost use Rattle.ac_views.specs.Sites.{typs_of};
 ghost use Rattle.ac_typing.specs.inner.Parts.{arms_after, arms_from};
 
-use ac_types::{Many, Ty};
-use ac_views::{Base, is_base, same_types};
+use ac_types::{Many, Ty, same_types};
+use ac_views::{Base, is_base};
 
 /// The type that both have.
 pub fn both_same(a: Option<Ty>, b: Option<Ty>) -> Option<Ty>

@@ -4,13 +4,13 @@ ghost use Rattle.std.specs.Prelude.{◌≡◌, ◌<◌, ◌^◌, IfOk, true, len
 ghost use Rattle.ac_types.specs.Types.{TTuple, TOpt, TList, same};
 ghost use Rattle.ac_types.specs.ReadTypes.{typ_of};
 ghost use Rattle.ac_terms.specs.Read.{home_of};
-ghost use Rattle.ac_terms.specs.TermTyping.{both_same};
+ghost use Rattle.ac_types.specs.Partial.{both_same};
 ghost use Rattle.ac_rules.specs.Views.{Coloured};
 ghost use Rattle.ac_rules.specs.Typing.{kept_in, type_seen, a_list, an_option};
 ghost use Rattle.ac_views.specs.Sites.{typs_of, entries_of};
 
-use ac_types::{Box, Many, Memory, Ty};
-use ac_views::{Site, kept, list_item, option_item, same_types, seen_type};
+use ac_types::{Box, Many, Memory, Ty, same_types};
+use ac_views::{Site, kept, list_item, option_item, seen_type};
 use std::alloc::Global;
 
 /// The type of a tuple whose parts have these types.

@@ -1,10 +1,9 @@
 // Exceptions.
 
 ghost use Rattle.std.specs.Prelude.{◌≡◌, Some, option_map};
-ghost use Rattle.ac_types.specs.First.{given};
+ghost use Rattle.ac_types.specs.Partial.{given, has};
 ghost use Rattle.ac_types.specs.Types.{TExn, TStr};
 ghost use Rattle.ac_types.specs.ReadTypes.{typ_of};
-ghost use Rattle.ac_terms.specs.TermTyping.{has};
 
 use ac_types::Ty;
 use ac_views::{Base, is_base};

@@ -1,16 +1,15 @@
 // The types of functions and of their applications.
 
 ghost use Rattle.std.specs.Prelude.{◌≡◌, IfOk, Some, option_map};
-ghost use Rattle.ac_types.specs.First.{given};
+ghost use Rattle.ac_types.specs.Partial.{given, has};
 ghost use Rattle.ac_types.specs.Types.{TFun};
 ghost use Rattle.ac_types.specs.ReadTypes.{typ_of};
-ghost use Rattle.ac_terms.specs.TermTyping.{has};
 ghost use Rattle.ac_rules.specs.Views.{Coloured};
 ghost use Rattle.ac_rules.specs.Typing.{kept_in, type_applied};
 ghost use Rattle.ac_views.specs.Sites.{ends_of, read_ends};
 
-use ac_types::{Box, Memory, Ty, both};
-use ac_views::{kept, same_types};
+use ac_types::{Box, Memory, Ty, both, same_types};
+use ac_views::kept;
 use std::alloc::Global;
 
 /// The type of a function whose argument and result have these types.

@@ -1,7 +1,7 @@
 // The variables of a pattern.
 
 ghost use Rattle.std.specs.Prelude.{◌≡◌, ◌∷◌, ◌<◌, ◌^◌, IfOk, true, length, map, option_map, Some};
-ghost use Rattle.ac_types.specs.First.{given};
+ghost use Rattle.ac_types.specs.Partial.{given};
 ghost use Rattle.ac_types.specs.ReadTypes.{typ_of};
 ghost use Rattle.ac_terms.specs.Terms.{patterns};
 ghost use Rattle.ac_terms.specs.Read.{pattern_of, home_of};

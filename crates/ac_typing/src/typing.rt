@@ -4,11 +4,10 @@ ghost use Rattle.std.specs.Prelude.{◌≡◌, ◌<◌, ◌^◌, IfOk, Some, tru
 ghost use Rattle.ac_types.specs.ReadTypes.{typ_of};
 ghost use Rattle.ac_terms.specs.Terms.{Lam, Rec, exprs, arms};
 ghost use Rattle.ac_terms.specs.Read.{home_of, expr_of, arm_of, pattern_of};
-ghost use Rattle.ac_terms.specs.TermTyping.{has, last_of};
-ghost use Rattle.ac_types.specs.First.{given};
+ghost use Rattle.ac_types.specs.Partial.{has, given};
 ghost use Rattle.ac_types.specs.Types.{TExn};
 ghost use Rattle.ac_rules.specs.Views.{Coloured};
-ghost use Rattle.ac_rules.specs.Typing.{type_of, types_of, arm_types, one_of, kept_in, type_seen};
+ghost use Rattle.ac_rules.specs.Typing.{type_of, types_of, arm_types, one_of, kept_in, type_seen, last_of};
 ghost use Rattle.ac_views.specs.Sites.{entries_of, scope_at, typs_of};
 ghost use Rattle.ac_typing.specs.inner.Parts.{types_in, arm_type};
 

@@ -1,11 +1,10 @@
 // Forms that write their type: a raise, a marshal and an unmarshal.
 
 ghost use Rattle.std.specs.Prelude.{◌≡◌, ◌&&◌, ◌<◌, ◌^◌, IfOk, Some, true, length, option_map};
-ghost use Rattle.ac_types.specs.First.{given};
-ghost use Rattle.ac_types.specs.Types.{TStr, agree};
+ghost use Rattle.ac_types.specs.Partial.{given, agree, has};
+ghost use Rattle.ac_types.specs.Types.{TStr};
 ghost use Rattle.ac_types.specs.ReadTypes.{typ_of};
 ghost use Rattle.ac_terms.specs.Read.{home_of};
-ghost use Rattle.ac_terms.specs.TermTyping.{has};
 ghost use Rattle.ac_rules.specs.Views.{Coloured};
 ghost use Rattle.ac_rules.specs.Typing.{kept_in, type_seen};
 ghost use Rattle.ac_views.specs.Sites.{base_typ, entries_of};

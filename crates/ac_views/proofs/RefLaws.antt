@@ -1,7 +1,7 @@
 -- The type of a reference, from what its entry has.
 use Rattle.std.proofs.Common.{ℕ, ◌≡◌, ap, ap₂, ◌∙◌, true, Option, Some}
 use Rattle.std.specs.Prelude.{nat_lt, option_map, option_and_then, slice_get}
-use Rattle.ac_types.specs.First.{given}
+use Rattle.ac_types.specs.Partial.{given}
 use Rattle.ac_types.specs.Types.{Bytes, Typ, TAbs, with_mine}
 use Rattle.ac_types.specs.Sigs.{Signature, named_type}
 use Rattle.ac_terms.specs.Defs.{Environment, Entry, signature}

@@ -3,7 +3,8 @@ use Rattle.std.proofs.Common.{ℕ, ◌≡◌, ◌+◌, ◌<◌, refl, sym, ap, a
 use Rattle.std.specs.Prelude.{Result, Ok, Err, IfOk}
 use Rattle.std.proofs.lemmas.List.{map-append, take_more}
 use Rattle.std.proofs.lemmas.List.Folds.{list_all-append}
-use Rattle.ac_types.specs.Types.{Bytes, Typ, TFun, TAbs, typ, typs, agree, with_each, all_with_each, with_mine, all_with_mine, mentions}
+use Rattle.ac_types.specs.Types.{Bytes, Typ, TFun, TAbs, typ, typs, with_each, all_with_each, with_mine, all_with_mine, mentions}
+use Rattle.ac_types.specs.Partial.{agree, has}
 use Rattle.ac_types.specs.ReadTypes.{typ_of}
 use Rattle.ac_types.specs.declared.text.Name.{Name}
 use Rattle.ac_types.specs.declared.memory.Memory.{Memory}
@@ -12,7 +13,6 @@ use Rattle.ac_types.specs.declared.ty.Ty.TheOpen.{Ty-F}
 use Rattle.ac_types.specs.declared.ty.Ty.TheVariants as ty
 use Rattle.ac_types.proofs.SizeLaws.{type_laws}
 use Rattle.ac_terms.specs.Defs.{Environment}
-use Rattle.ac_terms.specs.TermTyping.{has}
 use Rattle.ac_rules.specs.Views.{is_known, are_known}
 use Rattle.ac_views.specs.Sites.{typs_of}
 use Rattle.ac_views.proofs.ReadAs.{layer, read_as}

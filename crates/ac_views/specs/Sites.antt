@@ -1,7 +1,7 @@
 -- The trees of the code at a site, as those of the definitions.
 use Rattle.std.specs.Prelude.{List, map, Option, Some, None}
 use Rattle.std.specs.Borrow.{Bor}
-use Rattle.ac_types.specs.Types.{Typ, TInt, TBool, TStr, TUnit, TExn, TTuple, TList, TOpt, TFun, TAbs, TMine, Typs, typs}
+use Rattle.ac_types.specs.Types.{Typ, TInt, TBool, TStr, TUnit, TExn, TFun, Typs, typs}
 use Rattle.ac_types.specs.ReadTypes.{typ_of}
 use Rattle.ac_types.specs.declared.ty.Ty.{Ty}
 use Rattle.ac_terms.specs.Defs.{Environment}
@@ -32,16 +32,7 @@ scope_at p vars = record { home = home_of p.home; own = p.own; refs = p.refs; va
 -- the argument and the result of a function type
 abbrev pub ends_of : Typ → Option (Typ × Typ)
 ends_of (TFun T U) = Some (T, U)
-ends_of TInt = None
-ends_of TBool = None
-ends_of TStr = None
-ends_of TUnit = None
-ends_of TExn = None
-ends_of (TTuple Ts) = None
-ends_of (TList T) = None
-ends_of (TOpt T) = None
-ends_of (TAbs n t) = None
-ends_of (TMine t) = None
+ends_of _ = None
 
 abbrev pub read_ends : Bor Ty × Bor Ty → Typ × Typ
 read_ends p = (typ_of p.0.now, typ_of p.1.now)

@@ -16,6 +16,4 @@ pub use fields::{field_type, ref_type};
 pub use heads::head;
 pub use seen::{is_seen_as, is_view_of, seen_type};
 pub use site::Site;
-pub use types::{
-    Base, ends, is_base, kept, list_item, option_item, same_types, small_copy, tuple_parts,
-};
+pub use types::{Base, ends, is_base, kept, list_item, option_item, small_copy, tuple_parts};

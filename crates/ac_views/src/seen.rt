@@ -1,10 +1,10 @@
 // Types as a home sees them.
 
 ghost use Rattle.std.specs.Prelude.{◌≡◌, ◌<◌, ◌^◌, IfOk, Some, true, length, map, option_map};
-ghost use Rattle.ac_types.specs.Types.{same, same_all, agree};
+ghost use Rattle.ac_types.specs.Types.{same, same_all};
+ghost use Rattle.ac_types.specs.Partial.{agree, has};
 ghost use Rattle.ac_types.specs.ReadTypes.{typ_of};
 ghost use Rattle.ac_terms.specs.Read.{home_of};
-ghost use Rattle.ac_terms.specs.TermTyping.{has};
 ghost use Rattle.ac_rules.specs.Views.{Coloured, view};
 ghost use Rattle.ac_rules.specs.Typing.{kept_in, type_seen};
 ghost use Rattle.ac_views.specs.Sites.{typs_of, entries_of};
@@ -15,10 +15,9 @@ use crate::opened::opened;
 use crate::site::Site;
 use crate::sizes::is_small_here;
 use crate::types::{
-    Base, ends, function_type, is_base, list_item, list_type, option_item, option_type, same_types,
-    tuple_parts,
+    Base, ends, function_type, is_base, list_item, list_type, option_item, option_type, tuple_parts,
 };
-use ac_types::{Many, Memory, Ty, both};
+use ac_types::{Many, Memory, Ty, both, same_types};
 use std::alloc::Global;
 
 // Whether a type as the site's home sees it is another.

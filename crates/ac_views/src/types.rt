@@ -8,7 +8,7 @@ ghost use Rattle.ac_rules.specs.Views.{Coloured};
 ghost use Rattle.ac_rules.specs.Typing.{kept_in, list_item, option_item, tuple_parts};
 ghost use Rattle.ac_views.specs.Sites.{base_typ, typs_of, ends_of, read_ends};
 
-use ac_types::{Box, Many, Memory, Ty, both, small, ty_eq};
+use ac_types::{Box, Many, Memory, Ty, both, same_types, small};
 use std::alloc::Global;
 
 /// A type without parts and without a name.
@@ -70,13 +70,6 @@ pub fn is_base(ty: &Ty, base: Base) -> bool
     let same = same_types(ty, &wanted);
     drop(wanted);
     same
-}
-
-/// Whether two types are equal.
-pub fn same_types(a: &Ty, b: &Ty) -> bool
-    ensures { result ≡ same (typ_of a.now) (typ_of b.now) }
-{
-    ty_eq(a, b)
 }
 
 /// The item's type of a list type.

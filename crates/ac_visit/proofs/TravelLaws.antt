@@ -2,8 +2,8 @@
 use Rattle.std.proofs.Common.{◌≡◌, refl, sym, ap, ap₂, ◌∙◌, subst, ℕ, zero, suc, ◌+◌, Bool, true, false, ◌&&◌, List, [], ◌∷◌, ◌++◌, length, length-append, append_assoc, slice_get, map, Option, Some, None, Result, Ok, Err, arith}
 use Rattle.std.specs.Prelude.{option_map, option_and_then, IfOk}
 use mathlib.Core.Bool.{true≢false}
-use Rattle.ac_types.specs.First.{given}
-use Rattle.ac_types.specs.Types.{Typ, TBool, TStr, TUnit, TExn, TTuple, TList, TOpt, TFun, Typs, no_types, typ, agree}
+use Rattle.ac_types.specs.Partial.{given, agree, has, both_same, also}
+use Rattle.ac_types.specs.Types.{Typ, TBool, TStr, TUnit, TExn, TTuple, TList, TOpt, TFun, Typs, no_types, typ}
 use Rattle.ac_types.specs.ReadTypes.{typ_of, typ_layer}
 use Rattle.ac_types.proofs.Same.{both_true}
 use Rattle.ac_types.specs.declared.ty.Ty.{Ty, map-Ty}
@@ -19,10 +19,9 @@ use Rattle.ac_terms.specs.Read.{expr_of}
 use Rattle.ac_terms.specs.declared.term.Term.{Term}
 use Rattle.ac_types.specs.Exceptions.{has_text}
 use Rattle.ac_terms.specs.PrimitiveTypes.{primitive_type}
-use Rattle.ac_terms.specs.TermTyping.{has, both_same, also, last_of}
 use Rattle.ac_rules.specs.Views.{Coloured, head}
 use Rattle.ac_rules.specs.Plain.{may_travel}
-use Rattle.ac_rules.specs.Typing.{Scope, fields_of, is_function, is_function_home, type_of, types_of, arm_types, one_of, type_applied, type_seen, kept_in, variables, variables_of_all, variables_joined}
+use Rattle.ac_rules.specs.Typing.{Scope, fields_of, is_function, is_function_home, type_of, types_of, arm_types, one_of, type_applied, type_seen, kept_in, variables, variables_of_all, variables_joined, last_of}
 use Rattle.ac_check.specs.inner.Captured.{is_code, are_code, arms_are_code, travels_with}
 use Rattle.ac_check.proofs.CodeTerms.{code_term}
 use Rattle.ac_meaning.specs.BareTerms.{BareValue, bare, bare_all, bare_arms}

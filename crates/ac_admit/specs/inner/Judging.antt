@@ -1,7 +1,7 @@
 -- The first four causes, which ask nothing of the type and the value, and the answer of a part of them.
 use Rattle.std.specs.Prelude.{◌≡◌, List, [], ◌∷◌, Option, None, Result, Ok, Err}
 use Rattle.sha2.specs.Sha256.{sha256}
-use Rattle.ac_types.specs.First.{first_some}
+use Rattle.ac_types.specs.Partial.{first_some}
 use Rattle.ac_terms.specs.Defs.{Environment, Def}
 use Rattle.ac_rules.specs.Packets.{PacketCause, ill_formed, clash, too_many, unresolved}
 use Rattle.ac_admit.specs.declared.fault.AdmitFault.{AdmitFault}

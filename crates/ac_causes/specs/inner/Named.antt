@@ -4,7 +4,7 @@ use Rattle.std.specs.Prelude.{ℕ, is_some, Option, Some, if◌then◌else◌}
 use Rattle.std.specs.Ordering.{nat_cmp}
 use Rattle.std.specs.Cmp.Lexicographic.{slice_cmp}
 use Rattle.std.specs.BTreeMap as tree_map
-use Rattle.ac_types.specs.First.{given}
+use Rattle.ac_types.specs.Partial.{given}
 use Rattle.ac_types.specs.Types.{Bytes, same_bytes}
 use Rattle.ac_terms.specs.Defs.{Environment, name_at, names}
 use Rattle.ac_terms.specs.Names.{text_of_entry}

@@ -1,6 +1,7 @@
 -- Captured values, functions of packed values, and the terms of the code: no value of the reduction and no bracket stands in them.
 use Rattle.std.specs.Prelude.{Bool, true, false, ◌&&◌, List}
-use Rattle.ac_types.specs.Types.{Typ, agree}
+use Rattle.ac_types.specs.Types.{Typ}
+use Rattle.ac_types.specs.Partial.{agree}
 use Rattle.ac_terms.specs.Terms.{Home, Expr, Int, Boolean, Str, Unit', Exn, ExnOf, Tuple, Nil, Empty, Present, Cons, Var, Own, Ref, Lam, Rec, App, Let, If, Seq, Match, Try, Raise, Prim, Marshal, Unmarshal, Val, Evaluated, Bracket, Exprs, no_exprs, expr, Arms, no_arms, arm}
 use Rattle.ac_terms.specs.Defs.{Environment}
 use Rattle.ac_rules.specs.Views.{Coloured, head}

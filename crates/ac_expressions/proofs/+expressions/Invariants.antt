@@ -3,7 +3,7 @@ use Rattle.ac_syntax.specs.Trees.{trees, arm_trees, height, highest, highest_arm
 use Rattle.ac_syntax.specs.Expressions.{Binary, After, App, Args, front}
 use Rattle.ac_syntax.specs.ReadSigns.{read_signs}
 use Rattle.ac_syntax.specs.ReadTrees.{tree_of, arm_tree_of}
-use Rattle.ac_expressions.specs.inner.Forms.{Same}
+use Rattle.ac_expressions.specs.inner.Levels.{Same}
 use Rattle.ac_expressions.proofs.Atoms.{ItemsSoFar, PartsSoFar, ArmsSoFar}
 use Rattle.ac_expressions.proofs.+expressions.Given as goal
 

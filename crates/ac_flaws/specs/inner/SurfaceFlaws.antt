@@ -2,7 +2,7 @@
 use Rattle.std.specs.Prelude.{List, [], ◌∷◌, length, Option, Some, None, option_map}
 use Rattle.std.specs.Option.{option_map_or}
 use Rattle.ac_types.specs.Limits.{most_definitions}
-use Rattle.ac_types.specs.First.{first_some}
+use Rattle.ac_types.specs.Partial.{first_some}
 use Rattle.ac_types.specs.Types.{Bytes}
 use Rattle.ac_terms.specs.Defs.{Environment}
 use Rattle.ac_syntax.specs.Trees.{Tree, DefTree, ProgramTree}

@@ -4,7 +4,7 @@ use Rattle.std.specs.List.{list_all}
 use Rattle.std.specs.Option.{option_map_or}
 use Rattle.ac_terms.specs.Terms.{In}
 use Rattle.ac_terms.specs.Defs.{Environment, Field, Def, AModule, AnImport, AMark}
-use Rattle.ac_terms.specs.TermTyping.{has}
+use Rattle.ac_types.specs.Partial.{has}
 use Rattle.ac_rules.specs.Views.{Coloured}
 use Rattle.ac_rules.specs.Typing.{type_of, type_seen, of_field}
 use Rattle.ac_rules.specs.Modules.{is_valuable, uncovered}

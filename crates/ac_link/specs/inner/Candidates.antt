@@ -1,7 +1,7 @@
 -- Which entries an import may link to, by where they come from.
 use Rattle.std.specs.Prelude.{ℕ, Bool, ◌&&◌, is_none, true, false, slice_get}
 use Rattle.std.specs.Option.{option_map_or}
-use Rattle.ac_types.specs.Sigs.{Resolve, StaticLink, HereAlready, Uri}
+use Rattle.ac_types.specs.Sigs.{Resolve, HereAlready}
 use Rattle.ac_terms.specs.Defs.{Environment, Entry, Import, Seen}
 use Rattle.ac_rules.specs.Links.{is_own, has_arrived, has_uri, link_fault}
 use Rattle.ac_link.specs.declared.resolving.Origin.{Origin}
@@ -23,6 +23,5 @@ arrived_at E j = option_map_or (λ (e : Entry). has_arrived e.seen) (slice_get E
 
 -- the place among what is there
 abbrev pub is_here : Resolve → Bool
-is_here StaticLink = false
 is_here HereAlready = true
-is_here (Uri u) = false
+is_here _ = false

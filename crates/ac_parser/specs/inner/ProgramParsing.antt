@@ -1,5 +1,6 @@
 -- What the parsers may answer.
-use Rattle.std.specs.Prelude.{◌≡◌, ℕ, List, ◌∷◌, ◌++◌, Option, Some, None}
+use Rattle.std.specs.Prelude.{◌≡◌, ℕ, ◌≤◌, List, ◌∷◌, ◌++◌, length, Option, Some, None, option_map, Result, MatchOption}
+use Rattle.std.specs.Borrow.{Bor}
 use Rattle.ac_types.specs.Types.{Bytes}
 use Rattle.ac_types.specs.Sigs.{Atom, Constraint, Resolve}
 use Rattle.ac_version.specs.declared.read.VToken.{VToken}
@@ -11,9 +12,18 @@ use Rattle.ac_syntax.specs.Trees.{NameAt, Tree, AbbrevTree, SigTree, WantsTree, 
 use Rattle.ac_syntax.specs.TypeForms.{IsType}
 use Rattle.ac_syntax.specs.Expressions.{IsExpr}
 use Rattle.ac_syntax.specs.Programs.{IsSig, vtoken_of, VTokens, ParsesVersion, ParsesLike, ParsesDef, ParsesProgram, resolve_sign}
+use Rattle.ac_syntax.specs.ReadSigns.{read_signs}
+use Rattle.ac_syntax.specs.ReadTrees.{name_of, abbrevs_of, sig_tree_of, wants_of, def_tree_of}
 use Rattle.ac_syntax.specs.PartParsing.{SymbolAt, NoSymbol}
+use Rattle.ac_syntax.specs.declared.sign.Sign as sign
+use Rattle.ac_syntax.specs.declared.surface.SName.{SName}
+use Rattle.ac_syntax.specs.declared.surface.SAbbrev.{SAbbrev}
+use Rattle.ac_syntax.specs.declared.surface.SSig.{SSig}
+use Rattle.ac_syntax.specs.declared.surface.SWants.{SWants}
+use Rattle.ac_syntax.specs.declared.surface.SDef.{SDef}
 use Rattle.ac_syntax.specs.declared.stop.Stop.{Stop}
 use Rattle.ac_syntax.specs.declared.stop.Stop.TheVariants as stop
+use Rattle.ac_parser_patterns.specs.Reading.{Taken, Finds, ReadsOr}
 use Rattle.ac_syntax.specs.declared.sign.Symbol.TheVariants.{By, Colon, Comma, Equals, NameWord, Struct}
 
 -- the first sign is this upper name
@@ -46,6 +56,23 @@ Anything rest = Unit {0}
 -- no comma stands behind: nothing of a program begins with one
 abbrev pub NoComma : List Sign → Type 0
 NoComma rest = NoSymbol Comma rest
+
+-- the only such reading is here, or there is none
+abbrev pub ReadsOnly : {A X : Type 0} → (List Sign → A → List Sign → Type 0) → (List Sign → Type 0) → (X → A) → List sign.Sign → Result (X × Bor (List sign.Sign)) Stop → Type 0
+ReadsOnly Grammar Next value signs result = ReadsOr (NoRead Grammar Next) (OnlyRead Grammar Next) value signs result
+
+-- the same once this sign stands in front
+abbrev pub ReadsBehind : {A X : Type 0} → Sign → (List Sign → A → List Sign → Type 0) → (List Sign → Type 0) → (X → A) → List sign.Sign → Result (X × Bor (List sign.Sign)) Stop → Type 0
+ReadsBehind t Grammar Next value signs result = ReadsOr (λ ts. NoRead Grammar Next (t ∷ ts)) (λ ts x rest. OnlyRead Grammar Next (t ∷ ts) x rest) value signs result
+
+-- this stands at the front of the signs, and no more are left
+pub record Within (P : List Sign → List Sign → Type 0) (signs rest : List sign.Sign) : Type 0 where
+  pub found : P (read_signs signs) (read_signs rest)
+  pub within : length rest ≤ length signs
+
+-- the same where the reading may be of no sign
+abbrev pub ReadsWithin : {A X : Type 0} → (List Sign → A → List Sign → Type 0) → (List Sign → Type 0) → (X → A) → List sign.Sign → Result (X × Bor (List sign.Sign)) Stop → Type 0
+ReadsWithin Grammar Next value signs result = Finds result (λ x. Within (λ ts rest. OnlyRead Grammar Next ts (value x.0) rest) signs x.1.now) (NoRead Grammar Next (read_signs signs))
 
 -- an `=` stands behind
 abbrev pub BeginsEquals : List Sign → Type 0
@@ -86,6 +113,9 @@ pub record HeadAt (ts : List Sign) (head : NameAt × SigTree) (rest : List Sign)
   pub is : ts ≡ Upper head.0.at head.0.word ∷ Fixed colon Colon ∷ inner
   pub sig : IsSig inner head.1 rest
 
+abbrev pub head_read : SName × SSig → NameAt × SigTree
+head_read head = (name_of head.0, sig_tree_of head.1)
+
 -- the first sign is no token of a version or a constraint
 abbrev pub NoVToken : List Sign → Type 0
 NoVToken rest = (t : Sign) (ts : List Sign) → rest ≡ t ∷ ts → vtoken_of t ≡ None
@@ -119,6 +149,9 @@ pub data DemandAt : List Sign → WantsTree × Option (List AbbrevTree) → List
       → ConstraintAt ts constraint r → LikeAt r like rest → DemandAt ts (WantsVersion constraint, like) rest
   by_name : {name : NameAt} {ts rest : List Sign} → NameWanted ts name rest → DemandAt ts (WantsName name, None) rest
 
+abbrev pub demand_read : SWants × Option (List SAbbrev) → WantsTree × Option (List AbbrevTree)
+demand_read demand = (wants_of demand.0, option_map abbrevs_of demand.1)
+
 -- the definitions are those done and those that stand at the rest
 pub record LeftDefs (done : List DefTree) (rest : List Sign) (ds : List DefTree) (e : Tree) : Type 0 where
   pub left : List DefTree
@@ -134,6 +167,15 @@ pub record DefsSoFar (ts : List Sign) (done : List DefTree) (rest : List Sign) :
 pub record NothingGoesOn (ts : List Sign) : Type 0 where
   pub no_def : NoRead ParsesDef NoComma ts
   pub no_expr : (e : Tree) (rest : List Sign) → IsExpr ts e rest → ⊥
+
+-- the definition at the front is read, or all of the signs are left where none begins
+abbrev pub ReadsDef : List sign.Sign → Result (Option SDef × Bor (List sign.Sign)) Stop → Type 0
+ReadsDef signs result = Finds result (λ x. MatchOption x.0 ((x.1.now ≡ signs) × NoRead ParsesDef Anything (read_signs signs)) (λ d. Taken (λ ts rest. OnlyRead ParsesDef NoComma ts (def_tree_of d) rest) signs x.1.now)) (NothingGoesOn (read_signs signs))
+
+-- these definitions are read, and none begins at the rest
+pub record DefsRead (ts : List Sign) (done : List DefTree) (rest : List Sign) : Type 0 where
+  pub defs : DefsSoFar ts done rest
+  pub end : NoRead ParsesDef Anything rest
 
 -- the stop that a fault of a version or a constraint is answered by
 abbrev pub stopped : VersionFault → Stop → Type 0

@@ -7,10 +7,10 @@ use Rattle.ac_code.specs.Code.{Code}
 use Rattle.ac_rules.specs.Coherent.{IsCoherent}
 use Rattle.ac_outside.specs.Frames.{Frame, Whole, Bad, AtEnd, next_frame}
 use Rattle.ac_values.specs.Values.{MValue}
-use Rattle.ac_machine.specs.States.{Core, MState}
-use Rattle.ac_machine.specs.Resumes as standing
-use Rattle.ac_machine.specs.Resumes.{resumed, resumed_text, with_raise}
-use Rattle.ac_machine.specs.Seen.{MachineSeen, standing}
+use Rattle.ac_machine_engine.specs.States.{Core, MState}
+use Rattle.ac_machine_engine.specs.Resumes as standing
+use Rattle.ac_machine_engine.specs.Resumes.{resumed, resumed_text, with_raise}
+use Rattle.ac_machine_engine.specs.Seen.{MachineSeen, standing}
 use Rattle.ac_meaning.specs.Writes.{Write, string_of}
 use Rattle.ac_meaning.specs.Worlds.{Exception, World, end_of_file_exn, bad_frame}
 use Rattle.ac_meaning.specs.Acts.{Outcome, Stuck, Over, Leads, writes_of}

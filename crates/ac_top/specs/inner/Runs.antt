@@ -1,5 +1,5 @@
 -- A run in its world, and the files in front of it.
-use Rattle.std.specs.Prelude.{◌≡◌, Bool, true, IsTrue, [], Option, Some, None, is_some}
+use Rattle.std.specs.Prelude.{◌≡◌, ◌⊎◌, Bool, true, IsTrue, [], Option, Some, None, is_some}
 use Rattle.ac_types.specs.Types.{Bytes}
 use Rattle.ac_outside.specs.Outside.{Contents, NeverFall, Created, OthersSame, Rose}
 use Rattle.ac_outside.specs.declared.traits.Put.{Put}
@@ -8,9 +8,12 @@ use Rattle.ac_command.specs.Commands.{ChannelName, standard, file}
 use Rattle.ac_rules.specs.Views.{Mode}
 use Rattle.ac_terms.specs.Terms.{Value}
 use Rattle.ac_meaning.specs.Acts.{Outcome}
-use Rattle.ac_run.specs.Sessions.{Session, Streams, ProgramEnds, HasLeft, RunsTo}
+use Rattle.ac_run.specs.Sessions.{Session, Streams, streams, ProgramEnds, HasLeft, RunsTo}
 use Rattle.ac_run.specs.declared.end.RunEnd.{RunEnd}
-use Rattle.ac_top.specs.Channels.{of_channel, GetsInput, KeptBut}
+use Rattle.ac_top.specs.Channels.{of_channel, of_console, GetsInput, KeptBut}
+use Rattle.ac_top.specs.Handed.{Call}
+use Rattle.ac_top.specs.Traits.{FilesOf, SourceOf, SinkOf}
+use Rattle.ac_top.specs.inner.Told.{tells, left_in, stream_left, sent_in}
 use Rattle.ac_files.specs.Files.{FilesSeen}
 
 -- behind an end without a fault this is left of the standard stream that is the channel
@@ -24,6 +27,26 @@ pub record RanIn (from : Option ChannelName) (told : Bool) (before after : Bytes
   pub runs : RunsTo told s t input r old new
   pub budget : t.steps ≡ s.steps
   pub leaves : StreamLeft from told s input r after
+
+-- with these channels among what a call works on
+module _ {F I O E : Type 0} (f : FilesOf F) (i : SourceOf I) (o : SinkOf O) (e : SinkOf E) where
+  -- what console and channel have
+  abbrev pub streams_in : Option ChannelName → Call F I O E → Streams
+  streams_in to c = streams (of_console to (o.written c.output) (e.written c.errors)) (sent_in to (f.contents c.files) (o.written c.output))
+
+  -- a session that hadn't run yet has run
+  abbrev pub RanAmong : Option ChannelName → Option ChannelName → Call F I O E → Call F I O E → Session → Session → RunEnd → Type 0
+  RanAmong from to old new s t r = s.end ≡ None → RanIn from (tells from to f.told i.told (of_console to o.told e.told) o.told) (left_in from (f.contents old.files) (i.left old.input) 0) (stream_left from (i.left new.input)) (streams_in to old) (streams_in to new) s t r
+
+  -- the count of failed writes of the console or of the channel rose
+  abbrev pub WritesRose : Option ChannelName → Call F I O E → Call F I O E → Type 0
+  WritesRose to old new =
+      Rose (of_console to (o.faults old.output) (e.faults old.errors)) (of_console to (o.faults new.output) (e.faults new.errors))
+      ⊎ Rose (of_channel to 0 (o.faults old.output) (f.write_faults old.files)) (of_channel to 0 (o.faults new.output) (f.write_faults new.files))
+
+  -- that of failed reads rose
+  abbrev pub ReadsRose : Option ChannelName → Call F I O E → Call F I O E → Type 0
+  ReadsRose from old new = Rose (of_channel from 0 (i.read_faults old.input) (f.read_faults old.files)) (of_channel from 0 (i.read_faults new.input) (f.read_faults new.files))
 
 -- errors are as they were, unless they are the console
 abbrev pub ErrorsApart : {Errors : Type 0} → Option ChannelName → Errors → Errors → Type 0

@@ -1,6 +1,6 @@
 -- What the parts of the checker are given and answer, in terms of the definition of typing.
 use Rattle.std.specs.Prelude.{true, List, ◌∷◌, ◌++◌, map, reverse, Option, Some, None, option_and_then}
-use Rattle.ac_types.specs.First.{given}
+use Rattle.ac_types.specs.Partial.{given}
 use Rattle.ac_types.specs.Types.{Typ, Typs}
 use Rattle.ac_types.specs.ReadTypes.{typ_of}
 use Rattle.ac_types.specs.declared.ty.Ty.{Ty}

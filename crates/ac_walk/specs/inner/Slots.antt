@@ -29,6 +29,5 @@ IsTypeSeen E h w T = kept_in Coloured (Some T) ≡ kept_in Coloured (type_seen C
 
 abbrev pub AreTypes : Environment → Home → BareWritten → List Typ → Type 0
 AreTypes E h [] [] = Unit {0}
-AreTypes E h [] (T ∷ Ts) = ⊥
-AreTypes E h (w ∷ ws) [] = ⊥
 AreTypes E h (w ∷ ws) (T ∷ Ts) = IsTypeSeen E h w T × AreTypes E h ws Ts
+AreTypes _ _ _ _ = ⊥

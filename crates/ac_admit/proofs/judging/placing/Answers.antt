@@ -3,7 +3,7 @@ use Rattle.std.specs.Prelude.{option_map, position}
 use Rattle.std.specs.List.{list_all}
 use Rattle.std.proofs.lemmas.Result.{err_from_is_err_and}
 use Rattle.sha2.specs.Sha256.{sha256}
-use Rattle.ac_types.specs.First.{given}
+use Rattle.ac_types.specs.Partial.{given}
 use Rattle.ac_terms.specs.declared.def.PDef as code_def
 use Rattle.ac_terms.specs.Bounds.{fits_def}
 use Rattle.ac_terms.specs.Read.{environment_of, packet_of, pdef_of}

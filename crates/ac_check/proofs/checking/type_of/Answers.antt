@@ -1,6 +1,6 @@
 use Rattle.std.proofs.Common.{sym, ap, ap₂, ◌∙◌, Bool, true, map}
 use Rattle.std.specs.Prelude.{option_map}
-use Rattle.ac_types.specs.First.{given}
+use Rattle.ac_types.specs.Partial.{given}
 use Rattle.ac_types.specs.ReadTypes.{typ_of}
 use Rattle.ac_terms.specs.Read.{environment_of, home_of, expr_of}
 use Rattle.ac_rules.specs.Views.{Coloured}

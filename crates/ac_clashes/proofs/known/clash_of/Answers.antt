@@ -1,6 +1,6 @@
 use Rattle.std.proofs.Common.{◌≡◌, ◌∙◌, sym, ap, ℕ, Option, Some}
 use Rattle.std.specs.Prelude.{option_map, is_some, IsSome}
-use Rattle.ac_types.specs.First.{given}
+use Rattle.ac_types.specs.Partial.{given}
 use Rattle.ac_types.specs.Types.{Bytes}
 use Rattle.ac_terms.specs.Read.{environment_of, name_of_code}
 use Rattle.ac_clashes.specs.inner.Known.{known_at, known_before, known_of, texted}

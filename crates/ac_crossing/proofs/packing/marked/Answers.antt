@@ -12,16 +12,15 @@ use Rattle.ac_forms.specs.Forms.{AllBelow}
 use Rattle.ac_crossing.proofs.PackLaws.{few_chosen, inside}
 use Rattle.ac_crossing.proofs.packing.marked.Goals as goal
 
-pub whole-requires-clause-short : goal.whole-requires-clause-short
-whole-requires-clause-short c =
+pub whole-requires : goal.whole-requires
+whole-requires c =
     let E : Environment = environment_of c.args.env.now in
     let v : PValue = bare_packed E (stands (table_code c.args.table.now) (stands_as c.args.store.now c.args.value.0)) (typ_of c.args.ty.now) in
     let few : length E ≤ 65535 = omega (arith, c.requires.few, length-map c.args.env.now.entries entry_of) in
-    few_chosen E c.args.at (typ_of c.args.ty.now) v c.in-Ok.chosen c.as_slice.result.now c.as_slice.ensures c.in-Ok.ensures few
-
-pub whole-requires-clause-below : goal.whole-requires-clause-below
-whole-requires-clause-below c =
-    let E : Environment = environment_of c.args.env.now in
-    let v : PValue = bare_packed E (stands (table_code c.args.table.now) (stands_as c.args.store.now c.args.value.0)) (typ_of c.args.ty.now) in
-    subst (λ n. AllBelow n c.as_slice.result.now) (length-map c.args.env.now.entries entry_of)
-    (inside E c.args.at (typ_of c.args.ty.now) v c.in-Ok.chosen c.as_slice.result.now c.as_slice.ensures c.in-Ok.ensures)
+    record {
+      few = c.requires.few;
+      short = few_chosen E c.args.at (typ_of c.args.ty.now) v c.in-Ok.chosen c.as_slice.result.now c.as_slice.ensures c.in-Ok.ensures few;
+      below = subst (λ n. AllBelow n c.as_slice.result.now) (length-map c.args.env.now.entries entry_of)
+          (inside E c.args.at (typ_of c.args.ty.now) v c.in-Ok.chosen c.as_slice.result.now c.as_slice.ensures c.in-Ok.ensures);
+      sound = c.in-Ok.ensures.sound;
+    }

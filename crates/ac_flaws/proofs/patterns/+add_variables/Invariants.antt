@@ -7,4 +7,4 @@ use Rattle.ac_flaws.proofs.patterns.+add_variables.Given as goal
 
 abbrev pub invariant-add_variables_of_all-loop-tree : goal.invariant-add_variables_of_all-loop-tree
 invariant-add_variables_of_all-loop-tree l =
-    map named l.fn.found.items ++ variables_of_all (pat_trees (map pat_of l.trees)) ≡ map named l.names.items ++ variables_of_all (pat_trees (map pat_of (drop l.tree-index l.trees)))
+    map named l.initial.names.items ++ variables_of_all (pat_trees (map pat_of l.trees)) ≡ map named l.names.items ++ variables_of_all (pat_trees (map pat_of (drop l.tree-index l.trees)))

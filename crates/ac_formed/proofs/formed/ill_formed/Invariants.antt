@@ -1,6 +1,6 @@
 use Rattle.std.proofs.Common.{◌≡◌, true, drop, map}
 use Rattle.std.specs.List.{list_all}
-use Rattle.ac_types.specs.First.{first_wrong}
+use Rattle.ac_types.specs.Partial.{first_wrong}
 use Rattle.ac_terms.specs.Bounds.{fits_def}
 use Rattle.ac_terms.specs.Defs.{Entry}
 use Rattle.ac_terms.specs.Read.{environment_of, entry_of}

@@ -1,5 +1,5 @@
 use Rattle.std.proofs.Common.{◌≡◌, drop, map, true, None}
-use Rattle.ac_types.specs.First.{first_some}
+use Rattle.ac_types.specs.Partial.{first_some}
 use Rattle.ac_types.specs.Sigs.{HereAlready}
 use Rattle.ac_types.specs.ReadTypes.{resolve_of}
 use Rattle.ac_terms.specs.Read.{import_of_code, environment_of}

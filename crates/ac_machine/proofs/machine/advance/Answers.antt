@@ -4,24 +4,24 @@ use Rattle.ac_types.specs.ReadNumbers.{exn_number, exn_text}
 use Rattle.ac_terms.specs.Read.{environment_of}
 use Rattle.ac_types.specs.declared.exceptions.Exn.{Exn}
 use Rattle.ac_code.specs.ReadCode.{table_code}
-use Rattle.ac_machine.specs.States.{AskDone, AskRaised, AskSpent, Ask, Paused}
-use Rattle.ac_machine.specs.Resumes.{At}
-use Rattle.ac_machine.specs.Held.{core}
-use Rattle.ac_machine.specs.Seen.{ask_of}
-use Rattle.ac_machine.specs.declared.pause.Pause.TheVariants as answers
-use Rattle.ac_machine.specs.declared.pause.Stand.TheVariants as stand
+use Rattle.ac_machine_engine.specs.States.{AskDone, AskRaised, AskSpent, Ask, Paused}
+use Rattle.ac_machine_engine.specs.Resumes.{At}
+use Rattle.ac_machine_engine.specs.Held.{core}
+use Rattle.ac_machine_engine.specs.Seen.{ask_of}
+use Rattle.ac_machine_engine.specs.declared.pause.Pause.TheVariants as answers
+use Rattle.ac_machine_engine.specs.declared.pause.Stand.TheVariants as stand
 use Rattle.ac_machine.proofs.RunLaws.{not_memory, advanced, stopped}
 use Rattle.ac_machine.proofs.machine.advance.Goals as goal
 
 pub stand_at-requires : goal.stand_at-requires
 stand_at-requires c e =
-    not_memory (environment_of c.args.env.now) (table_code c.args.table.now) c.args.engine.now c.run.new.self c.in_ok-pause-in-Running.pause (rw c.in-Running.is at c.requires.pauses) c.in_ok-pause-in-Running.ensures
-    (ap (ask_of c.run.new.self.store) e)
+    not_memory (environment_of c.args.env.now) (table_code c.args.table.now) c.args.engine.now c.run.new.engine c.in_ok-pause-in-Running.pause (rw c.in-Running.is at c.requires.pauses) c.in_ok-pause-in-Running.ensures
+    (ap (ask_of c.run.new.engine.store) e)
 
 pub returns-in_ok-stand-in-Running : goal.returns-in_ok-stand-in-Running
 returns-in_ok-stand-in-Running c =
     rw c.in-Running.is
-    (advanced (environment_of c.args.env.now) (table_code c.args.table.now) c.args.engine.now c.run.new.self c.in_ok-pause-in-Running.pause c.in_ok-stand-in-Running.stand
+    (advanced (environment_of c.args.env.now) (table_code c.args.table.now) c.args.engine.now c.run.new.engine c.in_ok-pause-in-Running.pause c.in_ok-stand-in-Running.stand
     (rw c.in-Running.is at c.requires.pauses) c.in_ok-pause-in-Running.ensures c.in_ok-stand-in-Running.ensures)
 
 pub returns-in-Done : goal.returns-in-Done

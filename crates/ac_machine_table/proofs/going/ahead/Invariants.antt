@@ -1,9 +1,9 @@
 use Rattle.ac_terms.specs.Read.{environment_of}
 use Rattle.ac_code.specs.ReadCode.{table_code}
-use Rattle.ac_machine.specs.States.{Run}
-use Rattle.ac_machine.specs.Resumes.{At}
-use Rattle.ac_machine.specs.Held.{core, Sound}
-use Rattle.ac_machine.specs.Runs.{Reaches}
+use Rattle.ac_machine_engine.specs.States.{Run}
+use Rattle.ac_machine_engine.specs.Resumes.{At}
+use Rattle.ac_machine_engine.specs.Held.{core, Sound}
+use Rattle.ac_machine_engine.specs.Runs.{Reaches}
 use Rattle.ac_machine_table.proofs.going.ahead.Given as goal
 
 abbrev pub invariant-loop : goal.invariant-loop

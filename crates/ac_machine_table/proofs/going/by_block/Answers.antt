@@ -1,10 +1,10 @@
 use Rattle.std.proofs.Common.{sym, ap, ◌∙◌, false}
 use Rattle.ac_values.specs.Values.{MValue, stands_as}
-use Rattle.ac_machine.specs.States.{Run}
-use Rattle.ac_machine.specs.Resumes.{with_block}
-use Rattle.ac_machine.specs.Held.{core}
-use Rattle.ac_machine.specs.Seen.{standing}
-use Rattle.ac_machine.specs.inner.Steps.{entering}
+use Rattle.ac_machine_engine.specs.States.{Run}
+use Rattle.ac_machine_engine.specs.Resumes.{with_block}
+use Rattle.ac_machine_engine.specs.Held.{core}
+use Rattle.ac_machine_engine.specs.Seen.{standing}
+use Rattle.ac_machine_engine.specs.Steps.{entering}
 use Rattle.ac_machine_table.proofs.AheadLaws.{on_only, answered_at}
 use Rattle.ac_machine_table.proofs.going.by_block.Goals as goal
 

@@ -1,8 +1,8 @@
 use Rattle.ac_values.specs.Values.{MUnit}
-use Rattle.ac_machine.specs.States.{Run, push_value}
-use Rattle.ac_machine.specs.Resumes.{with_unit}
-use Rattle.ac_machine.specs.Held.{core}
-use Rattle.ac_machine.specs.Seen.{standing}
+use Rattle.ac_machine_engine.specs.States.{Run, push_value}
+use Rattle.ac_machine_engine.specs.Resumes.{with_unit}
+use Rattle.ac_machine_engine.specs.Held.{core}
+use Rattle.ac_machine_engine.specs.Seen.{standing}
 use Rattle.ac_machine_table.proofs.AheadLaws.{on_only, answered_at}
 use Rattle.ac_machine_table.proofs.going.by_unit.Goals as goal
 

@@ -1,6 +1,6 @@
 use Rattle.ac_terms.specs.Read.{environment_of}
 use Rattle.ac_code.specs.ReadCode.{table_code}
-use Rattle.ac_machine.specs.Seen.{standing}
+use Rattle.ac_machine_engine.specs.Seen.{standing}
 use Rattle.ac_machine_table.proofs.AheadLaws.{pauses_here}
 use Rattle.ac_machine_table.proofs.going.ended.Goals as goal
 

@@ -7,8 +7,8 @@ use Rattle.ac_syntax.proofs.OnStop.{refused}
 use Rattle.ac_parser.proofs.ImportSteps.{PlacesSoFar, first_place, no_first_place, next_place, no_place_behind, places_read}
 use Rattle.ac_parser.proofs.imports.resolves.Goals as goal
 
-pub returns-in_default-clause-none : goal.returns-in_default-clause-none
-returns-in_default-clause-none c = refused _ _ c.refused_at.ensures (no_first_place _ (rw c.in_default.is at c.in_ok-first.ensures.found))
+pub returns-in_default : goal.returns-in_default
+returns-in_default c = refused _ _ c.refused_at.ensures (no_first_place _ (rw c.in_default.is at c.in_ok-first.ensures.found))
 
 pub loop-behind-init : goal.loop-behind-init
 loop-behind-init c =
@@ -18,8 +18,8 @@ loop-behind-init c =
       shorter = rw c.in-Some.is at c.in_ok-first.ensures.shorter;
     }
 
-pub returns-in_default-2-clause-none : goal.returns-in_default-2-clause-none
-returns-in_default-2-clause-none c =
+pub returns-in_default-2 : goal.returns-in_default-2
+returns-in_default-2 c =
     refused _ _ c.refused_at-in_default-2.ensures (no_place_behind _ _ _ c.loop-behind.invariant.so_far _ c.in-Some-after.ensures.found (rw c.in_default-2.is at c.in_ok-place.ensures.found))
 
 pub loop-behind-preserved : goal.loop-behind-preserved
@@ -31,5 +31,8 @@ loop-behind-preserved c =
       shorter = omega (arith, c.loop-behind.invariant.shorter, c.in-Some-after.ensures.shorter, rw c.in-Some-2.is at c.in_ok-place.ensures.shorter);
     }
 
-pub returns-clause-places : goal.returns-clause-places
-returns-clause-places c = places_read _ _ _ c.loop-behind.invariant.so_far c.in_default-after.ensures.found
+pub returns : goal.returns
+returns c = record {
+  found = places_read _ _ _ c.loop-behind.invariant.so_far c.in_default-after.ensures.found;
+  shorter = c.loop-behind.invariant.shorter;
+}

@@ -10,8 +10,8 @@ use Rattle.ac_parser.proofs.Lists.{StructSoFar, no_struct, begun, next_item, non
 use Rattle.ac_parser.proofs.ModuleSteps.{abbrevs_end, abbrevs_item, abbrevs_none, no_abbrev_word}
 use Rattle.ac_parser.proofs.modules.abbreviations.Goals as goal
 
-pub returns-in_default-clause-none : goal.returns-in_default-clause-none
-returns-in_default-clause-none c = refused _ _ c.refused_at.ensures (no_struct ParsesAbbrevs _ c.in_default.ensures.found)
+pub returns-in_default : goal.returns-in_default
+returns-in_default c = refused _ _ c.refused_at.ensures (no_struct ParsesAbbrevs _ c.in_default.ensures.found)
 
 pub loop-end-init : goal.loop-end-init
 loop-end-init c = record {
@@ -19,20 +19,20 @@ loop-end-init c = record {
   shorter = c.in-Some.ensures.shorter;
 }
 
-pub returns-in-Some-after-clause-abbreviations : goal.returns-in-Some-after-clause-abbreviations
-returns-in-Some-after-clause-abbreviations c = ended _ _ _ _ c.loop-end.invariant.so_far _ (abbrevs_end _ _ c.in-Some-after.ensures.found)
+pub returns-in-Some-after : goal.returns-in-Some-after
+returns-in-Some-after c = record {
+  found = ended _ _ _ _ c.loop-end.invariant.so_far _ (abbrevs_end _ _ c.in-Some-after.ensures.found);
+  shorter = omega (arith, c.loop-end.invariant.shorter, c.in-Some-after.ensures.shorter);
+}
 
-pub returns-in-Some-after-clause-shorter : goal.returns-in-Some-after-clause-shorter
-returns-in-Some-after-clause-shorter c = omega (arith, c.loop-end.invariant.shorter, c.in-Some-after.ensures.shorter)
-
-pub returns-in_default-after-2-clause-none : goal.returns-in_default-after-2-clause-none
-returns-in_default-after-2-clause-none c =
+pub returns-in_default-after-2 : goal.returns-in_default-after-2
+returns-in_default-after-2 c =
     refused _ _ c.refused_at-in_default-after-2.ensures (none_left _ _ _ _ c.loop-end.invariant.so_far (no_abbrev_word _ c.in_default-after-2.ensures.found c.in_default-after.ensures.found))
 
-pub returns-in_err-next-clause-none : goal.returns-in_err-next-clause-none
-returns-in_err-next-clause-none c =
+pub returns-in_err-next : goal.returns-in_err-next
+returns-in_err-next c =
     let p = err_from_is_err_and c.from_residual.result c.from_residual.ensures.1 in
-    rw (p.1, p.2) (on_syntax_more _ (λ none. none_left _ _ _ _ c.loop-end.invariant.so_far (abbrevs_none _ _ c.in-Some-after-2.ensures.found none)) c.in_err-next.ensures.none)
+    rw (p.1, p.2) (on_syntax_more _ (λ none. none_left _ _ _ _ c.loop-end.invariant.so_far (abbrevs_none _ _ c.in-Some-after-2.ensures.found none)) c.in_err-next.ensures)
 
 pub loop-end-preserved : goal.loop-end-preserved
 loop-end-preserved c =

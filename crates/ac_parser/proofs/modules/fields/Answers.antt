@@ -10,8 +10,8 @@ use Rattle.ac_parser.proofs.Lists.{StructSoFar, no_struct, begun, next_item, non
 use Rattle.ac_parser.proofs.ModuleSteps.{fields_end}
 use Rattle.ac_parser.proofs.modules.fields.Goals as goal
 
-pub returns-in_default-clause-none : goal.returns-in_default-clause-none
-returns-in_default-clause-none c = refused _ _ c.refused_at.ensures (no_struct ParsesFields _ c.in_default.ensures.found)
+pub returns-in_default : goal.returns-in_default
+returns-in_default c = refused _ _ c.refused_at.ensures (no_struct ParsesFields _ c.in_default.ensures.found)
 
 pub loop-end-init : goal.loop-end-init
 loop-end-init c = record {
@@ -19,21 +19,21 @@ loop-end-init c = record {
   shorter = c.in-Some.ensures.shorter;
 }
 
-pub returns-in-Some-after-clause-fields : goal.returns-in-Some-after-clause-fields
-returns-in-Some-after-clause-fields c = ended _ _ _ _ c.loop-end.invariant.so_far _ (fields_end _ _ c.in-Some-after.ensures.found)
+pub returns-in-Some-after : goal.returns-in-Some-after
+returns-in-Some-after c = record {
+  found = ended _ _ _ _ c.loop-end.invariant.so_far _ (fields_end _ _ c.in-Some-after.ensures.found);
+  shorter = omega (arith, c.loop-end.invariant.shorter, c.in-Some-after.ensures.shorter);
+}
 
-pub returns-in-Some-after-clause-shorter : goal.returns-in-Some-after-clause-shorter
-returns-in-Some-after-clause-shorter c = omega (arith, c.loop-end.invariant.shorter, c.in-Some-after.ensures.shorter)
-
-pub returns-in_err-next-clause-none : goal.returns-in_err-next-clause-none
-returns-in_err-next-clause-none c =
+pub returns-in_err-next : goal.returns-in_err-next
+returns-in_err-next c =
     let p = err_from_is_err_and c.from_residual.result c.from_residual.ensures.1 in
-    rw (p.1, p.2) (on_syntax_more _ (λ none. none_left _ _ _ _ c.loop-end.invariant.so_far (none c.in_default-after.ensures.found)) c.in_err-next.ensures.none)
+    rw (p.1, p.2) (on_syntax_more _ (λ none. none_left _ _ _ _ c.loop-end.invariant.so_far (none c.in_default-after.ensures.found)) c.in_err-next.ensures)
 
 pub loop-end-preserved : goal.loop-end-preserved
 loop-end-preserved c =
     let fields = ap (map field_tree_of) c.in_ok-push.ensures.ok ∙ map-append field_tree_of c.loop-end.found (c.in_ok-next.next ∷ []) in
-    let next = next_item _ _ _ _ c.loop-end.invariant.so_far _ _ c.in_ok-next.ensures.field in
+    let next = next_item _ _ _ _ c.loop-end.invariant.so_far _ _ c.in_ok-next.ensures.found in
     record {
       so_far = subst (λ (l : List FieldTree). StructSoFar ParsesFields (read_signs c.args.signs.now) l (read_signs c.in_ok-next.later.now)) (sym fields) next;
       shorter = omega (arith, c.loop-end.invariant.shorter, c.in_ok-next.ensures.shorter);

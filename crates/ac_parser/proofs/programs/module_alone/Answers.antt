@@ -10,21 +10,21 @@ use Rattle.ac_syntax.specs.declared.sign.Symbol.TheVariants as symbol
 use Rattle.ac_parser.proofs.ProgramSteps.{begins_with, no_module_word, no_module_tree, module_and_more, module_tree}
 use Rattle.ac_parser.proofs.programs.module_alone.Goals as goal
 
-pub returns-in_default-clause-none : goal.returns-in_default-clause-none
-returns-in_default-clause-none c = refused _ _ c.refused_at.ensures (no_module_word _ c.in_default.ensures.found)
+pub returns-in_default : goal.returns-in_default
+returns-in_default c = refused _ _ c.refused_at.ensures (no_module_word _ c.in_default.ensures.found)
 
-pub returns-in_err-def-clause-none : goal.returns-in_err-def-clause-none
-returns-in_err-def-clause-none c =
+pub returns-in_err-def : goal.returns-in_err-def
+returns-in_err-def c =
     let p = err_from_is_err_and c.from_residual.result c.from_residual.ensures.1 in
-    rw (p.1, p.2) (on_syntax_more _ (no_module_tree _ _ _ (begins_with symbol.Module _ _ _ c.in-Some.ensures.found c.here.ensures)) c.in_err-def.ensures.none)
+    rw (p.1, p.2) (on_syntax_more _ (no_module_tree _ _ _ (begins_with symbol.Module _ _ _ c.in-Some.ensures.found c.here.ensures)) c.in_err-def.ensures)
 
-pub returns-in_err-def-2-clause-none : goal.returns-in_err-def-2-clause-none
-returns-in_err-def-2-clause-none c =
+pub returns-in_err-def-2 : goal.returns-in_err-def-2
+returns-in_err-def-2 c =
     let p = err_from_is_err_and c.from_residual-in_err-def-2.result c.from_residual-in_err-def-2.ensures.1 in
-    rw (p.1, p.2) (on_syntax_more _ (module_and_more _ _ _ (begins_with symbol.Module _ _ _ c.in-Some.ensures.found c.here.ensures) _ _ c.in_ok-def.ensures.module) c.in_err-def-2.ensures.none)
+    rw (p.1, p.2) (on_syntax_more _ (module_and_more _ _ _ (begins_with symbol.Module _ _ _ c.in-Some.ensures.found c.here.ensures) _ _ c.in_ok-def.ensures.found) c.in_err-def-2.ensures)
 
-pub returns-clause-tree : goal.returns-clause-tree
-returns-clause-tree c =
-    let defs = ap (map def_tree_of) c.in_ok-push.ensures.ok ∙ map-append def_tree_of c.new-defs.result (c.in_ok-def-2.def ∷ []) ∙ ap (λ l. map def_tree_of l ++ def_tree_of c.in_ok-def-2.def ∷ []) c.new-defs.ensures ∙ ap (λ d. def_tree_of d ∷ []) c.in_ok-def-2.ensures.same in
+pub returns : goal.returns
+returns c =
+    let defs = ap (map def_tree_of) c.in_ok-push.ensures.ok ∙ map-append def_tree_of c.new-defs.result (c.in_ok-def-2.def ∷ []) ∙ ap (λ l. map def_tree_of l ++ def_tree_of c.in_ok-def-2.def ∷ []) c.new-defs.ensures ∙ ap (λ d. def_tree_of d ∷ []) c.in_ok-def-2.ensures.0 in
     subst (λ (l : List DefTree). IsModule (read_signs c.args.signs.now) (record { defs = l; expr = None })) (sym defs)
-    (module_tree _ _ _ (begins_with symbol.Module _ _ _ c.in-Some.ensures.found c.here.ensures) _ _ c.in_ok-def.ensures.module c.in_ok-def-2.ensures.end)
+    (module_tree _ _ _ (begins_with symbol.Module _ _ _ c.in-Some.ensures.found c.here.ensures) _ _ c.in_ok-def.ensures.found c.in_ok-def-2.ensures.1)

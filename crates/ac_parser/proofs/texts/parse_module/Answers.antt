@@ -19,4 +19,4 @@ pub returns-clause-fault : goal.returns-clause-fault
 returns-clause-fault c =
     let all = ap read_signs c.as_slice-2.ensures.value ∙ c.in_ok-all.ensures ∙ ap signs c.as_slice.ensures in
     fault_of IsModule _ _ _ _ c.in_ok-found.ensures.read (subst (λ (l : List Token). FaultAt l (length c.args.bytes.now) c.in-Err.stop c.fault.result) c.as_slice-in-Err.ensures c.fault.ensures)
-    (on_syntax_more _ (λ (none : NoProgramTree IsModule (read_signs c.as_slice-2.result.now)). subst (λ (l : List Sign). NoProgramTree IsModule l) all none) c.in-Err.ensures.none)
+    (on_syntax_more _ (λ (none : NoProgramTree IsModule (read_signs c.as_slice-2.result.now)). subst (λ (l : List Sign). NoProgramTree IsModule l) all none) c.in-Err.ensures)

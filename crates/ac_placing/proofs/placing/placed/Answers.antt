@@ -17,10 +17,10 @@ loop-def-init c =
     let E = environment_of c.args.env.now in
     let ds = map pdef_of c.args.defs.now in
     record {
-      sound = c.in_ok-p.ensures.sound;
-      many = ap length c.in_ok-p.ensures.empty.0;
+      sound = c.in_ok-placing.ensures.sound;
+      many = ap length c.in_ok-placing.ensures.empty.0;
       fits = c.requires.fits;
-      left = ap (λ s. place_all sha256 E s ds) (state_first E c.in_ok-p.p c.in_ok-p.ensures.empty.0 c.in_ok-p.ensures.empty.1);
+      left = ap (λ s. place_all sha256 E s ds) (state_first E c.in_ok-placing.placing c.in_ok-placing.ensures.empty.0 c.in_ok-placing.ensures.empty.1);
     }
 
 fit_next : (i : ℕ) (ds : List code.PDef) (d : code.PDef) → drop i ds ≡ d ∷ drop (i + 1) ds → list_all fits_def (map pdef_of (drop i ds)) ≡ true → (fits_def (pdef_of d) ≡ true) × (list_all fits_def (map pdef_of (drop (i + 1) ds)) ≡ true)
@@ -40,30 +40,30 @@ loop-def-preserved c =
     let i : ℕ = c.loop-def.def-index in
     let d = c.def-item.result in
     let next : drop i ds ≡ d ∷ drop (i + 1) ds = left_next i ds d c.loop-def-test.true c.def-item.is in
-    let before : length c.loop-def.p.places ≡ i = c.loop-def.invariant.many in
+    let before : length c.loop-def.placing.places ≡ i = c.loop-def.invariant.many in
     record {
       sound = c.in_ok-place.ensures.sound;
       many = c.in_ok-place.ensures.many ∙ ap (λ n. n + 1) before;
       fits = (fit_next i ds d next c.loop-def.invariant.fits).1;
       left = ap (λ s. place_all sha256 E s (map pdef_of (drop (i + 1) ds))) c.in_ok-place.ensures.placed
-          ∙ ap (λ xs. place_all sha256 E (state_of E c.loop-def.p) (map pdef_of xs)) (sym next) ∙ c.loop-def.invariant.left;
+          ∙ ap (λ xs. place_all sha256 E (state_of E c.loop-def.placing) (map pdef_of xs)) (sym next) ∙ c.loop-def.invariant.left;
     }
 
 pub returns-clause-placed : goal.returns-clause-placed
 returns-clause-placed c =
     let E = environment_of c.args.env.now in
     let ds = c.args.defs.now in
-    ap (λ xs. place_all sha256 E (state_of E c.loop-def.p) (map pdef_of xs)) (sym (drop_all c.loop-def.def-index ds c.loop-def-test.false)) ∙ c.loop-def.invariant.left
+    ap (λ xs. place_all sha256 E (state_of E c.loop-def.placing) (map pdef_of xs)) (sym (drop_all c.loop-def.def-index ds c.loop-def-test.false)) ∙ c.loop-def.invariant.left
 
 pub returns-clause-numbers : goal.returns-clause-numbers
 returns-clause-numbers c =
     let E = environment_of c.args.env.now in
     let ds = c.args.defs.now in
-    numbers_of E c.loop-def.p (places sha256 E (map pdef_of ds)) c.loop-def.invariant.sound
-    (ap (λ xs. place_all sha256 E (state_of E c.loop-def.p) (map pdef_of xs)) (sym (drop_all c.loop-def.def-index ds c.loop-def-test.false)) ∙ c.loop-def.invariant.left)
+    numbers_of E c.loop-def.placing (places sha256 E (map pdef_of ds)) c.loop-def.invariant.sound
+    (ap (λ xs. place_all sha256 E (state_of E c.loop-def.placing) (map pdef_of xs)) (sym (drop_all c.loop-def.def-index ds c.loop-def-test.false)) ∙ c.loop-def.invariant.left)
 
 pub returns-clause-few : goal.returns-clause-few
 returns-clause-few c =
     let few = c.loop-def.invariant.sound.few in
-    let many : length c.loop-def.p.places ≡ c.loop-def.def-index = c.loop-def.invariant.many in
+    let many : length c.loop-def.placing.places ≡ c.loop-def.def-index = c.loop-def.invariant.many in
     omega (arith, few, many)

@@ -12,8 +12,8 @@ abbrev pub invariant-loop-def : goal.invariant-loop-def
 invariant-loop-def l =
     let E = environment_of l.env in
     record {
-      sound : IsSound E l.p;
-      many : length l.p.places ≡ l.def-index;
+      sound : IsSound E l.placing;
+      many : length l.placing.places ≡ l.def-index;
       fits : list_all fits_def (map pdef_of (drop l.def-index l.defs)) ≡ true;
-      left : place_all sha256 E (state_of E l.p) (map pdef_of (drop l.def-index l.defs)) ≡ places sha256 E (map pdef_of l.defs);
+      left : place_all sha256 E (state_of E l.placing) (map pdef_of (drop l.def-index l.defs)) ≡ places sha256 E (map pdef_of l.defs);
     }

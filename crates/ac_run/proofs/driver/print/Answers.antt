@@ -1,6 +1,6 @@
 use Rattle.std.proofs.Common.{inl, [], ◌∷◌}
 use Rattle.ac_meaning.specs.Writes.{Print}
-use Rattle.ac_machine.specs.Resumes.{with_unit}
+use Rattle.ac_machine_engine.specs.Resumes.{with_unit}
 use Rattle.ac_run.specs.Sessions.{streams}
 use Rattle.ac_run.proofs.Courses.{begun_alone, print_made, answers}
 use Rattle.ac_run.proofs.driver.print.Goals as goal

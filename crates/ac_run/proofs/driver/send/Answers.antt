@@ -2,7 +2,7 @@ use Rattle.std.proofs.Common.{inl, [], ◌∷◌, ◌++◌, ◌≡◌, ◌∙◌
 use Rattle.ac_outside.specs.Outside.{Extends}
 use Rattle.ac_outside.specs.Frames.{frame_of}
 use Rattle.ac_meaning.specs.Writes.{Send}
-use Rattle.ac_machine.specs.Resumes.{with_unit}
+use Rattle.ac_machine_engine.specs.Resumes.{with_unit}
 use Rattle.ac_run.specs.Sessions.{streams}
 use Rattle.ac_run.proofs.Courses.{begun_alone, send_made, answers}
 use Rattle.ac_run.proofs.driver.send.Goals as goal

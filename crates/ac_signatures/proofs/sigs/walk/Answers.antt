@@ -1,5 +1,5 @@
 use Rattle.std.proofs.Common.{◌≡◌, ◌∙◌, ap, sym, refl, arith, length, map, List}
-use Rattle.ac_types.specs.First.{or_else}
+use Rattle.std.specs.Option.{option_or}
 use Rattle.ac_syntax.specs.declared.surface.SSpec.{SSpec}
 use Rattle.ac_syntax.specs.ReadTrees.{spec_of}
 use Rattle.ac_scopes.specs.Standard.{beside_name}
@@ -19,7 +19,7 @@ pub loop-spec-init : goal.loop-spec-init
 loop-spec-init c = record {
   wrong = ap (λ K. of_all K c.args.specs.now) (sym c.new-scan.ensures) ∙ ap (λ (f : Flaws). flaws_joined f (of_all (known_in c.new-scan.result) c.args.specs.now)) (sym c.none-flaws.ensures);
   sizes =
-      λ t. ap (λ o. or_else o (beside_name t (spec_sizes (known_in c.new-scan.result) (map spec_of c.args.specs.now)))) (nothing_under c.new-types.result c.new-types.ensures.empty t)
+      λ t. ap (λ o. option_or o (beside_name t (spec_sizes (known_in c.new-scan.result) (map spec_of c.args.specs.now)))) (nothing_under c.new-types.result c.new-types.ensures.empty t)
       ∙ ap (λ K. beside_name t (spec_sizes K (map spec_of c.args.specs.now))) c.new-scan.ensures;
 }
 

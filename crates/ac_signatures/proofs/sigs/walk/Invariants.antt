@@ -1,5 +1,5 @@
 use Rattle.std.proofs.Common.{◌≡◌, map, drop}
-use Rattle.ac_types.specs.First.{or_else}
+use Rattle.std.specs.Option.{option_or}
 use Rattle.ac_types.specs.Types.{Bytes}
 use Rattle.ac_syntax.specs.ReadTrees.{spec_of}
 use Rattle.ac_scopes.specs.Standard.{beside_name}
@@ -14,5 +14,5 @@ invariant-loop-spec l = record {
   wrong :
       flaws_in past_spec spec_flaws (known_outside (externals_of l.externals)) (map spec_of l.specs) ≡ flaws_joined l.flaws (flaws_in past_spec spec_flaws (known_in l.scan) (map spec_of (drop l.spec-index l.specs)));
   sizes : (t : Bytes) →
-      or_else (under l.types t) (beside_name t (spec_sizes (known_in l.scan) (map spec_of (drop l.spec-index l.specs)))) ≡ beside_name t (spec_sizes (known_outside (externals_of l.externals)) (map spec_of l.specs));
+      option_or (under l.types t) (beside_name t (spec_sizes (known_in l.scan) (map spec_of (drop l.spec-index l.specs)))) ≡ beside_name t (spec_sizes (known_outside (externals_of l.externals)) (map spec_of l.specs));
 }

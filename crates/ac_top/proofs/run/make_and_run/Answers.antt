@@ -10,15 +10,15 @@ pub returns-in-Done-clause-ends : goal.returns-in-Done-clause-ends
 returns-in-Done-clause-ends g c = (
   false,
   (λ h. absurd (true≢false (sym h))),
-  λ start since shelf is_shelf text is_text loaded is_loaded accepted is.
-      c.run_session.ensures.ends start (prepared _ _ _ _ _ since c.in-Done.ensures.makes) shelf is_shelf text is_text loaded is_loaded accepted is,
+  λ start since loaded is_loaded is shelf is_shelf text is_text accepted.
+      c.run_session.ensures.ends start (prepared _ _ _ _ _ since c.in-Done.ensures.makes) loaded is_loaded is shelf is_shelf text is_text accepted,
 )
 
 pub returns-in-Failed-clause-ends : goal.returns-in-Failed-clause-ends
 returns-in-Failed-clause-ends g c = (
   true,
   (λ t. refl),
-  λ start since shelf is_shelf text is_text loaded is_loaded accepted is.
+  λ start since loaded is_loaded is shelf is_shelf text is_text accepted.
       unmade_in _ _ _ _ _ shelf is_shelf text is_text loaded accepted is_loaded.program (making_failed _ _ _ _ _ _ _ _ _ since c.in-Failed.ensures.makes) (λ told. sym (append-nil _)) (made_at_most _ _ _ _ _ _ _ _ _ put.Failed (λ e. absurd cc) since c.in-Failed.ensures.makes) refl _ c.say.ensures.said,
 )
 
@@ -26,7 +26,7 @@ pub returns-in-Memory-clause-ends : goal.returns-in-Memory-clause-ends
 returns-in-Memory-clause-ends g c = (
   true,
   (λ t. refl),
-  λ start since shelf is_shelf text is_text loaded is_loaded accepted is.
+  λ start since loaded is_loaded is shelf is_shelf text is_text accepted.
       lost_making _ _ _ _ _ shelf is_shelf text is_text loaded accepted is_loaded.program (λ told. sym (append-nil _)) (made_at_most _ _ _ _ _ _ _ _ _ put.Memory (λ e. absurd cc) since c.in-Memory.ensures.makes) refl _ c.no_memory.ensures,
 )
 

@@ -21,8 +21,9 @@ returns-in-Ok-clause-ends g c =
       run.0,
       run.1,
       λ start since shelf is_shelf text is_text accepted.
-          run.2 start since shelf is_shelf text is_text c.args.loaded c.requires.loaded accepted
-          (c.in-Ok.ensures ∙ ap (λ (b : Bool). begun c.args.loaded c.args.run.steps b c.in-Ok.session.machine) (c.is_some.ensures ∙ same_some channel_of c.args.run.output)),
+          run.2 start since c.args.loaded c.requires.loaded
+          (c.in-Ok.ensures ∙ ap (λ (b : Bool). begun c.args.loaded c.args.run.steps b c.in-Ok.session.machine) (c.is_some.ensures ∙ same_some channel_of c.args.run.output))
+          shelf is_shelf text is_text accepted,
     )
 
 pub returns-in-Err-clause-ends : goal.returns-in-Err-clause-ends

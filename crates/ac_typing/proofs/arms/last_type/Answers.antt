@@ -1,5 +1,5 @@
 use Rattle.std.proofs.Common.{◌≡◌, ◌+◌, sym, ap, ◌∙◌, arith, length, drop, List, Bool}
-use Rattle.ac_types.specs.First.{given}
+use Rattle.ac_types.specs.Partial.{given}
 use Rattle.ac_types.specs.declared.ty.Ty.{Ty}
 use Rattle.ac_typing.proofs.ArmLaws.{last_from, last_is, last_next, last_end}
 use Rattle.ac_typing.proofs.arms.last_type.Goals as goal

@@ -1,5 +1,5 @@
 use Rattle.std.proofs.Common.{◌≡◌, drop}
-use Rattle.ac_terms.specs.TermTyping.{last_of}
+use Rattle.ac_rules.specs.Typing.{last_of}
 use Rattle.ac_views.specs.Sites.{typs_of}
 use Rattle.ac_typing.proofs.ArmLaws.{last_from}
 use Rattle.ac_typing.proofs.arms.last_type.Given as goal

@@ -3,7 +3,7 @@ use Rattle.std.specs.Prelude.{option_map}
 use Rattle.ac_types.specs.Types.{TList}
 use Rattle.ac_types.specs.ReadTypes.{typ_of}
 use Rattle.ac_types.specs.declared.ty.Ty.{Ty}
-use Rattle.ac_terms.specs.TermTyping.{both_same}
+use Rattle.ac_types.specs.Partial.{both_same}
 use Rattle.ac_typing.proofs.Equalities.{cons_same}
 use Rattle.ac_typing.proofs.data.cons_type.Goals as goal
 

@@ -10,7 +10,7 @@ use Rattle.ac_terms.specs.Read.{home_of, pattern_of}
 use Rattle.ac_rules.specs.Typing.{variables_joined}
 use Rattle.ac_views.specs.Sites.{entries_of}
 use Rattle.ac_typing.specs.inner.Parts.{newest_first}
-use Rattle.ac_typing.proofs.PatternLaws.{vars, form_laws, other_lengths, pattern_some, cons_none, cons_some, text_some}
+use Rattle.ac_typing.proofs.PatternLaws.{vars, form_laws, other_lengths, pattern_some, pattern_none, cons_none, cons_some, text_some}
 use Rattle.ac_typing.proofs.patterns.+patterns.Goals as goal
 
 pub all_variables-returns-then-pats-tys : goal.all_variables-returns-then-pats-tys
@@ -26,6 +26,12 @@ all_variables-loop-i-preserved t c =
           pattern_some (entries_of c.args.site.now) (home_of c.args.site.now.home) c.args.pats.now c.args.tys.now c.loop-i.i _ _ c.loop-i-test.true k c.index-pats-i.is c.index-tys-i.is
           _ c.loop-i.found c.loop-i.invariant.left c.in-Some.more (ap (option_map newest_first) (sym c.in-Some.is) ∙ c.in_ok-more.ensures);
     }
+
+pub all_variables-returns-in_default : goal.all_variables-returns-in_default
+all_variables-returns-in_default t c =
+    let k : c.loop-i.i < length c.args.tys.now = omega arith in
+    sym (pattern_none (entries_of c.args.site.now) (home_of c.args.site.now.home) c.args.pats.now c.args.tys.now c.loop-i.i _ _ c.loop-i-test.true k c.index-pats-i.is c.index-tys-i.is
+    _ c.loop-i.found c.loop-i.invariant.left (ap (option_map newest_first) (sym c.in_default.is) ∙ c.in_ok-more.ensures))
 
 pub variables-returns-in_default-2 : goal.variables-returns-in_default-2
 variables-returns-in_default-2 t c =

@@ -1,7 +1,7 @@
 use Rattle.std.proofs.Common.{◌≡◌, refl, sym, ap, ap₂, ◌∙◌, arith, length, map, List, ◌∷◌, ◌++◌, true, ◌&&◌, Option, Some, None}
 use Rattle.std.specs.Prelude.{option_map, option_and_then}
-use Rattle.ac_types.specs.First.{given}
-use Rattle.ac_types.specs.Types.{Typ, Typs, TTuple, TOpt, TList, TBool, TStr, TExn, agree}
+use Rattle.ac_types.specs.Partial.{given, agree, has, both_same}
+use Rattle.ac_types.specs.Types.{Typ, Typs, TTuple, TOpt, TList, TBool, TStr, TExn}
 use Rattle.ac_types.specs.ReadNumbers.{primitive_number}
 use Rattle.ac_types.specs.ReadTypes.{typ_of}
 use Rattle.ac_types.specs.declared.ty.Ty.{Ty}
@@ -9,12 +9,11 @@ use Rattle.ac_types.specs.declared.ty.Ty.TheVariants as ty
 use Rattle.ac_types.proofs.SizeLaws.{type_laws}
 use Rattle.ac_terms.specs.PrimitiveTypes.{primitive_type}
 use Rattle.ac_terms.specs.Terms.{arms}
-use Rattle.ac_terms.specs.TermTyping.{has, both_same, last_of}
 use Rattle.ac_terms.specs.Read.{expr_of, arm_of, pattern_of, home_of}
 use Rattle.ac_terms.specs.declared.term.Term.{Term}
 use Rattle.ac_terms.specs.declared.term.Arm.{Arm}
 use Rattle.ac_rules.specs.Views.{Coloured}
-use Rattle.ac_rules.specs.Typing.{type_of, arm_types, one_of, type_seen, type_applied}
+use Rattle.ac_rules.specs.Typing.{type_of, arm_types, one_of, type_seen, type_applied, last_of}
 use Rattle.ac_views.specs.Sites.{entries_of, scope_at}
 use Rattle.ac_typing.specs.inner.Parts.{types_in, newest_first, arm_type}
 use Rattle.ac_typing.proofs.KeptLaws.{K}

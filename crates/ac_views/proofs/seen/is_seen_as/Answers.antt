@@ -1,6 +1,6 @@
 use Rattle.std.proofs.Common.{◌≡◌, sym, ◌∙◌, rules, true}
 use Rattle.ac_types.specs.ReadTypes.{typ_of}
-use Rattle.ac_terms.specs.TermTyping.{has}
+use Rattle.ac_types.specs.Partial.{has}
 use Rattle.ac_terms.specs.Read.{home_of}
 use Rattle.ac_rules.specs.Views.{Coloured}
 use Rattle.ac_rules.specs.Typing.{type_seen}

@@ -3,8 +3,9 @@ use Rattle.ac_terms.specs.Terms.{Str}
 use Rattle.ac_terms.specs.Read.{expr_of}
 use Rattle.ac_terms.specs.declared.term.Term.{Term}
 use Rattle.ac_terms.specs.declared.term.Term.TheVariants as term
+use Rattle.ac_terms.proofs.ReadLaws.{expr_of-Tuple, expr_of-Seq}
 use Rattle.ac_terms.proofs.TermForms.{expr_of-Bool, expr_of-Str, expr_of-Unit, expr_of-Exn, expr_of-ExnOf, expr_of-Nil, expr_of-Empty, expr_of-Present, expr_of-Var, expr_of-Own, expr_of-Lam, expr_of-Rec, expr_of-Let, expr_of-If, expr_of-Marshal}
-use Rattle.ac_walk.proofs.VisitLaws.{as_form}
+use Rattle.ac_walk.proofs.VisitLaws.{as_form, as_tuple, as_sequence}
 use Rattle.ac_walk.proofs.walk.Walk.term.Goals as goal
 
 pub returns-in-Bool : goal.returns-in-Bool
@@ -21,6 +22,11 @@ returns-in-ExnVal c = as_form c.args.around c.args.t.now _ _ _ _ c.args.self.now
 
 pub returns-in-ExnOf : goal.returns-in-ExnOf
 returns-in-ExnOf c = as_form c.args.around c.args.t.now _ _ _ _ c.args.self.now _ (ap expr_of (c.in-ExnOf.is ∙ ap (term.ExnOf _) (sym c.deref.ensures)) ∙ expr_of-ExnOf _ _) c.in_ok-d.ensures (rw c.number-in-ExnOf.ensures at c.one_term.ensures)
+
+pub returns-in-Tuple : goal.returns-in-Tuple
+returns-in-Tuple c =
+    as_tuple c.args.around c.in_ok-d.d c.few.result c.args.self.now c.few.new.self c.args.t.now c.len.result c.as_slice-in-Tuple.result.now c.in-Tuple.parts _ c.in_ok-d.ensures
+    c.as_slice-in-Tuple.ensures c.len.ensures (ap expr_of c.in-Tuple.is ∙ expr_of-Tuple _) c.few.ensures
 
 pub returns-in-Nil : goal.returns-in-Nil
 returns-in-Nil c = as_form c.args.around c.args.t.now _ _ _ _ c.args.self.now _ (ap expr_of c.in-Nil.is ∙ expr_of-Nil _) c.in_ok-d.ensures c.one.ensures
@@ -45,6 +51,11 @@ returns-in-Rec c = as_form c.args.around c.args.t.now _ _ _ _ c.args.self.now _ 
 
 pub returns-in-Let : goal.returns-in-Let
 returns-in-Let c = as_form c.args.around c.args.t.now _ _ _ _ c.args.self.now _ (ap expr_of (c.in-Let.is ∙ ap₂ (term.Let _) (sym c.deref-in-Let.ensures) (sym c.deref-in-Let-2.ensures)) ∙ expr_of-Let _ _ _) c.in_ok-d.ensures c.local.ensures
+
+pub returns-in-Seq : goal.returns-in-Seq
+returns-in-Seq c =
+    as_sequence c.args.around c.in_ok-d.d c.many.result c.args.self.now c.many.new.self c.args.t.now c.len-in-Seq.result c.as_slice-in-Seq.result.now c.in-Seq.parts _ c.in_ok-d.ensures
+    c.as_slice-in-Seq.ensures c.len-in-Seq.ensures (ap expr_of c.in-Seq.is ∙ expr_of-Seq _) c.many.ensures
 
 pub returns-in-Marshal : goal.returns-in-Marshal
 returns-in-Marshal c = as_form c.args.around c.args.t.now _ _ _ _ c.args.self.now _ (ap expr_of (c.in-Marshal.is ∙ ap₂ (term.Marshal _) (sym c.deref-in-Marshal.ensures) (sym c.deref-in-Marshal-2.ensures)) ∙ expr_of-Marshal _ _ _) c.in_ok-d.ensures c.marshal.ensures

@@ -1,0 +1,42 @@
+use Rattle.std.proofs.Common.{rules, ◌∷◌, ◌∙◌, ap, sym, subst, w64, ℤ, FitsSigned}
+use Rattle.std.proofs.lemmas.Int.{to_z-of_z}
+use Rattle.ac_syntax.specs.Trees.{PatInt, PatStr}
+use Rattle.ac_syntax.specs.ReadSigns.{read_kind, read_signs}
+use Rattle.ac_syntax.specs.declared.sign.SignKind.{SignKind}
+use Rattle.ac_syntax.specs.ReadTrees.{pat_of}
+use Rattle.ac_syntax.specs.declared.surface.SPatKind.{Int}
+use Rattle.ac_syntax.specs.declared.surface.SPatKind.TheViews.{roll-SPat}
+use Rattle.ac_syntax.proofs.OnStop.{refused}
+use Rattle.ac_parser_patterns.specs.PatternPieces.{PatLeafAt}
+use Rattle.ac_parser_patterns.proofs.PatLaws.{pat_of-Int, pat_of-Str, pat_of-kind}
+use Rattle.ac_parser_patterns.proofs.PatSteps.{int_leaf, str_leaf, base_leaf, no_base_leaf}
+use Rattle.ac_parser_patterns.proofs.patterns.one_sign.Goals as goal
+
+pub returns-in_ok-constant-in-Int : goal.returns-in_ok-constant-in-Int
+returns-in_ok-constant-in-Int c =
+    let f : FitsSigned w64 c.in_ok-constant-in-Int.field-0 = search rules in
+    record {
+      found = subst (λ (z : ℤ). PatLeafAt (read_signs c.args.signs.now) (pat_of (roll-SPat (record { at = c.in-Some.first.at; kind = Int z }))) (read_signs c.in-Some.rest.now)) (sym (to_z-of_z w64 c.in_ok-constant-in-Int.field-0 f))
+          (int_leaf _ c.in-Some.first.at _ _ _ (c.in-Some.ensures.first ∙ ap (λ (k : SignKind). read_kind c.in-Some.first.at k ∷ read_signs c.in-Some.rest.now) c.in-Int.is)
+          (pat_of-Int c.in-Some.first.at c.in_ok-constant-in-Int.field-0 ∙ ap (PatInt c.in-Some.first.at) c.in_ok-constant-in-Int.ensures));
+      shorter = c.in-Some.ensures.shorter;
+    }
+
+pub returns-in_ok-copy-in-Str : goal.returns-in_ok-copy-in-Str
+returns-in_ok-copy-in-Str c = record {
+  found = str_leaf _ c.in-Some.first.at _ _ _ (c.in-Some.ensures.first ∙ ap (λ (k : SignKind). read_kind c.in-Some.first.at k ∷ read_signs c.in-Some.rest.now) c.in-Str.is)
+      (pat_of-Str c.in-Some.first.at _ ∙ ap (λ t. PatStr c.in-Some.first.at t.0) c.in_ok-copy-in-Str.ensures);
+  shorter = c.in-Some.ensures.shorter;
+}
+
+pub returns-in-Some-base_kind : goal.returns-in-Some-base_kind
+returns-in-Some-base_kind c = record {
+  found = base_leaf c.in-Some.first.at c.in-Fixed.symbol _ _ _ _ (c.in-Some.ensures.first ∙ ap (λ (k : SignKind). read_kind c.in-Some.first.at k ∷ read_signs c.in-Some.rest.now) c.in-Fixed.is)
+      (c.in-Some-base_kind.ensures c.in-Some.first.at) (pat_of-kind c.in-Some.first.at c.in-Some-base_kind.kind);
+  shorter = c.in-Some.ensures.shorter;
+}
+
+pub returns-in-None : goal.returns-in-None
+returns-in-None c =
+    refused _ _ c.refused_at-in-None.ensures
+    (no_base_leaf c.in-Some.first.at c.in-Fixed.symbol _ _ (c.in-Some.ensures.first ∙ ap (λ (k : SignKind). read_kind c.in-Some.first.at k ∷ read_signs c.in-Some.rest.now) c.in-Fixed.is) (c.in-None.ensures c.in-Some.first.at))

@@ -1,0 +1,4 @@
+pub mod Forms
+pub mod PatternPieces
+pub mod Pieces
+pub mod Reading

@@ -1,9 +1,0 @@
-use Rattle.std.proofs.Common.{◌≡◌, ◌++◌, map, drop}
-use Rattle.std.specs.Prelude.{flat_map}
-use Rattle.ac_syntax.specs.ReadTrees.{spec_of}
-use Rattle.ac_scopes.specs.Repeated.{spec_type_name}
-use Rattle.ac_signatures.specs.Reads.{named}
-use Rattle.ac_signatures.proofs.lists.spec_types.Given as goal
-
-abbrev pub invariant-loop-spec : goal.invariant-loop-spec
-invariant-loop-spec l = flat_map spec_type_name (map spec_of l.specs) ≡ map named l.names.items ++ flat_map spec_type_name (map spec_of (drop l.spec-index l.specs))
