@@ -1,7 +1,7 @@
 #!/usr/bin/env python3
 """What comes of damaged packets, by the rules alone.
 
-Prints what crates/ac_damage_table must print of its input, which this reads: perf/damage.py <crates/ac_damage_table/stdin.
+Prints what crates/acute_damage_table must print of its input, which this reads: perf/damage.py <crates/acute_damage_table/stdin.
 It knows the four packets of that table, which it spells by hand, and shares no code with the product. It takes each front of
 a packet and each string that differs from it in one byte as a packet, as a frame, as a program and as the list of a shelf.
 """

@@ -1,7 +1,7 @@
 #!/usr/bin/env python3
 """How runs end over devices of which one call fails, by the rules of the program's documents alone.
 
-Prints what crates/ac_faults_table must print of its input, which this reads: perf/faults.py <crates/ac_faults_table/stdin. It
+Prints what crates/acute_faults_table must print of its input, which this reads: perf/faults.py <crates/acute_faults_table/stdin. It
 knows what each of the programs there receives, sends and prints, and counts the calls up to the run in which none fails:
 
 - a file is read in pieces of 4,096 bytes up to its end, which one read more finds: the list of a shelf, the texts in its order,

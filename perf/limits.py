@@ -13,7 +13,7 @@ import pathlib, re, sys
 
 CRATES = pathlib.Path(__file__).resolve().parent.parent / "crates"
 HOMES = [("ac_types/src/limits.rt", "ac_types/specs/Limits.antt"), ("ac_terms/src/tags.rt", "ac_terms/specs/Tags.antt")]
-TESTS = re.compile(r"\w+_(tests|table)/|ac_(page|written|pile|ranges)/")
+TESTS = re.compile(r"\w+_(tests|table)/|(ac_text_page|ac_table_text|ac_table_pile|ac_table_ranges)/")
 
 NUMBER = re.compile(r"(?<![\w.])(0x[0-9A-Fa-f]+|[0-9][0-9_]*)([iu](8|16|32|64|size))?(?![\w.])")
 SAID = re.compile(r"(?<![\w.,^-])[0-9]{1,3}(,[0-9]{3})*(?![\w,])")
@@ -28,12 +28,12 @@ OTHERS = [
 # Files with numbers of their own, the greatest of them, and what they are.
 OWN = [
     (r"ac_types/(src/(exceptions|primitives)\.rt|specs/(Exceptions|Primitives)\.antt)", 16, "exceptions and primitives"),
-    (r"ac_answers/src/status\.rt", 11, "statuses"),
+    (r"acute_answers/src/status\.rt", 11, "statuses"),
     (r"ac_bytes/.*", 256, "the bytes of numbers"),
-    (r"ac_syntax/specs/(Expressions|TypeForms)\.antt|ac_(expressions/specs/inner/Levels|parser_patterns/specs/Pieces)\.antt", 9, "the levels of operators"),
-    (r"ac_lexer/(src/(quoted|words)\.rt|specs/(Gaps|Spellings)\.antt)|ac_literals/.*", 16, "characters and digits"),
-    (r"ac_command/(src/values\.rt|specs/WordValues\.antt)", 10, "digits"),
-    (r"ac_(answers|top|chained|files|lines)/specs/.*", 10, "line feeds"),
+    (r"ac_syntax/specs/(Expressions|TypeForms)\.antt|ac_parser_(expressions/specs/inner/Levels|patterns/specs/Pieces)\.antt", 9, "the levels of operators"),
+    (r"ac_lexer/(src/(quoted|words)\.rt|specs/(Gaps|Spellings)\.antt)|ac_text/.*", 16, "characters and digits"),
+    (r"acute_words/(src/values\.rt|specs/WordValues\.antt)", 10, "digits"),
+    (r"(acute_answers|acute_top|acute_chain|acute_files|ac_text_places)/specs/.*", 10, "line feeds"),
     (r"ac_explain/src/place\.rt", 255, "bytes of characters"),
     (r"ac_make/.*", 1000, "the numbers that are drawn"),
 ]

@@ -2,7 +2,7 @@
 """Compares docs/READING.md with the definitions that the contract of `acute` uses.
 
 usage: perf/reading.py [--list]
-It follows names from the contract in crates/ac_top/src/top.rt through the files of specs/. It prints the files that READING
+It follows names from the contract in crates/acute_top/src/top.rt through the files of specs/. It prints the files that READING
 lists and that the contract doesn't use, those that it uses and that READING lacks, and of rows as `FILE`: `NAME`, .. the
 names that aren't used. The status is 1 where there are any. With --list it prints each file that is used, how many of its
 definitions are, and the names of the others.
@@ -81,7 +81,7 @@ class Contract:
 
     def __init__(self):
         self.files, self.used, self.pending = {}, {}, []
-        text = text_of("crates", "ac_top", "src", "top.rt")
+        text = text_of("crates", "acute_top", "src", "top.rt")
         words = words_of(re.search(r"pub fn acute.*?\n\{\n", text, re.S)[0])
         for file, names, _, _ in filter(None, map(taken, text.split("\n"))):
             for name in set(names or []) & words:

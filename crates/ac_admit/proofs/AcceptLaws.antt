@@ -25,8 +25,8 @@ use Rattle.ac_rules.specs.Widened.{Widens, IsKept}
 use Rattle.ac_rules.proofs.Arrival.{HasArrived, arrival}
 use Rattle.ac_rules.proofs.RoundTrip.{arrived_packable}
 use Rattle.ac_rules.proofs.RebindingOwn.{rebinding_own}
-use Rattle.ac_parts.specs.Numbers.{number_for}
-use Rattle.ac_placing.specs.Placed.{place_number}
+use Rattle.ac_terms_renumber.specs.Numbers.{number_for}
+use Rattle.ac_admit_placing.specs.Placed.{place_number}
 use Rattle.ac_admit.specs.inner.Judging.{front_cause}
 use Rattle.ac_admit.specs.inner.Spoken.{is_spoken}
 use Rattle.ac_admit.proofs.CauseLaws.{held, not_held, no_cause}

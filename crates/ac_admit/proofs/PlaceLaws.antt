@@ -16,8 +16,8 @@ use Rattle.ac_terms.proofs.EnvLaws.{position-map}
 use Rattle.ac_rules.specs.Links.{linked, InPacket, is_exact}
 use Rattle.ac_rules.specs.Packets.{Place, Placed, alone_after, alone, is_resolved, is_unresolved, placed_number, place, place_all, places, place_exact, place_ranges, put, found_or_put, placed_there, find_def, value_there}
 use Rattle.ac_rules.proofs.ListLaws.{length_more}
-use Rattle.ac_parts.specs.Numbers.{number_for}
-use Rattle.ac_placing.specs.Placed.{place_number}
+use Rattle.ac_terms_renumber.specs.Numbers.{number_for}
+use Rattle.ac_admit_placing.specs.Placed.{place_number}
 
 -- the definitions by themselves are the definitions
 defs_after : (E : Environment) (ds : List Def) → map (λ (e : Entry). e.def) (alone_after sha256 E ds) ≡ map (λ (e : Entry). e.def) E ++ ds

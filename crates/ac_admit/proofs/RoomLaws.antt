@@ -20,11 +20,11 @@ use Rattle.ac_rules.specs.Coherent.{IsCoherent}
 use Rattle.ac_rules.specs.Modules.{is_well_formed}
 use Rattle.ac_rules.specs.Packets.{Place, Placed, Definition, Full, Unresolved, alone, clash, first_clash, ill_formed, is_resolved, too_many, unresolved, places}
 use Rattle.ac_rules.proofs.Alone.{many_alone}
-use Rattle.ac_clashes.specs.inner.Known.{all_known}
-use Rattle.ac_placing.specs.declared.places.Place as code_place
-use Rattle.ac_placing.specs.declared.placing.Placing.{Placing}
-use Rattle.ac_placing.specs.Placed.{state_of}
-use Rattle.ac_placing.specs.inner.Open.{place_of}
+use Rattle.ac_admit_clashes.specs.inner.Known.{all_known}
+use Rattle.ac_admit_placing.specs.declared.places.Place as code_place
+use Rattle.ac_admit_placing.specs.declared.placing.Placing.{Placing}
+use Rattle.ac_admit_placing.specs.Placed.{state_of}
+use Rattle.ac_admit_placing.specs.inner.Open.{place_of}
 use Rattle.ac_admit.specs.inner.Spoken.{defs_of, spoken_in, is_spoken}
 use Rattle.ac_admit.proofs.PlaceLaws.{defs_alone, first_open, few_come, many_places}
 

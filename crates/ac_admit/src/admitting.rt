@@ -14,15 +14,15 @@ ghost use Rattle.ac_rules.specs.Links.{has_arrived};
 ghost use Rattle.ac_rules.specs.Packets.{places, cause, Accepts};
 ghost use Rattle.ac_rules.specs.RoundTrip.{IsPackable};
 ghost use Rattle.ac_rules.specs.Widened.{Widens, IsKept};
-ghost use Rattle.ac_placing.specs.Placed.{place_number};
+ghost use Rattle.ac_admit_placing.specs.Placed.{place_number};
 ghost use Rattle.ac_admit.specs.Refusing.{IsFor};
 
 use crate::commit::commit;
 use crate::fault::AdmitFault;
 use crate::judging::judged;
 use ac_check::CheckFault;
-use ac_parts::value_renumbered;
 use ac_terms::{Env, PVal, Packet};
+use ac_terms_renumber::value_renumbered;
 use ac_types::{Many, Ty};
 use std::alloc::Global;
 

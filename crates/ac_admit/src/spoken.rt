@@ -4,9 +4,9 @@ ghost use Rattle.std.specs.Prelude.{◌≡◌};
 ghost use Rattle.ac_terms.specs.Read.{environment_of, packet_of};
 ghost use Rattle.ac_admit.specs.inner.Spoken.{passes_there, home_passes, defs_of, spoken_in};
 
-use ac_formed::are_known;
-use ac_parts::{Test, value_passes};
+use ac_admit_formed::are_known_among;
 use ac_terms::{Def, Env, Home, Packet};
+use ac_terms_renumber::{Test, value_passes};
 use ac_types::{Constraint, Ty, Word};
 
 // The test of the parts of a packet's value: abstract types and references are of its definitions,
@@ -20,7 +20,7 @@ impl<'a> Test for There<'a> {
     ghost passes = { λ s p. passes_there (environment_of s.alone.now) p };
 
     fn passes_type(&self, ty: &Ty) -> bool {
-        are_known(ty, self.alone.entries.as_slice())
+        are_known_among(ty, self.alone.entries.as_slice())
     }
 
     fn passes_reference(&self, entry: u32, _field: &Word) -> bool {
@@ -65,5 +65,5 @@ pub fn speaks_of_its_own(alone: &Env, p: &Packet) -> bool
         (packet_of p.now) }
 {
     // `&`, not `&&`: one branch fewer in the proof
-    are_known(&p.ty, alone.entries.as_slice()) & value_passes(&p.value, &There { alone })
+    are_known_among(&p.ty, alone.entries.as_slice()) & value_passes(&p.value, &There { alone })
 }

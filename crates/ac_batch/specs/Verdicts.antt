@@ -4,7 +4,7 @@ use Rattle.ac_types.specs.Types.{Bytes, Typ}
 use Rattle.ac_types.specs.declared.text.Text.{Text}
 use Rattle.ac_terms.specs.Terms.{Expr}
 use Rattle.ac_terms.specs.Defs.{Environment}
-use Rattle.ac_acceptance.specs.Accepting.{Shelved}
+use Rattle.ac_load_rules.specs.Accepting.{Shelved}
 use Rattle.ac_load.specs.Loading.{Loads, Rejects}
 use Rattle.ac_load.specs.declared.kind.Refusal.{Refusal}
 use Rattle.ac_batch.specs.declared.verdict.Verdict.{Verdict}

@@ -3,7 +3,7 @@
 ghost use Rattle.std.specs.Prelude.{◌≡◌, ◌≤◌, length, IfOk};
 ghost use Rattle.std.specs.Arc.{arc_value};
 ghost use Rattle.ac_types.specs.Limits.{most_shelf_entries};
-ghost use Rattle.ac_acceptance.specs.Accepting.{IsShelf};
+ghost use Rattle.ac_load_rules.specs.Accepting.{IsShelf};
 ghost use Rattle.ac_load.specs.Loading.{shelf_of};
 ghost use Rattle.ac_batch.specs.Verdicts.{IsVerdict};
 

@@ -80,7 +80,7 @@ pub fn put_string(out: &mut Out, tag: u8, text: &Text) -> Result<(), Memory>
 }
 
 /// A byte behind its tag.
-pub fn put_byte(out: &mut Out, tag: u8, n: u8) -> Result<(), Memory>
+pub fn put_tagged_byte(out: &mut Out, tag: u8, n: u8) -> Result<(), Memory>
     ensures { OnOk result (out.new ≡ out.old ++ tag ∷ n ∷ []) }
 {
     out.put_u8(tag)?;
@@ -88,7 +88,7 @@ pub fn put_byte(out: &mut Out, tag: u8, n: u8) -> Result<(), Memory>
 }
 
 /// A number of two bytes behind its tag.
-pub fn put_number(out: &mut Out, tag: u8, n: u16) -> Result<(), Memory>
+pub fn put_tagged_number(out: &mut Out, tag: u8, n: u16) -> Result<(), Memory>
     ensures { OnOk result (out.new ≡ out.old ++ tag ∷ two_written n) }
 {
     out.put_u8(tag)?;

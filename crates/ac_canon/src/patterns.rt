@@ -5,7 +5,7 @@ ghost use Rattle.ac_terms.specs.Terms.{patterns};
 ghost use Rattle.ac_terms.specs.Read.{pattern_of};
 ghost use Rattle.ac_terms.specs.SpelledBy.{pattern_bytes, all_pattern_bytes};
 
-use crate::counts::{put_bool, put_byte, put_count_u8, put_int, put_string};
+use crate::counts::{put_bool, put_count_u8, put_int, put_string, put_tagged_byte};
 use crate::spelling::Spelling;
 use ac_bytes::Out;
 use ac_terms::{Pat, tags};
@@ -43,9 +43,9 @@ pub fn put_pattern<S: Spelling>(out: &mut Out, spelling: &S, pat: &Pat) -> Resul
             out.put_u8(tags::PATTERN_PRESENT)?;
             put_pattern(out, spelling, inner)
         }
-        Pat::Exn(exn) => put_byte(out, tags::PATTERN_EXN, exn.number()),
+        Pat::Exn(exn) => put_tagged_byte(out, tags::PATTERN_EXN, exn.number()),
         Pat::ExnOf(exn, text) => {
-            put_byte(out, tags::PATTERN_EXN, exn.number())?;
+            put_tagged_byte(out, tags::PATTERN_EXN, exn.number())?;
             put_pattern(out, spelling, text)
         }
     }

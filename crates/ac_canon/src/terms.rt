@@ -11,8 +11,8 @@ ghost use Rattle.ac_terms.specs.Tags.{term_ref, term_rec, term_tuple, term_seq, 
 ghost use Rattle.ac_canon.specs.Canon.{kept};
 
 use crate::counts::{
-    put_bool, put_byte, put_count_u8, put_count_u16, put_count_u32, put_int, put_number,
-    put_string, put_word,
+    put_bool, put_count_u8, put_count_u16, put_count_u32, put_int, put_string, put_tagged_byte,
+    put_tagged_number, put_word,
 };
 use crate::patterns::put_pattern;
 use crate::spelling::{ByName, Spelling};
@@ -44,9 +44,9 @@ pub fn put_term<S: Spelling>(out: &mut Out, spelling: &S, term: &Term) -> Result
         Term::Bool(b) => put_bool(out, tags::TERM_BOOL, *b),
         Term::Str(text) => put_string(out, tags::TERM_STR, text),
         Term::Unit => out.put_u8(tags::TERM_UNIT),
-        Term::ExnVal(exn) => put_byte(out, tags::TERM_EXN, exn.number()),
+        Term::ExnVal(exn) => put_tagged_byte(out, tags::TERM_EXN, exn.number()),
         Term::ExnOf(exn, text) => {
-            put_byte(out, tags::TERM_EXN, exn.number())?;
+            put_tagged_byte(out, tags::TERM_EXN, exn.number())?;
             put_term(out, spelling, text)
         }
         Term::Tuple(parts) => put_tuple(out, spelling, parts.as_slice()),
@@ -57,8 +57,8 @@ pub fn put_term<S: Spelling>(out: &mut Out, spelling: &S, term: &Term) -> Result
             put_one(out, spelling, tags::TERM_CONS, head)?;
             put_term(out, spelling, tail)
         }
-        Term::Var(i) => put_number(out, tags::TERM_VAR, *i),
-        Term::Own(field) => put_number(out, tags::TERM_OWN, *field),
+        Term::Var(i) => put_tagged_number(out, tags::TERM_VAR, *i),
+        Term::Own(field) => put_tagged_number(out, tags::TERM_OWN, *field),
         Term::Ref(entry, field) => put_field_of(out, spelling, *entry, field),
         Term::Lam(ty, body) => put_typed(out, spelling, tags::TERM_LAM, body, ty),
         Term::Rec(from, to, body) => put_recursive(out, spelling, body, from, to),
@@ -208,7 +208,7 @@ fn put_primitive<S: Spelling>(
         all_term_bytes (S.spelled_type spelling.now) (S.spelled_reference spelling.now)
         (exprs (map expr_of args.now))) }
 {
-    put_byte(out, tags::TERM_PRIM, primitive.number())?;
+    put_tagged_byte(out, tags::TERM_PRIM, primitive.number())?;
     put_terms(out, spelling, args)
 }
 

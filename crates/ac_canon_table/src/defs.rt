@@ -1,7 +1,7 @@
 // Signatures, versions, constraints and definitions.
 
 use crate::parts::Parts;
-use ac_pile::several;
+use ac_table_pile::several;
 use ac_terms::{Def, Field, Import, Module};
 use ac_types::{Atom, Constraint, Many, Range, Resolve, Sig, SigType, TyField, Version};
 

@@ -1,7 +1,7 @@
 // The parts of definitions that were read, from the end of a line on: of each kind the leftmost on
 // top.
 
-use ac_pile::Pile;
+use ac_table_pile::Pile;
 use ac_terms::Field;
 use ac_types::{Atom, Constraint, Range, Resolve, Sig, SigType, TyField, Version};
 use std::alloc::Global;

@@ -12,8 +12,8 @@ use Rattle.ac_types.proofs.Same.{both_true, bytes_eq, bytes_refl}
 use Rattle.ac_terms.specs.Terms.{Expr}
 use Rattle.ac_terms.specs.Defs.{Environment, Entry, name_at, names}
 use Rattle.ac_terms.specs.Names.{text_of_entry}
-use Rattle.ac_acceptance.specs.Causes.{first_below}
-use Rattle.ac_acceptance.proofs.Firsts.{below_all, below_none}
+use Rattle.ac_load_rules.specs.Causes.{first_below}
+use Rattle.ac_load_rules.proofs.Firsts.{below_all, below_none}
 use Rattle.ac_colours.specs.Births.{IsAmong}
 use Rattle.ac_colours.specs.Chains.{Programs, HaveOneText}
 use Rattle.ac_chain.specs.declared.chained.ChainFault.{ChainFault}

@@ -7,8 +7,8 @@ use Rattle.ac_terms.specs.Defs.{Environment}
 use Rattle.ac_rules.specs.Views.{Mode}
 use Rattle.ac_rules.specs.declared.loaded.Loaded.{Loaded}
 use Rattle.ac_outside.specs.Outside.{Rose}
-use Rattle.ac_acceptance.specs.Accepting.{Shelved}
-use Rattle.ac_acceptance.specs.Causes.{first_below}
+use Rattle.ac_load_rules.specs.Accepting.{Shelved}
+use Rattle.ac_load_rules.specs.Causes.{first_below}
 use Rattle.ac_colours.specs.Chains.{Programs}
 use Rattle.ac_chain.specs.declared.chained.Chained.{Chained}
 use Rattle.ac_chain.specs.declared.chained.ChainPart.{ChainPart}

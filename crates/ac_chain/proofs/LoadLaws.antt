@@ -10,8 +10,8 @@ use Rattle.ac_terms.specs.Defs.{Environment}
 use Rattle.ac_terms.specs.Read.{bytes_of, environment_of, entry_of, expr_of}
 use Rattle.ac_rules.specs.declared.loaded.Loaded.{Loaded}
 use Rattle.ac_meaning.specs.Loads.{IsLoaded}
-use Rattle.ac_acceptance.specs.Accepting.{Shelved}
-use Rattle.ac_acceptance.proofs.OneAnswer.{one_result}
+use Rattle.ac_load_rules.specs.Accepting.{Shelved}
+use Rattle.ac_load_rules.proofs.OneAnswer.{one_result}
 use Rattle.sha2.specs.Sha256.{sha256}
 use Rattle.ac_load.specs.Loading.{Loads, Rejects}
 use Rattle.ac_load.specs.Kinds.{Says}

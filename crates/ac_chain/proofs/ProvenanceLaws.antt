@@ -11,7 +11,7 @@ use Rattle.ac_rules.specs.declared.loaded.Loaded.{Loaded}
 use Rattle.ac_meaning.specs.Worlds.{Crossing}
 use Rattle.ac_meaning.specs.Writes.{Channel, written}
 use Rattle.ac_meaning.specs.Acts.{Outcome, writes_of, crossings_of}
-use Rattle.ac_acceptance.specs.Accepting.{Shelved}
+use Rattle.ac_load_rules.specs.Accepting.{Shelved}
 use Rattle.ac_colours.specs.Births.{Event, events, crossed, crossings_in}
 use Rattle.ac_colours.specs.Chains.{Programs, AreLoadable, SeparateRun, first_state, HappensIn, EndAs, journals_of, AreRunsOf, IsChain, joined, AreReadNatively}
 use Rattle.ac_colours.proofs.Chains.{made_before_of}

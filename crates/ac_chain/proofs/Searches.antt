@@ -5,10 +5,10 @@ use Rattle.std.specs.Prelude.{is_some}
 use Rattle.ac_types.specs.Partial.{given}
 use Rattle.ac_terms.specs.Defs.{Environment}
 use Rattle.ac_rules.specs.declared.loaded.Loaded.{Loaded}
-use Rattle.ac_acceptance.specs.Causes.{first_below}
+use Rattle.ac_load_rules.specs.Causes.{first_below}
 use Rattle.ac_chain.specs.Clashes.{is_clash, clash_in}
 use Rattle.ac_chain.specs.inner.Running.{AreFew}
-use Rattle.ac_acceptance.proofs.Firsts.{below_all, below_is}
+use Rattle.ac_load_rules.proofs.Firsts.{below_all, below_is}
 
 -- within the entries of one program
 pub here : (E F : Environment) (i j : ℕ) → j < length F → is_clash E i F j ≡ true → ((k : ℕ) → k < j → is_clash E i F k ≡ false) → clash_in E i F ≡ Some j

@@ -8,7 +8,7 @@ use Rattle.ac_meaning.specs.Writes.{Console, Channel, written}
 use Rattle.ac_meaning.specs.ReadExn.{exn_of}
 use Rattle.ac_meaning.specs.Acts.{Outcome, Returned, Raised, Spent, writes_of, crossings_of}
 use Rattle.ac_meaning.specs.Reduction.{Ends}
-use Rattle.ac_acceptance.specs.Accepting.{Shelved}
+use Rattle.ac_load_rules.specs.Accepting.{Shelved}
 use Rattle.ac_run.specs.Sessions.{HasInput}
 use Rattle.ac_run.specs.declared.end.RunEnd.{RunEnd}
 use Rattle.ac_run.specs.declared.end.RunEnd.TheVariants as end

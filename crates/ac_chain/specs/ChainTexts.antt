@@ -4,7 +4,7 @@ use Rattle.ac_types.specs.Types.{Bytes, Typ}
 use Rattle.ac_types.specs.declared.text.Text.{Text}
 use Rattle.ac_terms.specs.Read.{bytes_of, environment_of, expr_of}
 use Rattle.ac_rules.specs.declared.loaded.Loaded.{Loaded}
-use Rattle.ac_acceptance.specs.Accepting.{Shelved}
+use Rattle.ac_load_rules.specs.Accepting.{Shelved}
 use Rattle.ac_load.specs.Loading.{Loads, Rejects}
 use Rattle.ac_load.specs.declared.kind.Kind.{Kind}
 use Rattle.ac_colours.specs.Chains.{Programs}

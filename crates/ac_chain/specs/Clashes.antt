@@ -4,7 +4,7 @@ use Rattle.std.specs.Option.{option_map_or, option_or}
 use Rattle.ac_types.specs.Partial.{given, differ}
 use Rattle.ac_terms.specs.Defs.{Environment, name_at, names}
 use Rattle.ac_terms.specs.Names.{text_of_entry}
-use Rattle.ac_acceptance.specs.Causes.{first_below}
+use Rattle.ac_load_rules.specs.Causes.{first_below}
 use Rattle.ac_colours.specs.Chains.{Programs}
 use Rattle.ac_chain.specs.declared.chained.ChainFault.{ChainFault}
 use Rattle.ac_chain.specs.declared.chained.ChainFault.TheVariants.{Clash}

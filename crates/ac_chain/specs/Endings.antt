@@ -6,7 +6,7 @@ use Rattle.ac_terms.specs.Terms.{Value}
 use Rattle.ac_rules.specs.Views.{Mode}
 use Rattle.ac_outside.specs.Outside.{Extends, Rose}
 use Rattle.ac_meaning.specs.Acts.{Outcome}
-use Rattle.ac_acceptance.specs.Accepting.{Shelved}
+use Rattle.ac_load_rules.specs.Accepting.{Shelved}
 use Rattle.ac_colours.specs.Births.{Event}
 use Rattle.ac_colours.specs.Chains.{Programs, SeparateRun, HappensIn, EndAs, AreRunsOf, IsChain, HaveBirths}
 use Rattle.ac_chain.specs.declared.chained.ChainPart.{ChainPart}

@@ -2,7 +2,7 @@
 use Rattle.std.specs.Prelude.{ℕ, Bool, true, false, List, ◌++◌, codes, flat_map}
 use Rattle.std.specs.Fmt.{decimal}
 use Rattle.ac_types.specs.Types.{Bytes}
-use Rattle.ac_literals.specs.NumberedLines.{lines_from}
+use Rattle.ac_text.specs.NumberedLines.{lines_from}
 use Rattle.ac_run.specs.declared.end.RunEnd.{RunEnd}
 use Rattle.ac_run.specs.declared.end.RunEnd.TheVariants as end
 use Rattle.ac_chain.specs.declared.chained.ChainPart.{ChainPart}

@@ -4,7 +4,7 @@ ghost use Rattle.std.specs.Prelude.{◌≡◌, ◌<◌, ◌≤◌, ◌^◌, [], 
 ghost use Rattle.ac_types.specs.Limits.{most_shelf_entries};
 ghost use Rattle.ac_rules.specs.Views.{Mode};
 ghost use Rattle.ac_outside.specs.Outside.{Rose};
-ghost use Rattle.ac_acceptance.specs.Accepting.{IsShelf};
+ghost use Rattle.ac_load_rules.specs.Accepting.{IsShelf};
 ghost use Rattle.ac_load.specs.Loading.{shelf_of};
 ghost use Rattle.ac_colours.specs.Chains.{Programs};
 ghost use Rattle.ac_chain.specs.ChainTexts.{texts_of, programs_of, LoadAs};
@@ -12,7 +12,7 @@ ghost use Rattle.ac_chain.specs.Endings.{HasRun, IsChainFault, IsBeforeRuns, Are
 ghost use Rattle.ac_chain.specs.inner.Running.{AreLoaded, AllRun, AllStopped, IsRunFault, last_sent, printed};
 
 use crate::chained::{ChainFault, ChainPart, Chained};
-use crate::clash::first_clash;
+use crate::clash::first_program_clash;
 use crate::loads::load_all;
 use crate::program::run_program;
 use ac_load::Shelf;
@@ -52,7 +52,7 @@ pub fn chain<C: Sink>(
     ensures later { C.faults console.old ≤ C.faults console.new }
 {
     let loaded = load_all(alloc, programs.as_slice(), shelf)?;
-    match first_clash(alloc, loaded.as_slice()) {
+    match first_program_clash(alloc, loaded.as_slice()) {
         Ok(None) => run_all(alloc, loaded, steps, console),
         Ok(Some(clash)) => Err(clash),
         Err(_) => Err(ChainFault::Memory),

@@ -3,7 +3,7 @@
 ghost use Rattle.std.specs.Prelude.{◌≡◌, ◌<◌, ◌≤◌, ◌+◌, ◌^◌, Some, IsSome, length, option_map, IfOk};
 ghost use Rattle.ac_terms.specs.Read.{environment_of};
 ghost use Rattle.ac_terms.specs.Names.{text_of_entry};
-ghost use Rattle.ac_acceptance.specs.Causes.{first_below};
+ghost use Rattle.ac_load_rules.specs.Causes.{first_below};
 ghost use Rattle.ac_types.specs.Partial.{differ};
 ghost use Rattle.ac_chain.specs.Clashes.{is_clash, clash_in, clash_behind, first_program_clash};
 ghost use Rattle.ac_chain.specs.ChainTexts.{programs_of};
@@ -19,7 +19,7 @@ use std::alloc::Global;
 
 /// The first clash of two programs. Where definitions of one name have one text there is none, and
 /// else two texts have one digest; then all are compared.
-pub fn first_clash(alloc: Global, programs: &[Loaded]) -> Result<Option<ChainFault>, Memory>
+pub fn first_program_clash(alloc: Global, programs: &[Loaded]) -> Result<Option<ChainFault>, Memory>
     requires many { length programs.now < 2 ^ 32 }
     requires few { AreFew programs.now }
     ensures { IfOk result (λ o. o ≡ first_program_clash 0 (programs_of programs.now)) }

@@ -2,7 +2,7 @@
 
 ghost use Rattle.std.specs.Prelude.{◌≡◌, ◌<◌, ◌≤◌, ◌^◌, length, IfOk, IfErr};
 ghost use Rattle.ac_types.specs.Limits.{most_shelf_entries};
-ghost use Rattle.ac_acceptance.specs.Accepting.{IsShelf};
+ghost use Rattle.ac_load_rules.specs.Accepting.{IsShelf};
 ghost use Rattle.ac_load.specs.Loading.{shelf_of};
 ghost use Rattle.ac_chain.specs.ChainTexts.{texts_of, programs_of, LoadAs};
 ghost use Rattle.ac_chain.specs.inner.Running.{AreLoaded, IsRefusal, refused};

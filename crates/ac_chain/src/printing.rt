@@ -4,8 +4,8 @@ ghost use Rattle.std.specs.Prelude.{◌≡◌, ◌++◌, IfOk, OnOk, flat_map};
 ghost use Rattle.ac_chain.specs.StringLines.{end_status, end_line, native_line, part_lines, chain_lines};
 
 use crate::chained::{ChainPart, Chained};
-use ac_literals::put_number;
 use ac_run::RunEnd;
+use ac_text::put_number;
 use ac_types::{Memory, Text};
 use std::alloc::Global;
 

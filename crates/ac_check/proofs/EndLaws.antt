@@ -12,7 +12,7 @@ use Rattle.ac_types.specs.ReadTypes.{typ_of}
 use Rattle.ac_types.specs.declared.ty.Ty.{Ty}
 use Rattle.ac_terms.specs.Defs.{Environment}
 use Rattle.ac_rules.specs.Views.{head, representation, rounds, unsealed}
-use Rattle.ac_views.proofs.HeadLaws.{rounds_still, next_round}
+use Rattle.ac_check_views.proofs.HeadLaws.{rounds_still, next_round}
 use Rattle.ac_check.specs.declared.heads.End.{End}
 use Rattle.ac_check.specs.declared.heads.Heads.{Heads}
 use Rattle.ac_check.specs.inner.Heads.{Key, key_cmp, abstract_type, IsEnd, AreHeads}

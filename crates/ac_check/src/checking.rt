@@ -11,10 +11,10 @@ ghost use Rattle.ac_check.specs.inner.Captured.{captured_hold};
 use crate::fault::CheckFault;
 use crate::heads::Heads;
 use crate::holding::{captured_hold, holds};
+use ac_check_terms::declared_type;
+use ac_check_views::Site;
 use ac_terms::{Env, Home, PVal, Term};
 use ac_types::{Many, Memory, Ty};
-use ac_typing::declared_type;
-use ac_views::Site;
 use std::alloc::Global;
 
 /// The type of a term, where the variables have the types `ctx`, the newest first. A term may speak

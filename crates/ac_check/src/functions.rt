@@ -7,10 +7,10 @@ ghost use Rattle.ac_rules.specs.Plain.{may_travel};
 ghost use Rattle.ac_rules.specs.Typing.{fields_of, is_function_home};
 ghost use Rattle.ac_check.specs.inner.Captured.{declared_agrees, travels_as, travels_with};
 
+use ac_check_terms::declared_type;
+use ac_check_views::{Site, ends, head, is_seen_as};
 use ac_terms::{Def, Env, Home, Term};
 use ac_types::{Many, Memory, Ty};
-use ac_typing::declared_type;
-use ac_views::{Site, ends, head, is_seen_as};
 use std::alloc::Global;
 
 // How many fields a home has.

@@ -7,10 +7,10 @@ ghost use Rattle.ac_terms.specs.Read.{environment_of};
 ghost use Rattle.ac_rules.specs.Views.{head};
 ghost use Rattle.ac_check.specs.inner.Heads.{AreHeads, IsEnd, StepsTo};
 
+use ac_check_views::head;
 use ac_rules::rep;
 use ac_terms::Env;
 use ac_types::{Memory, Ty};
-use ac_views::head;
 use std::alloc::Global;
 use std::collections::BTreeMap;
 

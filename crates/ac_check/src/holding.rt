@@ -6,20 +6,20 @@ ghost use Rattle.ac_terms.specs.Terms.{exprs, arms, pvalues};
 ghost use Rattle.ac_terms.specs.Read.{environment_of, expr_of, arm_of, value_of};
 ghost use Rattle.ac_rules.specs.Views.{Coloured};
 ghost use Rattle.ac_rules.specs.Typing.{holds, all_hold, each_holds};
-ghost use Rattle.ac_views.specs.Sites.{typs_of};
+ghost use Rattle.ac_check_views.specs.Sites.{typs_of};
 ghost use Rattle.ac_check.specs.inner.Captured.{captured_hold, all_captured_hold, arms_captured_hold};
 ghost use Rattle.ac_check.specs.inner.Heads.{AreHeads};
 
 use crate::functions::may_travel_as;
 use crate::heads::Heads;
+use ac_check_views::{Base, is_base, list_item, option_item, tuple_parts};
 use ac_terms::{Arm, Env, PVal, Term};
 use ac_types::{Memory, Ty, both};
-use ac_views::{Base, is_base, list_item, option_item, tuple_parts};
 use std::alloc::Global;
 
 /// Whether each captured value of a term is of the type beside it.
 #[cycle(hold)]
-#[tactic(auto, using(ac_typing::proofs::TermLaws::typing_laws))]
+#[tactic(auto, using(ac_check_terms::proofs::TermLaws::typing_laws))]
 pub fn captured_hold<'a>(
     alloc: Global,
     t: &'a Term,

@@ -2,7 +2,7 @@
 
 use ac_terms::{Def, Entry, Field, Import, Module, Seen, Term};
 use ac_types::{
-    Box, Constraint, Many, Memory, Name, Sig, SigType, Text, Ty, TyField, Version, Word,
+    Boxed, Constraint, Many, Memory, Name, Sig, SigType, Text, Ty, TyField, Version, Word,
 };
 use std::alloc::Global;
 
@@ -112,7 +112,7 @@ impl Make {
             return Ok(None);
         }
         let ty = self.of(letter.to_ascii_uppercase())?;
-        let body = Box::new(self.0, Term::Unit)?;
+        let body = Boxed::new(self.0, Term::Unit)?;
         Ok(Some(Term::Lam(ty, body)))
     }
 

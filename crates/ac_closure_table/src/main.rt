@@ -11,8 +11,8 @@
 mod entries;
 
 use ac_closure::{NeedFault, needed};
-use ac_page::Page;
 use ac_terms::Env;
+use ac_text_page::Page;
 use ac_types::{Many, Memory, Text};
 use entries::Make;
 use std::alloc::Global;

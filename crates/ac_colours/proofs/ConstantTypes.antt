@@ -9,7 +9,7 @@ use Rattle.ac_terms.specs.Terms.{Home, Value, VInt, VStr, VTuple, Values, no_val
 use Rattle.ac_terms.specs.Defs.{Environment}
 use Rattle.ac_terms.specs.PrimitiveTypes.{is_exception}
 use Rattle.ac_rules.specs.Views.{Coloured}
-use Rattle.ac_code.specs.Constants.{Const, CInt, CBool, CStr, CUnit, CPart, PrimitiveAnswer, Yields, Prints, Sends, Receives, Fails, NoSense, Meaning, meanings, meaning, primitive_answer, sum, difference, product, quotient, remainder, negation, equal, less, concatenated, opposite, printed_int, printed_string, sent_string, received_string, size, bytes_between, part_of_string, int_as_string, same_int, raise_invalid_argument, raise_division_by_zero}
+use Rattle.ac_code.specs.Constants.{Const, CInt, CBool, CStr, CUnit, CPart, PrimitiveAnswer, Yields, Prints, Sends, Receives, Fails, NoSense, Meaning, meanings, meaning, primitive_answer, sum, difference, product, quotient, remainder, negation, equal, less, concatenated, opposite, printed_int, printed_string, sent_string, received_string, length_answer, bytes_between, part_of_string, int_as_string, same_int, raise_invalid_argument, raise_division_by_zero}
 use Rattle.ac_meaning.specs.PrimitiveSteps.{answer_at}
 use Rattle.ac_meaning.specs.Typed.{ValueTyped, ValuesTyped}
 use Rattle.ac_meaning.proofs.Safe.{PartTypes, ConstType, ConstTypes}
@@ -99,7 +99,7 @@ received_string_well : (a : Const) → FailsWell (received_string a)
 received_string_well CUnit = tt
 received_string_well _ = tt
 
-size_well : (a : Const) → FailsWell (size a)
+size_well : (a : Const) → FailsWell (length_answer a)
 size_well (CStr s) = tt
 size_well _ = tt
 
@@ -149,7 +149,7 @@ all_well = (
                           one_well sent_string sent_string_well,
                           (
                             one_well received_string received_string_well,
-                            (one_well size size_well, (one_well part_of_string part_well, (one_well int_as_string int_as_string_well, tt))),
+                            (one_well length_answer size_well, (one_well part_of_string part_well, (one_well int_as_string int_as_string_well, tt))),
                           ),
                         ),
                       ),

@@ -5,12 +5,12 @@ use Rattle.ac_types.specs.Partial.{given}
 use Rattle.ac_types.specs.Types.{Bytes, Typ}
 use Rattle.ac_terms.specs.Terms.{Pattern, Expr, PValue}
 use Rattle.ac_terms.specs.PacketReading.{ReadsPart, read_byte}
-use Rattle.ac_pieces.specs.declared.fault.Fault.{Fault}
-use Rattle.ac_pieces.specs.declared.fault.Fault.TheVariants as fault
-use Rattle.ac_pieces.specs.Readers.{NoneRead}
-use Rattle.ac_pieces.specs.ExactReading.{passing}
-use Rattle.ac_pieces.proofs.Tags.{no_tag, tag_read}
-use Rattle.ac_pieces.proofs.Steps.{refused_by}
+use Rattle.ac_decode_pieces.specs.declared.fault.PieceFault.{PieceFault}
+use Rattle.ac_decode_pieces.specs.declared.fault.PieceFault.TheVariants as fault
+use Rattle.ac_decode_pieces.specs.Readers.{NoneRead}
+use Rattle.ac_decode_pieces.specs.ExactReading.{passing}
+use Rattle.ac_decode_pieces.proofs.Tags.{no_tag, tag_read}
+use Rattle.ac_decode_pieces.proofs.Steps.{refused_by}
 use Rattle.ac_decode.specs.inner.ExactTerms.{exact_pattern_table, exact_pattern, exact_term_table, exact_term, exact_value_table, exact_value}
 
 module _ (read_type : Bool → ReadsPart Typ) where
@@ -23,7 +23,7 @@ module _ (read_type : Bool → ReadsPart Typ) where
   unfolding exact_pattern
   pattern_led n k bs tag mid e r = ap (λ j. exact_pattern read_type j bs) e ∙ tag_read (exact_pattern_table read_type (exact_pattern read_type k)) bs tag mid r
 
-  pub no_pattern_tag : (n k : ℕ) (bs : Bytes) (e : Fault) → n ≡ suc k → NoneRead e (read_byte bs) → NoneRead e (exact_pattern read_type n bs)
+  pub no_pattern_tag : (n k : ℕ) (bs : Bytes) (e : PieceFault) → n ≡ suc k → NoneRead e (read_byte bs) → NoneRead e (exact_pattern read_type n bs)
   unfolding exact_pattern
   no_pattern_tag n k bs e is r = refused_by e (ap (λ j. exact_pattern read_type j bs) is) (no_tag (exact_pattern_table read_type (exact_pattern read_type k)) bs e r)
 
@@ -37,7 +37,7 @@ module _ (read_type : Bool → ReadsPart Typ) where
   term_led i n k bs tag mid e r =
       ap (λ j. exact_term read_type i j bs) e ∙ tag_read (exact_term_table read_type i (exact_pattern read_type k) (exact_term read_type i k) (exact_value read_type k)) bs tag mid r
 
-  pub no_term_tag : (i : Bool) (n k : ℕ) (bs : Bytes) (e : Fault) → n ≡ suc k → NoneRead e (read_byte bs) → NoneRead e (exact_term read_type i n bs)
+  pub no_term_tag : (i : Bool) (n k : ℕ) (bs : Bytes) (e : PieceFault) → n ≡ suc k → NoneRead e (read_byte bs) → NoneRead e (exact_term read_type i n bs)
   unfolding exact_term
   no_term_tag i n k bs e is r =
       refused_by e (ap (λ j. exact_term read_type i j bs) is) (no_tag (exact_term_table read_type i (exact_pattern read_type k) (exact_term read_type i k) (exact_value read_type k)) bs e r)
@@ -51,7 +51,7 @@ module _ (read_type : Bool → ReadsPart Typ) where
   unfolding exact_value
   value_led n k bs tag mid e r = ap (λ j. exact_value read_type j bs) e ∙ tag_read (exact_value_table (exact_term read_type true k) (exact_value read_type k)) bs tag mid r
 
-  pub no_value_tag : (n k : ℕ) (bs : Bytes) (e : Fault) → n ≡ suc k → NoneRead e (read_byte bs) → NoneRead e (exact_value read_type n bs)
+  pub no_value_tag : (n k : ℕ) (bs : Bytes) (e : PieceFault) → n ≡ suc k → NoneRead e (read_byte bs) → NoneRead e (exact_value read_type n bs)
   unfolding exact_value
   no_value_tag n k bs e is r =
       refused_by e (ap (λ j. exact_value read_type j bs) is) (no_tag (exact_value_table (exact_term read_type true k) (exact_value read_type k)) bs e r)
@@ -60,7 +60,7 @@ module _ (read_type : Bool → ReadsPart Typ) where
 pub tested_read : {A : Type 0} (test : A → Bool) (f : ReadsPart A) (bs : Bytes) (a : A) (mid : Bytes) → f bs ≡ Some (a, mid) → passing test f bs ≡ given (test a) (Some (a, mid))
 tested_read test f bs a mid e = ap (option_and_then (λ p. given (test p.0) (Some p))) e
 
-pub tested_none : {A : Type 0} (test : A → Bool) (f : ReadsPart A) (bs : Bytes) (e : Fault) → NoneRead e (f bs) → NoneRead e (passing test f bs)
+pub tested_none : {A : Type 0} (test : A → Bool) (f : ReadsPart A) (bs : Bytes) (e : PieceFault) → NoneRead e (f bs) → NoneRead e (passing test f bs)
 tested_none test f bs (fault.Misfit at) r = ap (option_and_then (λ p. given (test p.0) (Some p))) r
 tested_none test f bs fault.Short r = ap (option_and_then (λ p. given (test p.0) (Some p))) r
 tested_none test f bs fault.Memory r = tt

@@ -7,7 +7,7 @@ use Rattle.ac_types.specs.Types.{Bytes}
 use Rattle.ac_terms.specs.Defs.{Packet}
 use Rattle.ac_terms.specs.Spelling.{packet_bytes}
 use Rattle.ac_terms.specs.Bounds.{Spells}
-use Rattle.ac_pieces.specs.ExactTypes.{exact_type}
+use Rattle.ac_decode_pieces.specs.ExactTypes.{exact_type}
 use Rattle.ac_decode.specs.inner.ExactPackets.{exact_packet}
 use Rattle.ac_decode.specs.inner.Ends.{then_end, to_the_end}
 use Rattle.ac_decode.proofs.PacketsExact.{packet_sound, packet_back}

@@ -13,9 +13,9 @@ use Rattle.ac_terms.specs.Parts.{Portion, OfType, term_parts, sig_types}
 use Rattle.ac_terms.specs.Bounds.{is_lower, fits_type, fits_term, fits_typed, fits_sig, has_small_types}
 use Rattle.ac_terms.proofs.AllLaws.{all_left, all_right, all_append}
 use Rattle.ac_terms.proofs.TestLaws.{le_true, le_is}
-use Rattle.ac_pieces.specs.ExactReading.{in_limits}
-use Rattle.ac_pieces.proofs.Exact.{AllOf}
-use Rattle.ac_pieces.proofs.TypesExact.{SmallType, SmallManifest, SmallSigType, SmallTyped, SmallAll, SmallSig}
+use Rattle.ac_decode_pieces.specs.ExactReading.{in_limits}
+use Rattle.ac_decode_pieces.proofs.Exact.{AllOf}
+use Rattle.ac_decode_pieces.proofs.TypesExact.{SmallType, SmallManifest, SmallSigType, SmallTyped, SmallAll, SmallSig}
 use Rattle.ac_decode.proofs.PartsSmall.{small_join, small_left, small_right, types_as_parts}
 use Rattle.ac_decode.proofs.TermsExact.{ProperTerm}
 

@@ -6,8 +6,8 @@ use Rattle.std.specs.Int.RustNames.{FitsSigned}
 use Rattle.ac_types.specs.Types.{Bytes}
 use Rattle.ac_terms.specs.Bounds.{is_integer}
 use Rattle.ac_terms.proofs.TestLaws.{lt_true}
-use Rattle.ac_pieces.specs.ExactReading.{exact_eight}
-use Rattle.ac_pieces.proofs.Pieces.{eight_is_exact}
+use Rattle.ac_decode_pieces.specs.ExactReading.{exact_eight}
+use Rattle.ac_decode_pieces.proofs.Pieces.{eight_is_exact}
 
 integer_fits : (z : ℤ) → is_integer z ≡ true → FitsSigned w64 z
 integer_fits (pos n) e = record { sfits = lt_true n (2 ^ 63) e }

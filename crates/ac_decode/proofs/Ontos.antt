@@ -1,7 +1,7 @@
 -- Each kind of list is its items in front of the empty one.
 use Rattle.std.proofs.Common.{◌≡◌, refl, ap, List, [], ◌∷◌}
 use Rattle.ac_terms.specs.Terms.{Pattern, no_patterns, pattern', patterns, Expr, no_exprs, expr, exprs, no_arms, arms, PValue, no_pvalues, pvalue, pvalues}
-use Rattle.ac_pieces.proofs.Loops.{onto}
+use Rattle.ac_decode_pieces.proofs.Loops.{onto}
 use Rattle.ac_decode.specs.inner.ExactTerms.{an_arm}
 
 pub onto_patterns : (xs : List Pattern) → patterns xs ≡ onto pattern' xs no_patterns

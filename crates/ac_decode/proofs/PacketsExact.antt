@@ -19,12 +19,12 @@ use Rattle.ac_terms.proofs.Back.{Back, back_one, back_after}
 use Rattle.ac_terms.proofs.BoundsLaws.{module_bounds, import_bounds, packet_bounds}
 use Rattle.ac_terms.proofs.TestLaws.{le_true, le_is, eq_true}
 use Rattle.ac_terms.specs.Tags.{packet_front, packet_mark, packet_in_full}
-use Rattle.ac_pieces.specs.ExactReading.{in_limits, exact_upper, exact_version, exact_constraint, exact_resolves}
-use Rattle.ac_pieces.specs.ExactTypes.{exact_type, exact_all_typed, exact_sig}
-use Rattle.ac_pieces.proofs.Exact.{Took, IsExact, Once, once, twice, exact_passing, exact_list, exact_two_parts, AllOf, each_passes, of_all, all_to}
-use Rattle.ac_pieces.proofs.Tables.{table_sound, sound_nothing, sound_one}
-use Rattle.ac_pieces.proofs.Pieces.{Is, byte_is_exact, four_is_exact, two_is_exact, lower_is_exact, upper_is_exact, long_count_is_exact, version_is_exact, constraint_is_exact, resolves_is_exact}
-use Rattle.ac_pieces.proofs.TypesExact.{SmallType, SmallAll, SmallSig, type_is_exact, all_typed_is_exact, sig_is_exact}
+use Rattle.ac_decode_pieces.specs.ExactReading.{in_limits, exact_upper, exact_version, exact_constraint, exact_resolves}
+use Rattle.ac_decode_pieces.specs.ExactTypes.{exact_type, exact_all_typed, exact_sig}
+use Rattle.ac_decode_pieces.proofs.Exact.{Took, IsExact, Once, once, twice, exact_passing, exact_list, exact_two_parts, AllOf, each_passes, of_all, all_to}
+use Rattle.ac_decode_pieces.proofs.Tables.{table_sound, sound_nothing, sound_one}
+use Rattle.ac_decode_pieces.proofs.Pieces.{Is, byte_is_exact, four_is_exact, two_is_exact, lower_is_exact, upper_is_exact, long_count_is_exact, version_is_exact, constraint_is_exact, resolves_is_exact}
+use Rattle.ac_decode_pieces.proofs.TypesExact.{SmallType, SmallAll, SmallSig, type_is_exact, all_typed_is_exact, sig_is_exact}
 use Rattle.ac_decode.specs.inner.ExactTerms.{exact_value}
 use Rattle.ac_decode.specs.inner.ExactPackets.{field_made, exact_mark, exact_first, exact_head, exact_field, exact_fields, exact_module, exact_import, exact_def, exact_defs, exact_packet}
 use Rattle.ac_decode.proofs.PartsSmall.{small_join, small_left, small_right}

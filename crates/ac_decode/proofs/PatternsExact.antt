@@ -19,11 +19,11 @@ use Rattle.ac_terms.specs.PacketReading.{ReadsPart, one, then_read, times}
 use Rattle.ac_terms.proofs.AllLaws.{all_left, all_right, all_append}
 use Rattle.ac_terms.proofs.Back.{Back, back_give, back_one, back_two, back_after}
 use Rattle.ac_terms.proofs.TestLaws.{not_true}
-use Rattle.ac_pieces.specs.ExactReading.{exact_width}
-use Rattle.ac_pieces.proofs.Exact.{Took, IsExact}
-use Rattle.ac_pieces.proofs.Tables.{SoundFrom, table_sound, sound_nothing, sound_give, sound_one, sound_two}
-use Rattle.ac_pieces.proofs.Pieces.{eight_is_exact, truth_is_exact, text_is_exact, width_is_exact}
-use Rattle.ac_pieces.proofs.TypesExact.{SmallType, exact_counted}
+use Rattle.ac_decode_pieces.specs.ExactReading.{exact_width}
+use Rattle.ac_decode_pieces.proofs.Exact.{Took, IsExact}
+use Rattle.ac_decode_pieces.proofs.Tables.{SoundFrom, table_sound, sound_nothing, sound_give, sound_one, sound_two}
+use Rattle.ac_decode_pieces.proofs.Pieces.{eight_is_exact, truth_is_exact, text_is_exact, width_is_exact}
+use Rattle.ac_decode_pieces.proofs.TypesExact.{SmallType, exact_counted}
 use Rattle.ac_decode.specs.inner.ExactTerms.{is_exn, exact_pattern_table, exact_pattern}
 use Rattle.ac_decode.proofs.Texts.{sound_text, back_with_text, back_without_text}
 

@@ -18,11 +18,11 @@ use Rattle.ac_terms.specs.Bounds.{is_width, is_four, takes, is_lambda, fits_term
 use Rattle.ac_terms.specs.PacketReading.{ReadsPart, one, then_read, pair, times, argument_count}
 use Rattle.ac_terms.proofs.Back.{Back, back_give, back_one, back_two, back_three, back_counted, back_after}
 use Rattle.ac_terms.proofs.TestLaws.{not_true, eq_true}
-use Rattle.ac_pieces.specs.ExactReading.{in_limits, passing, exact_width, exact_four, exact_text}
-use Rattle.ac_pieces.proofs.Exact.{Took, IsExact, once, twice, times_sound, exact_passing, exact_two_parts}
-use Rattle.ac_pieces.proofs.Tables.{SoundAt, SoundFrom, table_sound, sound_nothing, sound_give, sound_one, sound_two, sound_three}
-use Rattle.ac_pieces.proofs.Pieces.{two_is_exact, four_is_exact, eight_is_exact, truth_is_exact, lower_is_exact, text_is_exact, width_is_exact, long_count_is_exact}
-use Rattle.ac_pieces.proofs.TypesExact.{SmallType, exact_counted}
+use Rattle.ac_decode_pieces.specs.ExactReading.{in_limits, passing, exact_width, exact_four, exact_text}
+use Rattle.ac_decode_pieces.proofs.Exact.{Took, IsExact, once, twice, times_sound, exact_passing, exact_two_parts}
+use Rattle.ac_decode_pieces.proofs.Tables.{SoundAt, SoundFrom, table_sound, sound_nothing, sound_give, sound_one, sound_two, sound_three}
+use Rattle.ac_decode_pieces.proofs.Pieces.{two_is_exact, four_is_exact, eight_is_exact, truth_is_exact, lower_is_exact, text_is_exact, width_is_exact, long_count_is_exact}
+use Rattle.ac_decode_pieces.proofs.TypesExact.{SmallType, exact_counted}
 use Rattle.ac_decode.specs.inner.ExactTerms.{several, exact_primitive, exact_several, exact_captured, exact_cases, an_arm, exact_pattern, exact_term_table, exact_value_table, exact_term, exact_value}
 use Rattle.ac_decode.proofs.PartsSmall.{small_join, small_left, small_right, types_as_parts}
 use Rattle.ac_decode.proofs.Texts.{primitive_is_exact, home_is_exact, sound_text, back_with_text, back_without_text}

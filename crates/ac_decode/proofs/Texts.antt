@@ -9,10 +9,10 @@ use Rattle.ac_terms.specs.Spelling.{byte, two_written, home_bytes}
 use Rattle.ac_terms.specs.Bounds.{is_two, fits_home}
 use Rattle.ac_terms.specs.PacketReading.{ReadsPart, one, read_with_text, home_number}
 use Rattle.ac_terms.proofs.Back.{Back, back_give, back_one, back_after}
-use Rattle.ac_pieces.specs.ExactReading.{exact_two}
-use Rattle.ac_pieces.proofs.Exact.{Took, IsExact, once, twice, exact_passing, exact_as}
-use Rattle.ac_pieces.proofs.Tables.{SoundAt}
-use Rattle.ac_pieces.proofs.Pieces.{Is, byte_is_exact, two_is_exact}
+use Rattle.ac_decode_pieces.specs.ExactReading.{exact_two}
+use Rattle.ac_decode_pieces.proofs.Exact.{Took, IsExact, once, twice, exact_passing, exact_as}
+use Rattle.ac_decode_pieces.proofs.Tables.{SoundAt}
+use Rattle.ac_decode_pieces.proofs.Pieces.{Is, byte_is_exact, two_is_exact}
 use Rattle.ac_decode.specs.inner.ExactTerms.{is_exn, exact_exn, names_primitive, exact_primitive, exact_home, exact_with_text}
 
 pub exn_is_exact : IsExact exact_exn (Is is_exn) byte

@@ -8,13 +8,16 @@ ghost use Rattle.ac_types.specs.ReadNumbers.{primitive_number, kind_number};
 ghost use Rattle.ac_terms.specs.PrimitiveTypes.{primitives};
 ghost use Rattle.ac_terms.specs.Read.{bytes_of, pattern_of, expr_of, home_of, value_of};
 ghost use Rattle.ac_terms.specs.PacketReading.{ReadsPart, one, two_parts_read, three, argument_count};
-ghost use Rattle.ac_pieces.specs.ExactReading.{exact_two, exact_eight, exact_lower, exact_text};
-ghost use Rattle.ac_pieces.specs.Readers.{ReadsAs, ReadsOn};
+ghost use Rattle.ac_decode_pieces.specs.ExactReading.{exact_two, exact_eight, exact_lower, exact_text};
+ghost use Rattle.ac_decode_pieces.specs.Readers.{ReadsAs, ReadsOn};
 ghost use Rattle.ac_decode.specs.inner.ExactTerms.{names_primitive, exact_exn, exact_primitive, exact_home, exact_several, exact_with_text, exact_pattern_table, exact_term_table, exact_value_table};
 ghost use Rattle.ac_decode.specs.inner.Follows.{pattern_follows, term_follows, value_follows};
 
 use ac_bytes::Cursor;
-use ac_pieces::{Fault, Types, byte, eight, four, joined, lower, text, truth, two, width};
+use ac_decode_pieces::{
+    PieceFault, Types, joined, take_byte, take_eight, take_four, take_lower, take_text, take_truth,
+    take_two, width,
+};
 use ac_terms::{Home, PVal, Pat, Term, tags};
 use ac_types::limits::LONGEST_STRING;
 use ac_types::{Exn, ExnKind, Primitive, Text, TextExn, Ty};
@@ -37,7 +40,7 @@ pub enum PatHead {
 
 /// What one term stands in.
 #[derive(Drop)]
-pub enum Around {
+pub enum Wrapper {
     /// An exception.
     Exn(TextExn),
     /// `Some`.
@@ -87,11 +90,11 @@ pub enum Cases {
 
 /// A term by its tag.
 #[derive(Drop)]
-pub enum Head {
+pub enum TermHead {
     /// A term without inner ones.
     Leaf(Term),
     /// One term stands behind.
-    Around(Around),
+    Around(Wrapper),
     /// Two terms stand behind.
     Joint(Joint),
     /// A choice: three terms stand behind.
@@ -121,13 +124,13 @@ pub enum ValueHead {
 
 // An exception by its number.
 #[tactic(auto, unfolding(crate::specs::inner::ExactTerms::exact_exn))]
-fn exn(cursor: &mut Cursor<'_>) -> Result<ExnKind, Fault>
+fn exn(cursor: &mut Cursor<'_>) -> Result<ExnKind, PieceFault>
     ensures { ReadsAs kind_number result (exact_exn cursor.old.left) cursor.new.left }
 {
     let at = cursor.place();
-    let number = byte(cursor)?;
+    let number = take_byte(cursor)?;
     match ExnKind::from_number(number) {
-        None => Err(Fault::Misfit { at }),
+        None => Err(PieceFault::Misfit { at }),
         Some(kind) => Ok(kind),
     }
 }
@@ -149,23 +152,23 @@ fn arguments(primitive: Primitive) -> u8
 
 // A primitive by its number.
 #[tactic(auto, unfolding(crate::specs::inner::ExactTerms::exact_primitive))]
-fn primitive(cursor: &mut Cursor<'_>) -> Result<Primitive, Fault>
+fn primitive(cursor: &mut Cursor<'_>) -> Result<Primitive, PieceFault>
     ensures { ReadsAs primitive_number result (exact_primitive cursor.old.left) cursor.new.left }
 {
     let at = cursor.place();
-    let number = byte(cursor)?;
+    let number = take_byte(cursor)?;
     match numbered(number) {
-        None => Err(Fault::Misfit { at }),
+        None => Err(PieceFault::Misfit { at }),
         Some(primitive) => Ok(primitive),
     }
 }
 
 // A function's home.
 #[tactic(auto, unfolding(crate::specs::inner::ExactTerms::exact_home))]
-fn home(cursor: &mut Cursor<'_>) -> Result<Home, Fault>
+fn home(cursor: &mut Cursor<'_>) -> Result<Home, PieceFault>
     ensures { ReadsAs home_of result (exact_home cursor.old.left) cursor.new.left }
 {
-    match two(cursor)? {
+    match take_two(cursor)? {
         0 => Ok(Home::Main),
         k => Ok(Home::In(k as u32 - 1)),
     }
@@ -173,23 +176,23 @@ fn home(cursor: &mut Cursor<'_>) -> Result<Home, Fault>
 
 // How many parts a sequence has.
 #[tactic(auto, unfolding(crate::specs::inner::ExactTerms::exact_several))]
-fn several(cursor: &mut Cursor<'_>) -> Result<u32, Fault>
+fn several(cursor: &mut Cursor<'_>) -> Result<u32, PieceFault>
     ensures { ReadsAs (λ (n : ℕ). n) result (exact_several cursor.old.left) cursor.new.left }
 {
     let at = cursor.place();
-    let n = four(cursor)?;
+    let n = take_four(cursor)?;
     if n < 2 {
-        return Err(Fault::Misfit { at });
+        return Err(PieceFault::Misfit { at });
     }
     Ok(n)
 }
 
 // A string.
-fn string(alloc: Global, cursor: &mut Cursor<'_>) -> Result<Text, Fault>
+fn string(alloc: Global, cursor: &mut Cursor<'_>) -> Result<Text, PieceFault>
     ensures { ReadsAs bytes_of result (exact_text longest_string cursor.old.left)
         cursor.new.left }
 {
-    text(alloc, cursor, LONGEST_STRING as u32)
+    take_text(alloc, cursor, LONGEST_STRING as u32)
 }
 
 /// The head of a pattern behind its tag, which stands at that place.
@@ -200,7 +203,7 @@ pub fn pattern_head<T: Types>(
     types: &T,
     at: usize,
     tag: u8,
-) -> Result<PatHead, Fault>
+) -> Result<PatHead, PieceFault>
     ensures { (f : ReadsPart Pattern) → ReadsOn (λ h. pattern_follows f h cursor.new.left) result
         (option_and_then (λ (g : ReadsPart Pattern). g cursor.old.left)
         (slice_get (exact_pattern_table (T.reads_type types.now) f) tag)) }
@@ -209,7 +212,7 @@ pub fn pattern_head<T: Types>(
         tags::PATTERN_WILD => Ok(PatHead::Leaf(Pat::Wild)),
         tags::PATTERN_VAR => Ok(PatHead::Leaf(Pat::Var(types.read_type(alloc, cursor, false)?))),
         tags::PATTERN_INT => pattern_int(cursor),
-        tags::PATTERN_BOOL => Ok(PatHead::Leaf(Pat::Bool(truth(cursor)?))),
+        tags::PATTERN_BOOL => Ok(PatHead::Leaf(Pat::Bool(take_truth(cursor)?))),
         tags::PATTERN_STR => Ok(PatHead::Leaf(Pat::Str(string(alloc, cursor)?))),
         tags::PATTERN_UNIT => Ok(PatHead::Leaf(Pat::Unit)),
         tags::PATTERN_TUPLE => Ok(PatHead::Tuple(width(cursor)?)),
@@ -218,13 +221,13 @@ pub fn pattern_head<T: Types>(
         tags::PATTERN_ABSENT => Ok(PatHead::Leaf(Pat::Absent)),
         tags::PATTERN_PRESENT => Ok(PatHead::Present),
         tags::PATTERN_EXN => pattern_exn(cursor),
-        _ => Err(Fault::Misfit { at }),
+        _ => Err(PieceFault::Misfit { at }),
     }
 }
 
 // That of an exception.
 #[tactic(auto, using(ac_terms::proofs::PatternForms::pattern_forms, ac_types::proofs::NumberLaws::exception_laws))]
-fn pattern_exn(cursor: &mut Cursor<'_>) -> Result<PatHead, Fault>
+fn pattern_exn(cursor: &mut Cursor<'_>) -> Result<PatHead, PieceFault>
     ensures { (f : ReadsPart Pattern) → ReadsOn (λ h. pattern_follows f h cursor.new.left) result
         (exact_with_text PExn PExnOf f cursor.old.left) }
 {
@@ -243,7 +246,7 @@ pub fn term_head<T: Types>(
     within: bool,
     at: usize,
     tag: u8,
-) -> Result<Head, Fault>
+) -> Result<TermHead, PieceFault>
     ensures { (p : ReadsPart Pattern) (f : ReadsPart Expr) (g : ReadsPart PValue) →
         ReadsOn (λ h. term_follows p f g h cursor.new.left) result
         (option_and_then (λ (r : ReadsPart Expr). r cursor.old.left)
@@ -251,74 +254,82 @@ pub fn term_head<T: Types>(
 {
     match tag {
         tags::TERM_INT => term_int(cursor),
-        tags::TERM_BOOL => Ok(Head::Leaf(Term::Bool(truth(cursor)?))),
-        tags::TERM_STR => Ok(Head::Leaf(Term::Str(string(alloc, cursor)?))),
-        tags::TERM_UNIT => Ok(Head::Leaf(Term::Unit)),
+        tags::TERM_BOOL => Ok(TermHead::Leaf(Term::Bool(take_truth(cursor)?))),
+        tags::TERM_STR => Ok(TermHead::Leaf(Term::Str(string(alloc, cursor)?))),
+        tags::TERM_UNIT => Ok(TermHead::Leaf(Term::Unit)),
         tags::TERM_EXN => term_exn(cursor),
-        tags::TERM_TUPLE => Ok(Head::Row(Row::Tuple, width(cursor)? as u32)),
-        tags::TERM_NIL => Ok(Head::Leaf(Term::Nil(types.read_type(alloc, cursor, false)?))),
-        tags::TERM_EMPTY => Ok(Head::Leaf(Term::Empty(types.read_type(alloc, cursor, false)?))),
-        tags::TERM_PRESENT => Ok(Head::Around(Around::Present)),
-        tags::TERM_CONS => Ok(Head::Joint(Joint::Cons)),
-        tags::TERM_VAR => Ok(Head::Leaf(Term::Var(two(cursor)?))),
-        tags::TERM_OWN => Ok(Head::Leaf(Term::Own(two(cursor)?))),
+        tags::TERM_TUPLE => Ok(TermHead::Row(Row::Tuple, width(cursor)? as u32)),
+        tags::TERM_NIL => Ok(TermHead::Leaf(Term::Nil(types.read_type(alloc, cursor, false)?))),
+        tags::TERM_EMPTY => Ok(TermHead::Leaf(Term::Empty(types.read_type(alloc, cursor, false)?))),
+        tags::TERM_PRESENT => Ok(TermHead::Around(Wrapper::Present)),
+        tags::TERM_CONS => Ok(TermHead::Joint(Joint::Cons)),
+        tags::TERM_VAR => Ok(TermHead::Leaf(Term::Var(take_two(cursor)?))),
+        tags::TERM_OWN => Ok(TermHead::Leaf(Term::Own(take_two(cursor)?))),
         tags::TERM_REF => field_of(alloc, cursor),
-        tags::TERM_LAM => Ok(Head::Around(Around::Lam(types.read_type(alloc, cursor, false)?))),
-        tags::TERM_REC => recursive(alloc, cursor, types),
-        tags::TERM_APP => Ok(Head::Joint(Joint::App)),
-        tags::TERM_LET => Ok(Head::Joint(Joint::Let(types.read_type(alloc, cursor, false)?))),
-        tags::TERM_IF => Ok(Head::Choice),
-        tags::TERM_SEQ => Ok(Head::Row(Row::Seq, several(cursor)?)),
-        tags::TERM_MATCH => Ok(Head::Cases(Cases::Match)),
-        tags::TERM_TRY => Ok(Head::Cases(Cases::Try)),
-        tags::TERM_RAISE => Ok(Head::Around(Around::Raise(types.read_type(alloc, cursor, false)?))),
-        tags::TERM_PRIM => {
-            let primitive = primitive(cursor)?;
-            Ok(Head::Row(Row::Prim(primitive), arguments(primitive) as u32))
-        }
-        tags::TERM_MARSHAL => Ok(Head::Joint(Joint::Marshal(types.read_type(
+        tags::TERM_LAM => Ok(TermHead::Around(Wrapper::Lam(types.read_type(
             alloc, cursor, false,
         )?))),
-        tags::TERM_UNMARSHAL => Ok(Head::Around(Around::Unmarshal(types.read_type(
+        tags::TERM_REC => recursive(alloc, cursor, types),
+        tags::TERM_APP => Ok(TermHead::Joint(Joint::App)),
+        tags::TERM_LET => Ok(TermHead::Joint(Joint::Let(types.read_type(alloc, cursor, false)?))),
+        tags::TERM_IF => Ok(TermHead::Choice),
+        tags::TERM_SEQ => Ok(TermHead::Row(Row::Seq, several(cursor)?)),
+        tags::TERM_MATCH => Ok(TermHead::Cases(Cases::Match)),
+        tags::TERM_TRY => Ok(TermHead::Cases(Cases::Try)),
+        tags::TERM_RAISE => Ok(TermHead::Around(Wrapper::Raise(types.read_type(
+            alloc, cursor, false,
+        )?))),
+        tags::TERM_PRIM => {
+            let primitive = primitive(cursor)?;
+            Ok(TermHead::Row(Row::Prim(primitive), arguments(primitive) as u32))
+        }
+        tags::TERM_MARSHAL => Ok(TermHead::Joint(Joint::Marshal(types.read_type(
+            alloc, cursor, false,
+        )?))),
+        tags::TERM_UNMARSHAL => Ok(TermHead::Around(Wrapper::Unmarshal(types.read_type(
             alloc, cursor, false,
         )?))),
         tags::TERM_VAL => {
             if !within {
-                return Err(Fault::Misfit { at });
+                return Err(PieceFault::Misfit { at });
             }
-            Ok(Head::Captured(types.read_type(alloc, cursor, false)?))
+            Ok(TermHead::Captured(types.read_type(alloc, cursor, false)?))
         }
-        _ => Err(Fault::Misfit { at }),
+        _ => Err(PieceFault::Misfit { at }),
     }
 }
 
 // That of an exception.
 #[tactic(auto, using(ac_terms::proofs::TermForms::term_forms, ac_types::proofs::NumberLaws::exception_laws))]
-fn term_exn(cursor: &mut Cursor<'_>) -> Result<Head, Fault>
+fn term_exn(cursor: &mut Cursor<'_>) -> Result<TermHead, PieceFault>
     ensures { (p : ReadsPart Pattern) (f : ReadsPart Expr) (g : ReadsPart PValue) →
         ReadsOn (λ h. term_follows p f g h cursor.new.left) result
         (exact_with_text ExnAlone ExnOf f cursor.old.left) }
 {
     match exn(cursor)? {
-        ExnKind::Bare(exn) => Ok(Head::Leaf(Term::ExnVal(exn))),
-        ExnKind::Text(exn) => Ok(Head::Around(Around::Exn(exn))),
+        ExnKind::Bare(exn) => Ok(TermHead::Leaf(Term::ExnVal(exn))),
+        ExnKind::Text(exn) => Ok(TermHead::Around(Wrapper::Exn(exn))),
     }
 }
 
 // That of a value of a signature.
 #[tactic(auto, using(ac_terms::proofs::TermForms::term_forms))]
-fn field_of(alloc: Global, cursor: &mut Cursor<'_>) -> Result<Head, Fault>
+fn field_of(alloc: Global, cursor: &mut Cursor<'_>) -> Result<TermHead, PieceFault>
     ensures { (p : ReadsPart Pattern) (f : ReadsPart Expr) (g : ReadsPart PValue) →
         ReadsOn (λ h. term_follows p f g h cursor.new.left) result
         (two_parts_read Ref exact_two exact_lower cursor.old.left) }
 {
-    let entry = two(cursor)?;
-    let field = lower(alloc, cursor)?;
-    Ok(Head::Leaf(Term::Ref(entry as u32, field)))
+    let entry = take_two(cursor)?;
+    let field = take_lower(alloc, cursor)?;
+    Ok(TermHead::Leaf(Term::Ref(entry as u32, field)))
 }
 
 // That of a recursive function.
-fn recursive<T: Types>(alloc: Global, cursor: &mut Cursor<'_>, types: &T) -> Result<Head, Fault>
+fn recursive<T: Types>(
+    alloc: Global,
+    cursor: &mut Cursor<'_>,
+    types: &T,
+) -> Result<TermHead, PieceFault>
     ensures { (p : ReadsPart Pattern) (f : ReadsPart Expr) (g : ReadsPart PValue) →
         ReadsOn (λ h. term_follows p f g h cursor.new.left) result
         (three Rec (T.reads_type types.now false) (T.reads_type types.now false) f
@@ -326,7 +337,7 @@ fn recursive<T: Types>(alloc: Global, cursor: &mut Cursor<'_>, types: &T) -> Res
 {
     let from = types.read_type(alloc, cursor, false)?;
     let (from, to) = joined(from, types.read_type(alloc, cursor, false))?;
-    Ok(Head::Around(Around::Rec(from, to)))
+    Ok(TermHead::Around(Wrapper::Rec(from, to)))
 }
 
 /// The head of a packed value behind its tag, which stands at that place.
@@ -336,7 +347,7 @@ pub fn value_head(
     cursor: &mut Cursor<'_>,
     at: usize,
     tag: u8,
-) -> Result<ValueHead, Fault>
+) -> Result<ValueHead, PieceFault>
     ensures { (f : ReadsPart Expr) (g : ReadsPart PValue) →
         ReadsOn (λ h. value_follows f g h cursor.new.left) result
         (option_and_then (λ (r : ReadsPart PValue). r cursor.old.left)
@@ -344,22 +355,22 @@ pub fn value_head(
 {
     match tag {
         tags::VALUE_INT => value_int(cursor),
-        tags::VALUE_BOOL => Ok(ValueHead::Leaf(PVal::Bool(truth(cursor)?))),
+        tags::VALUE_BOOL => Ok(ValueHead::Leaf(PVal::Bool(take_truth(cursor)?))),
         tags::VALUE_STR => Ok(ValueHead::Leaf(PVal::Str(string(alloc, cursor)?))),
         tags::VALUE_UNIT => Ok(ValueHead::Leaf(PVal::Unit)),
         tags::VALUE_EXN => value_exn(alloc, cursor),
         tags::VALUE_TUPLE => Ok(ValueHead::Tuple(width(cursor)?)),
-        tags::VALUE_LIST => Ok(ValueHead::List(four(cursor)?)),
+        tags::VALUE_LIST => Ok(ValueHead::List(take_four(cursor)?)),
         tags::VALUE_ABSENT => Ok(ValueHead::Leaf(PVal::Absent)),
         tags::VALUE_PRESENT => Ok(ValueHead::Present),
         tags::VALUE_FUN => Ok(ValueHead::Fun(home(cursor)?)),
-        _ => Err(Fault::Misfit { at }),
+        _ => Err(PieceFault::Misfit { at }),
     }
 }
 
 // That of an exception.
 #[tactic(auto, using(ac_terms::proofs::ValueForms::value_forms, ac_types::proofs::NumberLaws::exception_laws))]
-fn value_exn(alloc: Global, cursor: &mut Cursor<'_>) -> Result<ValueHead, Fault>
+fn value_exn(alloc: Global, cursor: &mut Cursor<'_>) -> Result<ValueHead, PieceFault>
     ensures { (f : ReadsPart Expr) (g : ReadsPart PValue) →
         ReadsOn (λ h. value_follows f g h cursor.new.left) result
         (exact_with_text (λ k. KExn k None) (λ k s. KExn k (Some s)) (exact_text longest_string)
@@ -375,30 +386,30 @@ fn value_exn(alloc: Global, cursor: &mut Cursor<'_>) -> Result<ValueHead, Fault>
 }
 
 // The head of a pattern that is an int.
-fn pattern_int(cursor: &mut Cursor<'_>) -> Result<PatHead, Fault>
+fn pattern_int(cursor: &mut Cursor<'_>) -> Result<PatHead, PieceFault>
     ensures { (f : ReadsPart Pattern) → ReadsOn (λ h. pattern_follows f h cursor.new.left) result
         (one PInt exact_eight cursor.old.left) }
 {
-    let z = eight(cursor)?;
+    let z = take_eight(cursor)?;
     Ok(PatHead::Leaf(Pat::Int(z)))
 }
 
 // That of a term.
-fn term_int(cursor: &mut Cursor<'_>) -> Result<Head, Fault>
+fn term_int(cursor: &mut Cursor<'_>) -> Result<TermHead, PieceFault>
     ensures { (p : ReadsPart Pattern) (f : ReadsPart Expr) (g : ReadsPart PValue) →
         ReadsOn (λ h. term_follows p f g h cursor.new.left) result
         (one Int exact_eight cursor.old.left) }
 {
-    let z = eight(cursor)?;
-    Ok(Head::Leaf(Term::Int(z)))
+    let z = take_eight(cursor)?;
+    Ok(TermHead::Leaf(Term::Int(z)))
 }
 
 // That of a packed value.
-fn value_int(cursor: &mut Cursor<'_>) -> Result<ValueHead, Fault>
+fn value_int(cursor: &mut Cursor<'_>) -> Result<ValueHead, PieceFault>
     ensures { (f : ReadsPart Expr) (g : ReadsPart PValue) →
         ReadsOn (λ h. value_follows f g h cursor.new.left) result
         (one KInt exact_eight cursor.old.left) }
 {
-    let z = eight(cursor)?;
+    let z = take_eight(cursor)?;
     Ok(ValueHead::Leaf(PVal::Int(z)))
 }

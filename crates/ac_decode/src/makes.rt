@@ -5,17 +5,17 @@ ghost use Rattle.ac_types.specs.ReadNumbers.{texted_number};
 ghost use Rattle.ac_types.specs.ReadTypes.{typ_of};
 ghost use Rattle.ac_terms.specs.Terms.{Pattern, Expr, Arms, patterns, PTuple, PCons, PPresent, PExnOf, exprs, arms, If, Val, pvalues, KTuple, KList, KPresent, KFun};
 ghost use Rattle.ac_terms.specs.Read.{pattern_of, expr_of, arm_of, value_of, home_of};
-ghost use Rattle.ac_pieces.specs.Readers.{MadeOfRead};
+ghost use Rattle.ac_decode_pieces.specs.Readers.{MadeOfRead};
 ghost use Rattle.ac_decode.specs.inner.Follows.{put_around, put_joint, put_row, put_cases};
 
-use crate::heads::{Around, Cases, Joint, Row};
-use ac_pieces::Fault;
+use crate::heads::{Cases, Joint, Row, Wrapper};
+use ac_decode_pieces::PieceFault;
 use ac_terms::{Arm, Home, PVal, Pat, Term};
-use ac_types::{Box, Many, TextExn, Ty};
+use ac_types::{Boxed, Many, TextExn, Ty};
 
 /// A tuple.
 #[tactic(auto, using(ac_canon::proofs::PatternForms::pattern_laws))]
-pub fn pat_tuple(parts: Result<Many<Pat>, Fault>) -> Result<Pat, Fault>
+pub fn pat_tuple(parts: Result<Many<Pat>, PieceFault>) -> Result<Pat, PieceFault>
     ensures { MadeOfRead (λ (ps : List Pat). patterns (map pattern_of ps)) pattern_of PTuple parts
         result }
 {
@@ -25,7 +25,7 @@ pub fn pat_tuple(parts: Result<Many<Pat>, Fault>) -> Result<Pat, Fault>
 
 /// A list's first element and the rest.
 #[tactic(auto, using(ac_canon::proofs::PatternForms::pattern_laws))]
-pub fn pat_cons(both: Result<(Box<Pat>, Box<Pat>), Fault>) -> Result<Pat, Fault>
+pub fn pat_cons(both: Result<(Boxed<Pat>, Boxed<Pat>), PieceFault>) -> Result<Pat, PieceFault>
     ensures { MadeOfRead {A = Pattern × Pattern} (λ p. (pattern_of p.0, pattern_of p.1)) pattern_of
         (λ p. PCons p.0 p.1) both
         result }
@@ -36,7 +36,7 @@ pub fn pat_cons(both: Result<(Box<Pat>, Box<Pat>), Fault>) -> Result<Pat, Fault>
 
 /// `Some`.
 #[tactic(auto, using(ac_canon::proofs::PatternForms::pattern_laws))]
-pub fn pat_present(inner: Result<Box<Pat>, Fault>) -> Result<Pat, Fault>
+pub fn pat_present(inner: Result<Boxed<Pat>, PieceFault>) -> Result<Pat, PieceFault>
     ensures { MadeOfRead pattern_of pattern_of PPresent inner result }
 {
     let inner = inner?;
@@ -45,7 +45,7 @@ pub fn pat_present(inner: Result<Box<Pat>, Fault>) -> Result<Pat, Fault>
 
 /// An exception with its text.
 #[tactic(auto, using(ac_canon::proofs::PatternForms::pattern_laws))]
-pub fn pat_exn(exn: TextExn, inner: Result<Box<Pat>, Fault>) -> Result<Pat, Fault>
+pub fn pat_exn(exn: TextExn, inner: Result<Boxed<Pat>, PieceFault>) -> Result<Pat, PieceFault>
     ensures { MadeOfRead pattern_of pattern_of (PExnOf (texted_number exn)) inner result }
 {
     let inner = inner?;
@@ -54,7 +54,7 @@ pub fn pat_exn(exn: TextExn, inner: Result<Box<Pat>, Fault>) -> Result<Pat, Faul
 
 /// A term around one.
 #[tactic(auto, using(ac_canon::proofs::ValueForms::term_laws))]
-pub fn around(kind: Around, inner: Result<Box<Term>, Fault>) -> Result<Term, Fault>
+pub fn around(kind: Wrapper, inner: Result<Boxed<Term>, PieceFault>) -> Result<Term, PieceFault>
     ensures { MadeOfRead expr_of expr_of (put_around kind) inner result }
 {
     match inner {
@@ -67,22 +67,25 @@ pub fn around(kind: Around, inner: Result<Box<Term>, Fault>) -> Result<Term, Fau
 }
 
 #[tactic(auto, using(ac_canon::proofs::ValueForms::term_laws))]
-fn put_around(kind: Around, inner: Box<Term>) -> Term
+fn put_around(kind: Wrapper, inner: Boxed<Term>) -> Term
     ensures { expr_of result ≡ put_around kind (expr_of inner) }
 {
     match kind {
-        Around::Exn(exn) => Term::ExnOf(exn, inner),
-        Around::Present => Term::Present(inner),
-        Around::Lam(ty) => Term::Lam(ty, inner),
-        Around::Rec(from, to) => Term::Rec(from, to, inner),
-        Around::Raise(ty) => Term::Raise(ty, inner),
-        Around::Unmarshal(ty) => Term::Unmarshal(ty, inner),
+        Wrapper::Exn(exn) => Term::ExnOf(exn, inner),
+        Wrapper::Present => Term::Present(inner),
+        Wrapper::Lam(ty) => Term::Lam(ty, inner),
+        Wrapper::Rec(from, to) => Term::Rec(from, to, inner),
+        Wrapper::Raise(ty) => Term::Raise(ty, inner),
+        Wrapper::Unmarshal(ty) => Term::Unmarshal(ty, inner),
     }
 }
 
 /// A term of two.
 #[tactic(auto, using(ac_canon::proofs::ValueForms::term_laws))]
-pub fn joint(kind: Joint, both: Result<(Box<Term>, Box<Term>), Fault>) -> Result<Term, Fault>
+pub fn joint(
+    kind: Joint,
+    both: Result<(Boxed<Term>, Boxed<Term>), PieceFault>,
+) -> Result<Term, PieceFault>
     ensures { MadeOfRead {A = Expr × Expr} (λ p. (expr_of p.0, expr_of p.1)) expr_of
         (λ p. put_joint kind p.0 p.1) both
         result }
@@ -97,7 +100,7 @@ pub fn joint(kind: Joint, both: Result<(Box<Term>, Box<Term>), Fault>) -> Result
 }
 
 #[tactic(auto, using(ac_canon::proofs::ValueForms::term_laws))]
-fn put_joint(kind: Joint, a: Box<Term>, b: Box<Term>) -> Term
+fn put_joint(kind: Joint, a: Boxed<Term>, b: Boxed<Term>) -> Term
     ensures { expr_of result ≡ put_joint kind (expr_of a) (expr_of b) }
 {
     match kind {
@@ -110,7 +113,9 @@ fn put_joint(kind: Joint, a: Box<Term>, b: Box<Term>) -> Term
 
 /// A choice.
 #[tactic(auto, using(ac_canon::proofs::ValueForms::term_laws))]
-pub fn choice(all: Result<(Box<Term>, (Box<Term>, Box<Term>)), Fault>) -> Result<Term, Fault>
+pub fn choice(
+    all: Result<(Boxed<Term>, (Boxed<Term>, Boxed<Term>)), PieceFault>,
+) -> Result<Term, PieceFault>
     ensures { MadeOfRead {A = Expr × (Expr × Expr)}
         (λ p. (expr_of p.0, (expr_of p.1.0, expr_of p.1.1))) expr_of
         (λ p. If p.0 p.1.0 p.1.1) all result }
@@ -121,7 +126,7 @@ pub fn choice(all: Result<(Box<Term>, (Box<Term>, Box<Term>)), Fault>) -> Result
 
 /// A term of several.
 #[tactic(auto, using(ac_canon::proofs::ValueForms::term_laws))]
-pub fn row(kind: Row, parts: Result<Many<Term>, Fault>) -> Result<Term, Fault>
+pub fn row(kind: Row, parts: Result<Many<Term>, PieceFault>) -> Result<Term, PieceFault>
     ensures { MadeOfRead (λ (ts : List Term). exprs (map expr_of ts)) expr_of (put_row kind) parts
         result }
 {
@@ -135,7 +140,10 @@ pub fn row(kind: Row, parts: Result<Many<Term>, Fault>) -> Result<Term, Fault>
 
 /// A match or a try.
 #[tactic(auto, using(ac_canon::proofs::ValueForms::term_laws))]
-pub fn cases(kind: Cases, parts: Result<(Box<Term>, Many<Arm>), Fault>) -> Result<Term, Fault>
+pub fn cases(
+    kind: Cases,
+    parts: Result<(Boxed<Term>, Many<Arm>), PieceFault>,
+) -> Result<Term, PieceFault>
     ensures { MadeOfRead {A = Expr × Arms} (λ p. (expr_of p.0, arms (map arm_of p.1))) expr_of
         (λ p. put_cases kind p.0 p.1) parts result }
 {
@@ -148,7 +156,7 @@ pub fn cases(kind: Cases, parts: Result<(Box<Term>, Many<Arm>), Fault>) -> Resul
 
 /// A captured value.
 #[tactic(auto, using(ac_canon::proofs::ValueForms::term_laws))]
-pub fn captured(ty: Ty, value: Result<PVal, Fault>) -> Result<Term, Fault>
+pub fn captured(ty: Ty, value: Result<PVal, PieceFault>) -> Result<Term, PieceFault>
     ensures { MadeOfRead value_of expr_of (Val (typ_of ty)) value result }
 {
     match value {
@@ -162,7 +170,7 @@ pub fn captured(ty: Ty, value: Result<PVal, Fault>) -> Result<Term, Fault>
 
 /// A tuple of packed values.
 #[tactic(auto, using(ac_canon::proofs::ValueForms::value_laws))]
-pub fn value_tuple(parts: Result<Many<PVal>, Fault>) -> Result<PVal, Fault>
+pub fn value_tuple(parts: Result<Many<PVal>, PieceFault>) -> Result<PVal, PieceFault>
     ensures { MadeOfRead (λ (vs : List PVal). pvalues (map value_of vs)) value_of KTuple parts
         result }
 {
@@ -172,7 +180,7 @@ pub fn value_tuple(parts: Result<Many<PVal>, Fault>) -> Result<PVal, Fault>
 
 /// A list of packed values.
 #[tactic(auto, using(ac_canon::proofs::ValueForms::value_laws))]
-pub fn value_list(parts: Result<Many<PVal>, Fault>) -> Result<PVal, Fault>
+pub fn value_list(parts: Result<Many<PVal>, PieceFault>) -> Result<PVal, PieceFault>
     ensures { MadeOfRead (λ (vs : List PVal). pvalues (map value_of vs)) value_of KList parts
         result }
 {
@@ -182,7 +190,7 @@ pub fn value_list(parts: Result<Many<PVal>, Fault>) -> Result<PVal, Fault>
 
 /// `Some`.
 #[tactic(auto, using(ac_canon::proofs::ValueForms::value_laws))]
-pub fn value_present(inner: Result<Box<PVal>, Fault>) -> Result<PVal, Fault>
+pub fn value_present(inner: Result<Boxed<PVal>, PieceFault>) -> Result<PVal, PieceFault>
     ensures { MadeOfRead value_of value_of KPresent inner result }
 {
     let inner = inner?;
@@ -191,7 +199,7 @@ pub fn value_present(inner: Result<Box<PVal>, Fault>) -> Result<PVal, Fault>
 
 /// A function.
 #[tactic(auto, using(ac_canon::proofs::ValueForms::value_laws))]
-pub fn value_function(home: Home, term: Result<Box<Term>, Fault>) -> Result<PVal, Fault>
+pub fn value_function(home: Home, term: Result<Boxed<Term>, PieceFault>) -> Result<PVal, PieceFault>
     ensures { MadeOfRead expr_of value_of (KFun (home_of home)) term result }
 {
     let term = term?;

@@ -4,8 +4,8 @@ ghost use Rattle.std.specs.Prelude.{◌≡◌, ℕ, [], IfOk};
 ghost use Rattle.ac_terms.specs.Read.{packet_of};
 ghost use Rattle.ac_terms.specs.Bounds.{Spells};
 ghost use Rattle.ac_types.specs.Types.{Bytes};
-ghost use Rattle.ac_pieces.specs.ExactTypes.{exact_type};
-ghost use Rattle.ac_pieces.specs.Readers.{ReadsAs};
+ghost use Rattle.ac_decode_pieces.specs.ExactTypes.{exact_type};
+ghost use Rattle.ac_decode_pieces.specs.Readers.{ReadsAs};
 ghost use Rattle.ac_decode.specs.inner.ExactPackets.{exact_mark, exact_first, exact_packet};
 ghost use Rattle.ac_decode.specs.inner.Ends.{to_the_end};
 ghost use Rattle.ac_decode.specs.Decoding.{OnFormat};
@@ -13,7 +13,7 @@ ghost use Rattle.ac_decode.specs.Decoding.{OnFormat};
 use crate::defs::defs;
 use crate::terms::value;
 use ac_bytes::Cursor;
-use ac_pieces::{Fault, InFull, Types, byte, four, joined};
+use ac_decode_pieces::{InFull, PieceFault, Types, joined, take_byte, take_four};
 use ac_terms::{Packet, tags};
 use ac_types::Memory;
 use ac_types::limits::{DEEPEST_NESTING, LONGEST_PACKET};
@@ -33,33 +33,33 @@ pub enum DecodeFault {
 
 // What a packet begins with.
 #[tactic(auto, unfolding(crate::specs::inner::ExactPackets::exact_mark))]
-fn mark(cursor: &mut Cursor<'_>) -> Result<u32, Fault>
+fn mark(cursor: &mut Cursor<'_>) -> Result<u32, PieceFault>
     ensures { ReadsAs (λ (n : ℕ). n) result (exact_mark cursor.old.left) cursor.new.left }
 {
     let at = cursor.place();
-    let n = four(cursor)?;
+    let n = take_four(cursor)?;
     if n != tags::PACKET_MARK {
-        return Err(Fault::Misfit { at });
+        return Err(PieceFault::Misfit { at });
     }
     Ok(n)
 }
 
 // The version behind it.
 #[tactic(auto, unfolding(crate::specs::inner::ExactPackets::exact_first))]
-fn first(cursor: &mut Cursor<'_>) -> Result<u8, Fault>
+fn first(cursor: &mut Cursor<'_>) -> Result<u8, PieceFault>
     ensures { ReadsAs (λ (n : ℕ). n) result (exact_first cursor.old.left) cursor.new.left }
 {
     let at = cursor.place();
-    let n = byte(cursor)?;
+    let n = take_byte(cursor)?;
     if n != tags::PACKET_IN_FULL {
-        return Err(Fault::Misfit { at });
+        return Err(PieceFault::Misfit { at });
     }
     Ok(n)
 }
 
 // A packet.
 #[tactic(auto, unfolding(crate::specs::inner::ExactPackets::exact_packet))]
-fn packet<T: Types>(alloc: Global, cursor: &mut Cursor<'_>, types: &T) -> Result<Packet, Fault>
+fn packet<T: Types>(alloc: Global, cursor: &mut Cursor<'_>, types: &T) -> Result<Packet, PieceFault>
     ensures { ReadsAs packet_of result (exact_packet (T.reads_type types.now) cursor.old.left)
         cursor.new.left }
 {
@@ -72,7 +72,7 @@ fn packet<T: Types>(alloc: Global, cursor: &mut Cursor<'_>, types: &T) -> Result
 }
 
 // The packet, where nothing is left behind it.
-fn whole(alloc: Global, bytes: &[u8]) -> Result<Packet, Fault>
+fn whole(alloc: Global, bytes: &[u8]) -> Result<Packet, PieceFault>
     ensures { ReadsAs packet_of result (to_the_end (exact_packet exact_type) bytes.now) [] }
 {
     let mut cursor = Cursor::new(bytes);
@@ -80,7 +80,7 @@ fn whole(alloc: Global, bytes: &[u8]) -> Result<Packet, Fault>
     if !cursor.at_end() {
         let at = cursor.place();
         drop(packet);
-        return Err(Fault::Misfit { at });
+        return Err(PieceFault::Misfit { at });
     }
     Ok(packet)
 }
@@ -97,11 +97,11 @@ pub fn decode(alloc: Global, bytes: &[u8]) -> Result<Packet, DecodeFault>
     }
     match whole(alloc, bytes) {
         Ok(packet) => Ok(packet),
-        Err(Fault::Misfit { at }) => Err(DecodeFault::Format { at: place(at) }),
-        Err(Fault::Short) => Err(DecodeFault::Format {
+        Err(PieceFault::Misfit { at }) => Err(DecodeFault::Format { at: place(at) }),
+        Err(PieceFault::Short) => Err(DecodeFault::Format {
             at: place(bytes.len()),
         }),
-        Err(Fault::Memory) => Err(DecodeFault::Memory),
+        Err(PieceFault::Memory) => Err(DecodeFault::Memory),
     }
 }
 

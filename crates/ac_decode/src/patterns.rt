@@ -4,34 +4,34 @@ ghost use Rattle.std.specs.Prelude.{List, map};
 ghost use Rattle.ac_terms.specs.Terms.{no_patterns, pattern', patterns};
 ghost use Rattle.ac_terms.specs.Read.{pattern_of};
 ghost use Rattle.ac_terms.specs.PacketReading.{pair, times};
-ghost use Rattle.ac_pieces.specs.Readers.{ReadsAs};
+ghost use Rattle.ac_decode_pieces.specs.Readers.{ReadsAs};
 ghost use Rattle.ac_decode.specs.inner.ExactTerms.{exact_pattern};
 
 use crate::heads::{PatHead, pattern_head};
 use crate::makes::{pat_cons, pat_exn, pat_present, pat_tuple};
 use ac_bytes::Cursor;
-use ac_pieces::{Fault, Types, byte, joined};
+use ac_decode_pieces::{PieceFault, Types, joined, take_byte};
 use ac_terms::Pat;
-use ac_types::{Box, Many};
+use ac_types::{Boxed, Many};
 use std::alloc::Global;
 
 /// A pattern of at most that nesting.
 #[cycle(patterns)]
-pub fn pattern<T: Types>(
+pub fn take_pattern<T: Types>(
     alloc: Global,
     cursor: &mut Cursor<'_>,
     types: &T,
     depth: u32,
-) -> Result<Pat, Fault>
+) -> Result<Pat, PieceFault>
     ensures { ReadsAs pattern_of result
         (exact_pattern (T.reads_type types.now) depth cursor.old.left) cursor.new.left }
 {
     let at = cursor.place();
     if depth == 0 {
-        return Err(Fault::Misfit { at });
+        return Err(PieceFault::Misfit { at });
     }
     let inner = depth - 1;
-    let tag = byte(cursor)?;
+    let tag = take_byte(cursor)?;
     let head = pattern_head(alloc, cursor, types, at, tag)?;
     match head {
         PatHead::Leaf(pat) => Ok(pat),
@@ -49,12 +49,12 @@ fn boxed_pattern<T: Types>(
     cursor: &mut Cursor<'_>,
     types: &T,
     depth: u32,
-) -> Result<Box<Pat>, Fault>
+) -> Result<Boxed<Pat>, PieceFault>
     ensures { ReadsAs pattern_of result
         (exact_pattern (T.reads_type types.now) depth cursor.old.left) cursor.new.left }
 {
-    let pat = pattern(alloc, cursor, types, depth)?;
-    Ok(Box::new(alloc, pat)?)
+    let pat = take_pattern(alloc, cursor, types, depth)?;
+    Ok(Boxed::new(alloc, pat)?)
 }
 
 // Two patterns.
@@ -64,7 +64,7 @@ fn two_patterns<T: Types>(
     cursor: &mut Cursor<'_>,
     types: &T,
     depth: u32,
-) -> Result<(Box<Pat>, Box<Pat>), Fault>
+) -> Result<(Boxed<Pat>, Boxed<Pat>), PieceFault>
     ensures { ReadsAs (λ p. (pattern_of p.0, pattern_of p.1)) result
         (pair (exact_pattern (T.reads_type types.now) depth)
         (exact_pattern (T.reads_type types.now) depth) cursor.old.left) cursor.new.left }
@@ -81,14 +81,14 @@ fn all_patterns<T: Types>(
     types: &T,
     count: u8,
     depth: u32,
-) -> Result<Many<Pat>, Fault>
+) -> Result<Many<Pat>, PieceFault>
     ensures { ReadsAs (λ (ps : List Pat). patterns (map pattern_of ps)) result
         (times no_patterns pattern' (exact_pattern (T.reads_type types.now) depth) count
         cursor.old.left) cursor.new.left }
 {
     let mut items = Many::new(alloc);
     for _ in 0..count {
-        let item = pattern(alloc, cursor, types, depth)?;
+        let item = take_pattern(alloc, cursor, types, depth)?;
         items.push(item)?;
     }
     Ok(items)

@@ -5,51 +5,51 @@ ghost use Rattle.ac_terms.specs.Terms.{Expr, no_exprs, expr, exprs, no_arms, arm
 ghost use Rattle.ac_terms.specs.Read.{expr_of, arm_of, value_of};
 ghost use Rattle.ac_terms.specs.Bounds.{is_lambda};
 ghost use Rattle.ac_terms.specs.PacketReading.{ReadsPart, pair, times};
-ghost use Rattle.ac_pieces.specs.ExactReading.{passing};
-ghost use Rattle.ac_pieces.specs.Readers.{ReadsAs};
+ghost use Rattle.ac_decode_pieces.specs.ExactReading.{passing};
+ghost use Rattle.ac_decode_pieces.specs.Readers.{ReadsAs};
 ghost use Rattle.ac_decode.specs.inner.ExactTerms.{an_arm, exact_cases, exact_pattern, exact_term_table, exact_term, exact_value};
 
-use crate::heads::{Head, ValueHead, term_head, value_head};
+use crate::heads::{TermHead, ValueHead, term_head, value_head};
 use crate::makes::{
     around, captured, cases, choice, joint, row, value_function, value_list, value_present,
     value_tuple,
 };
-use crate::patterns::pattern;
+use crate::patterns::take_pattern;
 use crate::shapes::lambda;
 use ac_bytes::Cursor;
-use ac_pieces::{Fault, Types, byte, joined, long_count};
+use ac_decode_pieces::{PieceFault, Types, joined, take_byte, take_long_count};
 use ac_terms::{Arm, PVal, Term};
 use ac_types::limits::MOST_ARMS;
-use ac_types::{Box, Many};
+use ac_types::{Boxed, Many};
 use std::alloc::Global;
 
 /// A term of at most that nesting; `within` where captured values may stand in it.
 #[cycle(terms)]
-pub fn term<T: Types>(
+pub fn take_term<T: Types>(
     alloc: Global,
     cursor: &mut Cursor<'_>,
     types: &T,
     within: bool,
     depth: u32,
-) -> Result<Term, Fault>
+) -> Result<Term, PieceFault>
     ensures { ReadsAs expr_of result
         (exact_term (T.reads_type types.now) within depth cursor.old.left) cursor.new.left }
 {
     let at = cursor.place();
     if depth == 0 {
-        return Err(Fault::Misfit { at });
+        return Err(PieceFault::Misfit { at });
     }
     let inner = depth - 1;
-    let tag = byte(cursor)?;
+    let tag = take_byte(cursor)?;
     let head = term_head(alloc, cursor, types, within, at, tag)?;
     match head {
-        Head::Leaf(term) => Ok(term),
-        Head::Around(kind) => around(kind, boxed_term(alloc, cursor, types, within, inner)),
-        Head::Joint(kind) => joint(kind, two_terms(alloc, cursor, types, within, inner)),
-        Head::Choice => choice(three_terms(alloc, cursor, types, within, inner)),
-        Head::Row(kind, n) => row(kind, all_terms(alloc, cursor, types, within, n, inner)),
-        Head::Cases(kind) => cases(kind, with_arms(alloc, cursor, types, within, inner)),
-        Head::Captured(ty) => captured(ty, value(alloc, cursor, types, inner)),
+        TermHead::Leaf(term) => Ok(term),
+        TermHead::Around(kind) => around(kind, boxed_term(alloc, cursor, types, within, inner)),
+        TermHead::Joint(kind) => joint(kind, two_terms(alloc, cursor, types, within, inner)),
+        TermHead::Choice => choice(three_terms(alloc, cursor, types, within, inner)),
+        TermHead::Row(kind, n) => row(kind, all_terms(alloc, cursor, types, within, n, inner)),
+        TermHead::Cases(kind) => cases(kind, with_arms(alloc, cursor, types, within, inner)),
+        TermHead::Captured(ty) => captured(ty, value(alloc, cursor, types, inner)),
     }
 }
 
@@ -61,12 +61,12 @@ fn boxed_term<T: Types>(
     types: &T,
     within: bool,
     depth: u32,
-) -> Result<Box<Term>, Fault>
+) -> Result<Boxed<Term>, PieceFault>
     ensures { ReadsAs expr_of result
         (exact_term (T.reads_type types.now) within depth cursor.old.left) cursor.new.left }
 {
-    let term = term(alloc, cursor, types, within, depth)?;
-    Ok(Box::new(alloc, term)?)
+    let term = take_term(alloc, cursor, types, within, depth)?;
+    Ok(Boxed::new(alloc, term)?)
 }
 
 // Two terms.
@@ -77,7 +77,7 @@ fn two_terms<T: Types>(
     types: &T,
     within: bool,
     depth: u32,
-) -> Result<(Box<Term>, Box<Term>), Fault>
+) -> Result<(Boxed<Term>, Boxed<Term>), PieceFault>
     ensures { ReadsAs (λ p. (expr_of p.0, expr_of p.1)) result
         (pair (exact_term (T.reads_type types.now) within depth)
         (exact_term (T.reads_type types.now) within depth) cursor.old.left) cursor.new.left }
@@ -94,7 +94,7 @@ fn three_terms<T: Types>(
     types: &T,
     within: bool,
     depth: u32,
-) -> Result<(Box<Term>, (Box<Term>, Box<Term>)), Fault>
+) -> Result<(Boxed<Term>, (Boxed<Term>, Boxed<Term>)), PieceFault>
     ensures { ReadsAs (λ p. (expr_of p.0, (expr_of p.1.0, expr_of p.1.1))) result
         (pair (exact_term (T.reads_type types.now) within depth)
         (pair (exact_term (T.reads_type types.now) within depth)
@@ -113,14 +113,14 @@ fn all_terms<T: Types>(
     within: bool,
     count: u32,
     depth: u32,
-) -> Result<Many<Term>, Fault>
+) -> Result<Many<Term>, PieceFault>
     ensures { ReadsAs (λ (ts : List Term). exprs (map expr_of ts)) result
         (times no_exprs expr (exact_term (T.reads_type types.now) within depth) count
         cursor.old.left) cursor.new.left }
 {
     let mut items = Many::new(alloc);
     for _ in 0..count {
-        let item = term(alloc, cursor, types, within, depth)?;
+        let item = take_term(alloc, cursor, types, within, depth)?;
         items.push(item)?;
     }
     Ok(items)
@@ -134,7 +134,7 @@ fn with_arms<T: Types>(
     types: &T,
     within: bool,
     depth: u32,
-) -> Result<(Box<Term>, Many<Arm>), Fault>
+) -> Result<(Boxed<Term>, Many<Arm>), PieceFault>
     ensures { ReadsAs (λ p. (expr_of p.0, arms (map arm_of p.1))) result
         (pair (exact_term (T.reads_type types.now) within depth)
         (exact_cases (exact_pattern (T.reads_type types.now) depth)
@@ -152,12 +152,12 @@ fn counted_arms<T: Types>(
     types: &T,
     within: bool,
     depth: u32,
-) -> Result<Many<Arm>, Fault>
+) -> Result<Many<Arm>, PieceFault>
     ensures { ReadsAs (λ (cs : List Arm). arms (map arm_of cs)) result
         (exact_cases (exact_pattern (T.reads_type types.now) depth)
         (exact_term (T.reads_type types.now) within depth) cursor.old.left) cursor.new.left }
 {
-    let count = long_count(cursor, 1, MOST_ARMS)?;
+    let count = take_long_count(cursor, 1, MOST_ARMS)?;
     all_arms(alloc, cursor, types, within, count, depth)
 }
 
@@ -170,7 +170,7 @@ fn all_arms<T: Types>(
     within: bool,
     count: u16,
     depth: u32,
-) -> Result<Many<Arm>, Fault>
+) -> Result<Many<Arm>, PieceFault>
     ensures { ReadsAs (λ (cs : List Arm). arms (map arm_of cs)) result
         (times no_arms an_arm (pair (exact_pattern (T.reads_type types.now) depth)
         (exact_term (T.reads_type types.now) within depth)) count cursor.old.left)
@@ -192,13 +192,13 @@ fn one_arm<T: Types>(
     types: &T,
     within: bool,
     depth: u32,
-) -> Result<Arm, Fault>
+) -> Result<Arm, PieceFault>
     ensures { ReadsAs arm_of result
         (pair (exact_pattern (T.reads_type types.now) depth)
         (exact_term (T.reads_type types.now) within depth) cursor.old.left) cursor.new.left }
 {
-    let pat = pattern(alloc, cursor, types, depth)?;
-    let (pat, body) = joined(pat, term(alloc, cursor, types, within, depth))?;
+    let pat = take_pattern(alloc, cursor, types, depth)?;
+    let (pat, body) = joined(pat, take_term(alloc, cursor, types, within, depth))?;
     Ok(Arm { pat, body })
 }
 
@@ -209,16 +209,16 @@ pub fn value<T: Types>(
     cursor: &mut Cursor<'_>,
     types: &T,
     depth: u32,
-) -> Result<PVal, Fault>
+) -> Result<PVal, PieceFault>
     ensures { ReadsAs value_of result
         (exact_value (T.reads_type types.now) depth cursor.old.left) cursor.new.left }
 {
     let at = cursor.place();
     if depth == 0 {
-        return Err(Fault::Misfit { at });
+        return Err(PieceFault::Misfit { at });
     }
     let inner = depth - 1;
-    let tag = byte(cursor)?;
+    let tag = take_byte(cursor)?;
     let head = value_head(alloc, cursor, at, tag)?;
     match head {
         ValueHead::Leaf(value) => Ok(value),
@@ -236,12 +236,12 @@ fn boxed_value<T: Types>(
     cursor: &mut Cursor<'_>,
     types: &T,
     depth: u32,
-) -> Result<Box<PVal>, Fault>
+) -> Result<Boxed<PVal>, PieceFault>
     ensures { ReadsAs value_of result
         (exact_value (T.reads_type types.now) depth cursor.old.left) cursor.new.left }
 {
     let value = value(alloc, cursor, types, depth)?;
-    Ok(Box::new(alloc, value)?)
+    Ok(Boxed::new(alloc, value)?)
 }
 
 // A function of a packed value.
@@ -251,13 +251,13 @@ fn function<T: Types>(
     cursor: &mut Cursor<'_>,
     types: &T,
     depth: u32,
-) -> Result<Box<Term>, Fault>
+) -> Result<Boxed<Term>, PieceFault>
     ensures { ReadsAs expr_of result
         (passing is_lambda (exact_term (T.reads_type types.now) true depth) cursor.old.left)
         cursor.new.left }
 {
     let at = cursor.place();
-    let term = term(alloc, cursor, types, true, depth)?;
+    let term = take_term(alloc, cursor, types, true, depth)?;
     lambda(alloc, at, term)
 }
 
@@ -269,7 +269,7 @@ fn all_values<T: Types>(
     types: &T,
     count: u32,
     depth: u32,
-) -> Result<Many<PVal>, Fault>
+) -> Result<Many<PVal>, PieceFault>
     ensures { ReadsAs (λ (vs : List PVal). pvalues (map value_of vs)) result
         (times no_pvalues pvalue (exact_value (T.reads_type types.now) depth) count
         cursor.old.left) cursor.new.left }

@@ -1,8 +1,8 @@
 // Bytes read as a packet, and others that are nearly the same.
 
 use ac_decode::{DecodeFault, decode, encode};
-use ac_page::Page;
 use ac_terms::Packet;
+use ac_text_page::Page;
 use ac_types::{Memory, Text};
 use std::alloc::Global;
 

@@ -1,7 +1,7 @@
 // Packets.
 
+use ac_table_text::{Sheet, write_import, write_module, write_type, write_value};
 use ac_terms::{PDef, Packet};
-use ac_written::{Sheet, write_import, write_module, write_type, write_value};
 
 fn definition(sheet: &mut Sheet, def: &PDef) {
     match def {

@@ -19,9 +19,9 @@ mod alike;
 mod defs;
 
 use ac_decode::DecodeFault;
-use ac_page::Page;
+use ac_table_text::{Leaves, Sheet};
+use ac_text_page::Page;
 use ac_types::{Memory, Text};
-use ac_written::{Leaves, Sheet};
 use alike::{read_again, write_changes, write_prefixes};
 use defs::write_packet;
 use std::alloc::Global;

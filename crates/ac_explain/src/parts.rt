@@ -3,7 +3,7 @@
 
 use ac_syntax::{SArm, SExpr, SExprKind};
 use ac_terms::{Arm, Pat, Term};
-use ac_types::{Box, Many, Memory, Ty, both};
+use ac_types::{Boxed, Many, Memory, Ty, both};
 use std::alloc::Global;
 
 /// An expression, the term that it elaborates to, and the types of the variables in scope, the
@@ -83,8 +83,8 @@ fn add_under<'a>(
 }
 
 // A copy of a type in a box.
-fn boxed(alloc: Global, ty: &Ty) -> Result<Box<Ty>, Memory> {
-    Box::new(alloc, ty.copy(alloc)?)
+fn boxed(alloc: Global, ty: &Ty) -> Result<Boxed<Ty>, Memory> {
+    Boxed::new(alloc, ty.copy(alloc)?)
 }
 
 // The type of the functions between two types.

@@ -4,10 +4,10 @@ ghost use Rattle.std.specs.Prelude.{◌<◌, ◌^◌, length};
 
 use crate::parts::{Part, parts_of};
 use ac_check::{CheckFault, type_of};
+use ac_check_views::{Site, is_view_of};
 use ac_syntax::SExpr;
 use ac_terms::{Env, Home, Term};
 use ac_types::{Many, Memory, Ty};
-use ac_views::{Site, is_view_of};
 use std::alloc::Global;
 
 // More steps than lead from a whole expression to any part of it.

@@ -10,24 +10,24 @@ use Rattle.ac_terms.specs.Terms.{Lam, Rec, If, Match, Try, arms}
 use Rattle.ac_terms.specs.Read.{expr_of, arm_of}
 use Rattle.ac_terms.proofs.TermForms.{expr_of-Lam, expr_of-Rec, expr_of-If, expr_of-Match, expr_of-Try}
 use Rattle.ac_generate.specs.inner.CodeScopes.{types_of, types_step}
-use Rattle.ac_generate.specs.declared.scope.Scope.{Scope, out-Scope, map-Scope, fold_out-Scope}
-use Rattle.ac_generate.specs.declared.scope.Scope.TheOpen.{Scope-F}
-use Rattle.ac_generate.specs.declared.scope.Scope.TheVariants as scope
+use Rattle.ac_generate.specs.declared.scope.CodeScope.{CodeScope, out-CodeScope, map-CodeScope, fold_out-CodeScope}
+use Rattle.ac_generate.specs.declared.scope.CodeScope.TheOpen.{CodeScope-F}
+use Rattle.ac_generate.specs.declared.scope.CodeScope.TheVariants as scope
 
-abbrev scope_layer : Scope-F Scope → List Typ
-scope_layer x = types_step (map-Scope Scope (List Typ) types_of x)
+abbrev scope_layer : CodeScope-F CodeScope → List Typ
+scope_layer x = types_step (map-CodeScope CodeScope (List Typ) types_of x)
 
-scope_out : (s : Scope) → types_of s ≡ scope_layer (out-Scope s)
+scope_out : (s : CodeScope) → types_of s ≡ scope_layer (out-CodeScope s)
 unfolding types_of
-scope_out s = fold_out-Scope (List Typ) types_step s
+scope_out s = fold_out-CodeScope (List Typ) types_step s
 
 pub types_of-Empty : types_of scope.Empty ≡ []
 types_of-Empty = scope_out scope.Empty ∙ ap scope_layer scope.outs-Empty
 
-pub types_of-Variable : (outer : Bor Scope) (t : Bor Ty) → types_of (scope.Variable outer t) ≡ typ_of t.now ∷ types_of outer.now
+pub types_of-Variable : (outer : Bor CodeScope) (t : Bor Ty) → types_of (scope.Variable outer t) ≡ typ_of t.now ∷ types_of outer.now
 types_of-Variable outer t = scope_out (scope.Variable outer t) ∙ ap scope_layer (scope.outs-Variable outer t)
 
-pub types_of-Variables : (outer : Bor Scope) (ts : Bor (List Ty)) → types_of (scope.Variables outer ts) ≡ reverse (map typ_of ts.now) ++ types_of outer.now
+pub types_of-Variables : (outer : Bor CodeScope) (ts : Bor (List Ty)) → types_of (scope.Variables outer ts) ≡ reverse (map typ_of ts.now) ++ types_of outer.now
 types_of-Variables outer ts = scope_out (scope.Variables outer ts) ∙ ap scope_layer (scope.outs-Variables outer ts)
 
 pub ruleset scope_forms = (types_of-Empty, types_of-Variable, types_of-Variables)

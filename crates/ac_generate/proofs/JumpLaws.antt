@@ -6,7 +6,7 @@ use Rattle.ac_terms.specs.Terms.{Home, Pattern, Expr, If, Match, Try, Arms, no_a
 use Rattle.ac_terms.specs.Parts.{pattern_types}
 use Rattle.ac_code.specs.Code as instr
 use Rattle.ac_code.specs.Code.{Instr, Block}
-use Rattle.ac_generate.specs.Sizes.{lambdas, bound, unbind, size, arm_size}
+use Rattle.ac_generate.specs.Sizes.{lambdas, variable_count, unbind, size, arm_size}
 use Rattle.ac_generate.specs.Generate.{code, arm_code, blocks, arm_blocks}
 use Rattle.ac_generate.specs.inner.Drafts.{Draft, address, count, put, put_all, set_at, jumps_at, wrote, wrote_arm, wrote_arms, arm_end, ends}
 use Rattle.ac_generate.proofs.SizeLaws.{code_size, arm_code_size, block_count}
@@ -75,14 +75,14 @@ wrote_If c G t a b d d1 d3 d4 d6 h1 h3 h4 h6 =
     ∙ more_same d _ _ _ _ (append_assoc ct (instr.JumpIfNot second ∷ ca) (instr.Jump (second + size b) ∷ cb)) (append_assoc bt ba bb)
 
 -- an arm, whose test gets its address when the arm is written
-pub wrote_one_arm : (c : Home) (G : List Typ) (q : Pattern) (b : Expr) (d d3 d4 : Draft) → d3 ≡ put_all (unbind (bound q)) (wrote c (reverse (pattern_types q) ++ G) b (put open_jump d)) → d4 ≡ put open_jump d3 →
+pub wrote_one_arm : (c : Home) (G : List Typ) (q : Pattern) (b : Expr) (d d3 d4 : Draft) → d3 ≡ put_all (unbind (variable_count q)) (wrote c (reverse (pattern_types q) ++ G) b (put open_jump d)) → d4 ≡ put open_jump d3 →
     set_at (address d) (instr.Test q (address d4)) d4 ≡ wrote_arm c G q b d
 unfolding wrote_arm
 wrote_one_arm c G q b d d3 d4 h3 h4 =
     let p = address d in
     let n = count d in
     let cb = code b (suc p) n in
-    let ub = unbind (bound q) in
+    let ub = unbind (variable_count q) in
     let bb = blocks c (reverse (pattern_types q) ++ G) b n in
     let next = suc (arm_end q b p) in
     let e3 : d3 ≡ more ((open_jump ∷ cb) ++ ub) bb d =
@@ -95,13 +95,13 @@ wrote_one_arm c G q b d d3 d4 h3 h4 =
     ∙ set_more _ [] (cb ++ (ub ++ open_jump ∷ [])) open_jump (instr.Test q next) p bb d refl (omega arith)
     ∙ more_same d _ _ _ _ refl (sym (append-nil bb))
 
-pub arm_address : (c : Home) (G : List Typ) (q : Pattern) (b : Expr) (d : Draft) → address (put_all (unbind (bound q)) (wrote c (reverse (pattern_types q) ++ G) b (put open_jump d))) ≡ arm_end q b (address d)
+pub arm_address : (c : Home) (G : List Typ) (q : Pattern) (b : Expr) (d : Draft) → address (put_all (unbind (variable_count q)) (wrote c (reverse (pattern_types q) ++ G) b (put open_jump d))) ≡ arm_end q b (address d)
 unfolding put put_all wrote
 arm_address c G q b d =
     let p = address d in
     let began = d.instrs ++ open_jump ∷ [] in
     let cb = code b (length began) (count d) in
-    omega (arith, length-append d.instrs (open_jump ∷ []), length-append began cb, length-append (began ++ cb) (unbind (bound q)), code_size b (length began) (count d))
+    omega (arith, length-append d.instrs (open_jump ∷ []), length-append began cb, length-append (began ++ cb) (unbind (variable_count q)), code_size b (length began) (count d))
 
 pub wrote_no_arms : (c : Home) (G : List Typ) (d : Draft) → wrote_arms c G no_arms d ≡ d
 unfolding wrote_arms
@@ -126,7 +126,7 @@ wrote_more_arms c G q b rest d =
     let bb = blocks c (reverse (pattern_types q) ++ G) b n in
     further (arm_code 0 rest) (arm_blocks c G rest) (arm_code 0 one p n) (arm_blocks c G one n) d (suc (arm_end q b p)) (n + lambdas b)
     (omega (arith, arm_code_size 0 one p n)) (omega (arith, length-append bb [], block_count c (reverse (pattern_types q) ++ G) b n))
-    ∙ more_same d _ _ _ _ (arm_apart _ open_jump (code b (suc p) n) (unbind (bound q)) _) (append_assoc bb [] _)
+    ∙ more_same d _ _ _ _ (arm_apart _ open_jump (code b (suc p) n) (unbind (variable_count q)) _) (append_assoc bb [] _)
 
 arm_cut : (xs : List Instr) (t j : Instr) (cb ub rest ys : List Instr) → xs ++ ((t ∷ (cb ++ (ub ++ (j ∷ rest)))) ++ ys) ≡ (xs ++ (t ∷ (cb ++ ub))) ++ (j ∷ (rest ++ ys))
 arm_cut xs t j cb ub rest ys =
@@ -141,7 +141,7 @@ landed (arm q b rest) to p n xs ys bs d h =
     let next = suc (arm_end q b p) in
     let m = n + lambdas b in
     let cb = code b (suc p) n in
-    let ub = unbind (bound q) in
+    let ub = unbind (variable_count q) in
     let test = instr.Test q next in
     let front = xs ++ (test ∷ (cb ++ ub)) in
     let later = arm_code 0 rest next m in

@@ -5,7 +5,7 @@ use Rattle.ac_terms.specs.Terms.{Home, Pattern, Expr, Lam, Rec, If, Match, Try, 
 use Rattle.ac_terms.specs.Parts.{pattern_types}
 use Rattle.ac_code.specs.Code as instr
 use Rattle.ac_code.specs.Code.{Instr}
-use Rattle.ac_generate.specs.Sizes.{bound, unbind}
+use Rattle.ac_generate.specs.Sizes.{variable_count, unbind}
 use Rattle.ac_generate.specs.inner.Drafts.{Draft, address, count, put, put_all, set_at, jumps_at, block_begun, block_ended, wrote, wrote_arm, wrote_arms, arm_end, ends, wrote_value}
 use Rattle.ac_generate.proofs.DraftLaws.{wrote_Rec, wrote_KLam, wrote_KRec}
 use Rattle.ac_generate.proofs.JumpLaws.{open_jump, wrote_If, wrote_Match, wrote_Try, wrote_one_arm, arm_address}
@@ -59,8 +59,8 @@ try_written c G a e cases d d1 d2 d3 d4 d5 d6 d7 d8 new k1 k2 handler end addres
     )
     ∙ wrote_Try c G a cases d d3 d4 d6 (h3 ∙ ap (put instr.EndTry) (h2 ∙ ap (wrote c G a) h1)) h4 (h6 ∙ ap (put instr.Raise) h5) ∙ ap (λ (x : Expr). wrote c G x d) (sym is)
 
-module _ (c : Home) (G H' : List Typ) (q : Pattern) (b : Expr) (d d1 d2 d3 : Draft) (variables : ℕ) (eH : H' ≡ reverse (pattern_types q) ++ G) (en : variables ≡ bound q) (h1 : d1 ≡ put open_jump d) (h2 : d2 ≡ wrote c H' b d1) (h3 : d3 ≡ put_all (unbind variables) d2) where
-  body_written : d3 ≡ put_all (unbind (bound q)) (wrote c (reverse (pattern_types q) ++ G) b (put open_jump d))
+module _ (c : Home) (G H' : List Typ) (q : Pattern) (b : Expr) (d d1 d2 d3 : Draft) (variables : ℕ) (eH : H' ≡ reverse (pattern_types q) ++ G) (en : variables ≡ variable_count q) (h1 : d1 ≡ put open_jump d) (h2 : d2 ≡ wrote c H' b d1) (h3 : d3 ≡ put_all (unbind variables) d2) where
+  body_written : d3 ≡ put_all (unbind (variable_count q)) (wrote c (reverse (pattern_types q) ++ G) b (put open_jump d))
   body_written = h3 ∙ ap₂ (λ (n : ℕ) (y : Draft). put_all (unbind n) y) en (h2 ∙ ap₂ (λ (K : List Typ) (y : Draft). wrote c K b y) eH h1)
 
   pub arm_written : (d4 new : Draft) (k next : ℕ) → k ≡ address d → d4 ≡ put open_jump d3 → next ≡ address d4 → new ≡ set_at k (instr.Test q next) d4 → new ≡ wrote_arm c G q b d

@@ -6,7 +6,7 @@ use Rattle.ac_types.specs.Types.{Typ, TFun}
 use Rattle.ac_terms.specs.Terms.{Home, Expr, Int, Boolean, Str, Unit', Exn, ExnOf, Tuple, Nil, Empty, Present, Cons, Var, Own, Ref, Lam, Rec, App, Let, If, Seq, Match, Try, Raise, Prim, Marshal, Unmarshal, Val, Evaluated, Bracket, Exprs, no_exprs, expr, Arms, no_arms, arm, PValue, KInt, KBool, KStr, KUnit, KExn, KTuple, KList, KAbsent, KPresent, KFun, PValues, no_pvalues, pvalue}
 use Rattle.ac_terms.specs.Parts.{pattern_types}
 use Rattle.ac_terms.specs.Spelling.{term_count, value_count}
-use Rattle.ac_generate.specs.Sizes.{lambdas, value_lambdas, bound, unbind, push_text, size, arm_size}
+use Rattle.ac_generate.specs.Sizes.{lambdas, value_lambdas, variable_count, unbind, push_text, size, arm_size}
 
 -- the code of a term that begins at address p of its block, where n blocks are finished
 abbrev mutual
@@ -68,8 +68,8 @@ abbrev mutual
   pub arm_code : ℕ → Arms → ℕ → ℕ → List Instr
   arm_code end no_arms p n = []
   arm_code end (arm q b rest) p n =
-      let next = suc (suc p + size b + length (unbind (bound q))) in
-      instr.Test q next ∷ (code b (suc p) n ++ (unbind (bound q) ++ (instr.Jump end ∷ arm_code end rest next (n + lambdas b))))
+      let next = suc (suc p + size b + length (unbind (variable_count q))) in
+      instr.Test q next ∷ (code b (suc p) n ++ (unbind (variable_count q) ++ (instr.Jump end ∷ arm_code end rest next (n + lambdas b))))
 
   -- what builds a packed value, where n blocks are finished; it has no addresses
   pub value_code : PValue → ℕ → List Instr

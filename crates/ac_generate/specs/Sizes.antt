@@ -67,8 +67,8 @@ abbrev mutual
   all_value_lambdas (pvalue v vs) = value_lambdas v + all_value_lambdas vs
 
 -- how many variables a pattern binds
-abbrev pub bound : Pattern → ℕ
-bound p = length (pattern_types p)
+abbrev pub variable_count : Pattern → ℕ
+variable_count p = length (pattern_types p)
 
 -- what drops that many variables
 abbrev pub unbind : ℕ → List Instr
@@ -129,7 +129,7 @@ abbrev mutual
   -- per arm a test, the body, an unbind where variables were bound, and a jump
   pub arm_size : Arms → ℕ
   arm_size no_arms = 0
-  arm_size (arm p b rest) = 1 + (size b + (length (unbind (bound p)) + (1 + arm_size rest)))
+  arm_size (arm p b rest) = 1 + (size b + (length (unbind (variable_count p)) + (1 + arm_size rest)))
 
   pub value_size : PValue → ℕ
   value_size (KInt n) = 1

@@ -6,7 +6,7 @@ ghost use Rattle.ac_code.specs.ReadCode.{instr_of, table_code, block_id};
 ghost use Rattle.ac_generate.specs.inner.Drafts.{draft_of};
 ghost use Rattle.ac_generate.specs.Generated.{own_block, ending, with_blocks, generated, block_number, value_generated, value_number, fields_generated, field_numbers, entry_generated, KeepsBlocks};
 
-use crate::scope::Scope;
+use crate::scope::CodeScope;
 use crate::writer::Writer;
 use ac_code::{Block, CodeId, CodeTable, Instr};
 use ac_terms::{Def, Env, Field, Home, PVal, Term};
@@ -32,7 +32,7 @@ pub fn generate(
     ensures err { OnErr result (table.new ≡ table.old) }
 {
     let mut writer = Writer::new(alloc, table.len());
-    writer.term(home, &Scope::Empty, term)?;
+    writer.term(home, &CodeScope::Empty, term)?;
     writer.store(home, ending(home), table)
 }
 

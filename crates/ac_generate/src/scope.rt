@@ -9,23 +9,23 @@ ghost use Rattle.ac_terms.specs.Parts.{pattern_types, all_pattern_types};
 ghost use Rattle.ac_generate.specs.inner.CodeScopes.{types_of};
 
 use ac_terms::Pat;
-use ac_types::{Box, Many, Memory, Ty};
+use ac_types::{Boxed, Many, Memory, Ty};
 use std::alloc::Global;
 
 /// The variables around a term, each with its type.
 #[derive(Clone, Copy)]
-pub enum Scope<'a> {
+pub enum CodeScope<'a> {
     /// None.
     Empty,
     /// One that is newer than the others.
-    Variable(&'a Scope<'a>, &'a Ty),
+    Variable(&'a CodeScope<'a>, &'a Ty),
     /// Some that are newer than the others, of which the last is the newest.
-    Variables(&'a Scope<'a>, &'a [Ty]),
+    Variables(&'a CodeScope<'a>, &'a [Ty]),
 }
 
 /// The types of the variables, the newest first.
 #[tactic(auto, using(crate::proofs::WriterLaws::scope_laws))]
-pub fn context(alloc: Global, scope: &Scope) -> Result<Many<Ty>, Memory>
+pub fn context(alloc: Global, scope: &CodeScope) -> Result<Many<Ty>, Memory>
     ensures { IfOk result (λ c. map typ_of c ≡ types_of scope.now) }
 {
     let mut types = Vec::new(alloc);
@@ -36,18 +36,18 @@ pub fn context(alloc: Global, scope: &Scope) -> Result<Many<Ty>, Memory>
 
 // Appends the types of the variables, the oldest first.
 #[tactic(auto, using(crate::proofs::WriterLaws::scope_laws))]
-fn add_types(alloc: Global, scope: &Scope, types: &mut Vec<Ty>) -> Result<(), Memory>
+fn add_types(alloc: Global, scope: &CodeScope, types: &mut Vec<Ty>) -> Result<(), Memory>
     ensures { OnOk result (map typ_of types.new.items ≡ map typ_of types.old.items ++ reverse
         (types_of scope.now)) }
 {
     match scope {
-        Scope::Empty => Ok(()),
-        Scope::Variable(outer, ty) => {
+        CodeScope::Empty => Ok(()),
+        CodeScope::Variable(outer, ty) => {
             add_types(alloc, outer, types)?;
             types.push(ty.copy(alloc)?)?;
             Ok(())
         }
-        Scope::Variables(outer, newer) => {
+        CodeScope::Variables(outer, newer) => {
             add_types(alloc, outer, types)?;
             add_copies(alloc, newer, types)
         }
@@ -65,7 +65,7 @@ fn add_copies(alloc: Global, newer: &[Ty], types: &mut Vec<Ty>) -> Result<(), Me
 
 /// The types of a pattern's variables, from left to right.
 #[tactic(auto, using(crate::proofs::WriterLaws::pattern_laws))]
-pub fn variables(alloc: Global, pat: &Pat) -> Result<Vec<Ty>, Memory>
+pub fn pattern_types(alloc: Global, pat: &Pat) -> Result<Vec<Ty>, Memory>
     ensures { IfOk result (λ v. map typ_of v.items ≡ pattern_types (pattern_of pat.now)) }
 {
     let mut types = Vec::new(alloc);
@@ -120,7 +120,7 @@ fn add_all_variables(alloc: Global, pats: &[Pat], types: &mut Vec<Ty>) -> Result
 pub fn function_type(alloc: Global, from: &Ty, to: &Ty) -> Result<Ty, Memory>
     ensures { IfOk result (λ ty. typ_of ty ≡ TFun (typ_of from.now) (typ_of to.now)) }
 {
-    let from = Box::new(alloc, from.copy(alloc)?)?;
-    let to = Box::new(alloc, to.copy(alloc)?)?;
+    let from = Boxed::new(alloc, from.copy(alloc)?)?;
+    let to = Boxed::new(alloc, to.copy(alloc)?)?;
     Ok(Ty::Fun(from, to))
 }

@@ -8,7 +8,7 @@ ghost use Rattle.ac_terms.specs.Read.{home_of, expr_of, arm_of, value_of};
 ghost use Rattle.ac_generate.specs.inner.CodeScopes.{types_of};
 ghost use Rattle.ac_generate.specs.inner.Drafts.{draft_of, address, count, block_begun, block_ended, wrote, wrote_all, wrote_seq, wrote_arm, wrote_arms, arm_end, ends, wrote_value, wrote_values};
 
-use crate::scope::{Scope, function_type, variables};
+use crate::scope::{CodeScope, function_type, pattern_types};
 use crate::writer::Writer;
 use ac_code::{CodeId, Instr};
 use ac_terms::{Arm, Home, PVal, Term};
@@ -18,7 +18,7 @@ impl Writer {
     /// Writes the code of a term, and the blocks of its lambdas.
     #[cycle(term)]
     #[tactic(auto, using(crate::proofs::TermLaws::term_laws))]
-    pub fn term(&mut self, home: Home, scope: &Scope, term: &Term) -> Result<(), Memory>
+    pub fn term(&mut self, home: Home, scope: &CodeScope, term: &Term) -> Result<(), Memory>
         ensures { OnOk result (draft_of self.new ≡ wrote (home_of home) (types_of scope.now)
             (expr_of term.now) (draft_of self.old)) }
     {
@@ -51,7 +51,7 @@ impl Writer {
             Term::Own(field) => self.put(Instr::Own(*field)),
             Term::Ref(entry, field) => self.reference(*entry, field),
             Term::Lam(ty, body) => {
-                let id = self.lambda(home, scope, &Scope::Variable(&*scope, &*ty), body, term)?;
+                let id = self.lambda(home, scope, &CodeScope::Variable(&*scope, &*ty), body, term)?;
                 self.put(Instr::Closure(id))
             }
             Term::Rec(from, to, body) => {
@@ -66,7 +66,7 @@ impl Writer {
             Term::Let(ty, bound, body) => {
                 self.term(home, scope, bound)?;
                 self.put(Instr::Bind)?;
-                self.term(home, &Scope::Variable(&*scope, &*ty), body)?;
+                self.term(home, &CodeScope::Variable(&*scope, &*ty), body)?;
                 self.put(Instr::Unbind(1))
             }
             // an open jump gets its address once what it skips stands there
@@ -131,8 +131,8 @@ impl Writer {
     fn lambda(
         &mut self,
         home: Home,
-        outer: &Scope,
-        inner: &Scope,
+        outer: &CodeScope,
+        inner: &CodeScope,
         body: &Term,
         lambda: &Term,
     ) -> Result<CodeId, Memory>
@@ -155,7 +155,7 @@ impl Writer {
     fn recursive(
         &mut self,
         home: Home,
-        scope: &Scope,
+        scope: &CodeScope,
         body: &Term,
         from: &Ty,
         to: &Ty,
@@ -172,8 +172,14 @@ impl Writer {
             (block_begun (draft_of self.old)))) }
     {
         let function = function_type(self.alloc, from, to)?;
-        let outer = Scope::Variable(&*scope, &function);
-        let made = self.lambda(home, scope, &Scope::Variable(&outer, &*from), body, lambda);
+        let outer = CodeScope::Variable(&*scope, &function);
+        let made = self.lambda(
+            home,
+            scope,
+            &CodeScope::Variable(&outer, &*from),
+            body,
+            lambda,
+        );
         drop(function);
         made
     }
@@ -181,7 +187,7 @@ impl Writer {
     // Writes the code of each term.
     #[cycle(term)]
     #[tactic(auto, using(crate::proofs::TermLaws::all_laws))]
-    fn all(&mut self, home: Home, scope: &Scope, terms: &[Term]) -> Result<(), Memory>
+    fn all(&mut self, home: Home, scope: &CodeScope, terms: &[Term]) -> Result<(), Memory>
         ensures { OnOk result (draft_of self.new ≡ wrote_all (home_of home) (types_of scope.now)
             (exprs (map expr_of terms.now)) (draft_of self.old)) }
     {
@@ -194,7 +200,7 @@ impl Writer {
     // Writes the code of a sequence.
     #[cycle(term)]
     #[tactic(auto, using(crate::proofs::TermLaws::all_laws))]
-    fn parts(&mut self, home: Home, scope: &Scope, parts: &[Term]) -> Result<(), Memory>
+    fn parts(&mut self, home: Home, scope: &CodeScope, parts: &[Term]) -> Result<(), Memory>
         ensures { OnOk result (draft_of self.new ≡ wrote_seq (home_of home) (types_of scope.now)
             (exprs (map expr_of parts.now)) (draft_of self.old)) }
     {
@@ -212,7 +218,7 @@ impl Writer {
     // Writes the code of some arms, and gives the addresses of their jumps to the end.
     #[cycle(term)]
     #[tactic(auto, using(crate::proofs::TermLaws::arm_laws))]
-    fn arms(&mut self, home: Home, scope: &Scope, cases: &[Arm]) -> Result<Vec<usize>, Memory>
+    fn arms(&mut self, home: Home, scope: &CodeScope, cases: &[Arm]) -> Result<Vec<usize>, Memory>
         ensures ok { OnOk result (draft_of self.new ≡ wrote_arms (home_of home) (types_of scope.now)
             (arms (map arm_of cases.now)) (draft_of self.old)) }
         ensures addresses { IfOk result (λ v. v.items ≡ ends (arms (map arm_of cases.now))
@@ -229,17 +235,17 @@ impl Writer {
     // Writes the code of an arm, and gives the address of its jump to the end.
     #[cycle(term)]
     #[tactic(auto, using(crate::proofs::TermLaws::arm_laws))]
-    fn arm(&mut self, home: Home, scope: &Scope, case: &Arm) -> Result<usize, Memory>
+    fn arm(&mut self, home: Home, scope: &CodeScope, case: &Arm) -> Result<usize, Memory>
         ensures ok { OnOk result (draft_of self.new ≡ wrote_arm (home_of home) (types_of scope.now)
             (arm_of case.now).0 (arm_of case.now).1 (draft_of self.old)) }
         ensures address { IfOk result (λ at. at ≡ arm_end (arm_of case.now).0 (arm_of case.now).1
             (address (draft_of self.old))) }
     {
-        let bound = variables(self.alloc, &case.pat)?;
+        let bound = pattern_types(self.alloc, &case.pat)?;
         let test = self.hold()?;
         self.term(
             home,
-            &Scope::Variables(&*scope, bound.as_slice()),
+            &CodeScope::Variables(&*scope, bound.as_slice()),
             &case.body,
         )?;
         self.unbind(bound.len())?;
@@ -299,10 +305,10 @@ impl Writer {
         ensures { OnOk result (draft_of self.new ≡ wrote_value
             (KFun (home_of home) (expr_of function.now)) (draft_of self.old)) }
     {
-        let around = Scope::Empty;
+        let around = CodeScope::Empty;
         match function {
             Term::Lam(ty, body) => {
-                let inner = Scope::Variable(&around, &*ty);
+                let inner = CodeScope::Variable(&around, &*ty);
                 let id = self.lambda(home, &around, &inner, body, function)?;
                 self.put(Instr::Constant(id))
             }

@@ -12,7 +12,7 @@ ghost use Rattle.ac_generate.specs.Generate.{lambda_block};
 ghost use Rattle.ac_generate.specs.inner.CodeScopes.{types_of};
 ghost use Rattle.ac_generate.specs.inner.Drafts.{draft_of, address, count, put, put_all, set_at, jumps_at, block_begun, block_ended, wrote_value};
 
-use crate::scope::{Scope, context};
+use crate::scope::{CodeScope, context};
 use ac_code::{Block, CodeId, Instr};
 use ac_terms::{Home, Pat, Term};
 use ac_types::{Exn, ExnKind, Many, Memory, Text, Ty, Word};
@@ -193,7 +193,7 @@ impl Writer {
         &mut self,
         before: Vec<Instr>,
         home: Home,
-        scope: &Scope,
+        scope: &CodeScope,
         lambda: &Term,
     ) -> Result<CodeId, Memory>
         ensures number { IfOk result (λ id. id.0 ≡ count (draft_of self.old)) }
@@ -234,7 +234,7 @@ fn put_at<T: Drop>(items: &mut Vec<T>, at: usize, item: T)
 fn lambda_block(
     alloc: Global,
     home: Home,
-    scope: &Scope,
+    scope: &CodeScope,
     lambda: &Term,
     body: Vec<Instr>,
 ) -> Result<Block, Memory>

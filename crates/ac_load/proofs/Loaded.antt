@@ -6,10 +6,10 @@ use Rattle.ac_terms.specs.Terms.{Expr}
 use Rattle.ac_terms.specs.Defs.{Environment}
 use Rattle.ac_meaning.specs.Loads.{IsLoaded}
 use Rattle.ac_meaning.proofs.Sources.{fits_source}
-use Rattle.ac_acceptance.specs.Accepting.{Shelved, IsShelf}
-use Rattle.ac_acceptance.specs.Ready.{IsWellLoaded}
-use Rattle.ac_acceptance.proofs.OneAnswer.{not_both}
-use Rattle.ac_acceptance.proofs.Coherence.{accepted_ready}
+use Rattle.ac_load_rules.specs.Accepting.{Shelved, IsShelf}
+use Rattle.ac_load_rules.specs.Ready.{IsWellLoaded}
+use Rattle.ac_load_rules.proofs.OneAnswer.{not_both}
+use Rattle.ac_load_rules.proofs.Coherence.{accepted_ready}
 use Rattle.ac_load.specs.Kinds.{of_cause}
 use Rattle.ac_load.specs.Loading.{Loads, Rejects}
 use Rattle.ac_load.specs.declared.kind.Kind.{Kind}

@@ -12,9 +12,9 @@ use Rattle.ac_syntax.specs.Signs.{Sign}
 use Rattle.ac_syntax.specs.Trees.{ProgramTree}
 use Rattle.ac_syntax.specs.declared.fault.ParseFault.{ParseFault}
 use Rattle.ac_syntax.specs.Texts.{too_long, lexical, too_deep, Refused, unread, syntax}
-use Rattle.ac_scopes.specs.Surfaces.{SurfaceFault, surface_fault, Unbound, Repeated, TooMany}
-use Rattle.ac_acceptance.specs.Causes.{Cause, BadScopes, IllTyped, Uncovered, NotValuable, LikeMissing, Unresolved, Clash, first_at, first_below, ill_typed, uncovering, not_valuable, without_likespec, unlinked, clashes, clash_of, first_clash, added, loaded, main_type, cause}
-use Rattle.ac_acceptance.specs.Accepting.{Shelved, IsRefused, no_tree, with_tree, Refuses, of_shelf, of_program}
+use Rattle.ac_resolve_scopes.specs.Surfaces.{SurfaceFault, surface_fault, Unbound, Repeated, TooMany}
+use Rattle.ac_load_rules.specs.Causes.{Cause, BadScopes, IllTyped, Uncovered, NotValuable, LikeMissing, Unresolved, Clash, first_at, first_below, ill_typed, uncovering, not_valuable, without_likespec, unlinked, entries_clash, clash_of, first_entry_clash, added, loaded, main_type, refusal_cause}
+use Rattle.ac_load_rules.specs.Accepting.{Shelved, IsRefused, no_tree, with_tree, Refuses, of_shelf, of_program}
 use Rattle.ac_load.specs.Kinds.{parse_kind, kind_of, of_cause}
 use Rattle.ac_load.specs.Loading.{Rejects}
 use Rattle.ac_load.specs.declared.kind.Kind.{Kind}
@@ -81,10 +81,10 @@ unlinked_told k link (AModule m) = refl
 unlinked_told k link (AnImport i) = given_told (is_none link) (Some (Unresolved k)) refl
 unlinked_told k link (AMark t) = refl
 
-clash_told : (E : Environment) → told (first_clash E) ≡ true
-clash_told E = below_told (clash_of E) (λ second. below_told (λ first. given (clashes E first second) (Some (Clash first second))) (λ first. given_told (clashes E first second) (Some (Clash first second)) refl) second) (length E)
+clash_told : (E : Environment) → told (first_entry_clash E) ≡ true
+clash_told E = below_told (clash_of E) (λ second. below_told (λ first. given (entries_clash E first second) (Some (Clash first second))) (λ first. given_told (entries_clash E first second) (Some (Clash first second)) refl) second) (length E)
 
-cause_told : (E : Environment) (seen : Seen) (p : ProgramTree) → told (cause sha256 E seen p) ≡ true
+cause_told : (E : Environment) (seen : Seen) (p : ProgramTree) → told (refusal_cause sha256 E seen p) ≡ true
 cause_told E seen p =
     let F = loaded sha256 E seen p in
     let xs = added sha256 E seen p in
@@ -95,7 +95,7 @@ cause_told E seen p =
     (either_told (first_at 0 not_valuable xs) _ (at_told not_valuable (λ k e. valuable_told k e.def) 0 xs)
     (either_told (first_at 0 without_likespec xs) _ (at_told without_likespec (λ k e. unlike_told k e.def) 0 xs)
     (either_told (first_at 0 unlinked xs) _ (at_told unlinked (λ k e. unlinked_told k e.link e.def) 0 xs)
-    (either_told (first_clash F) None (clash_told F) refl)))))))
+    (either_told (first_entry_clash F) None (clash_told F) refl)))))))
 
 text_told : (G : List Sign → ProgramTree → Type 0) (text : Bytes) (e : ParseFault) → Refused G text e → speaks (parse_kind e) ≡ true
 text_told G text e (unread (too_long long)) = refl

@@ -4,9 +4,9 @@ use Rattle.sha2.specs.Sha256.{sha256}
 use Rattle.ac_types.specs.Types.{Bytes}
 use Rattle.ac_syntax.specs.declared.fault.ParseFault.{ParseFault}
 use Rattle.ac_syntax.specs.Texts.{SameCause, same, both_syntax}
-use Rattle.ac_acceptance.specs.Causes.{Cause}
-use Rattle.ac_acceptance.specs.Accepting.{Shelved, SameRefusal, equal as one_cause, unparsed}
-use Rattle.ac_acceptance.proofs.OneAnswer.{one_refused}
+use Rattle.ac_load_rules.specs.Causes.{Cause}
+use Rattle.ac_load_rules.specs.Accepting.{Shelved, SameRefusal, equal as one_cause, unparsed}
+use Rattle.ac_load_rules.proofs.OneAnswer.{one_refused}
 use Rattle.ac_load.specs.Kinds.{parse_kind, kind_of, of_cause}
 use Rattle.ac_load.specs.Loading.{Rejects, SameKind, equal, two_places}
 use Rattle.ac_load.specs.declared.kind.Kind.{Kind}

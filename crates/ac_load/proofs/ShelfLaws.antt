@@ -13,14 +13,14 @@ use Rattle.ac_syntax.specs.Programs.{IsProgram, IsModule}
 use Rattle.ac_syntax.specs.declared.fault.ParseFault.{ParseFault}
 use Rattle.ac_syntax.specs.declared.fault.ParseFault.TheVariants as parse
 use Rattle.ac_syntax.specs.Texts.{HasTree, Refused, IsTextFault}
-use Rattle.ac_acceptance.specs.Causes.{Cause, NoTree, loaded, cause}
-use Rattle.ac_acceptance.specs.Accepting.{Shelved, IsShelf, GivesEntries, nothing, a_module, IsRefused, no_tree, with_tree, Refuses, of_shelf, of_program}
+use Rattle.ac_load_rules.specs.Causes.{Cause, NoTree, loaded, refusal_cause}
+use Rattle.ac_load_rules.specs.Accepting.{Shelved, IsShelf, GivesEntries, nothing, a_module, IsRefused, no_tree, with_tree, Refuses, of_shelf, of_program}
 use Rattle.std.specs.List.{list_all}
-use Rattle.ac_outer.specs.Entries.{keeps_name}
-use Rattle.ac_elaborate.proofs.Kept.{all_named}
-use Rattle.ac_acceptance.specs.Counted.{has_counted}
-use Rattle.ac_acceptance.proofs.Counted.{coherent_counted}
-use Rattle.ac_acceptance.proofs.Coherence.{front_coherent}
+use Rattle.ac_resolve_names.specs.Entries.{keeps_name}
+use Rattle.ac_resolve_terms.proofs.Kept.{all_named}
+use Rattle.ac_load_rules.specs.Counted.{has_counted}
+use Rattle.ac_load_rules.proofs.Counted.{coherent_counted}
+use Rattle.ac_load_rules.proofs.Coherence.{front_coherent}
 use Rattle.ac_load.specs.Kinds.{OfCause, of_cause, parse_kind, kind_of, Says}
 use Rattle.ac_load.specs.declared.shelf.ShelfEntry.{ShelfEntry}
 use Rattle.ac_load.specs.Loading.{shelved, Loads, Rejects}
@@ -60,7 +60,7 @@ module _ (G : List Sign → ProgramTree → Type 0) (E : Environment) (seen : Se
   text_refused (parse.Syntax at) f = no_trees (parse.Syntax at) f
   text_refused parse.Memory f = tt
 
-  tree_rejects : (p : ProgramTree) → HasTree G text p → (c : Cause) → cause sha256 E seen p ≡ Some c → IsRefused sha256 G E seen text c
+  tree_rejects : (p : ProgramTree) → HasTree G text p → (c : Cause) → refusal_cause sha256 E seen p ≡ Some c → IsRefused sha256 G E seen text c
   tree_rejects p has c found = with_tree has found
 
   pub tree_refused : (p : ProgramTree) (kind : Kind) → HasTree G text p → Says kind (IsTreeRefused E seen p kind) → Says kind (RejectsPart G E seen text kind)

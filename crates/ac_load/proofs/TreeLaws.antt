@@ -11,19 +11,19 @@ use Rattle.ac_types.specs.Types.{Typ}
 use Rattle.ac_terms.specs.Terms.{Expr}
 use Rattle.ac_terms.specs.Defs.{Environment, Entry, Seen}
 use Rattle.ac_syntax.specs.Trees.{ProgramTree}
-use Rattle.ac_scopes.specs.Surfaces.{SurfaceFault, Elaborates, first_scope, surface_fault}
-use Rattle.ac_scopes.specs.Surfaces as surface
-use Rattle.ac_scopes.proofs.AddedEntries.{entries_in, entries_behind}
-use Rattle.ac_surfaces.specs.ScopeFaults.{RefusesScopes}
-use Rattle.ac_surfaces.specs.declared.fault.ScopeFault.{ScopeFault}
-use Rattle.ac_surfaces.specs.declared.fault.ScopeFault.TheVariants as scope
-use Rattle.ac_acceptance.specs.Causes.{Cause, BadScopes, IllTyped, linked_entry, linked_behind, first_at, ill_typed, uncovering, not_valuable, without_likespec, unlinked, first_clash, added, loaded, main_type, cause}
-use Rattle.ac_acceptance.specs.Counted.{has_counted}
-use Rattle.ac_acceptance.proofs.Counted.{surface_counted, linked_counted}
+use Rattle.ac_resolve_scopes.specs.Surfaces.{SurfaceFault, Elaborates, first_scope, surface_fault}
+use Rattle.ac_resolve_scopes.specs.Surfaces as surface
+use Rattle.ac_resolve_scopes.proofs.AddedEntries.{entries_in, entries_behind}
+use Rattle.ac_resolve.specs.ScopeFaults.{RefusesScopes}
+use Rattle.ac_resolve.specs.declared.fault.ScopeFault.{ScopeFault}
+use Rattle.ac_resolve.specs.declared.fault.ScopeFault.TheVariants as scope
+use Rattle.ac_load_rules.specs.Causes.{Cause, BadScopes, IllTyped, linked_entry, linked_behind, first_at, ill_typed, uncovering, not_valuable, without_likespec, unlinked, first_entry_clash, added, loaded, main_type, refusal_cause}
+use Rattle.ac_load_rules.specs.Counted.{has_counted}
+use Rattle.ac_load_rules.proofs.Counted.{surface_counted, linked_counted}
 use Rattle.ac_terms.proofs.AllLaws.{all_append, all_left, all_right}
-use Rattle.ac_causes.specs.PartCauses.{term_type, part_cause, Tells}
-use Rattle.ac_causes.specs.declared.fault.PartFault.{PartFault}
-use Rattle.ac_causes.specs.declared.fault.PartFault.TheVariants as part
+use Rattle.ac_load_causes.specs.PartCauses.{term_type, part_cause, Tells}
+use Rattle.ac_load_causes.specs.declared.fault.PartFault.{PartFault}
+use Rattle.ac_load_causes.specs.declared.fault.PartFault.TheVariants as part
 use Rattle.ac_load.specs.Kinds.{of_cause, fault_kind, part_kind, Says}
 use Rattle.ac_load.specs.inner.Parts.{linked_part, IsTaken, IsTreeRefused}
 
@@ -58,10 +58,10 @@ module _ (E : Environment) (seen : Seen) (p : ProgramTree) where
       first_at 0 not_valuable xs ∷
       first_at 0 without_likespec xs ∷
       first_at 0 unlinked xs ∷
-      first_clash (loaded sha256 E seen p) ∷ [])
+      first_entry_clash (loaded sha256 E seen p) ∷ [])
 
   -- a fault of the scopes is the cause
-  scopes_first : (f : SurfaceFault) → surface_fault sha256 E p ≡ Some f → cause sha256 E seen p ≡ Some (BadScopes f)
+  scopes_first : (f : SurfaceFault) → surface_fault sha256 E p ≡ Some f → refusal_cause sha256 E seen p ≡ Some (BadScopes f)
   scopes_first f h = ap (λ o. option_or (option_map BadScopes o) (causes_with (added sha256 E seen p))) h
 
   pub scopes_refused : (f : ScopeFault) → RefusesScopes E p f → Says (fault_kind f) (IsTreeRefused E seen p (fault_kind f))
@@ -96,7 +96,7 @@ module _ (E : Environment) (seen : Seen) (p : ProgramTree) where
           ∙ ap (λ (H : Environment). E ++ linked_behind seen E (drop (length E) H)) x.entries
 
       -- the causes are those of the entries
-      pub cause_is : cause sha256 E seen p ≡ part_cause G n e
+      pub cause_is : refusal_cause sha256 E seen p ≡ part_cause G n e
       cause_is =
           ap (λ o. option_or (option_map BadScopes o) (causes_with (added sha256 E seen p))) x.sound
           ∙ ap causes_with (sym (drop-append_seam E (added sha256 E seen p)))

@@ -1,14 +1,14 @@
 -- The causes of refusal as the code tells them.
 use Rattle.ac_syntax.specs.declared.fault.ParseFault.{ParseFault}
 use Rattle.ac_syntax.specs.declared.fault.ParseFault.TheVariants as parse
-use Rattle.ac_scopes.specs.Surfaces.{SurfaceFault}
-use Rattle.ac_scopes.specs.Surfaces as surface
-use Rattle.ac_surfaces.specs.declared.fault.ScopeFault.{ScopeFault}
-use Rattle.ac_surfaces.specs.declared.fault.ScopeFault.TheVariants as scope
-use Rattle.ac_acceptance.specs.Causes.{Cause}
-use Rattle.ac_acceptance.specs.Causes as cause
-use Rattle.ac_causes.specs.declared.fault.PartFault.{PartFault}
-use Rattle.ac_causes.specs.declared.fault.PartFault.TheVariants as part
+use Rattle.ac_resolve_scopes.specs.Surfaces.{SurfaceFault}
+use Rattle.ac_resolve_scopes.specs.Surfaces as surface
+use Rattle.ac_resolve.specs.declared.fault.ScopeFault.{ScopeFault}
+use Rattle.ac_resolve.specs.declared.fault.ScopeFault.TheVariants as scope
+use Rattle.ac_load_rules.specs.Causes.{Cause}
+use Rattle.ac_load_rules.specs.Causes as cause
+use Rattle.ac_load_causes.specs.declared.fault.PartFault.{PartFault}
+use Rattle.ac_load_causes.specs.declared.fault.PartFault.TheVariants as part
 use Rattle.ac_load.specs.declared.kind.Kind.{Kind}
 use Rattle.ac_load.specs.declared.kind.Kind.TheVariants.{TooLong, Lexical, TooDeep, Syntax, Unbound, Repeated, TooMany, IllTyped, Signature, NotValuable, LikeMissing, Unresolved, Clash, Memory}
 

@@ -5,7 +5,7 @@ use Rattle.ac_types.specs.Types.{Bytes, Typ}
 use Rattle.ac_terms.specs.Terms.{Expr}
 use Rattle.ac_terms.specs.Defs.{Environment}
 use Rattle.ac_terms.specs.Read.{bytes_of}
-use Rattle.ac_acceptance.specs.Accepting.{Shelved, Accepted, Refuses}
+use Rattle.ac_load_rules.specs.Accepting.{Shelved, Accepted, Refuses}
 use Rattle.ac_load.specs.Kinds.{OfCause}
 use Rattle.ac_load.specs.declared.shelf.ShelfEntry.{ShelfEntry}
 use Rattle.ac_load.specs.declared.shelf.Shelf as code

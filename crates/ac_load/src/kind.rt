@@ -1,7 +1,7 @@
 // Why a text is refused, and which.
 
-use ac_causes::PartFault;
-use ac_surfaces::ScopeFault;
+use ac_load_causes::PartFault;
+use ac_resolve::ScopeFault;
 use ac_syntax::ParseFault;
 use ac_types::Memory;
 

@@ -1,7 +1,7 @@
 // The texts of modules that stand beside a program.
 
 ghost use Rattle.std.specs.Prelude.{◌≡◌, []};
-ghost use Rattle.ac_acceptance.specs.Accepting.{IsShelf};
+ghost use Rattle.ac_load_rules.specs.Accepting.{IsShelf};
 ghost use Rattle.ac_load.specs.Loading.{shelf_of};
 
 use ac_types::{Many, Text};

@@ -12,7 +12,7 @@ ghost use Rattle.ac_machine_engine.specs.Steps.{Does};
 use ac_machine_engine::Pause;
 use ac_machine_engine::engine::{Engine, Step};
 use ac_machine_primitives::primitive::{
-    Answer, Binary, Operation, Unary, combined, constant_in, operation_of, turned,
+    Binary, Operation, PrimitiveResult, Unary, combined, constant_in, operation_of, turned,
 };
 use ac_types::{BareExn, Exn, Memory, Primitive, TextExn};
 use ac_values::Node;
@@ -69,20 +69,23 @@ fn turn(engine: &mut Engine, unary: Unary) -> Result<Step, Memory>
 }
 
 // Goes on with the answer of a primitive.
-fn give_answer(engine: &mut Engine, answer: Answer) -> Result<Step, Memory>
+fn give_answer(engine: &mut Engine, answer: PrimitiveResult) -> Result<Step, Memory>
     requires sound { Sound engine.old }
     ensures { IfOk result (λ s. Does engine.new s (answers (answer_meant answer)
         (core engine.old))) }
 {
     match answer {
-        Answer::Int(n) => engine.push_int(n),
-        Answer::Bool(b) => engine.push_bool(b),
-        Answer::Str(text) => engine.push_node(Node::Str(text)),
-        Answer::Print(text) => engine.pausing(Pause::Print(text)),
-        Answer::Send(text) => engine.pausing(Pause::Send(text)),
-        Answer::Receive => engine.pausing(Pause::Receive),
-        Answer::Invalid(text) => engine.raise_exn(Exn::Text(TextExn::InvalidArgument, text)),
-        Answer::ByZero => engine.raise_exn(Exn::Bare(BareExn::DivisionByZero)),
-        Answer::NoSense => Ok(Step::Wrong),
+        PrimitiveResult::Int(n) => engine.push_int(n),
+        PrimitiveResult::Bool(b) => engine.push_bool(b),
+        PrimitiveResult::Str(text) => engine.push_node(Node::Str(text)),
+        PrimitiveResult::Print(text) => engine.pausing(Pause::Print(text)),
+        PrimitiveResult::Send(text) => engine.pausing(Pause::Send(text)),
+        PrimitiveResult::Receive => engine.pausing(Pause::Receive),
+        PrimitiveResult::Invalid(text) => engine.raise_exn(Exn::Text(
+            TextExn::InvalidArgument,
+            text,
+        )),
+        PrimitiveResult::ByZero => engine.raise_exn(Exn::Bare(BareExn::DivisionByZero)),
+        PrimitiveResult::NoSense => Ok(Step::Wrong),
     }
 }

@@ -14,7 +14,7 @@ use ac_types::{Memory, Ty};
 use ac_values::read::text_in;
 
 /// Takes a value and the mark below it, and pauses.
-pub fn marshal(engine: &mut Engine, ty: &Ty, home: Home) -> Result<Step, Memory>
+pub fn marshal_pause(engine: &mut Engine, ty: &Ty, home: Home) -> Result<Step, Memory>
     requires sound { Sound engine.old }
     ensures { IfOk result (λ s. Does engine.new s
         (marshals (typ_of ty.now) (home_of home) (core engine.old))) }
@@ -40,7 +40,7 @@ pub fn marshal(engine: &mut Engine, ty: &Ty, home: Home) -> Result<Step, Memory>
 }
 
 /// Takes a string, and pauses.
-pub fn unmarshal(engine: &mut Engine, ty: &Ty) -> Result<Step, Memory>
+pub fn unmarshal_pause(engine: &mut Engine, ty: &Ty) -> Result<Step, Memory>
     requires sound { Sound engine.old }
     ensures { IfOk result (λ s. Does engine.new s (unmarshals (typ_of ty.now) (core engine.old))) }
 {

@@ -11,8 +11,8 @@ ghost use Rattle.ac_machine_engine.specs.declared.engine.Step.TheVariants.{On, P
 
 use crate::pause::Pause;
 use ac_code::CodeId;
-use ac_types::{Box, Memory};
-use ac_values::{Chain, Node, Store, Value};
+use ac_types::{Boxed, Memory};
+use ac_values::{Node, SharedLists, Store, Value};
 use std::alloc::Global;
 
 /// Where a block goes on once the one that runs has returned, and whether that one's value is kept.
@@ -61,7 +61,7 @@ pub enum Step {
     /// The machine goes on.
     On,
     /// It has come to a pause.
-    Pausing(Box<Pause>),
+    Pausing(Boxed<Pause>),
     /// An operand is missing or of the wrong kind.
     Wrong,
 }
@@ -71,9 +71,9 @@ pub enum Step {
 #[derive(Drop)]
 pub struct Engine {
     pub store: Store,
-    pub stacks: Chain<Value>,
-    pub frames: Chain<Frame>,
-    pub handlers: Chain<Handler>,
+    pub stacks: SharedLists<Value>,
+    pub frames: SharedLists<Frame>,
+    pub handlers: SharedLists<Handler>,
     pub floor: Floor,
     pub kept: Vec<Option<Value>>,
     pub at: Position,
@@ -102,9 +102,9 @@ impl Engine {
         let empty = store.push(Node::EnvEnd)?;
         Ok(Engine {
             store,
-            stacks: Chain::new(alloc),
-            frames: Chain::new(alloc),
-            handlers: Chain::new(alloc),
+            stacks: SharedLists::new(alloc),
+            frames: SharedLists::new(alloc),
+            handlers: SharedLists::new(alloc),
             floor: Floor {
                 stacks: 0,
                 frames: 0,
@@ -133,10 +133,10 @@ impl Engine {
     }
 
     #[cold]
-    fn boxed(&self, pause: Pause) -> Result<Box<Pause>, Memory>
+    fn boxed(&self, pause: Pause) -> Result<Boxed<Pause>, Memory>
         ensures { IfOk result (λ b. b ≡ pause) }
     {
-        Ok(Box::new(self.alloc, pause)?)
+        Ok(Boxed::new(self.alloc, pause)?)
     }
 
     /// One more node.

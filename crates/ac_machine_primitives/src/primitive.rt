@@ -27,7 +27,7 @@ pub enum Constant<'a> {
 
 /// What a primitive answers.
 #[derive(Drop)]
-pub enum Answer {
+pub enum PrimitiveResult {
     Int(i64),
     Bool(bool),
     Str(Text),
@@ -138,7 +138,7 @@ pub fn combined(
     operator: Binary,
     first: &Constant<'_>,
     second: &Constant<'_>,
-) -> Result<Answer, Memory>
+) -> Result<PrimitiveResult, Memory>
     ensures { IfOk result (λ a. answer_meant a ≡ of_binary operator (constant_meant first.now)
         (constant_meant second.now)) }
 {
@@ -146,71 +146,71 @@ pub fn combined(
         (Constant::Int(x), Constant::Int(y)) => Ok(of_ints(operator, x, y)),
         (Constant::Bool(x), Constant::Bool(y)) => Ok(of_bools(operator, x, y)),
         (Constant::Str(x), Constant::Str(y)) => of_texts(alloc, operator, x, y),
-        _ => Ok(Answer::NoSense),
+        _ => Ok(PrimitiveResult::NoSense),
     }
 }
 
 /// What a primitive of two arguments answers of two ints.
 #[inline(always)]
 #[tactic(auto, using(crate::proofs::PrimitiveLaws::operator_laws))]
-pub fn of_ints(operator: Binary, x: i64, y: i64) -> Answer
+pub fn of_ints(operator: Binary, x: i64, y: i64) -> PrimitiveResult
     ensures { answer_meant result ≡ of_binary operator (CInt x) (CInt y) }
 {
     match operator {
-        Binary::Add => Answer::Int(x.wrapping_add(y)),
-        Binary::Sub => Answer::Int(x.wrapping_sub(y)),
-        Binary::Mul => Answer::Int(x.wrapping_mul(y)),
+        Binary::Add => PrimitiveResult::Int(x.wrapping_add(y)),
+        Binary::Sub => PrimitiveResult::Int(x.wrapping_sub(y)),
+        Binary::Mul => PrimitiveResult::Int(x.wrapping_mul(y)),
         Binary::Div => quotient(x, y),
         Binary::Mod => remainder(x, y),
-        Binary::Equal => Answer::Bool(x == y),
-        Binary::Less => Answer::Bool(x < y),
-        Binary::Concat => Answer::NoSense,
+        Binary::Equal => PrimitiveResult::Bool(x == y),
+        Binary::Less => PrimitiveResult::Bool(x < y),
+        Binary::Concat => PrimitiveResult::NoSense,
     }
 }
 
 #[inline(always)]
-fn quotient(x: i64, y: i64) -> Answer
+fn quotient(x: i64, y: i64) -> PrimitiveResult
     ensures { answer_meant result ≡ quotient (CInt x) (CInt y) }
 {
     if y == 0 {
-        return Answer::ByZero;
+        return PrimitiveResult::ByZero;
     }
     if y == -1 {
-        return Answer::Int(x.wrapping_neg());
+        return PrimitiveResult::Int(x.wrapping_neg());
     }
-    Answer::Int(x / y)
+    PrimitiveResult::Int(x / y)
 }
 
 #[inline(always)]
-fn remainder(x: i64, y: i64) -> Answer
+fn remainder(x: i64, y: i64) -> PrimitiveResult
     ensures { answer_meant result ≡ remainder (CInt x) (CInt y) }
 {
     if y == 0 {
-        return Answer::ByZero;
+        return PrimitiveResult::ByZero;
     }
-    Answer::Int(x.wrapping_rem(y))
+    PrimitiveResult::Int(x.wrapping_rem(y))
 }
 
 #[tactic(auto, using(crate::proofs::PrimitiveLaws::operator_laws))]
-fn of_bools(operator: Binary, x: bool, y: bool) -> Answer
+fn of_bools(operator: Binary, x: bool, y: bool) -> PrimitiveResult
     ensures { answer_meant result ≡ of_binary operator (CBool x) (CBool y) }
 {
     match operator {
-        Binary::Equal => Answer::Bool(x == y),
-        Binary::Less => Answer::Bool(!x && y),
-        _ => Answer::NoSense,
+        Binary::Equal => PrimitiveResult::Bool(x == y),
+        Binary::Less => PrimitiveResult::Bool(!x && y),
+        _ => PrimitiveResult::NoSense,
     }
 }
 
 #[tactic(auto, using(crate::proofs::PrimitiveLaws::operator_laws))]
-fn of_texts(alloc: Global, operator: Binary, x: &Text, y: &Text) -> Result<Answer, Memory>
+fn of_texts(alloc: Global, operator: Binary, x: &Text, y: &Text) -> Result<PrimitiveResult, Memory>
     ensures { IfOk result (λ a. answer_meant a ≡ of_binary operator (CStr x.now.0) (CStr y.now.0)) }
 {
     match operator {
-        Binary::Equal => Ok(Answer::Bool(x.as_slice() == y.as_slice())),
-        Binary::Less => Ok(Answer::Bool(comes_before(x.as_slice(), y.as_slice()))),
+        Binary::Equal => Ok(PrimitiveResult::Bool(x.as_slice() == y.as_slice())),
+        Binary::Less => Ok(PrimitiveResult::Bool(comes_before(x.as_slice(), y.as_slice()))),
         Binary::Concat => joined(alloc, x.as_slice(), y.as_slice()),
-        _ => Ok(Answer::NoSense),
+        _ => Ok(PrimitiveResult::NoSense),
     }
 }
 
@@ -221,7 +221,7 @@ fn comes_before(first: &[u8], second: &[u8]) -> bool
     first < second
 }
 
-fn joined(alloc: Global, x: &[u8], y: &[u8]) -> Result<Answer, Memory>
+fn joined(alloc: Global, x: &[u8], y: &[u8]) -> Result<PrimitiveResult, Memory>
     ensures { IfOk result (λ a. answer_meant a ≡ concatenated (CStr x.now) (CStr y.now)) }
 {
     if y.len() > LONGEST_STRING || x.len() > LONGEST_STRING - y.len() {
@@ -229,17 +229,21 @@ fn joined(alloc: Global, x: &[u8], y: &[u8]) -> Result<Answer, Memory>
     }
     let mut text = Text::from_slice(alloc, x)?;
     text.extend(y)?;
-    Ok(Answer::Str(text))
+    Ok(PrimitiveResult::Str(text))
 }
 
-fn invalid(alloc: Global, why: &[u8]) -> Result<Answer, Memory>
+fn invalid(alloc: Global, why: &[u8]) -> Result<PrimitiveResult, Memory>
     ensures { IfOk result (λ a. answer_meant a ≡ raise_invalid_argument why.now) }
 {
-    Ok(Answer::Invalid(Text::from_slice(alloc, why)?))
+    Ok(PrimitiveResult::Invalid(Text::from_slice(alloc, why)?))
 }
 
 /// What a primitive of one argument answers.
-pub fn turned(alloc: Global, unary: Unary, constant: &Constant<'_>) -> Result<Answer, Memory>
+pub fn turned(
+    alloc: Global,
+    unary: Unary,
+    constant: &Constant<'_>,
+) -> Result<PrimitiveResult, Memory>
     ensures { IfOk result (λ a. answer_meant a ≡ of_unary unary (constant_meant constant.now)) }
 {
     match *constant {
@@ -252,43 +256,43 @@ pub fn turned(alloc: Global, unary: Unary, constant: &Constant<'_>) -> Result<An
 }
 
 #[tactic(auto, using(crate::proofs::PrimitiveLaws::operator_laws))]
-fn of_int(alloc: Global, unary: Unary, n: i64) -> Result<Answer, Memory>
+fn of_int(alloc: Global, unary: Unary, n: i64) -> Result<PrimitiveResult, Memory>
     ensures { IfOk result (λ a. answer_meant a ≡ of_unary unary (CInt n)) }
 {
     match unary {
-        Unary::Neg => Ok(Answer::Int(n.wrapping_neg())),
-        Unary::PrintInt => Ok(Answer::Print(decimal(alloc, n)?)),
-        Unary::OfInt => Ok(Answer::Str(decimal(alloc, n)?)),
-        _ => Ok(Answer::NoSense),
+        Unary::Neg => Ok(PrimitiveResult::Int(n.wrapping_neg())),
+        Unary::PrintInt => Ok(PrimitiveResult::Print(decimal(alloc, n)?)),
+        Unary::OfInt => Ok(PrimitiveResult::Str(decimal(alloc, n)?)),
+        _ => Ok(PrimitiveResult::NoSense),
     }
 }
 
-fn of_bool(unary: Unary, b: bool) -> Answer
+fn of_bool(unary: Unary, b: bool) -> PrimitiveResult
     ensures { answer_meant result ≡ of_unary unary (CBool b) }
 {
     match unary {
-        Unary::Not => Answer::Bool(!b),
-        _ => Answer::NoSense,
+        Unary::Not => PrimitiveResult::Bool(!b),
+        _ => PrimitiveResult::NoSense,
     }
 }
 
-fn of_text(alloc: Global, unary: Unary, text: &Text) -> Result<Answer, Memory>
+fn of_text(alloc: Global, unary: Unary, text: &Text) -> Result<PrimitiveResult, Memory>
     ensures { IfOk result (λ a. answer_meant a ≡ of_unary unary (CStr text.now.0)) }
 {
     match unary {
-        Unary::PrintString => Ok(Answer::Print(text.copy(alloc)?)),
-        Unary::Send => Ok(Answer::Send(text.copy(alloc)?)),
-        Unary::Length => Ok(Answer::Int(text.as_slice().len() as i64)),
-        _ => Ok(Answer::NoSense),
+        Unary::PrintString => Ok(PrimitiveResult::Print(text.copy(alloc)?)),
+        Unary::Send => Ok(PrimitiveResult::Send(text.copy(alloc)?)),
+        Unary::Length => Ok(PrimitiveResult::Int(text.as_slice().len() as i64)),
+        _ => Ok(PrimitiveResult::NoSense),
     }
 }
 
-fn of_unit(unary: Unary) -> Answer
+fn of_unit(unary: Unary) -> PrimitiveResult
     ensures { answer_meant result ≡ of_unary unary CUnit }
 {
     match unary {
-        Unary::Receive => Answer::Receive,
-        _ => Answer::NoSense,
+        Unary::Receive => PrimitiveResult::Receive,
+        _ => PrimitiveResult::NoSense,
     }
 }
 
@@ -298,17 +302,17 @@ fn of_part(
     text: &[u8],
     start: i64,
     count: i64,
-) -> Result<Answer, Memory>
+) -> Result<PrimitiveResult, Memory>
     ensures { IfOk result (λ a. answer_meant a ≡ of_unary unary (CPart text.now start count)) }
 {
     match unary {
         Unary::SubString => part(alloc, text, start, count),
-        _ => Ok(Answer::NoSense),
+        _ => Ok(PrimitiveResult::NoSense),
     }
 }
 
 // So many bytes of a string from a start on.
-fn part(alloc: Global, text: &[u8], start: i64, count: i64) -> Result<Answer, Memory>
+fn part(alloc: Global, text: &[u8], start: i64, count: i64) -> Result<PrimitiveResult, Memory>
     ensures { IfOk result (λ a. answer_meant a ≡ bytes_between text.now start count) }
 {
     if start < 0 || count < 0 {
@@ -319,7 +323,7 @@ fn part(alloc: Global, text: &[u8], start: i64, count: i64) -> Result<Answer, Me
     if count > text.len() || start > text.len() - count {
         return invalid(alloc, b"sub");
     }
-    Ok(Answer::Str(Text::from_slice(alloc, &text[start..start + count])?))
+    Ok(PrimitiveResult::Str(Text::from_slice(alloc, &text[start..start + count])?))
 }
 
 fn decimal(alloc: Global, n: i64) -> Result<Text, Memory>

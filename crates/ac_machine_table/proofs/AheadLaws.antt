@@ -9,7 +9,7 @@ use Rattle.ac_machine_engine.specs.declared.engine.Step.TheVariants.{On, Pausing
 use Rattle.ac_machine_engine.specs.declared.pause.Pause.{Pause}
 use Rattle.ac_machine_engine.specs.declared.pause.Pause.TheVariants as answers
 use Rattle.ac_machine_engine.specs.States.{Core, Ask, MState, Run, Paused, Stuck, state_given}
-use Rattle.ac_machine_engine.specs.Machine.{exec, after}
+use Rattle.ac_machine_engine.specs.Machine.{exec, after_instructions}
 use Rattle.ac_machine_engine.specs.Resumes.{Wait, Standing, At, Waits, paused_at, resumed}
 use Rattle.ac_machine_engine.specs.Held.{core}
 use Rattle.ac_machine_engine.specs.Seen.{MachineSeen, standing, ask_of}
@@ -53,8 +53,8 @@ module _ (E : Environment) (K : Code) where
       let q = asks new.store p h in
       (q.0, reaches_next E K (Run (core old)) (core now) (Paused q.0 (core new)) r (g.is ∙ ap (λ (o : Option Ask). state_given o (λ a. Paused a (core new))) q.1))
 
-  after_paused : (k : ℕ) (a : Ask) (c : Core) → after E K k (Paused a c) ≡ Paused a c
-  unfolding after
+  after_paused : (k : ℕ) (a : Ask) (c : Core) → after_instructions E K k (Paused a c) ≡ Paused a c
+  unfolding after_instructions
   after_paused zero a c = refl
   after_paused (suc k) a c = after_paused k a c
 
@@ -63,11 +63,11 @@ module _ (E : Environment) (K : Code) where
   one_pause s a b c d p q =
       let j = p.0 in let k = q.0 in
       let e : j + k ≡ k + j = omega arith in
-      sym (after_paused k a c) ∙ ap (after E K k) (sym p.1) ∙ sym (after_plus E K j k s) ∙ ap (λ n. after E K n s) e ∙ after_plus E K k j s ∙ ap (after E K j) q.1 ∙ after_paused j b d
+      sym (after_paused k a c) ∙ ap (after_instructions E K k) (sym p.1) ∙ sym (after_plus E K j k s) ∙ ap (λ n. after_instructions E K n s) e ∙ after_plus E K k j s ∙ ap (after_instructions E K j) q.1 ∙ after_paused j b d
 
   -- a machine that has stopped is at a pause
   pub pauses_here : (t : Standing) → (a : Ask) × (c : Core) × (t ≡ At (Paused a c)) → Pauses E K t
-  unfolding after
+  unfolding after_instructions
   pauses_here t h = subst (Pauses E K) (sym h.2) (0, tt)
 
   stands_alike : (t : Standing) (new : MachineSeen) (e f : Engine) (p : Pause) → t ≡ At (Run (core e)) → (a : Ask) × Reaches E K (At (Run (core e))) (Paused a (core f)) → Went E K t new p → (p ≡ answers.Memory → ⊥) →

@@ -1,7 +1,7 @@
 // Patterns by their names in the table.
 
 use ac_terms::Pat;
-use ac_types::{BareExn, Box, Many, Memory, Text, TextExn, Ty, both};
+use ac_types::{BareExn, Boxed, Many, Memory, Text, TextExn, Ty, both};
 use std::alloc::Global;
 
 fn pair(alloc: Global, a: Pat, b: Pat) -> Result<Pat, Memory> {
@@ -13,15 +13,15 @@ fn pair(alloc: Global, a: Pat, b: Pat) -> Result<Pat, Memory> {
 
 fn larger(alloc: Global, name: &str) -> Result<Pat, Memory> {
     match name {
-        "Some:1" => Box::new(alloc, Pat::Int(1)).map(Pat::Present),
-        "1::[]" => both(Box::new(alloc, Pat::Int(1)), Box::new(alloc, Pat::Nil)).map(|(
+        "Some:1" => Boxed::new(alloc, Pat::Int(1)).map(Pat::Present),
+        "1::[]" => both(Boxed::new(alloc, Pat::Int(1)), Boxed::new(alloc, Pat::Nil)).map(|(
             head,
             tail,
         )| Pat::Cons(head, tail)),
         "1;false" => pair(alloc, Pat::Int(1), Pat::Bool(false)),
         "x;y" => pair(alloc, Pat::Var(Ty::Int), Pat::Var(Ty::Int)),
         "Failure:s" => {
-            Box::new(alloc, Pat::Var(Ty::Str)).map(|text| Pat::ExnOf(TextExn::Failure, text))
+            Boxed::new(alloc, Pat::Var(Ty::Str)).map(|text| Pat::ExnOf(TextExn::Failure, text))
         }
         "\"s\"" => Text::from_slice(alloc, b"s").map(Pat::Str),
         _ => Ok(Pat::Wild),

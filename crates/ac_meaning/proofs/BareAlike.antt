@@ -17,7 +17,7 @@ use Rattle.ac_meaning.specs.Substitution.{Written}
 use Rattle.ac_meaning.specs.Matching.{fit, fit_all}
 use Rattle.ac_meaning.specs.PrimitiveSteps.{exception_value}
 use Rattle.ac_meaning.specs.References.{target, route}
-use Rattle.ac_meaning.specs.BareTerms.{Bare, WStr, WLam, WRec, BareValue, bare, bare_all, bare_arms, bare_value, bare_values}
+use Rattle.ac_meaning.specs.BareTerms.{Bare, WStr, WLam, WRec, BareValue, bare_term, bare_all, bare_arms, bare_value, bare_values}
 use Rattle.ac_meaning.specs.BareReduction as b
 use Rattle.ac_meaning.specs.BareReduction.{BareWritten}
 use Rattle.ac_meaning.proofs.Results.{Result, Fine, Raising, Spending, Wrongly, TooDeep, M, then', give, raise, follow, Got}
@@ -162,7 +162,7 @@ module _ (arrives : Arrives) (mode : Mode) where
       by (Brings F v w) q = ap (λ x. Fine x (grown F (with_crossing (Read s) z))) (sym (arrives.alike mode z c A s F v w i.0 i.1 k q))
   unmarshal_same _ c A z i k = tt
 
-  module _ (N : ℕ) (next : Expr → Home → Written → M Value) (next' : Bare → Home → BareWritten → M BareValue) (go : (t : Expr) (c : Home) (G : List Typ) (T : Typ) (us : Written) (z : World) → Here z c → WrittenTyped mode z.environment us c G → Typed mode z.environment t c G T → Good arrives mode z c T (next t c us z)) (same : (t : Expr) (c : Home) (G : List Typ) (T : Typ) (us : Written) (z : World) → Here z c → WrittenTyped mode z.environment us c G → Typed mode z.environment t c G T → Alike c (next t c us z) (next' (bare c t) c (bare_env c us) z)) where
+  module _ (N : ℕ) (next : Expr → Home → Written → M Value) (next' : Bare → Home → BareWritten → M BareValue) (go : (t : Expr) (c : Home) (G : List Typ) (T : Typ) (us : Written) (z : World) → Here z c → WrittenTyped mode z.environment us c G → Typed mode z.environment t c G T → Good arrives mode z c T (next t c us z)) (same : (t : Expr) (c : Home) (G : List Typ) (T : Typ) (us : Written) (z : World) → Here z c → WrittenTyped mode z.environment us c G → Typed mode z.environment t c G T → Alike c (next t c us z) (next' (bare_term c t) c (bare_env c us) z)) where
     abbrev apps : Home → Value → Value → M Value
     apps c v w = calling mode v N next c w
 
@@ -203,12 +203,12 @@ module _ (arrives : Arrives) (mode : Mode) where
     is_sound = sound arrives mode N next go
 
     -- a part of type U, and then what follows its value
-    and : (t : Expr) (c : Home) (G : List Typ) (U : Typ) (us : Written) (z : World) (k : Home) (f : Value → M Value) (g : BareValue → M BareValue) → Here z c → WrittenTyped mode z.environment us c G → Typed mode z.environment t c G U → Alike c (eval mode t apps c us z) (lean.eval (bare c t) bare_apps c (bare_env c us) z) →
-        ((v : Value) (y : World) → Grows z.environment y.environment → Of mode c U y.environment v → Alike k (f v y) (g (bare_value c v) y)) → Alike k (then' (eval mode t apps c us z) f raise) (then' (lean.eval (bare c t) bare_apps c (bare_env c us) z) g raise)
-    and t c G U us z k f g i e h s go = same_typed z.environment (Of mode c U) (bare_value c) (bare_value k) (eval mode t apps c us z) (lean.eval (bare c t) bare_apps c (bare_env c us) z) f g (is_sound t c G U us z i e h) s go
+    and : (t : Expr) (c : Home) (G : List Typ) (U : Typ) (us : Written) (z : World) (k : Home) (f : Value → M Value) (g : BareValue → M BareValue) → Here z c → WrittenTyped mode z.environment us c G → Typed mode z.environment t c G U → Alike c (eval mode t apps c us z) (lean.eval (bare_term c t) bare_apps c (bare_env c us) z) →
+        ((v : Value) (y : World) → Grows z.environment y.environment → Of mode c U y.environment v → Alike k (f v y) (g (bare_value c v) y)) → Alike k (then' (eval mode t apps c us z) f raise) (then' (lean.eval (bare_term c t) bare_apps c (bare_env c us) z) g raise)
+    and t c G U us z k f g i e h s go = same_typed z.environment (Of mode c U) (bare_value c) (bare_value k) (eval mode t apps c us z) (lean.eval (bare_term c t) bare_apps c (bare_env c us) z) f g (is_sound t c G U us z i e h) s go
 
     mutual
-      alike : (t : Expr) (c : Home) (G : List Typ) (T : Typ) (us : Written) (z : World) → Here z c → WrittenTyped mode z.environment us c G → Typed mode z.environment t c G T → Alike c (eval mode t apps c us z) (lean.eval (bare c t) bare_apps c (bare_env c us) z)
+      alike : (t : Expr) (c : Home) (G : List Typ) (T : Typ) (us : Written) (z : World) → Here z c → WrittenTyped mode z.environment us c G → Typed mode z.environment t c G T → Alike c (eval mode t apps c us z) (lean.eval (bare_term c t) bare_apps c (bare_env c us) z)
       alike (Int n) c G T us z i e h = refl
       alike (Boolean k) c G T us z i e h = refl
       alike (Str s) c G T us z i e h = refl
@@ -259,7 +259,7 @@ module _ (arrives : Arrives) (mode : Mode) where
           and t c G h.0 us z c _ _ i e h.1 (alike t c G h.0 us z i e h.1)
           (λ v y g p. arms_alike arms c G h.0 T us v match_failure_exn y (later arrives mode z y g c i) (written_later arrives mode z y g c i us G e) (arms_later arrives mode z y g c i arms G h.0 T h.2) p)
       alike (Try t arms) c G T us z i e h =
-          handled_same z.environment (Of mode c T) (bare_value c) (eval mode t apps c us z) (lean.eval (bare c t) bare_apps c (bare_env c us) z) _ _ (is_sound t c G T us z i e h.0) (alike t c G T us z i e h.0)
+          handled_same z.environment (Of mode c T) (bare_value c) (eval mode t apps c us z) (lean.eval (bare_term c t) bare_apps c (bare_env c us) z) _ _ (is_sound t c G T us z i e h.0) (alike t c G T us z i e h.0)
           (λ x y g. arms_alike arms c G TExn T us (exception_value x) x y (later arrives mode z y g c i) (written_later arrives mode z y g c i us G e) (arms_later arrives mode z y g c i arms G TExn T h.1) refl)
       alike (Raise A t) c G T us z i e h = and t c G TExn us z c _ _ i e h.1 (alike t c G TExn us z i e h.1) (λ v y g p. throw_same c v y)
       alike (Prim k ts) c G T us z i e h = same_seq (bare_values c) (bare_value c) (eval_all mode ts apps c us z) (lean.eval_all (bare_all c ts) bare_apps c (bare_env c us) z) _ _ (all_alike ts c G h.0 us z i e h.1) (λ ws z. primitive_same c k ws z)
@@ -274,12 +274,12 @@ module _ (arrives : Arrives) (mode : Mode) where
           and t c G TStr us z c _ _ i e h.1 (alike t c G TStr us z i e h.1) (λ v y g p. unmarshal_same v c A y (later arrives mode z y g c i) (known_later arrives mode z y g c i A h.2))
       alike (Val A v) c G T us z i e h = absurd h
       alike (Evaluated A v) c G T us z i e h = refl
-      alike (Bracket x A t) c G T us z i e h = same_after (bare_value x) (bare_value c) (eval mode t apps x [] z) (lean.eval (bare x t) bare_apps x [] z) (λ v. across mode A x c v) (alike t x [] (sees z x A) [] z (i.0, h.3) refl h.2) (λ v z. across_same mode A x c v z)
+      alike (Bracket x A t) c G T us z i e h = same_after (bare_value x) (bare_value c) (eval mode t apps x [] z) (lean.eval (bare_term x t) bare_apps x [] z) (λ v. across mode A x c v) (alike t x [] (sees z x A) [] z (i.0, h.3) refl h.2) (λ v z. across_same mode A x c v z)
 
       all_alike : (ts : Exprs) (c : Home) (G : List Typ) (Ts : Typs) (us : Written) (z : World) → Here z c → WrittenTyped mode z.environment us c G → AllTyped mode z.environment ts c G Ts → Same (bare_values c) (eval_all mode ts apps c us z) (lean.eval_all (bare_all c ts) bare_apps c (bare_env c us) z)
       all_alike no_exprs c G Ts us z i e h = refl
       all_alike (expr t ts) c G Ts us z i e h =
-          same_typed z.environment (Of mode c h.0) (bare_value c) (bare_values c) (eval mode t apps c us z) (lean.eval (bare c t) bare_apps c (bare_env c us) z) _ _ (is_sound t c G h.0 us z i e h.3) (alike t c G h.0 us z i e h.3)
+          same_typed z.environment (Of mode c h.0) (bare_value c) (bare_values c) (eval mode t apps c us z) (lean.eval (bare_term c t) bare_apps c (bare_env c us) z) _ _ (is_sound t c G h.0 us z i e h.3) (alike t c G h.0 us z i e h.3)
           (λ v y g p.
           same_seq (bare_values c) (bare_values c) (eval_all mode ts apps c us y) (lean.eval_all (bare_all c ts) bare_apps c (bare_env c us) y) _ _
           (all_alike ts c G h.1 us y (later arrives mode z y g c i) (written_later arrives mode z y g c i us G e) (terms_later arrives mode z y g c i ts G h.1 h.4)) (λ ws z. refl))
@@ -295,6 +295,6 @@ module _ (arrives : Arrives) (mode : Mode) where
       arms_alike (arm q t rest) c G A T us v x z i e h p =
           fitted_same c (fit q v us) _ _ _ _ _ z (fit_same mode z.environment q v us c A h.0 p h.1) (λ ws o. alike t c (h.0 ++ G) T ws z i (fit_typed mode z.environment q v us ws c A G h.0 o p h.1 e) h.2) (arms_alike rest c G A T us v x z i e h.3 p)
 
-  pub depth_alike : (N k : ℕ) (t : Expr) (c : Home) (G : List Typ) (T : Typ) (us : Written) (z : World) → Here z c → WrittenTyped mode z.environment us c G → Typed mode z.environment t c G T → Alike c (depth mode N k t c us z) (lean.depth N k (bare c t) c (bare_env c us) z)
+  pub depth_alike : (N k : ℕ) (t : Expr) (c : Home) (G : List Typ) (T : Typ) (us : Written) (z : World) → Here z c → WrittenTyped mode z.environment us c G → Typed mode z.environment t c G T → Alike c (depth mode N k t c us z) (lean.depth N k (bare_term c t) c (bare_env c us) z)
   depth_alike N zero = alike N full.no_more lean.no_more (λ t c G T us z i e h. tt) (λ t c G T us z i e h. tt)
   depth_alike N (suc k) = alike N (depth mode N k) (lean.depth N k) (depth_sound arrives mode N k) (depth_alike N k)

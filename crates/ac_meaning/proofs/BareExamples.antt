@@ -9,13 +9,13 @@ use Rattle.ac_terms.specs.Defs.{Environment}
 use Rattle.ac_rules.proofs.Samples.{one_entry, made}
 use Rattle.ac_meaning.specs.Worlds.{fresh}
 use Rattle.ac_meaning.specs.Acts.{State, At, Over, Returned, Spent, iter}
-use Rattle.ac_meaning.specs.BareTerms.{Bare, BareValue, bare, BVar, BApp, BOwn, WInt, WUnit, WLam}
+use Rattle.ac_meaning.specs.BareTerms.{Bare, BareValue, bare_term, BVar, BApp, BOwn, WInt, WUnit, WLam}
 use Rattle.ac_meaning.specs.BareReduction.{step}
 use Rattle.ac_meaning.proofs.Programs.{number, printed_by, has_printed, made_by, two_entries, countdown}
 use Rattle.ac_meaning.proofs.RunExamples.{receives_twice}
 
 abbrev bare_steps : ℕ → Environment → Expr → ℕ → State Bare BareValue
-bare_steps k E e N = iter (step N) k (At (bare Main e) (fresh E [] false))
+bare_steps k E e N = iter (step N) k (At (bare_term Main e) (fresh E [] false))
 
 pub counts_alike : bare_steps 60 [] (countdown 3) 3 ≡ Over (Returned WUnit (printed_by (codes "a" ∷ codes "0" ∷ []) 3))
 unfolding int_wrap digits

@@ -21,7 +21,7 @@ use Rattle.ac_rules.specs.Links.{by_version, MayLink, Link_fault, fault_at, cond
 use Rattle.ac_rules.specs.Typing.{fields_of, value_in}
 use Rattle.ac_rules.specs.Modules.{inside_struct, covers_type, field_named, covers_val, uncovered, mine, all_mine}
 use Rattle.ac_rules.specs.Coherent.{IsCoherent, link_at}
-use Rattle.ac_version.specs.Versions.{fit}
+use Rattle.ac_version.specs.Versions.{atoms_fit}
 use Rattle.ac_rules.proofs.Rules.{map_some, then_some, has_some, agree_some, module_is, none_of, map_none}
 use Rattle.ac_rules.proofs.EarlierLaws.{position-first, position-later, known_earlier, found_keeps, no_first, names_some}
 use Rattle.ac_rules.proofs.PartLaws.{AllPass, pass_left, pass_right, pass_under}
@@ -119,7 +119,7 @@ version_passes : (k : Module) (m : Import) (rs : List Range) (star : Bool) → f
 version_passes k m rs star r =
     let likes = option_map Link_fault.Like (unlike k m) in
     let specs = option_map Link_fault.Spec (missing_spec false k.sig m.sig) in
-    let versions = fails (fit rs star k.version) Link_fault.Version in
+    let versions = fails (atoms_fit rs star k.version) Link_fault.Version in
     let names = fails (same_bytes k.name m.name) Link_fault.External in
     let a : first_some (versions ∷ specs ∷ likes ∷ []) ≡ None = or_none names (first_some (versions ∷ specs ∷ likes ∷ [])) r in
     let b : first_some (specs ∷ likes ∷ []) ≡ None = or_none versions (first_some (specs ∷ likes ∷ [])) a in

@@ -6,7 +6,7 @@ use Rattle.ac_terms.specs.Defs.{Environment}
 use Rattle.ac_rules.specs.Views.{Mode, head}
 use Rattle.ac_rules.specs.Typing.{tuple_parts, list_item, option_item}
 use Rattle.ac_rules.specs.Plain.{where_there, in_front, travelling, packed, all_packed, packed_term, packed_terms, packed_arms}
-use Rattle.ac_meaning.specs.BareTerms.{bare, bare_all, bare_arms, bare_value, bare_values}
+use Rattle.ac_meaning.specs.BareTerms.{bare_term, bare_all, bare_arms, bare_value, bare_values}
 use Rattle.ac_meaning.specs.BarePacking.{bare_packed, bare_all_packed, bare_packed_term, bare_packed_terms, bare_packed_arms}
 use Rattle.ac_meaning.specs.Typed.{Typed, AllTyped, ArmsTyped, ValueTyped, ValuesTyped}
 use Rattle.ac_meaning.proofs.Inst.{ap₃}
@@ -42,7 +42,7 @@ module _ (mode : Mode) (E : Environment) where
     all_packed_alike (value v vs) c Xs no_types w = refl
     all_packed_alike (value v vs) c Xs (typ T Ts) w = ap₂ pvalue (packed_alike v c w.0 T w.3) (all_packed_alike vs c w.1 Ts w.4)
 
-    term_alike : (e : Expr) (c : Home) (G : List Typ) (X : Typ) → Typed mode E e c G X → bare_packed_term E (bare c e) ≡ packed_term E c e
+    term_alike : (e : Expr) (c : Home) (G : List Typ) (X : Typ) → Typed mode E e c G X → bare_packed_term E (bare_term c e) ≡ packed_term E c e
     term_alike (Int n) c G X w = refl
     term_alike (Boolean b) c G X w = refl
     term_alike (Str s) c G X w = refl

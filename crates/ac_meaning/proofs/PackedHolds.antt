@@ -25,7 +25,7 @@ use Rattle.ac_rules.proofs.KnownTypes.{head_known}
 use Rattle.ac_rules.proofs.Carried.{IsStill, AreStill, StillArms, HasStill, AllHaveStill}
 use Rattle.ac_rules.proofs.Trust.{IsOf, trusted}
 use Rattle.ac_rules.proofs.HeadViews.{head_seen}
-use Rattle.ac_meaning.specs.BareTerms.{bare, bare_all, bare_arms, WTuple, WPresent, bare_value, bare_values}
+use Rattle.ac_meaning.specs.BareTerms.{bare_term, bare_all, bare_arms, WTuple, WPresent, bare_value, bare_values}
 use Rattle.ac_rules.proofs.Rules.{agree_some}
 use Rattle.ac_meaning.specs.BarePacking.{bare_packed as packed, bare_all_packed as all_packed, bare_packed_term as packed_term, bare_packed_terms as packed_terms, bare_packed_arms as packed_arms}
 use Rattle.ac_meaning.proofs.Homes.{all_seen}
@@ -189,8 +189,8 @@ module _ (mode : Mode) (E : Environment) (coherent : IsCoherent E) where
         let known = known_option T r.0 e k in
         let g = good v c t.0 r.0 known t.2 (seen_of v c t.0 r.0 (record { from = r.0; known = known; seen = sym r.2; to = refl })) (subst (λ x. fits_value x ≡ true) is w) in
         subst (λ x. Good x T) (sym is) (g.0, ap (λ H. option_map_or (λ U. holds Coloured false E (packed E (bare_value c v) r.0) U) (option_item H) false) e ∙ g.1)
-    good (VLam A e) c X T k t s w = good_function c (Lam A (packed_term E (bare c e))) T (λ f. still e c _ t.0 t.2 (both_true _ _ f).1) w
-    good (VRec A B e) c X T k t s w = good_function c (Rec A B (packed_term E (bare c e))) T (λ f. still e c _ _ t.1 (both_true _ _ f).1) w
+    good (VLam A e) c X T k t s w = good_function c (Lam A (packed_term E (bare_term c e))) T (λ f. still e c _ t.0 t.2 (both_true _ _ f).1) w
+    good (VRec A B e) c X T k t s w = good_function c (Rec A B (packed_term E (bare_term c e))) T (λ f. still e c _ _ t.1 (both_true _ _ f).1) w
     good (VProxy b A B f) c X T k t s w = good f b _ T k t.3 (seen_fun f b _ _ T t.3) w
     good (VSeal b n u v) c X T k t s w =
         good v b (view mode E b (TAbs n u)) T k t.4
@@ -210,7 +210,7 @@ module _ (mode : Mode) (E : Environment) (coherent : IsCoherent E) where
         ((g.0, h.0), and_true {a = holds Coloured false E (packed E (bare_value c v) T) T} {b = all_hold Coloured false E (all_packed E (bare_values c vs) Ts) Ts} g.1 h.1)
 
     -- each captured value in a term is of the type beside it
-    still : (e : Expr) (c : Home) (G : List Typ) (X : Typ) → Typed mode E e c G X → fits_term true (packed_term E (bare c e)) ≡ true → IsStill (IsOf E) (packed_term E (bare c e))
+    still : (e : Expr) (c : Home) (G : List Typ) (X : Typ) → Typed mode E e c G X → fits_term true (packed_term E (bare_term c e)) ≡ true → IsStill (IsOf E) (packed_term E (bare_term c e))
     still (Int n) c G X t w = tt
     still (Boolean b) c G X t w = tt
     still (Str s) c G X t w = tt

@@ -26,7 +26,7 @@ use Rattle.ac_meaning.specs.Acts.{Act, Turns, Raises, At, Over, Returned, iter}
 use Rattle.ac_rules.specs.Plain.{packed}
 use Rattle.ac_meaning.specs.Packing.{packing, landing, marshal_step, bare_marshal_step, unmarshal_step, marshal_failure_exn, unmarshal_failure_exn, raising}
 use Rattle.ac_meaning.specs.Reduction.{step}
-use Rattle.ac_meaning.specs.BareTerms.{WUnit, bare, bare_value}
+use Rattle.ac_meaning.specs.BareTerms.{WUnit, bare_term, bare_value}
 use Rattle.ac_meaning.specs.BareReduction as lean
 use Rattle.ac_meaning.proofs.Programs.{has_printed, number, plus, print_int}
 use Rattle.ac_types.specs.Sigs.{MyName}
@@ -58,7 +58,7 @@ pub five_is_sent_plain : iter (step Plain 0) 4 (At send_five five_world) ≡ Ove
 unfolding packing
 five_is_sent_plain = refl
 
-pub five_is_sent_bare : iter (lean.step 0) 4 (At (bare Main send_five) five_world) ≡ Over (Returned WUnit (record five_world { writes = Send five_bytes ∷ []; crossings = Made five_bytes ∷ []; before_writes = done_by (record five_world { crossings = Made five_bytes ∷ [] }) ∷ [] }))
+pub five_is_sent_bare : iter (lean.step 0) 4 (At (bare_term Main send_five) five_world) ≡ Over (Returned WUnit (record five_world { writes = Send five_bytes ∷ []; crossings = Made five_bytes ∷ []; before_writes = done_by (record five_world { crossings = Made five_bytes ∷ [] }) ∷ [] }))
 unfolding packing
 five_is_sent_bare = refl
 
@@ -73,7 +73,7 @@ pub eight_is_printed : iter (step Coloured 0) 9 (At add_received in_a_frame) ≡
 unfolding int_wrap digits is_reserved landing
 eight_is_printed = refl
 
-pub eight_is_printed_bare : iter (lean.step 0) 9 (At (bare Main add_received) in_a_frame) ≡ Over (Returned WUnit (record (fresh [] [] false) { writes = Print (codes "8") ∷ []; crossings = Read five_bytes ∷ []; before_writes = record (has_printed []) { crossings = Read five_bytes ∷ [] } ∷ []; receives = has_printed [] ∷ [] }))
+pub eight_is_printed_bare : iter (lean.step 0) 9 (At (bare_term Main add_received) in_a_frame) ≡ Over (Returned WUnit (record (fresh [] [] false) { writes = Print (codes "8") ∷ []; crossings = Read five_bytes ∷ []; before_writes = record (has_printed []) { crossings = Read five_bytes ∷ [] } ∷ []; receives = has_printed [] ∷ [] }))
 unfolding int_wrap digits is_reserved landing
 eight_is_printed_bare = refl
 

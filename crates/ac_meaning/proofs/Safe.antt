@@ -8,7 +8,7 @@ use Rattle.ac_terms.specs.Terms.{Home, Value, VInt, VBool, VStr, VUnit, VTuple, 
 use Rattle.ac_terms.specs.Defs.{Environment}
 use Rattle.ac_terms.specs.PrimitiveTypes.{Rule, arithmetic, comparison, by_rules, primitives, primitive_type}
 use Rattle.ac_types.specs.Limits.{longest_string}
-use Rattle.ac_code.specs.Constants.{Const, CInt, CBool, CStr, CUnit, CPart, PrimitiveAnswer, Yields, Prints, Sends, Receives, Fails, NoSense, Meaning, meaning, primitive_answer, sum, difference, product, quotient, remainder, negation, equal, less, concatenated, opposite, printed_int, printed_string, sent_string, received_string, size, part_of_string, int_as_string, bytes_between, meanings, same_int, raise_division_by_zero, raise_invalid_argument}
+use Rattle.ac_code.specs.Constants.{Const, CInt, CBool, CStr, CUnit, CPart, PrimitiveAnswer, Yields, Prints, Sends, Receives, Fails, NoSense, Meaning, meaning, primitive_answer, sum, difference, product, quotient, remainder, negation, equal, less, concatenated, opposite, printed_int, printed_string, sent_string, received_string, length_answer, part_of_string, int_as_string, bytes_between, meanings, same_int, raise_division_by_zero, raise_invalid_argument}
 use Rattle.ac_rules.specs.Views.{Mode}
 use Rattle.ac_rules.specs.Coherent.{IsCoherent}
 use Rattle.ac_rules.proofs.Rules.{then_some}
@@ -210,7 +210,7 @@ each_answers =
                                 (a_unit, tt),
                                 (
                                   (one, tt),
-                                  (a_str size TInt (λ x. refl), tt),
+                                  (a_str length_answer TInt (λ x. refl), tt),
                                   (
                                     ((refl, tt), tt),
                                     (a_part, tt),

@@ -8,7 +8,7 @@ use native.Mathlib.Omega.{arith}
 use Rattle.ac_types.specs.Partial.{given, has}
 use Rattle.ac_types.proofs.FirstLaws.{none≢some, some_eq, given_some}
 use Rattle.ac_types.proofs.Same.{both_true, and_true}
-use Rattle.ac_types.specs.Types.{Typ, TInt, TBool, TStr, TUnit, TExn, TTuple, TList, TOpt, TFun, Typs, no_types, typ, same, same_all, parts, parts_of_all, height, height_of_all, is_small}
+use Rattle.ac_types.specs.Types.{Typ, TInt, TBool, TStr, TUnit, TExn, TTuple, TList, TOpt, TFun, Typs, no_types, typ, same, same_all, node_count, parts_of_all, height, height_of_all, is_small}
 use Rattle.ac_terms.specs.Terms.{Home, Pattern, PWild, PVar, PInt, PBool, PStr, PUnit, PTuple, PNil, PCons, PAbsent, PPresent, PExn, PExnOf, Patterns, no_patterns, pattern', Expr, Int, Boolean, Str, Unit', Exn, ExnOf, Tuple, Nil, Empty, Present, Cons, Var, Own, Ref, Lam, Rec, App, Let, If, Seq, Match, Try, Raise, Prim, Marshal, Unmarshal, Val, Evaluated, Bracket, Exprs, no_exprs, expr, Arms, no_arms, arm}
 use Rattle.ac_terms.specs.Defs.{Environment}
 use Rattle.ac_terms.specs.PrimitiveTypes.{Rule, by_rules, primitives, primitive_type}
@@ -27,7 +27,7 @@ AllSmall no_types = Unit {0}
 AllSmall (typ T Ts) = (is_small T ≡ true) × AllSmall Ts
 
 record Bounded (T : Typ) : Type 0 where
-  few : parts T ≤ 4096
+  few : node_count T ≤ 4096
   low : height T ≤ 100
 
 at_most : (n m : ℕ) → nat_le n m ≡ true → n ≤ m
@@ -37,10 +37,10 @@ is_at_most : (n m : ℕ) → n ≤ m → nat_le n m ≡ true
 is_at_most n m h = grind (arith, nat_tests)
 
 bounded : (T : Typ) → is_small T ≡ true → Bounded T
-bounded T h = let p = both_true (nat_le (parts T) 4096) (nat_le (height T) 100) h in record { few = at_most (parts T) 4096 p.0; low = at_most (height T) 100 p.1 }
+bounded T h = let p = both_true (nat_le (node_count T) 4096) (nat_le (height T) 100) h in record { few = at_most (node_count T) 4096 p.0; low = at_most (height T) 100 p.1 }
 
-small : (T : Typ) → parts T ≤ 4096 → height T ≤ 100 → is_small T ≡ true
-small T p q = and_true {a = nat_le (parts T) 4096} {b = nat_le (height T) 100} (is_at_most (parts T) 4096 p) (is_at_most (height T) 100 q)
+small : (T : Typ) → node_count T ≤ 4096 → height T ≤ 100 → is_small T ≡ true
+small T p q = and_true {a = nat_le (node_count T) 4096} {b = nat_le (height T) 100} (is_at_most (node_count T) 4096 p) (is_at_most (height T) 100 q)
 
 pub small_argument : (A B : Typ) → is_small (TFun A B) ≡ true → is_small A ≡ true
 small_argument A B h = let b = bounded (TFun A B) h in let f = b.few in let l = b.low in small A (omega (arith, f)) (omega (arith, l))

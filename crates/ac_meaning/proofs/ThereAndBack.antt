@@ -8,7 +8,7 @@ use Rattle.ac_rules.specs.Views.{Mode, Plain, Coloured}
 use Rattle.ac_meaning.specs.Worlds.{fresh, Made, Read, World, with_crossing}
 use Rattle.ac_meaning.specs.Acts.{Returned, Raised, At, Over, iter}
 use Rattle.ac_meaning.specs.Reduction.{step}
-use Rattle.ac_meaning.specs.BareTerms.{bare, WInt}
+use Rattle.ac_meaning.specs.BareTerms.{bare_term, WInt}
 use Rattle.ac_meaning.specs.BareReduction as b
 use Rattle.ac_meaning.specs.ReadBack.{Marshals}
 use Rattle.ac_meaning.specs.Packing.{Packing, CannotPack, Packs, packing, landing, unmarshal_failure_exn}
@@ -42,7 +42,7 @@ there_and_back : (mode : Mode) → iter (step mode 0) 3 (At seven (fresh marked 
 unfolding packing landing seven_sent
 there_and_back mode = refl
 
-bare_there_and_back : iter (b.step 0) 3 (At (bare Main seven) (fresh marked [] false)) ≡ Over (Returned (WInt (pos 7)) (crossed seven_sent))
+bare_there_and_back : iter (b.step 0) 3 (At (bare_term Main seven) (fresh marked [] false)) ≡ Over (Returned (WInt (pos 7)) (crossed seven_sent))
 unfolding packing landing seven_sent
 bare_there_and_back = refl
 

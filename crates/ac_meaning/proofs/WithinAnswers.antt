@@ -15,7 +15,7 @@ use Rattle.ac_terms.specs.Terms.{Value, VInt, VBool, VStr, VUnit, VTuple, Values
 use Rattle.ac_terms.specs.PrimitiveTypes.{is_exception}
 use Rattle.ac_terms.specs.Bounds.{is_string, is_integer}
 use Rattle.ac_types.specs.Limits.{longest_string, longest_frame}
-use Rattle.ac_code.specs.Constants.{Const, CInt, CBool, CStr, CUnit, CPart, PrimitiveAnswer, Yields, Prints, Sends, Receives, Fails, NoSense, Meaning, One, Two, meanings, meaning, primitive_answer, sum, difference, product, quotient, remainder, negation, equal, less, concatenated, opposite, printed_int, printed_string, sent_string, received_string, size, part_of_string, int_as_string, bytes_between, same_int, raise_invalid_argument, raise_division_by_zero}
+use Rattle.ac_code.specs.Constants.{Const, CInt, CBool, CStr, CUnit, CPart, PrimitiveAnswer, Yields, Prints, Sends, Receives, Fails, NoSense, Meaning, One, Two, meanings, meaning, primitive_answer, sum, difference, product, quotient, remainder, negation, equal, less, concatenated, opposite, printed_int, printed_string, sent_string, received_string, length_answer, part_of_string, int_as_string, bytes_between, same_int, raise_invalid_argument, raise_division_by_zero}
 use Rattle.ac_meaning.specs.Writes.{Print, Send}
 use Rattle.ac_meaning.specs.Worlds.{Exception, World, end_of_file_exn, bad_frame}
 use Rattle.ac_outside.specs.Frames.{Frame, Whole, Bad, AtEnd, next_frame}
@@ -162,7 +162,7 @@ receive_within : MeaningWithin (One received_string)
 receive_within CUnit h = tt
 receive_within _ h = tt
 
-size_within : MeaningWithin (One size)
+size_within : MeaningWithin (One length_answer)
 size_within (CStr s) h = is_below (length s) (2 ^ 63) (let l = at_most (length s) longest_string h in omega (arith, l))
 size_within _ h = tt
 

@@ -22,7 +22,7 @@ use Rattle.ac_rules.specs.Plain.{stays, where_there, in_front, may_travel, trave
 use Rattle.ac_rules.specs.Coherent.{IsCoherent}
 use Rattle.ac_rules.proofs.Rules.{map_some, then_some, some_there}
 use Rattle.ac_rules.proofs.ViewLaws.{within}
-use Rattle.ac_meaning.specs.BareTerms.{bare, bare_all, bare_arms, bare_value, bare_values}
+use Rattle.ac_meaning.specs.BareTerms.{bare_term, bare_all, bare_arms, bare_value, bare_values}
 use Rattle.ac_meaning.specs.BarePacking.{bare_packed as packed, bare_all_packed as all_packed, bare_packed_term as packed_term, bare_packed_terms as packed_terms, bare_packed_arms as packed_arms}
 use Rattle.ac_meaning.proofs.Within.{Within, AllWithin, ArmsWithin, ValueWithin, ValuesWithin, width}
 
@@ -182,10 +182,10 @@ module _ (E : Environment) (coherent : IsCoherent E) where
   three a b c h k l = and_true {a = a && b} {b = c} (and_true {a = a} {b = b} h k) l
 
   abbrev p! : Home → Expr → Expr
-  p! c e = packed_term E (bare c e)
+  p! c e = packed_term E (bare_term c e)
 
   abbrev hs! : ℕ → Home → Expr → List Head
-  hs! d c e = term_heads two_written d (packed_term E (bare c e))
+  hs! d c e = term_heads two_written d (packed_term E (bare_term c e))
 
   mutual
     value_where : (v : Value) (c : Home) (T : Typ) (d : ℕ) → ValueWithin v → FitsWhere d (packed E (bare_value c v) T)

@@ -10,7 +10,7 @@ use Rattle.ac_terms.specs.Parts.{Portion, OfType, OfRef, OfHome, Captured, patte
 use Rattle.ac_rules.specs.Views.{head}
 use Rattle.ac_rules.specs.Typing.{tuple_parts, list_item, option_item}
 use Rattle.ac_rules.specs.Plain.{stays, where_there, in_front, may_travel, travelling}
-use Rattle.ac_meaning.specs.BareTerms.{bare, bare_all, bare_arms, bare_value, bare_values}
+use Rattle.ac_meaning.specs.BareTerms.{bare_term, bare_all, bare_arms, bare_value, bare_values}
 use Rattle.ac_meaning.specs.BarePacking.{bare_packed as packed, bare_all_packed as all_packed, bare_packed_term as packed_term, bare_packed_terms as packed_terms, bare_packed_arms as packed_arms}
 use Rattle.ac_meaning.proofs.Within.{Within, AllWithin, ArmsWithin, ValueWithin, ValuesWithin}
 
@@ -56,7 +56,7 @@ module _ (E : Environment) where
       by false = refl
 
   abbrev p! : Home → Expr → Expr
-  p! c e = packed_term E (bare c e)
+  p! c e = packed_term E (bare_term c e)
 
   mutual
     pub packed_small : (v : Value) (c : Home) (T : Typ) → ValueWithin v → Small (value_parts (packed E (bare_value c v) T))

@@ -9,7 +9,7 @@ use native.Mathlib.Omega.{arith}
 use Rattle.ac_types.specs.Partial.{given, has}
 use Rattle.ac_types.proofs.FirstLaws.{none≢some, some_eq, given_some}
 use Rattle.ac_types.proofs.Same.{both_true, and_true}
-use Rattle.ac_types.specs.Types.{Bytes, Typ, TInt, TBool, TStr, TUnit, TExn, TTuple, TList, TOpt, TFun, TAbs, TMine, Typs, no_types, typ, with_each, all_with_each, parts, parts_of_all, height, height_of_all, is_small}
+use Rattle.ac_types.specs.Types.{Bytes, Typ, TInt, TBool, TStr, TUnit, TExn, TTuple, TList, TOpt, TFun, TAbs, TMine, Typs, no_types, typ, with_each, all_with_each, node_count, parts_of_all, height, height_of_all, is_small}
 use Rattle.ac_terms.specs.Terms.{Home, Expr, Int, Boolean, Str, Unit', Exn, ExnOf, Tuple, Nil, Empty, Present, Cons, Var, Own, Ref, Lam, Rec, App, Let, If, Seq, Match, Try, Raise, Prim, Marshal, Unmarshal, Val, Evaluated, Bracket, Exprs, no_exprs, expr, Arms, no_arms, arm, PValue, KInt, KBool, KStr, KUnit, KExn, KTuple, KList, KAbsent, KPresent, KFun, PValues, no_pvalues, pvalue, Value, VInt, VBool, VStr, VUnit, VExn, VTuple, VAbsent, VPresent, VLam, VRec, VProxy}
 use Rattle.ac_terms.specs.Defs.{Environment}
 use Rattle.ac_terms.specs.PrimitiveTypes.{primitives}
@@ -44,7 +44,7 @@ one_small T ps h = both_true (is_small T) (has_small_types ps) h
 
 -- a type isn't larger than what a home sees of it
 mutual
-  some_parts : (T : Typ) → 1 ≤ parts T
+  some_parts : (T : Typ) → 1 ≤ node_count T
   some_parts (TTuple Ts) = omega arith
   some_parts (TList T) = omega arith
   some_parts (TOpt T) = omega arith
@@ -60,7 +60,7 @@ mutual
 
 module _ (f : Bytes → Bytes → Typ) where
   mutual
-    parts_seen : (T : Typ) → parts T ≤ parts (with_each f T)
+    parts_seen : (T : Typ) → node_count T ≤ node_count (with_each f T)
     parts_seen (TTuple Ts) = let a = all_parts_seen Ts in omega (arith, a)
     parts_seen (TList T) = let a = parts_seen T in omega (arith, a)
     parts_seen (TOpt T) = let a = parts_seen T in omega (arith, a)
@@ -90,8 +90,8 @@ module _ (f : Bytes → Bytes → Typ) where
 
   pub small_seen : (T : Typ) → is_small (with_each f T) ≡ true → is_small T ≡ true
   small_seen T h =
-      let p = both_true (nat_le (parts (with_each f T)) 4096) (nat_le (height (with_each f T)) 100) h in
-      and_true {a = nat_le (parts T) 4096} {b = nat_le (height T) 100} (le_both (parts T) (parts (with_each f T)) 4096 (parts_seen T) p.0) (le_both (height T) (height (with_each f T)) 100 (height_seen T) p.1)
+      let p = both_true (nat_le (node_count (with_each f T)) 4096) (nat_le (height (with_each f T)) 100) h in
+      and_true {a = nat_le (node_count T) 4096} {b = nat_le (height T) 100} (le_both (node_count T) (node_count (with_each f T)) 4096 (parts_seen T) p.0) (le_both (height T) (height (with_each f T)) 100 (height_seen T) p.1)
 
 pub kept_small : (o : Option Typ) (T : Typ) → kept_in Coloured o ≡ Some T → is_small T ≡ true
 kept_small None T h = absurd (none≢some h)

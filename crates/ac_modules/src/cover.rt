@@ -9,7 +9,7 @@ ghost use Rattle.ac_terms.specs.Read.{module_of_code};
 ghost use Rattle.ac_rules.specs.Modules.{inside_struct, covers_type, covers_val, uncovered};
 ghost use Rattle.ac_modules.specs.inner.Asked.{all_inside};
 
-use crate::lookups::field_type;
+use crate::lookups::field_named;
 use ac_terms::Module;
 use ac_types::{SigType, Ty, TyField, same_types, type_named};
 
@@ -61,7 +61,7 @@ fn covers_type(m: &Module, x: &SigType) -> bool
 fn covers_val(m: &Module, x: &TyField) -> bool
     ensures { result ≡ covers_val (module_of_code m.now) (typed_of x.now) }
 {
-    match field_type(m.fields.as_slice(), &x.name) {
+    match field_named(m.fields.as_slice(), &x.name) {
         None => false,
         Some(found) => is_inside(found, &x.ty, m),
     }

@@ -10,7 +10,7 @@ use ac_terms::Field;
 use ac_types::{Ty, Word};
 
 /// The type that the field of that name writes.
-pub fn field_type<'a>(fields: &'a [Field], name: &Word) -> Option<&'a Ty>
+pub fn field_named<'a>(fields: &'a [Field], name: &Word) -> Option<&'a Ty>
     ensures { option_map typ_of (option_copied result) ≡ field_named name.now
         (map field_of fields.now) }
 {

@@ -6,24 +6,24 @@ use std::os::unix::fs::MetadataExt;
 
 /// A regular file of the system, whatever names lead to it.
 #[derive(Clone, Copy, PartialEq, Eq)]
-pub struct Node {
+pub struct FileId {
     device: u64,
     number: u64,
 }
 
-impl Node {
+impl FileId {
     /// The regular file that the system tells of, if it is one.
-    pub fn of(told: &Metadata) -> Option<Node> {
-        told.is_file().then_some(Node {
+    pub fn of(told: &Metadata) -> Option<FileId> {
+        told.is_file().then_some(FileId {
             device: told.dev(),
             number: told.ino(),
         })
     }
 
     /// The regular file that a name leads to, if it leads to one.
-    pub fn at<R: Files>(rt: &R, name: &str) -> Option<Node> {
+    pub fn at<R: Files>(rt: &R, name: &str) -> Option<FileId> {
         match fs::metadata(rt, name) {
-            Ok(told) => Node::of(&told),
+            Ok(told) => FileId::of(&told),
             Err(_) => None,
         }
     }

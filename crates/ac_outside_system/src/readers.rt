@@ -2,7 +2,7 @@
 ghost use Rattle.std.specs.Prelude.{◌<◌, ◌≤◌, IfOk, IfSome, length, vec_len};
 
 use crate::ahead::{Ahead, PIECE};
-use crate::node::Node;
+use crate::node::FileId;
 use std::alloc::{AllocError, Global};
 use std::fs::{File, Files};
 use std::io::{Read, Seek, SeekFrom};
@@ -14,7 +14,7 @@ struct Reader {
     // Where its name begins and ends among the names of all.
     name: (usize, usize),
     file: File,
-    node: Option<Node>,
+    node: Option<FileId>,
     place: u64,
 }
 
@@ -87,9 +87,9 @@ impl<'a> Readers<'a> {
     }
 
     /// Whether a file is one of those that are read, or the one that may be later.
-    pub fn has<R: Files>(&self, rt: &R, node: Node) -> bool {
+    pub fn has<R: Files>(&self, rt: &R, node: FileId) -> bool {
         if let Some(name) = self.later
-            && Node::at(rt, name) == Some(node)
+            && FileId::at(rt, name) == Some(node)
         {
             return true;
         }
@@ -101,7 +101,7 @@ impl<'a> Readers<'a> {
         ensures { IfOk result (λ at. at < vec_len self.new.all) }
     {
         let file = fs::open(rt, name)?;
-        let node = Node::of(&file.metadata()?);
+        let node = FileId::of(&file.metadata()?);
         let start = self.names.len();
         self.names.extend_from_slice(name.as_bytes())?;
         let at = self.all.len();

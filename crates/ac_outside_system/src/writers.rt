@@ -1,7 +1,7 @@
 // The files of the system that are written.
 ghost use Rattle.std.specs.Prelude.{◌<◌, IfOk, IfSome, length, vec_len};
 
-use crate::node::Node;
+use crate::node::FileId;
 use crate::readers::Readers;
 use std::alloc::Global;
 use std::fs::{File, Files, Metadata, OpenOptions};
@@ -135,7 +135,7 @@ fn opened<R: Files<File = File>>(
 
 // Fails where the system tells of a file that is read.
 fn refuse_read<R: Files>(rt: &R, told: &Metadata, readers: &Readers<'_>) -> io::Result<()> {
-    match Node::of(told) {
+    match FileId::of(told) {
         Some(node) if readers.has(rt, node) => Err(io::Error::from(ErrorKind::ResourceBusy)),
         Some(_) | None => Ok(()),
     }

@@ -10,13 +10,13 @@ use Rattle.ac_syntax.specs.Openers.{IsDeep}
 use Rattle.ac_syntax.specs.Trees.{ProgramTree}
 use Rattle.ac_syntax.specs.declared.fault.ParseFault.{ParseFault}
 use Rattle.ac_syntax.specs.declared.fault.ParseFault.TheVariants as fault
-use Rattle.ac_syntax.specs.declared.stop.Stop.{Stop}
-use Rattle.ac_syntax.specs.declared.stop.Stop.TheVariants as stop
+use Rattle.ac_syntax.specs.declared.stop.ParseError.{ParseError}
+use Rattle.ac_syntax.specs.declared.stop.ParseError.TheVariants as stop
 use Rattle.ac_syntax.specs.PartParsing.{OnSyntax}
 use Rattle.ac_parser.specs.inner.ProgramParsing.{NoProgramTree}
 use Rattle.ac_syntax.specs.Texts.{IsRead, IsPlace, UnreadText, too_long, lexical, too_deep, unread, syntax, IsUnread, IsTextFault, FaultAt, memory, at_place}
 
-pub fault_of : (G : List Sign → ProgramTree → Type 0) (text : Bytes) (tokens : List Token) (s : Stop) (e : ParseFault) → IsRead text tokens → FaultAt tokens (length text) s e → OnSyntax s (NoProgramTree G (signs tokens)) → IsTextFault G text e
+pub fault_of : (G : List Sign → ProgramTree → Type 0) (text : Bytes) (tokens : List Token) (s : ParseError) (e : ParseFault) → IsRead text tokens → FaultAt tokens (length text) s e → OnSyntax s (NoProgramTree G (signs tokens)) → IsTextFault G text e
 fault_of G text tokens s e read memory none = read.short
 fault_of G text tokens s e read (at_place here) none = syntax read none here
 
@@ -36,8 +36,8 @@ unlexed_text text at is = lexical is.0 is.1
 pub deep_text : (text : Bytes) (tokens : List Token) (at : ℕ) → length text ≤ longest_text → Tokens text tokens → IsDeep (signs tokens) at → UnreadText text (fault.TooDeep at)
 deep_text text tokens at short lexes deep = too_deep short lexes deep
 
-pub memory_fault : (tokens : List Token) (end : ℕ) (s : Stop) → s ≡ stop.Memory → FaultAt tokens end s fault.Memory
-memory_fault tokens end s is = subst (λ (x : Stop). FaultAt tokens end x fault.Memory) (sym is) memory
+pub memory_fault : (tokens : List Token) (end : ℕ) (s : ParseError) → s ≡ stop.Memory → FaultAt tokens end s fault.Memory
+memory_fault tokens end s is = subst (λ (x : ParseError). FaultAt tokens end x fault.Memory) (sym is) memory
 
-pub syntax_fault : (tokens : List Token) (end left at : ℕ) (s : Stop) → s ≡ stop.Syntax left → IsPlace tokens end at → FaultAt tokens end s (fault.Syntax at)
-syntax_fault tokens end left at s is here = subst (λ (x : Stop). FaultAt tokens end x (fault.Syntax at)) (sym is) (at_place here)
+pub syntax_fault : (tokens : List Token) (end left at : ℕ) (s : ParseError) → s ≡ stop.Syntax left → IsPlace tokens end at → FaultAt tokens end s (fault.Syntax at)
+syntax_fault tokens end left at s is here = subst (λ (x : ParseError). FaultAt tokens end x (fault.Syntax at)) (sym is) (at_place here)

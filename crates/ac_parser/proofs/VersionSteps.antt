@@ -13,7 +13,7 @@ use Rattle.ac_syntax.specs.declared.sign.Sign as code
 use Rattle.ac_syntax.specs.ReadSigns.{read_sign, read_signs}
 use Rattle.ac_syntax.specs.Programs.{vtoken_of, VTokens, no_vtokens, vtoken_, ParsesVersion, no_version, version}
 use Rattle.ac_syntax.specs.PartParsing.{SymbolAt, NoSymbol}
-use Rattle.ac_syntax.specs.declared.stop.Stop.TheVariants as stop
+use Rattle.ac_syntax.specs.declared.stop.ParseError.TheVariants as stop
 use Rattle.ac_syntax.specs.declared.sign.Symbol.TheVariants.{Equals, Version}
 use Rattle.ac_syntax.proofs.Exceptions.{nothing_there, same_value}
 use Rattle.ac_syntax.proofs.UniqueTypes.{tail_eq}

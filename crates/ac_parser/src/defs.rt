@@ -8,7 +8,7 @@ ghost use Rattle.ac_parser.specs.inner.ProgramParsing.{NoComma, ReadsBehind, Rea
 use crate::front::next_text;
 use crate::imports::import;
 use crate::modules::module;
-use ac_syntax::{SDef, SDefKind, Sign, Stop, Symbol, after, here, refused_at};
+use ac_syntax::{ParseError, SDef, SDefKind, Sign, Symbol, after, here, refused_at};
 use std::alloc::Global;
 
 // The mark behind the `mark` that stands at this place.
@@ -16,7 +16,7 @@ fn mark<'s, 't>(
     alloc: Global,
     at: u32,
     signs: &'s [Sign<'t>],
-) -> Result<(SDef, &'s [Sign<'t>]), Stop>
+) -> Result<(SDef, &'s [Sign<'t>]), ParseError>
     ensures { ReadsBehind (Fixed at Symbol.Mark) ParsesDef NoComma def_tree_of signs.now result }
 {
     let Some((text_at, text, rest)) = next_text(alloc, signs)? else {
@@ -31,7 +31,7 @@ fn mark<'s, 't>(
 pub fn next_def<'s, 't>(
     alloc: Global,
     signs: &'s [Sign<'t>],
-) -> Result<(Option<SDef>, &'s [Sign<'t>]), Stop>
+) -> Result<(Option<SDef>, &'s [Sign<'t>]), ParseError>
     ensures { ReadsDef signs.now result }
 {
     let at = here(signs);

@@ -4,11 +4,11 @@ ghost use Rattle.std.specs.Prelude.{◌<◌, length, IfOk, IfSome, MatchOption};
 ghost use Rattle.ac_syntax.specs.ReadSigns.{read_signs};
 ghost use Rattle.ac_syntax.specs.ReadTrees.{name_of, abbrev_of};
 ghost use Rattle.ac_parser.specs.inner.ProgramParsing.{UpperAt, NoUpper, TextAt, NoText, Anything, AbbrevAt, HeadAt, head_read, ReadsOnly};
-ghost use Rattle.ac_parser_patterns.specs.Reading.{Reads};
+ghost use Rattle.ac_parser_patterns.specs.Reading.{ReadsKind};
 
 use ac_syntax::{
-    SAbbrev, SName, SSig, Sign, SignKind, Stop, Symbol, after, next, next_name, refused_at, sig,
-    whole_type,
+    ParseError, SAbbrev, SName, SSig, Sign, SignKind, Symbol, after, next, next_name, refused_at,
+    sig, whole_type,
 };
 use ac_types::limits::HIGHEST_WRITTEN_TYPE;
 use ac_types::{Memory, Text};
@@ -56,8 +56,8 @@ pub fn next_text<'s, 't>(
 pub fn abbreviation<'s, 't>(
     alloc: Global,
     signs: &'s [Sign<'t>],
-) -> Result<(SAbbrev, &'s [Sign<'t>]), Stop>
-    ensures { Reads AbbrevAt abbrev_of signs.now result }
+) -> Result<(SAbbrev, &'s [Sign<'t>]), ParseError>
+    ensures { ReadsKind AbbrevAt abbrev_of signs.now result }
 {
     let Some((name, rest)) = next_name(alloc, signs)? else {
         return Err(refused_at(signs));
@@ -70,10 +70,10 @@ pub fn abbreviation<'s, 't>(
 }
 
 /// The name of a module or an import, and its signature.
-pub fn head<'s, 't>(
+pub fn module_head<'s, 't>(
     alloc: Global,
     signs: &'s [Sign<'t>],
-) -> Result<((SName, SSig), &'s [Sign<'t>]), Stop>
+) -> Result<((SName, SSig), &'s [Sign<'t>]), ParseError>
     ensures { ReadsOnly HeadAt Anything head_read signs.now result }
 {
     let Some((name, rest)) = next_upper(alloc, signs)? else {

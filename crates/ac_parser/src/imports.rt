@@ -9,11 +9,12 @@ ghost use Rattle.ac_syntax.specs.ReadTrees.{name_of, abbrevs_of, def_tree_of};
 ghost use Rattle.ac_parser.specs.inner.ProgramParsing.{NoRead, Anything, NoComma, LikeAt, NameWanted, DemandAt, demand_read, ResolveAt, NoResolve, ReadsOnly, ReadsBehind};
 ghost use Rattle.ac_parser_patterns.specs.Reading.{ReadsOr};
 
-use crate::front::{head, next_upper};
+use crate::front::{module_head, next_upper};
 use crate::modules::abbreviations;
 use crate::versions::constraint;
 use ac_syntax::{
-    SAbbrev, SDef, SDefKind, SName, SWants, Sign, SignKind, Stop, Symbol, after, next, refused_at,
+    ParseError, SAbbrev, SDef, SDefKind, SName, SWants, Sign, SignKind, Symbol, after, next,
+    refused_at,
 };
 use ac_types::{Many, Memory, Resolve};
 use std::alloc::Global;
@@ -22,7 +23,7 @@ use std::alloc::Global;
 fn likespec<'s, 't>(
     alloc: Global,
     signs: &'s [Sign<'t>],
-) -> Result<(Option<Many<SAbbrev>>, &'s [Sign<'t>]), Stop>
+) -> Result<(Option<Many<SAbbrev>>, &'s [Sign<'t>]), ParseError>
     ensures { ReadsOnly LikeAt Anything (option_map abbrevs_of) signs.now result }
 {
     if let Some(rest) = after(Symbol::By, signs) {
@@ -42,7 +43,7 @@ fn likespec<'s, 't>(
 fn name_wanted<'s, 't>(
     alloc: Global,
     signs: &'s [Sign<'t>],
-) -> Result<(SName, &'s [Sign<'t>]), Stop>
+) -> Result<(SName, &'s [Sign<'t>]), ParseError>
     ensures { ReadsOr (λ ts. (a : ℕ) → NoRead NameWanted Anything (Fixed a Symbol.NameWord ∷ ts))
         (λ ts x rest. (a : ℕ) → NameWanted (Fixed a Symbol.NameWord ∷ ts) x rest) name_of
         signs.now result }
@@ -63,7 +64,7 @@ fn name_wanted<'s, 't>(
 fn demand<'s, 't>(
     alloc: Global,
     signs: &'s [Sign<'t>],
-) -> Result<((SWants, Option<Many<SAbbrev>>), &'s [Sign<'t>]), Stop>
+) -> Result<((SWants, Option<Many<SAbbrev>>), &'s [Sign<'t>]), ParseError>
     ensures { ReadsOnly DemandAt Anything demand_read signs.now result }
 {
     if let Some(behind) = after(Symbol::NameWord, signs) {
@@ -102,7 +103,7 @@ fn next_resolve<'s, 't>(
 fn resolves<'s, 't>(
     alloc: Global,
     signs: &'s [Sign<'t>],
-) -> Result<(Many<Resolve>, &'s [Sign<'t>]), Stop>
+) -> Result<(Many<Resolve>, &'s [Sign<'t>]), ParseError>
     ensures { ReadsOnly ParsesResolve NoComma (map resolve_of) signs.now result }
 {
     let Some((first, mut rest)) = next_resolve(alloc, signs)? else {
@@ -125,10 +126,10 @@ pub fn import<'s, 't>(
     alloc: Global,
     at: u32,
     signs: &'s [Sign<'t>],
-) -> Result<(SDef, &'s [Sign<'t>]), Stop>
+) -> Result<(SDef, &'s [Sign<'t>]), ParseError>
     ensures { ReadsBehind (Fixed at Symbol.Import) ParsesDef NoComma def_tree_of signs.now result }
 {
-    let ((name, sig), rest) = head(alloc, signs)?;
+    let ((name, sig), rest) = module_head(alloc, signs)?;
     let Some(asked) = after(Symbol::Version, rest) else {
         return Err(refused_at(rest));
     };

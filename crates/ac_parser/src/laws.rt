@@ -8,13 +8,13 @@ ghost use Rattle.ac_syntax.specs.declared.fault.ParseFault.{ParseFault};
 ghost use Rattle.ac_syntax.specs.Texts.{HasTree, Refused, SameCause};
 
 /// A text is at most one program.
-pub fn one_program()
+pub fn one_program_tree()
     ensures { (text : Bytes) (p q : ProgramTree) → HasTree IsProgram text p →
         HasTree IsProgram text q → p ≡ q }
 {}
 
 /// A text is at most one module.
-pub fn one_module()
+pub fn one_module_tree()
     ensures { (text : Bytes) (p q : ProgramTree) → HasTree IsModule text p →
         HasTree IsModule text q → p ≡ q }
 {}

@@ -8,11 +8,12 @@ ghost use Rattle.ac_syntax.specs.PartParsing.{NoSymbol};
 ghost use Rattle.ac_parser.specs.inner.ProgramParsing.{NoRead, Anything, NoComma, StructOf, ItemAt, ReadsOnly, ReadsBehind};
 ghost use Rattle.ac_parser_patterns.specs.Reading.{ReadsOr};
 
-use crate::front::{abbreviation, head};
+use crate::front::{abbreviation, module_head};
 use crate::versions::version;
-use ac_expressions::expression;
+use ac_parser_expressions::expression;
 use ac_syntax::{
-    SAbbrev, SDef, SDefKind, SField, Sign, Stop, Symbol, after, next_name, refused_at, whole_type,
+    ParseError, SAbbrev, SDef, SDefKind, SField, Sign, Symbol, after, next_name, refused_at,
+    whole_type,
 };
 use ac_types::Many;
 use ac_types::limits::HIGHEST_WRITTEN_TYPE;
@@ -22,7 +23,7 @@ use std::alloc::Global;
 pub fn abbreviations<'s, 't>(
     alloc: Global,
     signs: &'s [Sign<'t>],
-) -> Result<(Many<SAbbrev>, &'s [Sign<'t>]), Stop>
+) -> Result<(Many<SAbbrev>, &'s [Sign<'t>]), ParseError>
     ensures { ReadsOnly (StructOf ParsesAbbrevs) Anything (map abbrev_of) signs.now result }
 {
     let Some(inner) = after(Symbol::Struct, signs) else {
@@ -47,7 +48,7 @@ pub fn abbreviations<'s, 't>(
 fn value_field<'s, 't>(
     alloc: Global,
     signs: &'s [Sign<'t>],
-) -> Result<(SField, &'s [Sign<'t>]), Stop>
+) -> Result<(SField, &'s [Sign<'t>]), ParseError>
     ensures { ReadsOr (λ ts. (a : ℕ) → NoRead ParsesFields Anything (Fixed a Symbol.Val ∷ ts))
         (λ ts x rest. (a : ℕ) → ItemAt ParsesFields (Fixed a Symbol.Val ∷ ts) x rest)
         field_tree_of signs.now result }
@@ -67,7 +68,10 @@ fn value_field<'s, 't>(
 }
 
 // The field at the front.
-fn field<'s, 't>(alloc: Global, signs: &'s [Sign<'t>]) -> Result<(SField, &'s [Sign<'t>]), Stop>
+fn field<'s, 't>(
+    alloc: Global,
+    signs: &'s [Sign<'t>],
+) -> Result<(SField, &'s [Sign<'t>]), ParseError>
     ensures { ReadsOr (λ ts. NoSymbol Symbol.End ts → NoRead ParsesFields Anything ts)
         (ItemAt ParsesFields) field_tree_of signs.now result }
 {
@@ -85,7 +89,7 @@ fn field<'s, 't>(alloc: Global, signs: &'s [Sign<'t>]) -> Result<(SField, &'s [S
 fn fields<'s, 't>(
     alloc: Global,
     signs: &'s [Sign<'t>],
-) -> Result<(Many<SField>, &'s [Sign<'t>]), Stop>
+) -> Result<(Many<SField>, &'s [Sign<'t>]), ParseError>
     ensures { ReadsOnly (StructOf ParsesFields) Anything (map field_tree_of) signs.now result }
 {
     let Some(inner) = after(Symbol::Struct, signs) else {
@@ -108,10 +112,10 @@ pub fn module<'s, 't>(
     alloc: Global,
     at: u32,
     signs: &'s [Sign<'t>],
-) -> Result<(SDef, &'s [Sign<'t>]), Stop>
+) -> Result<(SDef, &'s [Sign<'t>]), ParseError>
     ensures { ReadsBehind (Fixed at Symbol.Module) ParsesDef NoComma def_tree_of signs.now result }
 {
-    let ((name, sig), rest) = head(alloc, signs)?;
+    let ((name, sig), rest) = module_head(alloc, signs)?;
     let (version, behind) = version(alloc, rest)?;
     let (fields, end) = fields(alloc, behind)?;
     let kind = SDefKind::Module {

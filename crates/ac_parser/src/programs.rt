@@ -5,12 +5,12 @@ ghost use Rattle.ac_syntax.specs.Programs.{IsProgram, IsModule};
 ghost use Rattle.ac_syntax.specs.ReadSigns.{read_signs};
 ghost use Rattle.ac_syntax.specs.ReadTrees.{def_tree_of, surface_of};
 ghost use Rattle.ac_parser.specs.inner.ProgramParsing.{NoProgramTree, DefsRead};
-ghost use Rattle.ac_parser_patterns.specs.Reading.{Finds};
+ghost use Rattle.ac_parser_patterns.specs.Reading.{FindsOr};
 
 use crate::defs::next_def;
 use crate::modules::module;
-use ac_expressions::expression;
-use ac_syntax::{SDef, Sign, Stop, Surface, Symbol, after, here, refused_at};
+use ac_parser_expressions::expression;
+use ac_syntax::{ParseError, SDef, Sign, Surface, Symbol, after, here, refused_at};
 use ac_types::Many;
 use std::alloc::Global;
 
@@ -18,8 +18,8 @@ use std::alloc::Global;
 fn definitions<'s, 't>(
     alloc: Global,
     signs: &'s [Sign<'t>],
-) -> Result<(Many<SDef>, &'s [Sign<'t>]), Stop>
-    ensures { Finds result (λ x. DefsRead (read_signs signs.now) (map def_tree_of x.0)
+) -> Result<(Many<SDef>, &'s [Sign<'t>]), ParseError>
+    ensures { FindsOr result (λ x. DefsRead (read_signs signs.now) (map def_tree_of x.0)
         (read_signs x.1.now)) (NoProgramTree IsProgram (read_signs signs.now)) }
 {
     let mut defs = Many::new(alloc);
@@ -39,8 +39,8 @@ fn definitions<'s, 't>(
 }
 
 // The tree behind which nothing is left.
-fn at_end<T: Drop>(tree: T, rest: &[Sign<'_>]) -> Result<T, Stop>
-    ensures { Finds result (λ t. (t ≡ tree) × (read_signs rest.now ≡ []))
+fn at_end<T: Drop>(tree: T, rest: &[Sign<'_>]) -> Result<T, ParseError>
+    ensures { FindsOr result (λ t. (t ≡ tree) × (read_signs rest.now ≡ []))
         (read_signs rest.now ≡ [] → ⊥) }
 {
     if rest.is_empty() {
@@ -51,8 +51,8 @@ fn at_end<T: Drop>(tree: T, rest: &[Sign<'_>]) -> Result<T, Stop>
 }
 
 /// The program of these signs.
-pub fn program(alloc: Global, signs: &[Sign<'_>]) -> Result<Surface, Stop>
-    ensures { Finds result (λ x. IsProgram (read_signs signs.now) (surface_of x))
+pub fn program(alloc: Global, signs: &[Sign<'_>]) -> Result<Surface, ParseError>
+    ensures { FindsOr result (λ x. IsProgram (read_signs signs.now) (surface_of x))
         (NoProgramTree IsProgram (read_signs signs.now)) }
 {
     let (defs, rest) = definitions(alloc, signs)?;
@@ -65,8 +65,8 @@ pub fn program(alloc: Global, signs: &[Sign<'_>]) -> Result<Surface, Stop>
 }
 
 /// The module that all these signs are.
-pub fn module_alone(alloc: Global, signs: &[Sign<'_>]) -> Result<Surface, Stop>
-    ensures { Finds result (λ x. IsModule (read_signs signs.now) (surface_of x))
+pub fn module_alone(alloc: Global, signs: &[Sign<'_>]) -> Result<Surface, ParseError>
+    ensures { FindsOr result (λ x. IsModule (read_signs signs.now) (surface_of x))
         (NoProgramTree IsModule (read_signs signs.now)) }
 {
     let Some(behind) = after(Symbol::Module, signs) else {

@@ -8,7 +8,7 @@ ghost use Rattle.ac_syntax.specs.Texts.{IsRead, HasTree, IsPlace, IsUnread, IsTe
 
 use crate::programs::{module_alone, program};
 use ac_lexer::{LexFault, Token, lex};
-use ac_syntax::{ParseFault, Stop, Surface, deep, signs};
+use ac_syntax::{ParseError, ParseFault, Surface, deep, signs};
 use ac_types::Many;
 use std::alloc::Global;
 
@@ -40,13 +40,13 @@ fn place(tokens: &[Token], left: usize, end: u32) -> u32
 }
 
 // Why the tokens of a text of this length have no tree.
-fn fault(tokens: &[Token], len: usize, stop: Stop) -> ParseFault
+fn fault(tokens: &[Token], len: usize, stop: ParseError) -> ParseFault
     requires { len ≤ longest_text }
     ensures { FaultAt tokens.now len stop result }
 {
     match stop {
-        Stop::Memory => ParseFault::Memory,
-        Stop::Syntax(left) => ParseFault::Syntax {
+        ParseError::Memory => ParseFault::Memory,
+        ParseError::Syntax(left) => ParseFault::Syntax {
             at: place(tokens, left, len as u32),
         },
     }

@@ -7,7 +7,7 @@ ghost use Rattle.ac_syntax.specs.ReadSigns.{read_sign, read_signs};
 ghost use Rattle.ac_syntax.specs.ReadTrees.{version_of};
 ghost use Rattle.ac_parser.specs.inner.ProgramParsing.{OnlyRead, Anything, BeginsEquals, NoVToken, VersionAt, ConstraintAt, stopped, ReadsOnly, ReadsWithin};
 
-use ac_syntax::{Sign, SignKind, Stop, Symbol, after, refused_at};
+use ac_syntax::{ParseError, Sign, SignKind, Symbol, after, refused_at};
 use ac_types::{Constraint, Memory, Version};
 use ac_version::{VToken, VersionFault, read_constraint, read_version};
 use std::alloc::Global;
@@ -49,11 +49,11 @@ fn vtokens<'s, 't>(
 }
 
 // Why the tokens of a version or a constraint, which begin here, are none.
-fn bad(fault: VersionFault, signs: &[Sign<'_>]) -> Stop
+fn bad(fault: VersionFault, signs: &[Sign<'_>]) -> ParseError
     ensures { stopped fault result }
 {
     match fault {
-        VersionFault::Memory => Stop::Memory,
+        VersionFault::Memory => ParseError::Memory,
         VersionFault::Bad => refused_at(signs),
     }
 }
@@ -62,7 +62,7 @@ fn bad(fault: VersionFault, signs: &[Sign<'_>]) -> Stop
 fn written<'s, 't>(
     alloc: Global,
     signs: &'s [Sign<'t>],
-) -> Result<(Option<Version>, &'s [Sign<'t>]), Stop>
+) -> Result<(Option<Version>, &'s [Sign<'t>]), ParseError>
     ensures { ReadsWithin ParsesVersion BeginsEquals (option_map version_of) signs.now result }
 {
     let Some(behind) = after(Symbol::Version, signs) else {
@@ -79,7 +79,7 @@ fn written<'s, 't>(
 pub fn version<'s, 't>(
     alloc: Global,
     signs: &'s [Sign<'t>],
-) -> Result<(Option<Version>, &'s [Sign<'t>]), Stop>
+) -> Result<(Option<Version>, &'s [Sign<'t>]), ParseError>
     ensures { ReadsOnly VersionAt Anything (option_map version_of) signs.now result }
 {
     let (version, rest) = written(alloc, signs)?;
@@ -93,7 +93,7 @@ pub fn version<'s, 't>(
 pub fn constraint<'s, 't>(
     alloc: Global,
     signs: &'s [Sign<'t>],
-) -> Result<(Constraint, &'s [Sign<'t>]), Stop>
+) -> Result<(Constraint, &'s [Sign<'t>]), ParseError>
     ensures { ReadsWithin ConstraintAt NoVToken constraint_of signs.now result }
 {
     let (tokens, rest) = vtokens(alloc, signs)?;

@@ -3,38 +3,38 @@ use Rattle.std.specs.Prelude.{◌≡◌, ℕ, List, Result, MatchResult}
 use Rattle.std.specs.Borrow.{Bor}
 use Rattle.ac_types.specs.ReadNumbers.{primitive_number, texted_number}
 use Rattle.ac_syntax.specs.Signs.{Sign}
-use Rattle.ac_syntax.specs.Trees.{NameAt, TypeTree, Tree, ExExnOf, ExPresent, ExFun, ExRec, ExLet, ExLetRec, ExIf, ExRaise, ExMarshal, ExUnmarshal, height}
+use Rattle.ac_syntax.specs.Trees.{NameAt, TypeTree, Tree, ExExnOf, ExPresent, ExFun, ExRec, ExLet, ExLetRec, ExIf, ExRaise, ExMarshal, ExUnmarshal, tree_height}
 use Rattle.ac_syntax.specs.Expressions.{Operator, Prim, Consing, Both, Either}
 use Rattle.ac_syntax.specs.ReadSigns.{read_signs}
 use Rattle.ac_syntax.specs.ReadTrees.{tree_of}
 use Rattle.ac_syntax.specs.PartParsing.{SymbolAt, NoSymbol}
 use Rattle.ac_syntax.specs.declared.sign.Sign as sign
 use Rattle.ac_syntax.specs.declared.sign.Symbol.TheVariants as symbol
-use Rattle.ac_syntax.specs.declared.stop.Stop.{Stop}
-use Rattle.ac_syntax.specs.declared.stop.Stop.TheVariants as stop
+use Rattle.ac_syntax.specs.declared.stop.ParseError.{ParseError}
+use Rattle.ac_syntax.specs.declared.stop.ParseError.TheVariants as stop
 use Rattle.ac_parser_patterns.specs.declared.build.Parsed.{Parsed}
 use Rattle.ac_parser_patterns.specs.declared.build.Operator as code
 use Rattle.ac_parser_patterns.specs.declared.build.Operator.TheVariants as operator
 use Rattle.ac_parser_patterns.specs.declared.front.Prefix.{Prefix}
 use Rattle.ac_parser_patterns.specs.declared.front.Prefix.TheVariants as prefix
-use Rattle.ac_parser_patterns.specs.Reading.{Measured, Finds}
+use Rattle.ac_parser_patterns.specs.Reading.{Measured, FindsOr}
 
-abbrev pub measured : Parsed → Type 0
-measured p = p.height ≡ height (tree_of p.tree)
+abbrev pub is_measured : Parsed → Type 0
+is_measured p = p.height ≡ tree_height (tree_of p.tree)
 
 -- this expression, with its height, and what was left
-pub record IsMade (e : Tree) (signs : List sign.Sign) (made : Parsed) (rest : List sign.Sign) : Type 0 where
+pub record IsMadeTree (e : Tree) (signs : List sign.Sign) (made : Parsed) (rest : List sign.Sign) : Type 0 where
   pub tree : tree_of made.tree ≡ e
-  pub height : measured made
+  pub tree_height : is_measured made
   pub left : rest ≡ signs
 
 -- this expression is made in front of these signs, unless memory runs out
-abbrev pub Makes : Tree → List sign.Sign → Result (Parsed × Bor (List sign.Sign)) Stop → Type 0
-Makes e signs result = MatchResult result (λ x. IsMade e signs x.0 x.1.now) (λ s. s ≡ stop.Memory)
+abbrev pub MakesTree : Tree → List sign.Sign → Result (Parsed × Bor (List sign.Sign)) ParseError → Type 0
+MakesTree e signs result = MatchResult result (λ x. IsMadeTree e signs x.0 x.1.now) (λ s. s ≡ stop.Memory)
 
 -- this expression is made of what is closed by a `)` here
-abbrev pub Closes : Tree → List sign.Sign → Result (Parsed × Bor (List sign.Sign)) Stop → Type 0
-Closes e signs result = Finds result (λ x. Measured (λ ts rest. (tree_of x.0.tree ≡ e) × SymbolAt symbol.Close ts rest) (measured x.0) signs x.1.now) (NoSymbol symbol.Close (read_signs signs))
+abbrev pub Closes : Tree → List sign.Sign → Result (Parsed × Bor (List sign.Sign)) ParseError → Type 0
+Closes e signs result = FindsOr result (λ x. Measured (λ ts rest. (tree_of x.0.tree ≡ e) × SymbolAt symbol.Close ts rest) (is_measured x.0) signs x.1.now) (NoSymbol symbol.Close (read_signs signs))
 
 abbrev pub prefixed : Prefix → ℕ → Tree → Tree
 prefixed prefix.Present at e = ExPresent at e

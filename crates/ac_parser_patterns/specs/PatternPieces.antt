@@ -10,14 +10,14 @@ use Rattle.ac_syntax.specs.ReadSigns.{read_signs}
 use Rattle.ac_syntax.specs.ReadTrees.{pat_of}
 use Rattle.ac_syntax.specs.PartParsing.{SymbolAt, NoSymbol}
 use Rattle.ac_syntax.specs.declared.sign.Sign as sign
-use Rattle.ac_syntax.specs.declared.stop.Stop.{Stop}
-use Rattle.ac_syntax.specs.declared.stop.Stop.TheVariants as stop
+use Rattle.ac_syntax.specs.declared.stop.ParseError.{ParseError}
+use Rattle.ac_syntax.specs.declared.stop.ParseError.TheVariants as stop
 use Rattle.ac_syntax.specs.declared.sign.Symbol.{Symbol}
 use Rattle.ac_syntax.specs.declared.sign.Symbol.TheVariants as symbol
 use Rattle.ac_parser_patterns.specs.declared.front.Prefix.{Prefix}
 use Rattle.ac_parser_patterns.specs.declared.front.Prefix.TheVariants as prefix
 use Rattle.ac_parser_patterns.specs.declared.patterns.ParsedPat.{ParsedPat}
-use Rattle.ac_parser_patterns.specs.Reading.{Nothing, Measured, Finds}
+use Rattle.ac_parser_patterns.specs.Reading.{Nothing, Measured, FindsOr}
 use Rattle.ac_parser_patterns.specs.Pieces.{Before, Chain, IsTypedBinder}
 
 abbrev pub NoPat : ℕ → PatLevel → List Sign → Type 0
@@ -60,10 +60,10 @@ abbrev pub pat_measured : ParsedPat → Type 0
 pat_measured p = p.height ≡ pat_height (pat_of p.tree)
 
 -- a pattern of this kind is read here with its height, or something is missing
-abbrev pub ReadsPatOr : (List Sign → Type 0) → (List Sign → PatTree → List Sign → Type 0) → List sign.Sign → Result (ParsedPat × Bor (List sign.Sign)) Stop → Type 0
-ReadsPatOr Missing R signs result = Finds result (λ x. Measured (λ ts rest. R ts (pat_of x.0.tree) rest) (pat_measured x.0) signs x.1.now) (Missing (read_signs signs))
+abbrev pub ReadsPatOr : (List Sign → Type 0) → (List Sign → PatTree → List Sign → Type 0) → List sign.Sign → Result (ParsedPat × Bor (List sign.Sign)) ParseError → Type 0
+ReadsPatOr Missing R signs result = FindsOr result (λ x. Measured (λ ts rest. R ts (pat_of x.0.tree) rest) (pat_measured x.0) signs x.1.now) (Missing (read_signs signs))
 
-abbrev pub ReadsPat : (List Sign → PatTree → List Sign → Type 0) → List sign.Sign → Result (ParsedPat × Bor (List sign.Sign)) Stop → Type 0
+abbrev pub ReadsPat : (List Sign → PatTree → List Sign → Type 0) → List sign.Sign → Result (ParsedPat × Bor (List sign.Sign)) ParseError → Type 0
 ReadsPat R signs result = ReadsPatOr (Nothing R) R signs result
 
 -- this pattern, with its height, and what was left
@@ -73,12 +73,12 @@ pub record IsMadePat (p : PatTree) (signs : List sign.Sign) (made : ParsedPat) (
   pub left : rest ≡ signs
 
 -- this pattern is made in front of these signs, unless memory runs out
-abbrev pub MakesPat : PatTree → List sign.Sign → Result (ParsedPat × Bor (List sign.Sign)) Stop → Type 0
+abbrev pub MakesPat : PatTree → List sign.Sign → Result (ParsedPat × Bor (List sign.Sign)) ParseError → Type 0
 MakesPat p signs result = MatchResult result (λ x. IsMadePat p signs x.0 x.1.now) (λ e. e ≡ stop.Memory)
 
 -- this pattern is made of what is closed by a `)` here
-abbrev pub ClosesPat : PatTree → List sign.Sign → Result (ParsedPat × Bor (List sign.Sign)) Stop → Type 0
-ClosesPat p signs result = Finds result (λ x. Measured (λ ts rest. (pat_of x.0.tree ≡ p) × SymbolAt symbol.Close ts rest) (pat_measured x.0) signs x.1.now) (NoSymbol symbol.Close (read_signs signs))
+abbrev pub ClosesPat : PatTree → List sign.Sign → Result (ParsedPat × Bor (List sign.Sign)) ParseError → Type 0
+ClosesPat p signs result = FindsOr result (λ x. Measured (λ ts rest. (pat_of x.0.tree ≡ p) × SymbolAt symbol.Close ts rest) (pat_measured x.0) signs x.1.now) (NoSymbol symbol.Close (read_signs signs))
 
 -- a variable with its type and a `)`
 pub record PatVarAt (at : ℕ) (ts : List Sign) (p : PatTree) (rest : List Sign) : Type 0 where

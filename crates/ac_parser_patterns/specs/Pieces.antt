@@ -6,12 +6,12 @@ use Rattle.ac_syntax.specs.Trees.{NameAt, TypeTree, Tree}
 use Rattle.ac_syntax.specs.TypeForms.{IsType}
 use Rattle.ac_syntax.specs.Patterns.{exception_with_string}
 use Rattle.ac_syntax.specs.Expressions.{begins_atom, front}
-use Rattle.ac_syntax.specs.ReadTrees.{name_of, type_of}
+use Rattle.ac_syntax.specs.ReadTrees.{name_of, type_tree_of}
 use Rattle.ac_syntax.specs.PartParsing.{SymbolAt, LowerAt}
 use Rattle.ac_syntax.specs.declared.sign.Symbol.{Symbol}
 use Rattle.ac_syntax.specs.declared.sign.Symbol.TheVariants as symbol
 use Rattle.ac_parser_patterns.specs.declared.binders.Binder.{Binder}
-use Rattle.ac_parser_patterns.specs.declared.binders.Head.{Head}
+use Rattle.ac_parser_patterns.specs.declared.binders.FunctionHead.{FunctionHead}
 use Rattle.ac_parser_patterns.specs.declared.front.Prefix.{Prefix}
 use Rattle.ac_parser_patterns.specs.declared.front.Prefix.TheVariants as prefix
 
@@ -75,10 +75,10 @@ pub record IsLastType (ts : List Sign) (T : TypeTree) (rest : List Sign) : Type 
   pub ends : 7 < front rest
 
 abbrev pub binder_of : Binder → NameAt × TypeTree
-binder_of b = (name_of b.name, type_of b.ty)
+binder_of b = (name_of b.name, type_tree_of b.ty)
 
-abbrev pub head_of : Head → NameAt × ((NameAt × TypeTree) × TypeTree)
-head_of h = (name_of h.name, (binder_of h.argument, type_of h.result))
+abbrev pub head_of : FunctionHead → NameAt × ((NameAt × TypeTree) × TypeTree)
+head_of h = (name_of h.name, (binder_of h.argument, type_tree_of h.result))
 
 -- the first sign is a number
 pub record NumberAt (n : ℕ) (ts rest : List Sign) : Type 0 where

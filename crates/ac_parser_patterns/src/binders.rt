@@ -1,13 +1,13 @@
 // Lower names with their types.
 
 ghost use Rattle.std.specs.Prelude.{◌≡◌};
-ghost use Rattle.ac_syntax.specs.ReadTrees.{type_of};
+ghost use Rattle.ac_syntax.specs.ReadTrees.{type_tree_of};
 ghost use Rattle.ac_syntax.specs.TypeForms.{IsType};
-ghost use Rattle.ac_parser_patterns.specs.Reading.{Reads};
+ghost use Rattle.ac_parser_patterns.specs.Reading.{ReadsKind};
 ghost use Rattle.ac_parser_patterns.specs.Pieces.{Behind, Before, IsAscribed, IsTypedBinder, IsArgument, IsHead, IsLastType, binder_of, head_of};
 
-use crate::front::{ends_part, expect, name};
-use ac_syntax::{SName, SType, Sign, Stop, Symbol, refused_at, whole_type};
+use crate::front::{ends_part, expect, lower_name};
+use ac_syntax::{ParseError, SName, SType, Sign, Symbol, refused_at, whole_type};
 use ac_types::limits::HIGHEST_WRITTEN_TYPE;
 use std::alloc::Global;
 
@@ -35,15 +35,15 @@ impl Binder {
 }
 
 /// A function's name, argument and result.
-pub struct Head {
+pub struct FunctionHead {
     pub name: SName,
     pub argument: Binder,
     pub result: SType,
 }
 
-impl Drop for Head {
+impl Drop for FunctionHead {
     fn drop(self) {
-        let Head {
+        let FunctionHead {
             name: _,
             argument: _,
             result: _,
@@ -51,14 +51,14 @@ impl Drop for Head {
     }
 }
 
-impl Head {
+impl FunctionHead {
     /// The name, the argument and the result.
     pub fn into_parts(self) -> (SName, Binder, SType)
         ensures name { result.0 ≡ self.name }
         ensures argument { result.1 ≡ self.argument }
         ensures ty { result.2 ≡ self.result }
     {
-        let Head {
+        let FunctionHead {
             name,
             argument,
             result,
@@ -72,8 +72,8 @@ fn type_before<'s, 't>(
     alloc: Global,
     symbol: Symbol,
     signs: &'s [Sign<'t>],
-) -> Result<(SType, &'s [Sign<'t>]), Stop>
-    ensures { Reads (Before symbol IsType) type_of signs.now result }
+) -> Result<(SType, &'s [Sign<'t>]), ParseError>
+    ensures { ReadsKind (Before symbol IsType) type_tree_of signs.now result }
 {
     let (ty, behind) = whole_type(alloc, HIGHEST_WRITTEN_TYPE, signs)?;
     match expect(symbol, behind) {
@@ -90,22 +90,22 @@ pub fn ascribed<'s, 't>(
     alloc: Global,
     symbol: Symbol,
     signs: &'s [Sign<'t>],
-) -> Result<(SType, &'s [Sign<'t>]), Stop>
-    ensures { Reads (IsAscribed symbol) type_of signs.now result }
+) -> Result<(SType, &'s [Sign<'t>]), ParseError>
+    ensures { ReadsKind (IsAscribed symbol) type_tree_of signs.now result }
 {
     let behind = expect(Symbol::Colon, signs)?;
     type_before(alloc, symbol, behind)
 }
 
-/// `name : type`, with this symbol behind it.
+/// `lower_name : type`, with this symbol behind it.
 pub fn typed<'s, 't>(
     alloc: Global,
     symbol: Symbol,
     signs: &'s [Sign<'t>],
-) -> Result<(Binder, &'s [Sign<'t>]), Stop>
-    ensures { Reads (IsTypedBinder symbol) binder_of signs.now result }
+) -> Result<(Binder, &'s [Sign<'t>]), ParseError>
+    ensures { ReadsKind (IsTypedBinder symbol) binder_of signs.now result }
 {
-    let (name, behind) = name(alloc, signs)?;
+    let (name, behind) = lower_name(alloc, signs)?;
     let (ty, rest) = ascribed(alloc, symbol, behind)?;
     Ok((Binder { name, ty }, rest))
 }
@@ -114,24 +114,24 @@ pub fn typed<'s, 't>(
 pub fn argument<'s, 't>(
     alloc: Global,
     signs: &'s [Sign<'t>],
-) -> Result<(Binder, &'s [Sign<'t>]), Stop>
-    ensures { Reads IsArgument binder_of signs.now result }
+) -> Result<(Binder, &'s [Sign<'t>]), ParseError>
+    ensures { ReadsKind IsArgument binder_of signs.now result }
 {
     let inner = expect(Symbol::Open, signs)?;
     typed(alloc, Symbol::Close, inner)
 }
 
-/// `name ( name : type ) : type =`.
+/// `lower_name ( name : type ) : type =`.
 pub fn function_head<'s, 't>(
     alloc: Global,
     signs: &'s [Sign<'t>],
-) -> Result<(Head, &'s [Sign<'t>]), Stop>
-    ensures { Reads IsHead head_of signs.now result }
+) -> Result<(FunctionHead, &'s [Sign<'t>]), ParseError>
+    ensures { ReadsKind IsHead head_of signs.now result }
 {
-    let (name, behind) = name(alloc, signs)?;
+    let (name, behind) = lower_name(alloc, signs)?;
     let (argument, later) = argument(alloc, behind)?;
     let (result, rest) = ascribed(alloc, Symbol::Equals, later)?;
-    let head = Head {
+    let head = FunctionHead {
         name,
         argument,
         result,
@@ -140,8 +140,11 @@ pub fn function_head<'s, 't>(
 }
 
 // A type behind which a part ends.
-fn last_type<'s, 't>(alloc: Global, signs: &'s [Sign<'t>]) -> Result<(SType, &'s [Sign<'t>]), Stop>
-    ensures { Reads IsLastType type_of signs.now result }
+fn last_type<'s, 't>(
+    alloc: Global,
+    signs: &'s [Sign<'t>],
+) -> Result<(SType, &'s [Sign<'t>]), ParseError>
+    ensures { ReadsKind IsLastType type_tree_of signs.now result }
 {
     let (ty, rest) = whole_type(alloc, HIGHEST_WRITTEN_TYPE, signs)?;
     if ends_part(rest) {
@@ -157,8 +160,8 @@ pub fn type_behind<'s, 't>(
     alloc: Global,
     symbol: Symbol,
     signs: &'s [Sign<'t>],
-) -> Result<(SType, &'s [Sign<'t>]), Stop>
-    ensures { Reads (Behind symbol IsLastType) type_of signs.now result }
+) -> Result<(SType, &'s [Sign<'t>]), ParseError>
+    ensures { ReadsKind (Behind symbol IsLastType) type_tree_of signs.now result }
 {
     let behind = expect(symbol, signs)?;
     last_type(alloc, behind)

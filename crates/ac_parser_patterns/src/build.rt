@@ -2,24 +2,24 @@
 
 ghost use Rattle.std.specs.Prelude.{◌≡◌, ◌<◌, ◌-◌, ◌^◌, ◌∷◌, [], ◌++◌, true, false, max, map, neg_ℤ, pos, IfOk, option_map};
 ghost use Rattle.ac_types.specs.ReadNumbers.{primitive_number};
-ghost use Rattle.ac_syntax.specs.Trees.{ExInt, ExUnit, ExNil, ExAbsent, ExApp, ExOp, ExSeq, ExTuple, ExMatch, ExTry, tree, no_trees, trees, arm_trees, height, highest, highest_arm};
+ghost use Rattle.ac_syntax.specs.Trees.{ExInt, ExUnit, ExNil, ExAbsent, ExApp, ExOp, ExSeq, ExTuple, ExMatch, ExTry, tree, no_trees, trees, arm_trees, tree_height, highest, highest_arm};
 ghost use Rattle.ac_syntax.specs.Expressions.{begins_atom, operator_of, operator_tree};
 ghost use Rattle.ac_syntax.specs.ReadSigns.{read_signs};
-ghost use Rattle.ac_syntax.specs.ReadTrees.{type_of, tree_of, expr_kind_of, arm_tree_of};
-ghost use Rattle.ac_parser_patterns.specs.Reading.{Finds};
+ghost use Rattle.ac_syntax.specs.ReadTrees.{type_tree_of, tree_of, expr_kind_of, arm_tree_of};
+ghost use Rattle.ac_parser_patterns.specs.Reading.{FindsOr};
 ghost use Rattle.ac_parser_patterns.specs.Pieces.{binder_of, head_of};
-ghost use Rattle.ac_parser_patterns.specs.Forms.{measured, prefixed, operator_read, let_tree, let_rec_tree, fun_tree, rec_tree, if_tree, marshal_tree, unmarshal_tree, raise_tree, IsMade, Makes, Closes};
+ghost use Rattle.ac_parser_patterns.specs.Forms.{is_measured, prefixed, operator_read, let_tree, let_rec_tree, fun_tree, rec_tree, if_tree, marshal_tree, unmarshal_tree, raise_tree, IsMadeTree, MakesTree, Closes};
 
-use crate::binders::{Binder, Head};
+use crate::binders::{Binder, FunctionHead};
 use crate::front::{Prefix, begins_atom, expect, negated};
-use ac_syntax::{SArm, SExpr, SExprKind, SFun, SType, Sign, Stop, Symbol, refused_at};
-use ac_types::{Box, Many, Memory, Primitive};
+use ac_syntax::{ParseError, SArm, SExpr, SExprKind, SFun, SType, Sign, Symbol, refused_at};
+use ac_types::{Boxed, Many, Memory, Primitive};
 use std::alloc::Global;
 
 /// An expression, and its height.
 #[derive(Drop)]
 pub struct Parsed {
-    pub tree: Box<SExpr>,
+    pub tree: Boxed<SExpr>,
     pub height: u32,
 }
 
@@ -67,34 +67,34 @@ fn made<'s, 't>(
     kind: SExprKind,
     high: u32,
     rest: &'s [Sign<'t>],
-) -> Result<(Parsed, &'s [Sign<'t>]), Stop>
-    requires { high ≡ height (expr_kind_of kind at) }
-    ensures { Makes (expr_kind_of kind at) rest.now result }
+) -> Result<(Parsed, &'s [Sign<'t>]), ParseError>
+    requires { high ≡ tree_height (expr_kind_of kind at) }
+    ensures { MakesTree (expr_kind_of kind at) rest.now result }
 {
-    let tree = Box::new(alloc, SExpr { at, kind })?;
+    let tree = Boxed::new(alloc, SExpr { at, kind })?;
     let height = high;
     Ok((Parsed { tree, height }, rest))
 }
 
 /// Two sides and the operator between them.
 #[tactic(auto, using(ac_syntax::proofs::ReadLaws::expr_laws))]
-pub fn join<'s, 't>(
+pub fn with_operator<'s, 't>(
     alloc: Global,
     at: u32,
     operator: Operator,
     left: Parsed,
     right: Parsed,
     rest: &'s [Sign<'t>],
-) -> Result<(Parsed, &'s [Sign<'t>]), Stop>
+) -> Result<(Parsed, &'s [Sign<'t>]), ParseError>
     requires low { max left.height right.height < 2 ^ 32 - 1 }
-    requires left { measured left }
-    requires right { measured right }
-    ensures { Makes (operator_tree at (operator_read operator) (tree_of left.tree)
+    requires left { is_measured left }
+    requires right { is_measured right }
+    ensures { MakesTree (operator_tree at (operator_read operator) (tree_of left.tree)
         (tree_of right.tree)) rest.now result }
 {
     let height = left.height.max(right.height) + 1;
     let kind = match operator {
-        Operator::Prim(primitive) => SExprKind::Op(primitive, two(alloc, left, right)?),
+        Operator::Prim(primitive) => SExprKind::Op(primitive, two_trees(alloc, left, right)?),
         Operator::Consing => SExprKind::Cons(left.tree, right.tree),
         Operator::Both => SExprKind::And(left.tree, right.tree),
         Operator::Either => SExprKind::Or(left.tree, right.tree),
@@ -110,11 +110,11 @@ pub fn application<'s, 't>(
     function: Parsed,
     argument: Parsed,
     rest: &'s [Sign<'t>],
-) -> Result<(Parsed, &'s [Sign<'t>]), Stop>
+) -> Result<(Parsed, &'s [Sign<'t>]), ParseError>
     requires low { max function.height argument.height < 2 ^ 32 - 1 }
-    requires function { measured function }
-    requires argument { measured argument }
-    ensures { Makes (ExApp at (tree_of function.tree) (tree_of argument.tree)) rest.now result }
+    requires function { is_measured function }
+    requires argument { is_measured argument }
+    ensures { MakesTree (ExApp at (tree_of function.tree) (tree_of argument.tree)) rest.now result }
 {
     let height = function.height.max(argument.height) + 1;
     let kind = SExprKind::App(function.tree, argument.tree);
@@ -129,10 +129,11 @@ pub fn prefixed_by<'s, 't>(
     prefix: Prefix,
     item: Parsed,
     rest: &'s [Sign<'t>],
-) -> Result<(Parsed, &'s [Sign<'t>]), Stop>
+) -> Result<(Parsed, &'s [Sign<'t>]), ParseError>
     requires low { item.height < 2 ^ 32 - 1 }
-    requires item { measured item }
-    ensures { Finds result (λ x. IsMade (prefixed prefix at (tree_of item.tree)) rest.now x.0 x.1.now ×
+    requires item { is_measured item }
+    ensures { FindsOr result (λ x. IsMadeTree (prefixed prefix at (tree_of item.tree)) rest.now x.0
+        x.1.now ×
         (begins_atom (read_signs rest.now) ≡ false)) (begins_atom (read_signs rest.now) ≡ true) }
 {
     if begins_atom(rest) {
@@ -158,11 +159,11 @@ pub fn let_in<'s, 't>(
     bound: Parsed,
     body: Parsed,
     rest: &'s [Sign<'t>],
-) -> Result<(Parsed, &'s [Sign<'t>]), Stop>
+) -> Result<(Parsed, &'s [Sign<'t>]), ParseError>
     requires low { max bound.height body.height < 2 ^ 32 - 1 }
-    requires bound { measured bound }
-    requires body { measured body }
-    ensures { Makes (let_tree at (binder_of binder, (tree_of bound.tree, tree_of body.tree)))
+    requires bound { is_measured bound }
+    requires body { is_measured body }
+    ensures { MakesTree (let_tree at (binder_of binder, (tree_of bound.tree, tree_of body.tree)))
         rest.now result }
 {
     let height = bound.height.max(body.height) + 1;
@@ -176,15 +177,15 @@ pub fn let_in<'s, 't>(
 pub fn let_rec<'s, 't>(
     alloc: Global,
     at: u32,
-    head: Head,
+    head: FunctionHead,
     bound: Parsed,
     body: Parsed,
     rest: &'s [Sign<'t>],
-) -> Result<(Parsed, &'s [Sign<'t>]), Stop>
+) -> Result<(Parsed, &'s [Sign<'t>]), ParseError>
     requires low { max bound.height body.height < 2 ^ 32 - 1 }
-    requires bound { measured bound }
-    requires body { measured body }
-    ensures { Makes (let_rec_tree at (head_of head, (tree_of bound.tree, tree_of body.tree)))
+    requires bound { is_measured bound }
+    requires body { is_measured body }
+    ensures { MakesTree (let_rec_tree at (head_of head, (tree_of bound.tree, tree_of body.tree)))
         rest.now result }
 {
     let height = bound.height.max(body.height) + 1;
@@ -209,10 +210,10 @@ pub fn fun<'s, 't>(
     binder: Binder,
     body: Parsed,
     rest: &'s [Sign<'t>],
-) -> Result<(Parsed, &'s [Sign<'t>]), Stop>
+) -> Result<(Parsed, &'s [Sign<'t>]), ParseError>
     requires low { body.height < 2 ^ 32 - 1 }
-    requires body { measured body }
-    ensures { Makes (fun_tree at (binder_of binder, tree_of body.tree)) rest.now result }
+    requires body { is_measured body }
+    ensures { MakesTree (fun_tree at (binder_of binder, tree_of body.tree)) rest.now result }
 {
     let height = body.height + 1;
     let (name, ty) = binder.into_parts();
@@ -225,13 +226,13 @@ pub fn fun<'s, 't>(
 pub fn rec<'s, 't>(
     alloc: Global,
     at: u32,
-    head: Head,
+    head: FunctionHead,
     body: Parsed,
     rest: &'s [Sign<'t>],
-) -> Result<(Parsed, &'s [Sign<'t>]), Stop>
+) -> Result<(Parsed, &'s [Sign<'t>]), ParseError>
     requires low { body.height < 2 ^ 32 - 1 }
-    requires body { measured body }
-    ensures { Makes (rec_tree at (head_of head, tree_of body.tree)) rest.now result }
+    requires body { is_measured body }
+    ensures { MakesTree (rec_tree at (head_of head, tree_of body.tree)) rest.now result }
 {
     let height = body.height + 1;
     let (name, argument, result) = head.into_parts();
@@ -256,12 +257,12 @@ pub fn if_else<'s, 't>(
     so: Parsed,
     otherwise: Parsed,
     rest: &'s [Sign<'t>],
-) -> Result<(Parsed, &'s [Sign<'t>]), Stop>
+) -> Result<(Parsed, &'s [Sign<'t>]), ParseError>
     requires low { max test.height (max so.height otherwise.height) < 2 ^ 32 - 1 }
-    requires test { measured test }
-    requires so { measured so }
-    requires otherwise { measured otherwise }
-    ensures { Makes (if_tree at (tree_of test.tree, (tree_of so.tree, tree_of otherwise.tree)))
+    requires test { is_measured test }
+    requires so { is_measured so }
+    requires otherwise { is_measured otherwise }
+    ensures { MakesTree (if_tree at (tree_of test.tree, (tree_of so.tree, tree_of otherwise.tree)))
         rest.now result }
 {
     let height = test.height.max(so.height.max(otherwise.height)) + 1;
@@ -269,20 +270,20 @@ pub fn if_else<'s, 't>(
     made(alloc, at, kind, height, rest)
 }
 
-/// A `marshal`.
+/// A `marshal_at`.
 #[tactic(auto, using(ac_syntax::proofs::ReadLaws::expr_laws))]
-pub fn marshal<'s, 't>(
+pub fn marshal_at<'s, 't>(
     alloc: Global,
     at: u32,
     mark: Parsed,
     value: Parsed,
     ty: SType,
     rest: &'s [Sign<'t>],
-) -> Result<(Parsed, &'s [Sign<'t>]), Stop>
+) -> Result<(Parsed, &'s [Sign<'t>]), ParseError>
     requires low { max mark.height value.height < 2 ^ 32 - 1 }
-    requires mark { measured mark }
-    requires value { measured value }
-    ensures { Makes (marshal_tree at (tree_of mark.tree, (tree_of value.tree, type_of ty)))
+    requires mark { is_measured mark }
+    requires value { is_measured value }
+    ensures { MakesTree (marshal_tree at (tree_of mark.tree, (tree_of value.tree, type_tree_of ty)))
         rest.now result }
 {
     let height = mark.height.max(value.height) + 1;
@@ -290,18 +291,18 @@ pub fn marshal<'s, 't>(
     made(alloc, at, kind, height, rest)
 }
 
-/// An `unmarshal`.
+/// An `unmarshal_at`.
 #[tactic(auto, using(ac_syntax::proofs::ReadLaws::expr_laws))]
-pub fn unmarshal<'s, 't>(
+pub fn unmarshal_at<'s, 't>(
     alloc: Global,
     at: u32,
     text: Parsed,
     ty: SType,
     rest: &'s [Sign<'t>],
-) -> Result<(Parsed, &'s [Sign<'t>]), Stop>
+) -> Result<(Parsed, &'s [Sign<'t>]), ParseError>
     requires low { text.height < 2 ^ 32 - 1 }
-    requires text { measured text }
-    ensures { Makes (unmarshal_tree at (tree_of text.tree, type_of ty)) rest.now result }
+    requires text { is_measured text }
+    ensures { MakesTree (unmarshal_tree at (tree_of text.tree, type_tree_of ty)) rest.now result }
 {
     let height = text.height + 1;
     made(alloc, at, SExprKind::Unmarshal(text.tree, ty), height, rest)
@@ -315,10 +316,10 @@ pub fn raise<'s, 't>(
     exception: Parsed,
     ty: SType,
     rest: &'s [Sign<'t>],
-) -> Result<(Parsed, &'s [Sign<'t>]), Stop>
+) -> Result<(Parsed, &'s [Sign<'t>]), ParseError>
     requires low { exception.height < 2 ^ 32 - 1 }
-    requires exception { measured exception }
-    ensures { Makes (raise_tree at (tree_of exception.tree, type_of ty)) rest.now result }
+    requires exception { is_measured exception }
+    ensures { MakesTree (raise_tree at (tree_of exception.tree, type_tree_of ty)) rest.now result }
 {
     let height = exception.height + 1;
     made(
@@ -338,10 +339,10 @@ pub fn operation<'s, 't>(
     primitive: Primitive,
     operand: Parsed,
     rest: &'s [Sign<'t>],
-) -> Result<(Parsed, &'s [Sign<'t>]), Stop>
+) -> Result<(Parsed, &'s [Sign<'t>]), ParseError>
     requires low { operand.height < 2 ^ 32 - 1 }
-    requires operand { measured operand }
-    ensures { Makes (ExOp at (primitive_number primitive)
+    requires operand { is_measured operand }
+    ensures { MakesTree (ExOp at (primitive_number primitive)
         (tree (tree_of operand.tree) no_trees)) rest.now result }
 {
     let height = operand.height + 1;
@@ -357,10 +358,10 @@ pub fn sequence<'s, 't>(
     parts: Many<SExpr>,
     most: u32,
     rest: &'s [Sign<'t>],
-) -> Result<(Parsed, &'s [Sign<'t>]), Stop>
+) -> Result<(Parsed, &'s [Sign<'t>]), ParseError>
     requires low { most < 2 ^ 32 - 1 }
     requires highest { most ≡ highest (trees (map tree_of parts)) }
-    ensures { Makes (ExSeq at (trees (map tree_of parts))) rest.now result }
+    ensures { MakesTree (ExSeq at (trees (map tree_of parts))) rest.now result }
 {
     made(alloc, at, SExprKind::Seq(parts), most + 1, rest)
 }
@@ -373,7 +374,7 @@ pub fn tuple<'s, 't>(
     parts: Many<SExpr>,
     most: u32,
     rest: &'s [Sign<'t>],
-) -> Result<(Parsed, &'s [Sign<'t>]), Stop>
+) -> Result<(Parsed, &'s [Sign<'t>]), ParseError>
     requires low { most < 2 ^ 32 - 1 }
     requires highest { most ≡ highest (trees (map tree_of parts)) }
     ensures { Closes (ExTuple at (trees (map tree_of parts))) rest.now result }
@@ -389,11 +390,11 @@ pub fn match_with<'s, 't>(
     at: u32,
     choice: Choice,
     rest: &'s [Sign<'t>],
-) -> Result<(Parsed, &'s [Sign<'t>]), Stop>
+) -> Result<(Parsed, &'s [Sign<'t>]), ParseError>
     requires low { max choice.of.height choice.height < 2 ^ 32 - 1 }
-    requires of_tree { measured choice.of }
+    requires of_tree { is_measured choice.of }
     requires arms { choice.height ≡ highest_arm (arm_trees (map arm_tree_of choice.arms)) }
-    ensures { Makes (ExMatch at (tree_of choice.of.tree)
+    ensures { MakesTree (ExMatch at (tree_of choice.of.tree)
         (arm_trees (map arm_tree_of choice.arms))) rest.now result }
 {
     let height = choice.of.height.max(choice.height) + 1;
@@ -413,11 +414,11 @@ pub fn try_with<'s, 't>(
     at: u32,
     choice: Choice,
     rest: &'s [Sign<'t>],
-) -> Result<(Parsed, &'s [Sign<'t>]), Stop>
+) -> Result<(Parsed, &'s [Sign<'t>]), ParseError>
     requires low { max choice.of.height choice.height < 2 ^ 32 - 1 }
-    requires of_tree { measured choice.of }
+    requires of_tree { is_measured choice.of }
     requires arms { choice.height ≡ highest_arm (arm_trees (map arm_tree_of choice.arms)) }
-    ensures { Makes (ExTry at (tree_of choice.of.tree)
+    ensures { MakesTree (ExTry at (tree_of choice.of.tree)
         (arm_trees (map arm_tree_of choice.arms))) rest.now result }
 {
     let height = choice.of.height.max(choice.height) + 1;
@@ -437,8 +438,8 @@ pub fn negative<'s, 't>(
     at: u32,
     n: u64,
     rest: &'s [Sign<'t>],
-) -> Result<(Parsed, &'s [Sign<'t>]), Stop>
-    ensures { Makes (ExInt at (neg_ℤ (pos n))) rest.now result }
+) -> Result<(Parsed, &'s [Sign<'t>]), ParseError>
+    ensures { MakesTree (ExInt at (neg_ℤ (pos n))) rest.now result }
 {
     let n = negated(n)?;
     made(alloc, at, SExprKind::Int(n), 1, rest)
@@ -450,34 +451,34 @@ pub fn unit<'s, 't>(
     alloc: Global,
     at: u32,
     rest: &'s [Sign<'t>],
-) -> Result<(Parsed, &'s [Sign<'t>]), Stop>
-    ensures { Makes (ExUnit at) rest.now result }
+) -> Result<(Parsed, &'s [Sign<'t>]), ParseError>
+    ensures { MakesTree (ExUnit at) rest.now result }
 {
     made(alloc, at, SExprKind::Unit, 1, rest)
 }
 
 /// The empty list of a type.
 #[tactic(auto, using(ac_syntax::proofs::ReadLaws::expr_laws))]
-pub fn nil<'s, 't>(
+pub fn nil_at<'s, 't>(
     alloc: Global,
     at: u32,
     ty: SType,
     rest: &'s [Sign<'t>],
-) -> Result<(Parsed, &'s [Sign<'t>]), Stop>
-    ensures { Makes (ExNil at (type_of ty)) rest.now result }
+) -> Result<(Parsed, &'s [Sign<'t>]), ParseError>
+    ensures { MakesTree (ExNil at (type_tree_of ty)) rest.now result }
 {
     made(alloc, at, SExprKind::Nil(ty), 1, rest)
 }
 
 /// `None` of a type.
 #[tactic(auto, using(ac_syntax::proofs::ReadLaws::expr_laws))]
-pub fn absent<'s, 't>(
+pub fn absent_at<'s, 't>(
     alloc: Global,
     at: u32,
     ty: SType,
     rest: &'s [Sign<'t>],
-) -> Result<(Parsed, &'s [Sign<'t>]), Stop>
-    ensures { Makes (ExAbsent at (type_of ty)) rest.now result }
+) -> Result<(Parsed, &'s [Sign<'t>]), ParseError>
+    ensures { MakesTree (ExAbsent at (type_tree_of ty)) rest.now result }
 {
     made(alloc, at, SExprKind::Absent(ty), 1, rest)
 }
@@ -491,7 +492,7 @@ pub fn with_part(mut parts: Many<SExpr>, part: Parsed) -> Result<Many<SExpr>, Me
 }
 
 /// The trees of two expressions.
-pub fn two(alloc: Global, first: Parsed, second: Parsed) -> Result<Many<SExpr>, Memory>
+pub fn two_trees(alloc: Global, first: Parsed, second: Parsed) -> Result<Many<SExpr>, Memory>
     ensures { IfOk result (λ parts. parts ≡ first.tree ∷ second.tree ∷ []) }
 {
     let parts = with_part(Many::new(alloc), first)?;

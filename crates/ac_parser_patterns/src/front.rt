@@ -5,10 +5,10 @@ ghost use Rattle.ac_syntax.specs.Expressions.{begins_atom, symbol_begins_atom, f
 ghost use Rattle.ac_syntax.specs.ReadSigns.{read_signs};
 ghost use Rattle.ac_syntax.specs.ReadTrees.{name_of};
 ghost use Rattle.ac_syntax.specs.PartParsing.{SymbolAt, NoSymbol};
-ghost use Rattle.ac_parser_patterns.specs.Reading.{Taken, Finds, Reads};
+ghost use Rattle.ac_parser_patterns.specs.Reading.{TakenSigns, FindsOr, ReadsKind};
 ghost use Rattle.ac_parser_patterns.specs.Pieces.{IsName, NumberAt, NoNumber, LoneNumber, NoLoneNumber, begins_lower, IsPrefix, PrefixAt, NoPrefix};
 
-use ac_syntax::{SName, Sign, SignKind, Stop, Symbol, after, next, next_name, refused_at};
+use ac_syntax::{ParseError, SName, Sign, SignKind, Symbol, after, next, next_name, refused_at};
 use ac_types::{Memory, TextExn};
 use std::alloc::Global;
 
@@ -20,8 +20,8 @@ pub enum Prefix {
 }
 
 /// What stands behind this symbol, which must stand here.
-pub fn expect<'s, 't>(symbol: Symbol, signs: &'s [Sign<'t>]) -> Result<&'s [Sign<'t>], Stop>
-    ensures { Finds result (λ rest. Taken (SymbolAt symbol) signs.now rest.now)
+pub fn expect<'s, 't>(symbol: Symbol, signs: &'s [Sign<'t>]) -> Result<&'s [Sign<'t>], ParseError>
+    ensures { FindsOr result (λ rest. TakenSigns (SymbolAt symbol) signs.now rest.now)
         (NoSymbol symbol (read_signs signs.now)) }
 {
     match after(symbol, signs) {
@@ -35,8 +35,8 @@ pub fn followed<'s, 't, T: Drop>(
     symbol: Symbol,
     item: T,
     signs: &'s [Sign<'t>],
-) -> Result<(T, &'s [Sign<'t>]), Stop>
-    ensures { Finds result (λ x. (x.0 ≡ item) × Taken (SymbolAt symbol) signs.now x.1.now)
+) -> Result<(T, &'s [Sign<'t>]), ParseError>
+    ensures { FindsOr result (λ x. (x.0 ≡ item) × TakenSigns (SymbolAt symbol) signs.now x.1.now)
         (NoSymbol symbol (read_signs signs.now)) }
 {
     let rest = expect(symbol, signs)?;
@@ -44,8 +44,11 @@ pub fn followed<'s, 't, T: Drop>(
 }
 
 /// A lower name, which must stand here.
-pub fn name<'s, 't>(alloc: Global, signs: &'s [Sign<'t>]) -> Result<(SName, &'s [Sign<'t>]), Stop>
-    ensures { Reads IsName name_of signs.now result }
+pub fn lower_name<'s, 't>(
+    alloc: Global,
+    signs: &'s [Sign<'t>],
+) -> Result<(SName, &'s [Sign<'t>]), ParseError>
+    ensures { ReadsKind IsName name_of signs.now result }
 {
     match next_name(alloc, signs)? {
         Some(found) => Ok(found),
@@ -139,7 +142,7 @@ pub fn ends_part(signs: &[Sign<'_>]) -> bool
 /// A number at the front.
 pub fn next_number<'s, 't>(signs: &'s [Sign<'t>]) -> Option<(u64, &'s [Sign<'t>])>
     ensures { MatchOption result (NoNumber (read_signs signs.now))
-        (λ x. Taken (NumberAt x.0) signs.now x.1.now) }
+        (λ x. TakenSigns (NumberAt x.0) signs.now x.1.now) }
 {
     let (first, rest) = next(signs)?;
     let SignKind::Int(n) = first.kind else {
@@ -151,7 +154,7 @@ pub fn next_number<'s, 't>(signs: &'s [Sign<'t>]) -> Option<(u64, &'s [Sign<'t>]
 /// A number at the front, behind which no atom begins.
 pub fn lone_number<'s, 't>(signs: &'s [Sign<'t>]) -> Option<(u64, &'s [Sign<'t>])>
     ensures { MatchOption result (NoLoneNumber (read_signs signs.now))
-        (λ x. Taken (LoneNumber x.0) signs.now x.1.now) }
+        (λ x. TakenSigns (LoneNumber x.0) signs.now x.1.now) }
 {
     let (n, rest) = next_number(signs)?;
     if begins_atom(rest) {
@@ -196,7 +199,7 @@ fn prefix_of(symbol: Symbol) -> Option<Prefix>
 /// A word that takes one argument at the front, with its place.
 pub fn next_prefix<'s, 't>(signs: &'s [Sign<'t>]) -> Option<(Prefix, u32, &'s [Sign<'t>])>
     ensures { MatchOption result (NoPrefix (read_signs signs.now))
-        (λ x. Taken (PrefixAt x.0 x.1) signs.now x.2.now) }
+        (λ x. TakenSigns (PrefixAt x.0 x.1) signs.now x.2.now) }
 {
     let (first, rest) = next(signs)?;
     let SignKind::Fixed(symbol) = first.kind else {

@@ -8,7 +8,7 @@ ghost use Rattle.ac_syntax.specs.Patterns.{Pattern, Prefixed, Single, IsPatTree,
 ghost use Rattle.ac_syntax.specs.ReadSigns.{read_signs};
 ghost use Rattle.ac_syntax.specs.ReadTrees.{pat_of, pat_kind_of};
 ghost use Rattle.ac_syntax.specs.PartParsing.{NoSymbol};
-ghost use Rattle.ac_parser_patterns.specs.Reading.{Nothing, ReadsOr, Reads};
+ghost use Rattle.ac_parser_patterns.specs.Reading.{Nothing, ReadsOr, ReadsKind};
 ghost use Rattle.ac_parser_patterns.specs.PatternPieces.{prefixed_pat, base_pat, PatLeafAt, NoPatLeaf, IsPats, PatTupleOf, PatVarAt, pat_measured, ReadsPatOr, ReadsPat, MakesPat, ClosesPat};
 ghost use Rattle.ac_parser_patterns.specs.Pieces.{Before, IsTypedBinder, begins_lower, Past};
 
@@ -16,9 +16,11 @@ use crate::binders::typed;
 use crate::front::{
     Prefix, begins_name, constant, expect, followed, negated, next_number, next_prefix,
 };
-use ac_syntax::{SPat, SPatKind, Sign, SignKind, Stop, Symbol, after, here, next, refused_at};
+use ac_syntax::{
+    ParseError, SPat, SPatKind, Sign, SignKind, Symbol, after, here, next, refused_at,
+};
 use ac_types::limits::HIGHEST_PATTERN;
-use ac_types::{BareExn, Box, Many, Memory, both};
+use ac_types::{BareExn, Boxed, Many, Memory, both};
 use std::alloc::Global;
 
 /// A pattern, and its height.
@@ -52,15 +54,15 @@ fn cons<'s, 't>(
     head: ParsedPat,
     tail: ParsedPat,
     rest: &'s [Sign<'t>],
-) -> Result<(ParsedPat, &'s [Sign<'t>]), Stop>
+) -> Result<(ParsedPat, &'s [Sign<'t>]), ParseError>
     requires low { max head.height tail.height < 2 ^ 32 - 1 }
     requires head { pat_measured head }
     requires tail { pat_measured tail }
     ensures { MakesPat (PatCons at (pat_of head.tree) (pat_of tail.tree)) rest.now result }
 {
     let height = head.height.max(tail.height) + 1;
-    let head = Box::new(alloc, head.into_tree());
-    let tail = Box::new(alloc, tail.into_tree());
+    let head = Boxed::new(alloc, head.into_tree());
+    let tail = Boxed::new(alloc, tail.into_tree());
     let (head, tail) = both(head, tail)?;
     let kind = SPatKind::Cons(head, tail);
     let tree = SPat { at, kind };
@@ -75,13 +77,13 @@ fn prefixed_by<'s, 't>(
     prefix: Prefix,
     item: ParsedPat,
     rest: &'s [Sign<'t>],
-) -> Result<(ParsedPat, &'s [Sign<'t>]), Stop>
+) -> Result<(ParsedPat, &'s [Sign<'t>]), ParseError>
     requires low { item.height < 2 ^ 32 - 1 }
     requires item { pat_measured item }
     ensures { MakesPat (prefixed_pat prefix at (pat_of item.tree)) rest.now result }
 {
     let height = item.height + 1;
-    let item = Box::new(alloc, item.into_tree())?;
+    let item = Boxed::new(alloc, item.into_tree())?;
     match prefix {
         Prefix::Present => {
             let kind = SPatKind::Present(item);
@@ -102,7 +104,7 @@ fn variable<'s, 't>(
     alloc: Global,
     at: u32,
     signs: &'s [Sign<'t>],
-) -> Result<(ParsedPat, &'s [Sign<'t>]), Stop>
+) -> Result<(ParsedPat, &'s [Sign<'t>]), ParseError>
     ensures { ReadsPatOr (Nothing (IsTypedBinder Symbol.Close)) (PatVarAt at) signs.now result }
 {
     let (binder, rest) = typed(alloc, Symbol::Close, signs)?;
@@ -135,7 +137,7 @@ fn closed<'s, 't>(
     parts: Many<SPat>,
     most: u32,
     signs: &'s [Sign<'t>],
-) -> Result<(ParsedPat, &'s [Sign<'t>]), Stop>
+) -> Result<(ParsedPat, &'s [Sign<'t>]), ParseError>
     requires low { most < 2 ^ 32 - 1 }
     requires highest { most ≡ highest_pat (pat_trees (map pat_of parts)) }
     ensures { ClosesPat (PatTuple at (pat_trees (map pat_of parts))) signs.now result }
@@ -166,7 +168,7 @@ fn base_kind(symbol: Symbol) -> Option<SPatKind>
 }
 
 // A number behind its `-`.
-fn negative<'s, 't>(at: u32, signs: &'s [Sign<'t>]) -> Result<(SPat, &'s [Sign<'t>]), Stop>
+fn negative<'s, 't>(at: u32, signs: &'s [Sign<'t>]) -> Result<(SPat, &'s [Sign<'t>]), ParseError>
     ensures { ReadsOr (λ ts. NoPatLeaf (Fixed at Symbol.Minus ∷ ts))
         (Past (Fixed at Symbol.Minus) PatLeafAt) pat_of signs.now result }
 {
@@ -178,7 +180,7 @@ fn negative<'s, 't>(at: u32, signs: &'s [Sign<'t>]) -> Result<(SPat, &'s [Sign<'
 }
 
 // The empty list: what stands behind a `[`.
-fn nil<'s, 't>(at: u32, signs: &'s [Sign<'t>]) -> Result<(SPat, &'s [Sign<'t>]), Stop>
+fn nil<'s, 't>(at: u32, signs: &'s [Sign<'t>]) -> Result<(SPat, &'s [Sign<'t>]), ParseError>
     ensures { ReadsOr (λ ts. NoPatLeaf (Fixed at Symbol.OpenSquare ∷ ts))
         (Past (Fixed at Symbol.OpenSquare) PatLeafAt) pat_of signs.now result }
 {
@@ -188,7 +190,10 @@ fn nil<'s, 't>(at: u32, signs: &'s [Sign<'t>]) -> Result<(SPat, &'s [Sign<'t>]),
 }
 
 // A pattern that is one sign.
-fn one_sign<'s, 't>(alloc: Global, signs: &'s [Sign<'t>]) -> Result<(SPat, &'s [Sign<'t>]), Stop>
+fn one_sign<'s, 't>(
+    alloc: Global,
+    signs: &'s [Sign<'t>],
+) -> Result<(SPat, &'s [Sign<'t>]), ParseError>
     ensures { ReadsOr (λ ts. NoSymbol Symbol.Open ts → NoSymbol Symbol.Minus ts →
         NoSymbol Symbol.OpenSquare ts → NoPatLeaf ts) PatLeafAt pat_of signs.now result }
 {
@@ -214,7 +219,7 @@ fn one_sign<'s, 't>(alloc: Global, signs: &'s [Sign<'t>]) -> Result<(SPat, &'s [
 }
 
 // A pattern that is a leaf and begins with no `(`.
-fn leaf<'s, 't>(alloc: Global, signs: &'s [Sign<'t>]) -> Result<(SPat, &'s [Sign<'t>]), Stop>
+fn leaf<'s, 't>(alloc: Global, signs: &'s [Sign<'t>]) -> Result<(SPat, &'s [Sign<'t>]), ParseError>
     ensures { ReadsOr (λ ts. NoSymbol Symbol.Open ts → NoPatLeaf ts) PatLeafAt pat_of
         signs.now result }
 {
@@ -236,7 +241,7 @@ fn tuple<'s, 't>(
     at: u32,
     first: ParsedPat,
     signs: &'s [Sign<'t>],
-) -> Result<(ParsedPat, &'s [Sign<'t>]), Stop>
+) -> Result<(ParsedPat, &'s [Sign<'t>]), ParseError>
     requires low { first.height < depth }
     requires first { pat_measured first }
     ensures { ReadsPatOr (Nothing (IsPats (depth - 1)))
@@ -261,7 +266,7 @@ fn enclosed<'s, 't>(
     depth: u32,
     at: u32,
     signs: &'s [Sign<'t>],
-) -> Result<(ParsedPat, &'s [Sign<'t>]), Stop>
+) -> Result<(ParsedPat, &'s [Sign<'t>]), ParseError>
     requires unclosed { NoSymbol Symbol.Close (read_signs signs.now) }
     requires no_name { begins_lower (read_signs signs.now) ≡ false }
     ensures { ReadsPat (Past (Fixed at Symbol.Open) (IsPatTree depth Single)) signs.now result }
@@ -284,7 +289,7 @@ fn opened<'s, 't>(
     depth: u32,
     at: u32,
     signs: &'s [Sign<'t>],
-) -> Result<(ParsedPat, &'s [Sign<'t>]), Stop>
+) -> Result<(ParsedPat, &'s [Sign<'t>]), ParseError>
     requires { 0 < depth }
     ensures { ReadsPat (Past (Fixed at Symbol.Open) (IsPatTree depth Single)) signs.now result }
 {
@@ -305,7 +310,7 @@ fn single<'s, 't>(
     alloc: Global,
     depth: u32,
     signs: &'s [Sign<'t>],
-) -> Result<(ParsedPat, &'s [Sign<'t>]), Stop>
+) -> Result<(ParsedPat, &'s [Sign<'t>]), ParseError>
     ensures { ReadsPat (IsPatTree depth Single) signs.now result }
 {
     if depth == 0 {
@@ -324,7 +329,7 @@ fn prefixed<'s, 't>(
     alloc: Global,
     depth: u32,
     signs: &'s [Sign<'t>],
-) -> Result<(ParsedPat, &'s [Sign<'t>]), Stop>
+) -> Result<(ParsedPat, &'s [Sign<'t>]), ParseError>
     ensures { ReadsPat (IsPatTree depth Prefixed) signs.now result }
 {
     let Some((prefix, at, behind)) = next_prefix(signs) else {
@@ -343,7 +348,7 @@ fn whole<'s, 't>(
     alloc: Global,
     depth: u32,
     signs: &'s [Sign<'t>],
-) -> Result<(ParsedPat, &'s [Sign<'t>]), Stop>
+) -> Result<(ParsedPat, &'s [Sign<'t>]), ParseError>
     ensures { ReadsPat (IsPatTree depth Pattern) signs.now result }
 {
     let (head, rest) = prefixed(alloc, depth, signs)?;
@@ -360,8 +365,11 @@ fn whole<'s, 't>(
 /// The pattern at the front, taken as long as it can be, and what is left. It has a height of at
 /// most `HIGHEST_PATTERN`.
 /// `Syntax` where no pattern stands there.
-pub fn pattern<'s, 't>(alloc: Global, signs: &'s [Sign<'t>]) -> Result<(SPat, &'s [Sign<'t>]), Stop>
-    ensures { Reads IsPattern pat_of signs.now result }
+pub fn pattern<'s, 't>(
+    alloc: Global,
+    signs: &'s [Sign<'t>],
+) -> Result<(SPat, &'s [Sign<'t>]), ParseError>
+    ensures { ReadsKind IsPattern pat_of signs.now result }
 {
     let (parsed, rest) = whole(alloc, HIGHEST_PATTERN, signs)?;
     Ok((parsed.into_tree(), rest))
@@ -371,8 +379,8 @@ pub fn pattern<'s, 't>(alloc: Global, signs: &'s [Sign<'t>]) -> Result<(SPat, &'
 pub fn arm_pattern<'s, 't>(
     alloc: Global,
     signs: &'s [Sign<'t>],
-) -> Result<(SPat, &'s [Sign<'t>]), Stop>
-    ensures { Reads (Before Symbol.Arrow IsPattern) pat_of signs.now result }
+) -> Result<(SPat, &'s [Sign<'t>]), ParseError>
+    ensures { ReadsKind (Before Symbol.Arrow IsPattern) pat_of signs.now result }
 {
     let (pat, behind) = pattern(alloc, signs)?;
     followed(Symbol::Arrow, pat, behind)

@@ -16,7 +16,7 @@ use Rattle.ac_terms.specs.Spelling.{two_written}
 use Rattle.ac_terms.specs.Nesting.{value_nesting}
 use Rattle.ac_terms.specs.Bounds.{nests_little, fits_packet}
 use Rattle.ac_terms.specs.HeadsBy.{Head, next_head, type_heads, value_heads}
-use Rattle.ac_terms.specs.Tables.{places, numbered, in_full, tabled_bytes, SpellsByTable}
+use Rattle.ac_terms.specs.Tables.{type_places, numbered, in_full, tabled_bytes, SpellsByTable}
 use Rattle.ac_terms.proofs.HeadLawsBy.{value_deep}
 use Rattle.ac_terms.proofs.HeadsAlike.{Shape, shapes, packed_alike}
 use Rattle.ac_terms.proofs.TestLaws.{lt_true, lt_is, not_false}
@@ -43,21 +43,21 @@ pub record IsGivenTabled (E : Environment) (mark : Bytes) (T : Typ) (v : PValue)
   pub defs_nest : list_all nests_little (packet_for E at T v).defs ≡ true
   pub spelled : s ≡ tabled_bytes (packet_for E at T v)
   pub short : length s ≤ longest_tabled
-  pub spread : in_full (places (packet_for E at T v)) ≤ longest_tabled
+  pub spread : in_full (type_places (packet_for E at T v)) ≤ longest_tabled
 
 neither : (a b : Bool) → (a || b) ≡ false → (a ≡ false) × (b ≡ false)
 neither true b e = absurd (true≢false e)
 neither false b e = (refl, e)
 
 whole_gives : (p : Packet) (s : Bytes) → whole_tabled p (whole_tabled_fault p) ≡ AString s →
-    (list_all nests_little p.defs ≡ true) × (s ≡ tabled_bytes p) × (length s ≤ longest_tabled) × (in_full (places p) ≤ longest_tabled)
+    (list_all nests_little p.defs ≡ true) × (s ≡ tabled_bytes p) × (length s ≤ longest_tabled) × (in_full (type_places p) ≤ longest_tabled)
 whole_gives p s e = by (whole_tabled_fault p) refl e
   where
-    by : (o : Option Fault) → whole_tabled_fault p ≡ o → whole_tabled p o ≡ AString s → (list_all nests_little p.defs ≡ true) × (s ≡ tabled_bytes p) × (length s ≤ longest_tabled) × (in_full (places p) ≤ longest_tabled)
+    by : (o : Option Fault) → whole_tabled_fault p ≡ o → whole_tabled p o ≡ AString s → (list_all nests_little p.defs ≡ true) × (s ≡ tabled_bytes p) × (length s ≤ longest_tabled) × (in_full (type_places p) ≤ longest_tabled)
     by (Some f) q h = absurd (no_string≢a_string h)
     by None q h =
         let long : Bool = nat_lt longest_tabled (length (tabled_bytes p)) in
-        let wide : Bool = nat_lt longest_tabled (in_full (places p)) in
+        let wide : Bool = nat_lt longest_tabled (in_full (type_places p)) in
         let a = both_none (given (not (list_all nests_little p.defs)) (Some Depth)) _ q in
         let b = both_none (given (long || wide) (Some Size)) None a.1 in
         let n = neither long wide (given_none (long || wide) Size b.0) in
@@ -65,7 +65,7 @@ whole_gives p s e = by (whole_tabled_fault p) refl e
           not_false (list_all nests_little p.defs) (given_none (not (list_all nests_little p.defs)) Depth a.0),
           same,
           subst (λ x. length x ≤ longest_tabled) (sym same) (not_more (length (tabled_bytes p)) longest_tabled n.0),
-          not_more (in_full (places p)) longest_tabled n.1,
+          not_more (in_full (type_places p)) longest_tabled n.1,
         )
 
 pub gives_tabled : (E : Environment) (mark : Bytes) (T : Typ) (v : PValue) (s : Bytes) → marshalled_tabled E mark T v ≡ AString s → IsGivenTabled E mark T v s

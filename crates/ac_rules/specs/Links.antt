@@ -5,7 +5,7 @@ use Rattle.ac_types.specs.Partial.{first_failing, first_some, agree}
 use Rattle.ac_types.specs.Types.{Bytes, Typ, same, same_bytes}
 use Rattle.ac_types.specs.Sigs.{Signature, Sig_type, Typed_name, Range, Constraint, Ranges, Exact, Resolve, StaticLink, HereAlready, Uri, named_type, type_under, is_manifest, is_abstract, equal_under}
 use Rattle.ac_terms.specs.Defs.{Environment, Entry, Module, Import, Seen, Own', Shelf, Arrived, module_at, name_at, names}
-use Rattle.ac_version.specs.Versions.{fit}
+use Rattle.ac_version.specs.Versions.{atoms_fit}
 
 -- the conditions of a link, in order; a spec is counted among the import's types and then its values, an abstract type among its types
 pub data Link_fault : Type 0 where
@@ -60,7 +60,7 @@ fails false f = Some f
 abbrev pub by_version : Module → Import → List Range → Bool → List (Option Link_fault)
 by_version m i rs star =
     fails (same_bytes m.name i.name) External ∷
-    fails (fit rs star m.version) Version ∷
+    fails (atoms_fit rs star m.version) Version ∷
     option_map Spec (missing_spec false m.sig i.sig) ∷
     option_map Like (unlike m i) ∷ []
 

@@ -9,7 +9,7 @@ use Rattle.ac_terms.specs.Defs.{Environment, Packet}
 use Rattle.ac_terms.specs.Spelling.{two_written, four_written}
 use Rattle.ac_terms.specs.Bounds.{nests_little}
 use Rattle.ac_terms.specs.HeadsBy.{Head, type_heads, value_heads}
-use Rattle.ac_terms.specs.Tables.{places, in_full, tabled_bytes}
+use Rattle.ac_terms.specs.Tables.{type_places, in_full, tabled_bytes}
 use Rattle.ac_rules.specs.Needed.{mark_at, packet_for}
 use Rattle.ac_rules.specs.Faults.{Fault, NoMark, Depth, Size, first_fault, Marshalled, NoString, AString}
 
@@ -24,7 +24,7 @@ numbered_heads T v = type_heads as_number T ++ value_heads as_number two_written
 -- after the last part: a definition that nests too far; then the size of the whole, or of the types added up over their places
 abbrev pub whole_tabled_fault : Packet → Option Fault
 whole_tabled_fault p =
-    first_some (given (not (list_all nests_little p.defs)) (Some Depth) ∷ given (nat_lt longest_tabled (length (tabled_bytes p)) || nat_lt longest_tabled (in_full (places p))) (Some Size) ∷ [])
+    first_some (given (not (list_all nests_little p.defs)) (Some Depth) ∷ given (nat_lt longest_tabled (length (tabled_bytes p)) || nat_lt longest_tabled (in_full (type_places p))) (Some Size) ∷ [])
 
 -- the first of all faults of a packed value v at type T as cut by the mark of that name, over E; else the string that spells the packet with a table
 abbrev pub whole_tabled : Packet → Option Fault → Marshalled

@@ -17,10 +17,10 @@ use Rattle.ac_rules.specs.Faults.{Marshalled, NoString, AString}
 use Rattle.ac_meaning.specs.Worlds.{Exception, Crossing, Made}
 use Rattle.ac_meaning.specs.ReadExn.{exn_of}
 use Rattle.ac_meaning.specs.Packing.{CannotPack, Packs, answer, of_fault, Landing, Sinks, Lands}
-use Rattle.ac_simulation.specs.Running.{with_more}
-use Rattle.ac_crossing.specs.Crossing.{Departs, HasLanded, Enters}
-use Rattle.ac_crossing.specs.declared.fault.CrossFault.{CrossFault}
-use Rattle.ac_crossing.specs.declared.fault.CrossFault.TheVariants as fault
+use Rattle.ac_machine_proof.specs.Running.{with_more}
+use Rattle.ac_pack.specs.Crossing.{Departs, HasLanded, Enters}
+use Rattle.ac_pack.specs.declared.fault.CrossFault.{CrossFault}
+use Rattle.ac_pack.specs.declared.fault.CrossFault.TheVariants as fault
 use Rattle.ac_run.specs.inner.Crossed.{Answered, Marshals, Unmarshals}
 use Rattle.ac_run.specs.inner.Notes.{HasTaken, Notes}
 use Rattle.ac_run.specs.inner.Turns.{Served}

@@ -2,7 +2,7 @@
 use Rattle.std.proofs.Common.{◌≡◌, ◌<◌, ◌≤◌, ◌+◌, ◌-◌, ℕ, max, List, [], ◌∷◌, ◌++◌, Some, None, refl, sym, ◌∙◌, ap, subst, arith}
 use Rattle.ac_types.specs.Types.{Bytes}
 use Rattle.ac_syntax.specs.Signs.{Sign, Lower, Upper, Fixed, here}
-use Rattle.ac_syntax.specs.Trees.{NameAt, TypeTree, TyInt, TyBool, TyStr, TyUnit, TyExn, TyLocal, TyOf, TyTuple, TyList, TyOpt, TyFun, TypeTrees, no_type_trees, type_tree, type_trees, type_height, highest_type}
+use Rattle.ac_syntax.specs.Trees.{NameAt, TypeTree, TyInt, TyBool, TyStr, TyUnit, TyExn, TyLocal, TyOf, TyTuple, TyList, TyOpt, TyFun, TypeTrees, no_type_trees, type_tree, type_trees, type_height, highest_type_tree}
 use Rattle.ac_syntax.specs.TypeForms.{TypeLevel, Whole, Product, Suffixed, Suffixes, Single, ParsesType, ParsesFactors, no_arrow, arrow, one_factor, factors, suffixed, no_suffix, list_of, option_of, int, bool, string, unit, exn, local, of_module, parens, last_factor, more_factors, type_front, TypeStops, IsTypeTree}
 use Rattle.ac_types.proofs.FirstLaws.{some_eq}
 use Rattle.ac_syntax.specs.PartParsing.{LowerAt, NoLower, SymbolAt, NoSymbol, NoType, LeafAt, Enclosed, NoLeaf, base_type, suffix_symbol, suffixed_by, NoSuffix, TupleOf, NoFactors}
@@ -184,13 +184,13 @@ pub record Left (D : ℕ) (done : List TypeTree) (rest : List Sign) (us : TypeTr
   pub left : TypeTrees
   pub is : us ≡ behind done left
   pub parses : ParsesFactors rest left s
-  pub low : highest_type left ≤ D
+  pub low : highest_type_tree left ≤ D
 
 pub record FactorsSoFar (D : ℕ) (first : TypeTree) (ts : List Sign) (parts : List TypeTree) (rest : List Sign) : Type 0 where
   pub done : List TypeTree
   pub is : parts ≡ first ∷ done
   pub back : (us : TypeTrees) (s : List Sign) → ParsesFactors rest us s → ParsesFactors ts (behind done us) s
-  pub forth : (us : TypeTrees) (s : List Sign) → ParsesFactors ts us s → 2 < type_front s → highest_type us ≤ D → Left D done rest us s
+  pub forth : (us : TypeTrees) (s : List Sign) → ParsesFactors ts us s → 2 < type_front s → highest_type_tree us ≤ D → Left D done rest us s
 
 pub no_factors_yet : (D : ℕ) (first : TypeTree) (ts : List Sign) → FactorsSoFar D first ts (first ∷ []) ts
 no_factors_yet D first ts = record {
@@ -205,7 +205,7 @@ record Factor (D : ℕ) (ts : List Sign) : Type 0 where
   rest : List Sign
   tree : IsTypeTree D Suffixed ts first rest
 
-factor_of : (D : ℕ) {ts s : List Sign} {us : TypeTrees} → ParsesFactors ts us s → 2 < type_front s → highest_type us ≤ D → Factor D ts
+factor_of : (D : ℕ) {ts s : List Sign} {us : TypeTrees} → ParsesFactors ts us s → 2 < type_front s → highest_type_tree us ≤ D → Factor D ts
 factor_of D (last_factor p) x low = record { first = _; rest = _; tree = record { parses = p; stops = omega arith; low = omega arith } }
 factor_of D (more_factors p q) x low = record { first = _; rest = _; tree = record { parses = p; stops = omega arith; low = omega arith } }
 
@@ -213,10 +213,10 @@ record After (D : ℕ) (t : TypeTree) (next : List Sign) (us : TypeTrees) (s : L
   left : TypeTrees
   is : us ≡ type_tree t left
   parses : ParsesFactors next left s
-  low : highest_type left ≤ D
+  low : highest_type_tree left ≤ D
 
 after_factor : (D : ℕ) {ts later next s : List Sign} {t : TypeTree} {us : TypeTrees} {a : ℕ} → ParsesType Suffixed ts t later → TypeStops Suffixed later → later ≡ Fixed a Star ∷ next
-    → ParsesFactors ts us s → 2 < type_front s → highest_type us ≤ D → After D t next us s
+    → ParsesFactors ts us s → 2 < type_front s → highest_type_tree us ≤ D → After D t next us s
 after_factor D p h is (last_factor q) x low = star_goes_on _ _ ((unique_type q p (omega arith) h).rest ∙ is) x
 after_factor D p h is (more_factors q w) x low =
     let d = unique_type q p (omega arith) h in
@@ -243,7 +243,7 @@ module _ (D : ℕ) (first : TypeTree) (ts : List Sign) (parts : List TypeTree) (
           record { left = f.left; is = l.is ∙ ap (behind so.done) f.is ∙ sym (behind_one_more so.done t f.left); parses = f.parses; low = f.low };
     }
 
-    pub all_factors : (E at : ℕ) → NoSymbol Star later → highest_type (type_trees (parts ++ t ∷ [])) + 1 ≤ E → TupleOf E at first ts (TyTuple at (type_trees (parts ++ t ∷ []))) later
+    pub all_factors : (E at : ℕ) → NoSymbol Star later → highest_type_tree (type_trees (parts ++ t ∷ [])) + 1 ≤ E → TupleOf E at first ts (TyTuple at (type_trees (parts ++ t ∷ []))) later
     all_factors E at none low = record {
       others = behind so.done (type_tree t no_type_trees);
       parses = so.back _ later (last_factor o.parses);
@@ -274,17 +274,17 @@ module _ (D : ℕ) (first : TypeTree) (ts : List Sign) (parts : List TypeTree) (
   pub next_none : (next : List Sign) → SymbolAt Star rest next → NoType D Suffixed next → NoFactors D ts
   next_none next at none = factors_none D first ts parts next (so_far_at next at) none
 
-  pub all_read : (E at : ℕ) → NoSymbol Star rest → highest_type (type_trees parts) + 1 ≤ E → TupleOf E at first ts (TyTuple at (type_trees parts)) rest
+  pub all_read : (E at : ℕ) → NoSymbol Star rest → highest_type_tree (type_trees parts) + 1 ≤ E → TupleOf E at first ts (TyTuple at (type_trees parts)) rest
   all_read E at none low =
       subst (λ (l : List TypeTree). TupleOf E at first ts (TyTuple at (type_trees l)) rest) (sym r.is)
-      (all_factors D first ts r.before r.start r.so_far r.last rest r.tree E at none (subst (λ (l : List TypeTree). highest_type (type_trees l) + 1 ≤ E) r.is low))
+      (all_factors D first ts r.before r.start r.so_far r.last rest r.tree E at none (subst (λ (l : List TypeTree). highest_type_tree (type_trees l) + 1 ≤ E) r.is low))
 
-highest_one_more : (ts : List TypeTree) (t : TypeTree) → highest_type (type_trees (ts ++ t ∷ [])) ≡ max (highest_type (type_trees ts)) (type_height t)
+highest_one_more : (ts : List TypeTree) (t : TypeTree) → highest_type_tree (type_trees (ts ++ t ∷ [])) ≡ max (highest_type_tree (type_trees ts)) (type_height t)
 highest_one_more [] t = omega arith
 highest_one_more (u ∷ ts) t = let h = highest_one_more ts t in omega arith
 
-pub highest_next : (parts : List TypeTree) (t : TypeTree) (all : List TypeTree) (n m k : ℕ) → all ≡ parts ++ t ∷ [] → n ≡ highest_type (type_trees parts) → m ≡ type_height t → k ≡ max n m → k ≡ highest_type (type_trees all)
-highest_next parts t all n m k is n_is m_is k_is = omega (arith, ap (λ (l : List TypeTree). highest_type (type_trees l)) is, highest_one_more parts t)
+pub highest_next : (parts : List TypeTree) (t : TypeTree) (all : List TypeTree) (n m k : ℕ) → all ≡ parts ++ t ∷ [] → n ≡ highest_type_tree (type_trees parts) → m ≡ type_height t → k ≡ max n m → k ≡ highest_type_tree (type_trees all)
+highest_next parts t all n m k is n_is m_is k_is = omega (arith, ap (λ (l : List TypeTree). highest_type_tree (type_trees l)) is, highest_one_more parts t)
 
 -- suffixes
 

@@ -29,7 +29,7 @@ use Rattle.ac_types.specs.Limits.{highest_expression}
 use Rattle.ac_types.specs.Types.{Bytes}
 use Rattle.ac_syntax.specs.Signs.{Sign, Int, Str, Lower, Upper, Fixed, here}
 use Rattle.ac_types.specs.Primitives as primitives
-use Rattle.ac_syntax.specs.Trees.{TypeTree, PatTree, Tree, ExInt, ExBool, ExStr, ExUnit, ExExn, ExExnOf, ExTuple, ExNil, ExAbsent, ExPresent, ExCons, ExVar, ExOf, ExFun, ExRec, ExApp, ExLet, ExLetRec, ExIf, ExSeq, ExMatch, ExTry, ExRaise, ExAnd, ExOr, ExOp, ExMarshal, ExUnmarshal, Trees, no_trees, tree, ArmTrees, no_arm_trees, arm_tree, height}
+use Rattle.ac_syntax.specs.Trees.{TypeTree, PatTree, Tree, ExInt, ExBool, ExStr, ExUnit, ExExn, ExExnOf, ExTuple, ExNil, ExAbsent, ExPresent, ExCons, ExVar, ExOf, ExFun, ExRec, ExApp, ExLet, ExLetRec, ExIf, ExSeq, ExMatch, ExTry, ExRaise, ExAnd, ExOr, ExOp, ExMarshal, ExUnmarshal, Trees, no_trees, tree, ArmTrees, no_arm_trees, arm_tree, tree_height}
 use Rattle.ac_syntax.specs.TypeForms.{IsType}
 use Rattle.ac_syntax.specs.Patterns.{IsPattern, exception_sign, exception_with_string}
 use Rattle.ac_syntax.specs.declared.sign.Symbol.{Symbol}
@@ -253,7 +253,7 @@ pub record IsTree (depth : ℕ) (level : Level) (ts : List Sign) (e : Tree) (res
   pub ending : Ending
   pub parses : Parses level ending ts e rest
   pub stops : Stops level ending rest
-  pub low : height e ≤ depth
+  pub low : tree_height e ≤ depth
 
 -- an expression, of a height of at most `highest_expression`
 abbrev pub IsExpr : List Sign → Tree → List Sign → Type 0

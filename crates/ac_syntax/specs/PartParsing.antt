@@ -1,7 +1,7 @@
 -- What the parsers may answer.
 use Rattle.std.specs.Prelude.{◌≡◌, ℕ, ◌<◌, ◌≤◌, List, ◌∷◌, Option, Some, None}
 use Rattle.ac_syntax.specs.Signs.{Sign, Lower, Fixed}
-use Rattle.ac_syntax.specs.Trees.{NameAt, TypeTree, TyInt, TyBool, TyStr, TyUnit, TyExn, TyTuple, TyList, TyOpt, TypeTrees, type_tree, type_height, highest_type}
+use Rattle.ac_syntax.specs.Trees.{NameAt, TypeTree, TyInt, TyBool, TyStr, TyUnit, TyExn, TyTuple, TyList, TyOpt, TypeTrees, type_tree, type_height, highest_type_tree}
 use Rattle.ac_syntax.specs.TypeForms.{TypeLevel, Whole, Single, ParsesType, ParsesFactors, type_front, IsTypeTree}
 use Rattle.ac_syntax.specs.Trees.{SpecTree, SigTree}
 use Rattle.ac_syntax.specs.Programs.{ParsesSpecs, IsSig}
@@ -11,11 +11,11 @@ use Rattle.ac_syntax.specs.declared.sign.Symbol.{Symbol}
 use Rattle.ac_syntax.specs.declared.sign.Symbol.TheVariants.{Open, Close, IntType, BoolType, StringType, UnitType, ExnType, ListType, OptionType}
 use Rattle.ac_syntax.specs.declared.types.Suffix.{Suffix}
 use Rattle.ac_syntax.specs.declared.types.Suffix.TheVariants as suffix
-use Rattle.ac_syntax.specs.declared.stop.Stop.{Stop}
-use Rattle.ac_syntax.specs.declared.stop.Stop.TheVariants as stop
+use Rattle.ac_syntax.specs.declared.stop.ParseError.{ParseError}
+use Rattle.ac_syntax.specs.declared.stop.ParseError.TheVariants as stop
 
 -- a stop says that no tree is there, unless memory ran out
-abbrev pub OnSyntax : Stop → Type 0 → Type 0
+abbrev pub OnSyntax : ParseError → Type 0 → Type 0
 OnSyntax stop.Memory P = Unit {0}
 OnSyntax (stop.Syntax left) P = P
 
@@ -87,7 +87,7 @@ pub record TupleOf (depth at : ℕ) (first : TypeTree) (ts : List Sign) (t : Typ
 
 -- no further parts of a tuple stand here
 abbrev pub NoFactors : ℕ → List Sign → Type 0
-NoFactors depth ts = (others : TypeTrees) (rest : List Sign) → ParsesFactors ts others rest → 2 < type_front rest → highest_type others ≤ depth → ⊥
+NoFactors depth ts = (others : TypeTrees) (rest : List Sign) → ParsesFactors ts others rest → 2 < type_front rest → highest_type_tree others ≤ depth → ⊥
 
 -- the specs are this one and those that stand at the rest
 pub record OtherSpecs (spec : SpecTree) (rest : List Sign) (specs : List SpecTree) (end : List Sign) : Type 0 where
@@ -114,6 +114,6 @@ OnFault (fault.Syntax at) P = P
 OnFault _ _ = ⊥
 
 -- the fault that a stop is answered by
-abbrev pub faulted : Stop → ParseFault → Type 0
+abbrev pub faulted : ParseError → ParseFault → Type 0
 faulted stop.Memory e = e ≡ fault.Memory
 faulted (stop.Syntax left) e = (at : ℕ) × (e ≡ fault.Syntax at)

@@ -53,8 +53,8 @@ type_kind_layer (code_type.Fun from to) at = TyFun at from to
 abbrev pub type_layer : code_type.SType-F (ℕ → TypeTree) TypeTree → TypeTree
 type_layer t = t.kind t.at
 
-unfoldable pub type_of : SType → TypeTree
-type_of = fold-SType (ℕ → TypeTree) TypeTree type_kind_layer type_layer
+unfoldable pub type_tree_of : SType → TypeTree
+type_tree_of = fold-SType (ℕ → TypeTree) TypeTree type_kind_layer type_layer
 
 unfoldable pub type_kind_of : STypeKind → ℕ → TypeTree
 type_kind_of = fold-STypeKind (ℕ → TypeTree) TypeTree type_kind_layer type_layer
@@ -62,7 +62,7 @@ type_kind_of = fold-STypeKind (ℕ → TypeTree) TypeTree type_kind_layer type_l
 -- patterns
 abbrev pub pat_kind_layer : code_pat.SPatKind-F (ℕ → PatTree) PatTree → ℕ → PatTree
 pat_kind_layer code_pat.Wild at = PatWild at
-pat_kind_layer (code_pat.Var name ty) at = PatVar at (name_of name) (type_of ty)
+pat_kind_layer (code_pat.Var name ty) at = PatVar at (name_of name) (type_tree_of ty)
 pat_kind_layer (code_pat.Int n) at = PatInt at n
 pat_kind_layer (code_pat.Bool b) at = PatBool at b
 pat_kind_layer (code_pat.Str text) at = PatStr at text.0
@@ -101,27 +101,27 @@ expr_kind_layer code.Unit at = ExUnit at
 expr_kind_layer (code.Exn exn) at = ExExn at (bare_number exn)
 expr_kind_layer (code.ExnOf exn argument) at = ExExnOf at (texted_number exn) argument
 expr_kind_layer (code.Tuple parts) at = ExTuple at (trees parts)
-expr_kind_layer (code.Nil ty) at = ExNil at (type_of ty)
-expr_kind_layer (code.Absent ty) at = ExAbsent at (type_of ty)
+expr_kind_layer (code.Nil ty) at = ExNil at (type_tree_of ty)
+expr_kind_layer (code.Absent ty) at = ExAbsent at (type_tree_of ty)
 expr_kind_layer (code.Present item) at = ExPresent at item
 expr_kind_layer (code.Cons head tail) at = ExCons at head tail
 expr_kind_layer (code.Var word) at = ExVar at word
 expr_kind_layer (code.Of m x) at = ExOf at (name_of m) (name_of x)
-expr_kind_layer (code.Fun name ty body) at = ExFun at (name_of name) (type_of ty) body
+expr_kind_layer (code.Fun name ty body) at = ExFun at (name_of name) (type_tree_of ty) body
 expr_kind_layer (code.Rec f) at = ExRec at f.name f.argument f.ty f.result f.body
 expr_kind_layer (code.App function argument) at = ExApp at function argument
-expr_kind_layer (code.Let name ty bound body) at = ExLet at (name_of name) (type_of ty) bound body
+expr_kind_layer (code.Let name ty bound body) at = ExLet at (name_of name) (type_tree_of ty) bound body
 expr_kind_layer (code.LetRec f body) at = ExLetRec at f.name f.argument f.ty f.result f.body body
 expr_kind_layer (code.If test so otherwise) at = ExIf at test so otherwise
 expr_kind_layer (code.Seq parts) at = ExSeq at (trees parts)
 expr_kind_layer (code.Match of arms) at = ExMatch at of (arm_trees arms)
 expr_kind_layer (code.Try of arms) at = ExTry at of (arm_trees arms)
-expr_kind_layer (code.Raise exception ty) at = ExRaise at exception (type_of ty)
+expr_kind_layer (code.Raise exception ty) at = ExRaise at exception (type_tree_of ty)
 expr_kind_layer (code.And a b) at = ExAnd at a b
 expr_kind_layer (code.Or a b) at = ExOr at a b
 expr_kind_layer (code.Op primitive parts) at = ExOp at (primitive_number primitive) (trees parts)
-expr_kind_layer (code.Marshal mark value ty) at = ExMarshal at mark value (type_of ty)
-expr_kind_layer (code.Unmarshal text ty) at = ExUnmarshal at text (type_of ty)
+expr_kind_layer (code.Marshal mark value ty) at = ExMarshal at mark value (type_tree_of ty)
+expr_kind_layer (code.Unmarshal text ty) at = ExUnmarshal at text (type_tree_of ty)
 
 abbrev pub arm_tree_layer : code.SArm-F (ℕ → Tree) (PatTree × Tree) Tree FunTree → PatTree × Tree
 arm_tree_layer a = (pat_of a.pat, a.body)
@@ -130,7 +130,7 @@ abbrev pub expr_tree_layer : code.SExpr-F (ℕ → Tree) (PatTree × Tree) Tree 
 expr_tree_layer e = e.kind e.at
 
 abbrev pub fun_layer : code.SFun-F (ℕ → Tree) (PatTree × Tree) Tree FunTree → FunTree
-fun_layer f = record { name = name_of f.name; argument = name_of f.arg; ty = type_of f.ty; result = type_of f.result; body = f.body }
+fun_layer f = record { name = name_of f.name; argument = name_of f.arg; ty = type_tree_of f.ty; result = type_tree_of f.result; body = f.body }
 
 unfoldable pub tree_of : SExpr → Tree
 tree_of = fold-SExpr (ℕ → Tree) (PatTree × Tree) Tree FunTree expr_kind_layer arm_tree_layer expr_tree_layer fun_layer
@@ -146,12 +146,12 @@ fun_of = fold-SFun (ℕ → Tree) (PatTree × Tree) Tree FunTree expr_kind_layer
 
 -- signatures
 abbrev pub abbrev_of : SAbbrev → AbbrevTree
-abbrev_of x = record { name = name_of x.name; ty = type_of x.ty }
+abbrev_of x = record { name = name_of x.name; ty = type_tree_of x.ty }
 
 abbrev pub spec_of : SSpec → SpecTree
 spec_of (code_spec.Abstract name) = AbstractSpec (name_of name)
 spec_of (code_spec.Manifest x) = ManifestSpec (abbrev_of x)
-spec_of (code_spec.Val name ty) = ValSpec (name_of name) (type_of ty)
+spec_of (code_spec.Val name ty) = ValSpec (name_of name) (type_tree_of ty)
 
 abbrev pub sig_tree_of : SSig → SigTree
 sig_tree_of s = record { at = s.at; specs = map spec_of s.specs }
@@ -159,7 +159,7 @@ sig_tree_of s = record { at = s.at; specs = map spec_of s.specs }
 -- definitions and programs
 abbrev pub field_tree_of : SField → FieldTree
 field_tree_of (code_field.Abbrev x) = AbbrevField (abbrev_of x)
-field_tree_of (code_field.Val name ty body) = ValField (name_of name) (type_of ty) (tree_of body)
+field_tree_of (code_field.Val name ty body) = ValField (name_of name) (type_tree_of ty) (tree_of body)
 
 abbrev pub version_of : code_version.Version → List Atom
 version_of v = map atom_of v.atoms

@@ -8,8 +8,8 @@ use Rattle.ac_syntax.specs.Signs.{Sign, signs}
 use Rattle.ac_syntax.specs.Openers.{IsShallow, IsDeep}
 use Rattle.ac_syntax.specs.Trees.{ProgramTree}
 use Rattle.ac_syntax.specs.declared.fault.ParseFault.{ParseFault}
-use Rattle.ac_syntax.specs.declared.stop.Stop.{Stop}
-use Rattle.ac_syntax.specs.declared.stop.Stop.TheVariants as stop
+use Rattle.ac_syntax.specs.declared.stop.ParseError.{ParseError}
+use Rattle.ac_syntax.specs.declared.stop.ParseError.TheVariants as stop
 use Rattle.ac_syntax.specs.declared.fault.ParseFault.TheVariants as fault
 
 -- the text is not too long and has these tokens, no front of which has too many unclosed openers
@@ -57,6 +57,6 @@ pub data SameCause : ParseFault → ParseFault → Type 0 where
   both_syntax : {a b : ℕ} → SameCause (fault.Syntax a) (fault.Syntax b)
 
 -- the fault that a stop of the parser is answered by
-pub data FaultAt (tokens : List Token) (end : ℕ) : Stop → ParseFault → Type 0 where
+pub data FaultAt (tokens : List Token) (end : ℕ) : ParseError → ParseFault → Type 0 where
   memory : FaultAt tokens end stop.Memory fault.Memory
   at_place : {left at : ℕ} → IsPlace tokens end at → FaultAt tokens end (stop.Syntax left) (fault.Syntax at)

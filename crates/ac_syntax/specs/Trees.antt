@@ -140,7 +140,7 @@ arm_trees (arm ∷ arms) = arm_tree arm.0 arm.1 (arm_trees arms)
 -- Heights: a leaf has 1, another node one more than its highest part. Types and patterns have heights of their own, which don't count in an expression's.
 abbrev mutual
   pub type_height : TypeTree → ℕ
-  type_height (TyTuple at parts) = highest_type parts + 1
+  type_height (TyTuple at parts) = highest_type_tree parts + 1
   type_height (TyList at item) = type_height item + 1
   type_height (TyOpt at item) = type_height item + 1
   type_height (TyFun at from to) = max (type_height from) (type_height to) + 1
@@ -152,9 +152,9 @@ abbrev mutual
   type_height (TyLocal at x) = 1
   type_height (TyOf at m x) = 1
 
-  pub highest_type : TypeTrees → ℕ
-  highest_type no_type_trees = 0
-  highest_type (type_tree t ts) = max (type_height t) (highest_type ts)
+  pub highest_type_tree : TypeTrees → ℕ
+  highest_type_tree no_type_trees = 0
+  highest_type_tree (type_tree t ts) = max (type_height t) (highest_type_tree ts)
 
 abbrev mutual
   pub pat_height : PatTree → ℕ
@@ -177,40 +177,40 @@ abbrev mutual
   highest_pat (pat_tree t ts) = max (pat_height t) (highest_pat ts)
 
 abbrev mutual
-  pub height : Tree → ℕ
-  height (ExExnOf at number argument) = height argument + 1
-  height (ExTuple at parts) = highest parts + 1
-  height (ExPresent at item) = height item + 1
-  height (ExCons at head tail) = max (height head) (height tail) + 1
-  height (ExFun at name ty body) = height body + 1
-  height (ExRec at name argument ty result body) = height body + 1
-  height (ExApp at function argument) = max (height function) (height argument) + 1
-  height (ExLet at name ty bound body) = max (height bound) (height body) + 1
-  height (ExLetRec at name argument ty result bound body) = max (height bound) (height body) + 1
-  height (ExIf at test so otherwise) = max (height test) (max (height so) (height otherwise)) + 1
-  height (ExSeq at parts) = highest parts + 1
-  height (ExMatch at of arms) = max (height of) (highest_arm arms) + 1
-  height (ExTry at of arms) = max (height of) (highest_arm arms) + 1
-  height (ExRaise at exception ty) = height exception + 1
-  height (ExAnd at a b) = max (height a) (height b) + 1
-  height (ExOr at a b) = max (height a) (height b) + 1
-  height (ExOp at number parts) = highest parts + 1
-  height (ExMarshal at mark value ty) = max (height mark) (height value) + 1
-  height (ExUnmarshal at text ty) = height text + 1
-  height (ExInt at n) = 1
-  height (ExBool at b) = 1
-  height (ExStr at text) = 1
-  height (ExUnit at) = 1
-  height (ExExn at number) = 1
-  height (ExNil at ty) = 1
-  height (ExAbsent at ty) = 1
-  height (ExVar at x) = 1
-  height (ExOf at m x) = 1
+  pub tree_height : Tree → ℕ
+  tree_height (ExExnOf at number argument) = tree_height argument + 1
+  tree_height (ExTuple at parts) = highest parts + 1
+  tree_height (ExPresent at item) = tree_height item + 1
+  tree_height (ExCons at head tail) = max (tree_height head) (tree_height tail) + 1
+  tree_height (ExFun at name ty body) = tree_height body + 1
+  tree_height (ExRec at name argument ty result body) = tree_height body + 1
+  tree_height (ExApp at function argument) = max (tree_height function) (tree_height argument) + 1
+  tree_height (ExLet at name ty bound body) = max (tree_height bound) (tree_height body) + 1
+  tree_height (ExLetRec at name argument ty result bound body) = max (tree_height bound) (tree_height body) + 1
+  tree_height (ExIf at test so otherwise) = max (tree_height test) (max (tree_height so) (tree_height otherwise)) + 1
+  tree_height (ExSeq at parts) = highest parts + 1
+  tree_height (ExMatch at of arms) = max (tree_height of) (highest_arm arms) + 1
+  tree_height (ExTry at of arms) = max (tree_height of) (highest_arm arms) + 1
+  tree_height (ExRaise at exception ty) = tree_height exception + 1
+  tree_height (ExAnd at a b) = max (tree_height a) (tree_height b) + 1
+  tree_height (ExOr at a b) = max (tree_height a) (tree_height b) + 1
+  tree_height (ExOp at number parts) = highest parts + 1
+  tree_height (ExMarshal at mark value ty) = max (tree_height mark) (tree_height value) + 1
+  tree_height (ExUnmarshal at text ty) = tree_height text + 1
+  tree_height (ExInt at n) = 1
+  tree_height (ExBool at b) = 1
+  tree_height (ExStr at text) = 1
+  tree_height (ExUnit at) = 1
+  tree_height (ExExn at number) = 1
+  tree_height (ExNil at ty) = 1
+  tree_height (ExAbsent at ty) = 1
+  tree_height (ExVar at x) = 1
+  tree_height (ExOf at m x) = 1
 
   pub highest : Trees → ℕ
   highest no_trees = 0
-  highest (tree t ts) = max (height t) (highest ts)
+  highest (tree t ts) = max (tree_height t) (highest ts)
 
   pub highest_arm : ArmTrees → ℕ
   highest_arm no_arm_trees = 0
-  highest_arm (arm_tree p t arms) = max (height t) (highest_arm arms)
+  highest_arm (arm_tree p t arms) = max (tree_height t) (highest_arm arms)

@@ -18,7 +18,7 @@ pub use openers::deep;
 pub use parse::{parse_sig, parse_type};
 pub use sign::{Sign, SignKind, Symbol, sign_of, signs, symbol_of};
 pub use sigs::sig;
-pub use stop::{Stop, refused_at};
+pub use stop::{ParseError, refused_at};
 pub use surface::{
     SAbbrev, SArm, SDef, SDefKind, SExpr, SExprKind, SField, SFun, SName, SPat, SPatKind, SSig,
     SSpec, SType, STypeKind, SWants, Surface,

@@ -6,13 +6,13 @@ ghost use Rattle.ac_syntax.specs.Signs.{signs};
 ghost use Rattle.ac_syntax.specs.Openers.{IsShallow};
 ghost use Rattle.ac_syntax.specs.TypeForms.{IsType, Whole};
 ghost use Rattle.ac_syntax.specs.Programs.{IsSig};
-ghost use Rattle.ac_syntax.specs.ReadTrees.{type_of, sig_tree_of};
+ghost use Rattle.ac_syntax.specs.ReadTrees.{type_tree_of, sig_tree_of};
 ghost use Rattle.ac_syntax.specs.PartParsing.{OnFault, NoType, NoSig, faulted};
 
 use crate::fault::ParseFault;
 use crate::sign::{Sign, signs};
 use crate::sigs::sig;
-use crate::stop::Stop;
+use crate::stop::ParseError;
 use crate::surface::{SSig, SType};
 use crate::types::whole_type;
 use ac_lexer::Token;
@@ -28,12 +28,12 @@ fn place_before(tokens: &[Token], left: usize) -> u32 {
     }
 }
 
-fn fault(tokens: &[Token], stop: Stop) -> ParseFault
+fn fault(tokens: &[Token], stop: ParseError) -> ParseFault
     ensures { faulted stop result }
 {
     match stop {
-        Stop::Memory => ParseFault::Memory,
-        Stop::Syntax(left) => ParseFault::Syntax {
+        ParseError::Memory => ParseFault::Memory,
+        ParseError::Syntax(left) => ParseFault::Syntax {
             at: place_before(tokens, left),
         },
     }
@@ -63,7 +63,7 @@ fn number_behind(all: &[Sign<'_>], rest: &[Sign<'_>]) -> Result<u32, ParseFault>
 /// of the last token. A number past the `u32`s counts as want of memory.
 pub fn parse_type(alloc: Global, tokens: &[Token], from: u32) -> Result<(SType, u32), ParseFault>
     requires { IsShallow (signs tokens.now) }
-    ensures tree { IfOk result (λ x. IsType (drop from (signs tokens.now)) (type_of x.0)
+    ensures tree { IfOk result (λ x. IsType (drop from (signs tokens.now)) (type_tree_of x.0)
         (drop x.1 (signs tokens.now))) }
     ensures within { IfOk result (λ x. x.1 ≤ length tokens.now) }
     ensures none { IfErr result (λ e. OnFault e (NoType highest_written_type Whole

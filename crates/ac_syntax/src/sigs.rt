@@ -9,7 +9,7 @@ ghost use Rattle.ac_syntax.specs.PartParsing.{OnSyntax, NoSymbol, SpecAt, NoSpec
 
 use crate::front::{after, here, next_name};
 use crate::sign::{Sign, Symbol};
-use crate::stop::{Stop, refused_at};
+use crate::stop::{ParseError, refused_at};
 use crate::surface::{SAbbrev, SSig, SSpec};
 use crate::types::whole_type;
 use ac_types::Many;
@@ -17,7 +17,10 @@ use ac_types::limits::HIGHEST_WRITTEN_TYPE;
 use std::alloc::Global;
 
 // The spec behind a `type`.
-fn type_spec<'s, 't>(alloc: Global, signs: &'s [Sign<'t>]) -> Result<(SSpec, &'s [Sign<'t>]), Stop>
+fn type_spec<'s, 't>(
+    alloc: Global,
+    signs: &'s [Sign<'t>],
+) -> Result<(SSpec, &'s [Sign<'t>]), ParseError>
     ensures spec { IfOk result (λ x. (a : ℕ) →
         SpecAt (Fixed a Symbol.TypeWord ∷ read_signs signs.now) (spec_of x.0)
         (read_signs x.1.now)) }
@@ -36,7 +39,10 @@ fn type_spec<'s, 't>(alloc: Global, signs: &'s [Sign<'t>]) -> Result<(SSpec, &'s
 }
 
 // The spec behind a `val`.
-fn value_spec<'s, 't>(alloc: Global, signs: &'s [Sign<'t>]) -> Result<(SSpec, &'s [Sign<'t>]), Stop>
+fn value_spec<'s, 't>(
+    alloc: Global,
+    signs: &'s [Sign<'t>],
+) -> Result<(SSpec, &'s [Sign<'t>]), ParseError>
     ensures spec { IfOk result (λ x. (a : ℕ) →
         SpecAt (Fixed a Symbol.Val ∷ read_signs signs.now) (spec_of x.0) (read_signs x.1.now)) }
     ensures shorter { IfOk result (λ x. length x.1.now < length signs.now) }
@@ -54,7 +60,7 @@ fn value_spec<'s, 't>(alloc: Global, signs: &'s [Sign<'t>]) -> Result<(SSpec, &'
 }
 
 // The spec at the front.
-fn spec<'s, 't>(alloc: Global, signs: &'s [Sign<'t>]) -> Result<(SSpec, &'s [Sign<'t>]), Stop>
+fn spec<'s, 't>(alloc: Global, signs: &'s [Sign<'t>]) -> Result<(SSpec, &'s [Sign<'t>]), ParseError>
     ensures spec { IfOk result (λ x. SpecAt (read_signs signs.now) (spec_of x.0)
         (read_signs x.1.now)) }
     ensures shorter { IfOk result (λ x. length x.1.now < length signs.now) }
@@ -71,7 +77,10 @@ fn spec<'s, 't>(alloc: Global, signs: &'s [Sign<'t>]) -> Result<(SSpec, &'s [Sig
 }
 
 /// The signature at the front.
-pub fn sig<'s, 't>(alloc: Global, signs: &'s [Sign<'t>]) -> Result<(SSig, &'s [Sign<'t>]), Stop>
+pub fn sig<'s, 't>(
+    alloc: Global,
+    signs: &'s [Sign<'t>],
+) -> Result<(SSig, &'s [Sign<'t>]), ParseError>
     ensures sig { IfOk result (λ x. IsSig (read_signs signs.now) (sig_tree_of x.0)
         (read_signs x.1.now)) }
     ensures shorter { IfOk result (λ x. length x.1.now < length signs.now) }

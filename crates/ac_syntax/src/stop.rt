@@ -8,25 +8,25 @@ use ac_types::Memory;
 /// Why a parser gives no tree: want of memory, or no tree stands there, which shows where so many
 /// signs are left.
 #[derive(Clone, Copy, Debug, PartialEq, Eq)]
-pub enum Stop {
+pub enum ParseError {
     Memory,
     Syntax(usize),
 }
 
-impl From<Memory> for Stop {
+impl From<Memory> for ParseError {
     ghost use Rattle.std.specs.Prelude.{◌≡◌};
-    ghost use Rattle.ac_syntax.specs.declared.stop.Stop.TheVariants as stop;
+    ghost use Rattle.ac_syntax.specs.declared.stop.ParseError.TheVariants as stop;
 
     ghost from_gives = { λ _ e. e ≡ stop.Memory };
 
-    fn from(_e: Memory) -> Stop {
-        Stop::Memory
+    fn from(_e: Memory) -> ParseError {
+        ParseError::Memory
     }
 }
 
 /// No tree stands here.
-pub fn refused_at(signs: &[Sign<'_>]) -> Stop
-    ensures { result ≡ Stop.Syntax (length signs.now) }
+pub fn refused_at(signs: &[Sign<'_>]) -> ParseError
+    ensures { result ≡ ParseError.Syntax (length signs.now) }
 {
-    Stop::Syntax(signs.len())
+    ParseError::Syntax(signs.len())
 }

@@ -1,7 +1,9 @@
 // The trees of programs as they are written. Each node has the place of the first byte of its first
 // token.
 
-use ac_types::{BareExn, Box, Constraint, Many, Primitive, Resolve, Text, TextExn, Version, Word};
+use ac_types::{
+    BareExn, Boxed, Constraint, Many, Primitive, Resolve, Text, TextExn, Version, Word,
+};
 
 /// A program, or a module alone: then there is no expression.
 pub struct Surface {
@@ -176,9 +178,9 @@ pub enum STypeKind {
     Local(Word),
     Of(SName, SName),
     Tuple(Many<SType>),
-    List(Box<SType>),
-    Opt(Box<SType>),
-    Fun(Box<SType>, Box<SType>),
+    List(Boxed<SType>),
+    Opt(Boxed<SType>),
+    Fun(Boxed<SType>, Boxed<SType>),
 }
 
 impl Drop for STypeKind {
@@ -221,7 +223,7 @@ pub struct SFun {
     pub arg: SName,
     pub ty: SType,
     pub result: SType,
-    pub body: Box<SExpr>,
+    pub body: Boxed<SExpr>,
 }
 
 impl Drop for SFun {
@@ -245,29 +247,29 @@ pub enum SExprKind {
     Str(Text),
     Unit,
     Exn(BareExn),
-    ExnOf(TextExn, Box<SExpr>),
+    ExnOf(TextExn, Boxed<SExpr>),
     Tuple(Many<SExpr>),
     Nil(SType),
     Absent(SType),
-    Present(Box<SExpr>),
-    Cons(Box<SExpr>, Box<SExpr>),
+    Present(Boxed<SExpr>),
+    Cons(Boxed<SExpr>, Boxed<SExpr>),
     Var(Word),
     Of(SName, SName),
-    Fun(SName, SType, Box<SExpr>),
+    Fun(SName, SType, Boxed<SExpr>),
     Rec(SFun),
-    App(Box<SExpr>, Box<SExpr>),
-    Let(SName, SType, Box<SExpr>, Box<SExpr>),
-    LetRec(SFun, Box<SExpr>),
-    If(Box<SExpr>, Box<SExpr>, Box<SExpr>),
+    App(Boxed<SExpr>, Boxed<SExpr>),
+    Let(SName, SType, Boxed<SExpr>, Boxed<SExpr>),
+    LetRec(SFun, Boxed<SExpr>),
+    If(Boxed<SExpr>, Boxed<SExpr>, Boxed<SExpr>),
     Seq(Many<SExpr>),
-    Match(Box<SExpr>, Many<SArm>),
-    Try(Box<SExpr>, Many<SArm>),
-    Raise(Box<SExpr>, SType),
-    And(Box<SExpr>, Box<SExpr>),
-    Or(Box<SExpr>, Box<SExpr>),
+    Match(Boxed<SExpr>, Many<SArm>),
+    Try(Boxed<SExpr>, Many<SArm>),
+    Raise(Boxed<SExpr>, SType),
+    And(Boxed<SExpr>, Boxed<SExpr>),
+    Or(Boxed<SExpr>, Boxed<SExpr>),
     Op(Primitive, Many<SExpr>),
-    Marshal(Box<SExpr>, Box<SExpr>, SType),
-    Unmarshal(Box<SExpr>, SType),
+    Marshal(Boxed<SExpr>, Boxed<SExpr>, SType),
+    Unmarshal(Boxed<SExpr>, SType),
 }
 
 impl Drop for SExprKind {
@@ -345,11 +347,11 @@ pub enum SPatKind {
     Unit,
     Tuple(Many<SPat>),
     Nil,
-    Cons(Box<SPat>, Box<SPat>),
+    Cons(Boxed<SPat>, Boxed<SPat>),
     Absent,
-    Present(Box<SPat>),
+    Present(Boxed<SPat>),
     Exn(BareExn),
-    ExnOf(TextExn, Box<SPat>),
+    ExnOf(TextExn, Boxed<SPat>),
 }
 
 impl Drop for SPatKind {

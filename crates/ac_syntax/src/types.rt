@@ -6,14 +6,14 @@ ghost use Rattle.ac_syntax.specs.Signs.{Upper};
 ghost use Rattle.ac_syntax.specs.Trees.{TyFun, type_height};
 ghost use Rattle.ac_syntax.specs.TypeForms.{Whole, Product, Suffixed, Single, IsTypeTree};
 ghost use Rattle.ac_syntax.specs.ReadSigns.{read_signs};
-ghost use Rattle.ac_syntax.specs.ReadTrees.{type_of, type_kind_of};
+ghost use Rattle.ac_syntax.specs.ReadTrees.{type_tree_of, type_kind_of};
 ghost use Rattle.ac_syntax.specs.PartParsing.{OnSyntax, SymbolAt, NoType, LeafAt, NoLeaf, base_type, suffix_symbol, suffixed_by, NoSuffix, TupleOf, NoFactors};
 
 use crate::front::{after, here, next, next_name, next_symbol};
 use crate::sign::{Sign, SignKind, Symbol};
-use crate::stop::{Stop, refused_at};
+use crate::stop::{ParseError, refused_at};
 use crate::surface::{SName, SType, STypeKind};
-use ac_types::{Box, Many, Memory, Word, both};
+use ac_types::{Boxed, Many, Memory, Word, both};
 use std::alloc::Global;
 
 /// A type, and its height.
@@ -45,15 +45,21 @@ fn next_suffix<'s, 't>(signs: &'s [Sign<'t>]) -> Option<(Suffix, &'s [Sign<'t>])
 
 // A type with a suffix.
 #[tactic(auto, using(crate::proofs::TypeLaws::type_laws))]
-fn with_suffix(alloc: Global, suffix: Suffix, at: u32, item: ParsedType) -> Result<ParsedType, Stop>
+fn with_suffix(
+    alloc: Global,
+    suffix: Suffix,
+    at: u32,
+    item: ParsedType,
+) -> Result<ParsedType, ParseError>
     requires low { item.height < 2 ^ 32 - 1 }
-    requires item { item.height ≡ type_height (type_of item.tree) }
-    ensures tree { IfOk result (λ x. type_of x.tree ≡ suffixed_by suffix at (type_of item.tree)) }
-    ensures height { IfOk result (λ x. x.height ≡ type_height (type_of x.tree)) }
-    ensures memory { IfErr result (λ e. e ≡ Stop.Memory) }
+    requires item { item.height ≡ type_height (type_tree_of item.tree) }
+    ensures tree { IfOk result (λ x. type_tree_of x.tree ≡ suffixed_by suffix at
+        (type_tree_of item.tree)) }
+    ensures height { IfOk result (λ x. x.height ≡ type_height (type_tree_of x.tree)) }
+    ensures memory { IfErr result (λ e. e ≡ ParseError.Memory) }
 {
     let height = item.height + 1;
-    let item = Box::new(alloc, item.tree)?;
+    let item = Boxed::new(alloc, item.tree)?;
     let kind = match suffix {
         Suffix::List => STypeKind::List(item),
         Suffix::Opt => STypeKind::Opt(item),
@@ -66,17 +72,22 @@ fn with_suffix(alloc: Global, suffix: Suffix, at: u32, item: ParsedType) -> Resu
 
 // A function's type.
 #[tactic(auto, using(crate::proofs::TypeLaws::type_laws))]
-fn function(alloc: Global, at: u32, from: ParsedType, to: ParsedType) -> Result<ParsedType, Stop>
+fn function(
+    alloc: Global,
+    at: u32,
+    from: ParsedType,
+    to: ParsedType,
+) -> Result<ParsedType, ParseError>
     requires low { max from.height to.height < 2 ^ 32 - 1 }
-    requires from { from.height ≡ type_height (type_of from.tree) }
-    requires to { to.height ≡ type_height (type_of to.tree) }
-    ensures tree { IfOk result (λ x. type_of x.tree ≡ TyFun at (type_of from.tree)
-        (type_of to.tree)) }
-    ensures height { IfOk result (λ x. x.height ≡ type_height (type_of x.tree)) }
-    ensures memory { IfErr result (λ e. e ≡ Stop.Memory) }
+    requires from { from.height ≡ type_height (type_tree_of from.tree) }
+    requires to { to.height ≡ type_height (type_tree_of to.tree) }
+    ensures tree { IfOk result (λ x. type_tree_of x.tree ≡ TyFun at (type_tree_of from.tree)
+        (type_tree_of to.tree)) }
+    ensures height { IfOk result (λ x. x.height ≡ type_height (type_tree_of x.tree)) }
+    ensures memory { IfErr result (λ e. e ≡ ParseError.Memory) }
 {
     let height = from.height.max(to.height) + 1;
-    let (from, to) = both(Box::new(alloc, from.tree), Box::new(alloc, to.tree))?;
+    let (from, to) = both(Boxed::new(alloc, from.tree), Boxed::new(alloc, to.tree))?;
     Ok(ParsedType {
         tree: SType {
             at,
@@ -110,7 +121,7 @@ fn qualified<'s, 't>(
 ) -> Result<Option<(SType, &'s [Sign<'t>])>, Memory>
     ensures found { IfOk result (λ o. MatchOption o
         (NoLeaf (Upper at word.now ∷ read_signs signs.now))
-        (λ x. LeafAt (Upper at word.now ∷ read_signs signs.now) (type_of x.0)
+        (λ x. LeafAt (Upper at word.now ∷ read_signs signs.now) (type_tree_of x.0)
         (read_signs x.1.now))) }
     ensures shorter { IfOk result (λ o. IfSome o (λ x. length x.1.now < length signs.now)) }
 {
@@ -131,7 +142,7 @@ fn leaf<'s, 't>(
     signs: &'s [Sign<'t>],
 ) -> Result<Option<(SType, &'s [Sign<'t>])>, Memory>
     ensures found { IfOk result (λ o. MatchOption o (NoLeaf (read_signs signs.now))
-        (λ x. LeafAt (read_signs signs.now) (type_of x.0) (read_signs x.1.now))) }
+        (λ x. LeafAt (read_signs signs.now) (type_tree_of x.0) (read_signs x.1.now))) }
     ensures shorter { IfOk result (λ o. IfSome o (λ x. length x.1.now < length signs.now)) }
 {
     let Some((first, rest)) = next(signs) else {
@@ -158,10 +169,10 @@ fn single<'s, 't>(
     alloc: Global,
     depth: u32,
     signs: &'s [Sign<'t>],
-) -> Result<(ParsedType, &'s [Sign<'t>]), Stop>
+) -> Result<(ParsedType, &'s [Sign<'t>]), ParseError>
     ensures tree { IfOk result (λ x. IsTypeTree depth Single (read_signs signs.now)
-        (type_of x.0.tree) (read_signs x.1.now)) }
-    ensures height { IfOk result (λ x. x.0.height ≡ type_height (type_of x.0.tree)) }
+        (type_tree_of x.0.tree) (read_signs x.1.now)) }
+    ensures height { IfOk result (λ x. x.0.height ≡ type_height (type_tree_of x.0.tree)) }
     ensures shorter { IfOk result (λ x. length x.1.now < length signs.now) }
     ensures none { IfErr result (λ e. OnSyntax e (NoType depth Single (read_signs signs.now))) }
 {
@@ -188,10 +199,10 @@ fn suffixed<'s, 't>(
     alloc: Global,
     depth: u32,
     signs: &'s [Sign<'t>],
-) -> Result<(ParsedType, &'s [Sign<'t>]), Stop>
+) -> Result<(ParsedType, &'s [Sign<'t>]), ParseError>
     ensures tree { IfOk result (λ x. IsTypeTree depth Suffixed (read_signs signs.now)
-        (type_of x.0.tree) (read_signs x.1.now)) }
-    ensures height { IfOk result (λ x. x.0.height ≡ type_height (type_of x.0.tree)) }
+        (type_tree_of x.0.tree) (read_signs x.1.now)) }
+    ensures height { IfOk result (λ x. x.0.height ≡ type_height (type_tree_of x.0.tree)) }
     ensures shorter { IfOk result (λ x. length x.1.now < length signs.now) }
     ensures none { IfErr result (λ e. OnSyntax e (NoType depth Suffixed (read_signs signs.now))) }
 {
@@ -214,10 +225,10 @@ fn product<'s, 't>(
     alloc: Global,
     depth: u32,
     signs: &'s [Sign<'t>],
-) -> Result<(ParsedType, &'s [Sign<'t>]), Stop>
+) -> Result<(ParsedType, &'s [Sign<'t>]), ParseError>
     ensures tree { IfOk result (λ x. IsTypeTree depth Product (read_signs signs.now)
-        (type_of x.0.tree) (read_signs x.1.now)) }
-    ensures height { IfOk result (λ x. x.0.height ≡ type_height (type_of x.0.tree)) }
+        (type_tree_of x.0.tree) (read_signs x.1.now)) }
+    ensures height { IfOk result (λ x. x.0.height ≡ type_height (type_tree_of x.0.tree)) }
     ensures shorter { IfOk result (λ x. length x.1.now < length signs.now) }
     ensures none { IfErr result (λ e. OnSyntax e (NoType depth Product (read_signs signs.now))) }
 {
@@ -240,12 +251,13 @@ fn tuple<'s, 't>(
     at: u32,
     first: ParsedType,
     signs: &'s [Sign<'t>],
-) -> Result<(ParsedType, &'s [Sign<'t>]), Stop>
+) -> Result<(ParsedType, &'s [Sign<'t>]), ParseError>
     requires low { first.height < depth }
-    requires first { first.height ≡ type_height (type_of first.tree) }
-    ensures tree { IfOk result (λ x. TupleOf depth at (type_of first.tree) (read_signs signs.now)
-        (type_of x.0.tree) (read_signs x.1.now)) }
-    ensures height { IfOk result (λ x. x.0.height ≡ type_height (type_of x.0.tree)) }
+    requires first { first.height ≡ type_height (type_tree_of first.tree) }
+    ensures tree { IfOk result (λ x. TupleOf depth at (type_tree_of first.tree)
+        (read_signs signs.now)
+        (type_tree_of x.0.tree) (read_signs x.1.now)) }
+    ensures height { IfOk result (λ x. x.0.height ≡ type_height (type_tree_of x.0.tree)) }
     ensures shorter { IfOk result (λ x. length x.1.now < length signs.now) }
     ensures none { IfErr result (λ e. OnSyntax e (NoFactors (depth - 1) (read_signs signs.now))) }
 {
@@ -277,10 +289,10 @@ pub fn whole_type<'s, 't>(
     alloc: Global,
     depth: u32,
     signs: &'s [Sign<'t>],
-) -> Result<(ParsedType, &'s [Sign<'t>]), Stop>
+) -> Result<(ParsedType, &'s [Sign<'t>]), ParseError>
     ensures tree { IfOk result (λ x. IsTypeTree depth Whole (read_signs signs.now)
-        (type_of x.0.tree) (read_signs x.1.now)) }
-    ensures height { IfOk result (λ x. x.0.height ≡ type_height (type_of x.0.tree)) }
+        (type_tree_of x.0.tree) (read_signs x.1.now)) }
+    ensures height { IfOk result (λ x. x.0.height ≡ type_height (type_tree_of x.0.tree)) }
     ensures shorter { IfOk result (λ x. length x.1.now < length signs.now) }
     ensures none { IfErr result (λ e. OnSyntax e (NoType depth Whole (read_signs signs.now))) }
 {

@@ -1,9 +1,9 @@
 // Trees, and what is read of texts and of words, whose values may cross to another thread.
 
-use ac_command::Command;
 use ac_lexer::Token;
 use ac_terms::{Env, Home, PDef, PVal, Pat, Term};
 use ac_types::{Constraint, Exn, Many, Resolve, Sig, Text, Ty, Version};
+use acute_words::Command;
 
 fn crosses<T: Send + Sync>() {}
 

@@ -3,9 +3,9 @@
 
 use crate::rows::{Reader, check_rows};
 use ac_lexer::{Token, lex};
-use ac_page::Page;
 use ac_parser_patterns::pattern;
-use ac_syntax::{SPatKind, Sign, Stop, signs};
+use ac_syntax::{ParseError, SPatKind, Sign, signs};
+use ac_text_page::Page;
 use ac_types::{BareExn, TextExn};
 use std::alloc::Global;
 use std::process::Abort;
@@ -59,8 +59,8 @@ fn write_pattern(alloc: Global, page: &mut Page, signs: &[Sign<'_>]) {
             page.put(b" ");
             page.number(rest.len() as u64);
         }
-        Err(Stop::Memory) => page.lose(),
-        Err(Stop::Syntax(left)) => {
+        Err(ParseError::Memory) => page.lose(),
+        Err(ParseError::Syntax(left)) => {
             page.put(b"!");
             page.number(left as u64);
         }

@@ -3,8 +3,8 @@
 
 use crate::rows::{Reader, check_rows};
 use ac_lexer::{Token, lex};
-use ac_page::Page;
 use ac_syntax::{ParseFault, SName, SSig, SSpec, SType, STypeKind, deep, parse_sig, parse_type};
+use ac_text_page::Page;
 use ac_types::{Many, Text};
 use std::alloc::Global;
 use std::process::Abort;

@@ -19,7 +19,7 @@ use Rattle.ac_terms.specs.Bounds.{is_two, is_string, is_lower, fits_type, fits_a
 use Rattle.ac_terms.specs.PacketReading.{pair, read_atom, read_range, read_constraint, read_resolve, a_sig_type, a_typed, a_signature, a_field, a_module, an_import, a_packet}
 use Rattle.ac_terms.specs.ReadBy.{read_manifest, read_sig_type, read_typed, read_sig, read_field, read_def, read_value}
 use Rattle.ac_terms.specs.TableReading.{read_body}
-use Rattle.ac_terms.specs.Tables.{places}
+use Rattle.ac_terms.specs.Tables.{type_places}
 use Rattle.ac_terms.proofs.Back.{ReadsPart, Back, read_two, back_one, back_two, back_three, back_few, back_two_bytes, back_four_bytes, back_truth, back_word, back_str, back_name, back_list, back_list_as}
 use Rattle.ac_terms.specs.Renumbered.{field_renumbered, def_renumbered}
 use Rattle.ac_terms.proofs.TermBackBy.{back_term, back_value, count_two}
@@ -180,7 +180,7 @@ module _ (type_bytes : Typ → Bytes) (read_type : ReadsPart Typ) (good : Typ �
   all_three : (ds : List Def) → list_all is_module_or_import ds ≡ true → list_all fits_def ds ≡ true → list_all nests_little ds ≡ true → list_all fits_packed_def ds ≡ true
   all_three ds a b c = all_and (λ d. is_module_or_import d && fits_def d) nests_little ds (all_and is_module_or_import fits_def ds a b) c
 
-  pub back_body : (p : Packet) → fits_packet p ≡ true → GoodTypes (places p) → Back (read_body read_type) (body_bytes type_bytes p) p
+  pub back_body : (p : Packet) → fits_packet p ≡ true → GoodTypes (type_places p) → Back (read_body read_type) (body_bytes type_bytes p) p
   back_body p w g =
       let b = packet_bounds p w in
       let defs = good_left good (flat_map def_parts p.defs) (OfType p.ty ∷ value_parts p.value) g in

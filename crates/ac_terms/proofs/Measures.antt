@@ -15,7 +15,7 @@ use Rattle.ac_terms.specs.Parts.{Portion, OfType, pattern_types, all_pattern_typ
 use Rattle.ac_terms.specs.Pieces.{one_written, two_written, four_written, eight_written, truth, word, str, listed, home_bytes, exn_bytes, pattern_count, term_count, arm_count, value_count, atom_bytes, constraint_bytes, resolve_bytes}
 use Rattle.ac_terms.specs.SpelledBy.{pattern_bytes, all_pattern_bytes, manifest_bytes, sig_type_bytes, typed_bytes, sig_bytes, term_bytes, all_term_bytes, arm_bytes, value_bytes, all_value_bytes, field_bytes, module_bytes, def_bytes, body_bytes}
 use Rattle.ac_terms.specs.Bounds.{is_lower, fits_type, fit_types, fits_pattern, fit_patterns, fits_term, fit_terms, fit_arms, fits_value, fit_values, fits_typed, fits_sig, fits_def, is_module_or_import, fits_packet}
-use Rattle.ac_terms.specs.Tables.{places}
+use Rattle.ac_terms.specs.Tables.{type_places}
 use Rattle.ac_terms.specs.Tags as tag
 use Rattle.ac_terms.proofs.AllLaws.{all_append, all_and}
 use Rattle.ac_terms.proofs.BoundsLaws.{fits_field, module_bounds, import_bounds, packet_bounds}
@@ -268,17 +268,17 @@ def (AnImport i) w = subst (λ Ts. Measured 0 Ts (λ f. def_bytes f (AnImport i)
 def (AMark t) w = absurd (true≢false (sym w))
 
 -- all that stands behind the head of a packet
-places_apart : (p : Packet) → (flat_map types_in p.defs ++ p.ty ∷ []) ++ part_types (value_parts p.value) ≡ places p
+places_apart : (p : Packet) → (flat_map types_in p.defs ++ p.ty ∷ []) ++ part_types (value_parts p.value) ≡ type_places p
 places_apart p =
     append_assoc (flat_map types_in p.defs) (p.ty ∷ []) (part_types (value_parts p.value)) ∙
     ap (λ Ts. Ts ++ p.ty ∷ part_types (value_parts p.value)) (sym (defs_as_parts p.defs)) ∙ sym (types_joined (flat_map def_parts p.defs) (OfType p.ty ∷ value_parts p.value))
 
-pub body : (p : Packet) → fits_packet p ≡ true → Measured 1 (places p) (λ f. body_bytes f p)
+pub body : (p : Packet) → fits_packet p ≡ true → Measured 1 (type_places p) (λ f. body_bytes f p)
 body p w =
     let b = packet_bounds p w in
     let defs = after (two_written (length p.defs)) (each types_in def_bytes fits_packed def p.defs (all_and is_module_or_import fits_def p.defs b.kinds b.defs)) in
     subst (λ Ts. Measured 1 Ts (λ f. body_bytes f p)) (places_apart p) (join (join defs (of_type false p.ty b.ty)) (value two_written p.value b.value))
 
 -- so each type of a packet may stand in a signature
-pub packet_types_fit : (p : Packet) → fits_packet p ≡ true → list_all (fits_type true) (places p) ≡ true
+pub packet_types_fit : (p : Packet) → fits_packet p ≡ true → list_all (fits_type true) (type_places p) ≡ true
 packet_types_fit p w = (body p w).fit

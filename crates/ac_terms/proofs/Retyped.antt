@@ -9,7 +9,7 @@ use Rattle.ac_terms.specs.Defs.{Field, Module, Import, Def, AModule, AnImport, A
 use Rattle.ac_terms.specs.Parts.{Portion, OfType, pattern_types, all_pattern_types, part_types, term_parts, all_term_parts, arm_parts, value_parts, all_value_parts, sig_types, def_parts}
 use Rattle.ac_terms.specs.Pieces.{one_written, two_written, four_written, word, listed, home_bytes, pattern_count, term_count, arm_count, value_count, atom_bytes, constraint_bytes, resolve_bytes}
 use Rattle.ac_terms.specs.SpelledBy.{pattern_bytes, all_pattern_bytes, manifest_bytes, sig_type_bytes, typed_bytes, sig_bytes, term_bytes, all_term_bytes, arm_bytes, value_bytes, all_value_bytes, field_bytes, def_bytes, body_bytes}
-use Rattle.ac_terms.specs.Tables.{places}
+use Rattle.ac_terms.specs.Tables.{type_places}
 use Rattle.ac_terms.specs.Tags as tag
 use Rattle.ac_terms.proofs.PartTypes.{types_joined, types_as_parts, field_types, types_in, module_as_parts, import_as_parts, defs_as_parts}
 
@@ -381,7 +381,7 @@ module _ (h : Typ → Typ) where
       import_as_parts j ∙ shown_placed i.sig i.like ∙ ap (map h) (sym (import_as_parts i))
   def_placed (AMark t) = refl
 
-  pub packet_placed : (p : Packet) → places (packet_retyped h p) ≡ map h (places p)
+  pub packet_placed : (p : Packet) → type_places (packet_retyped h p) ≡ map h (type_places p)
   packet_placed p =
       both_placed (flat_map def_parts (map (def_retyped h) p.defs)) (flat_map def_parts p.defs) (OfType (h p.ty) ∷ value_parts (value_retyped h p.value)) (OfType p.ty ∷ value_parts p.value)
       (defs_as_parts (map (def_retyped h) p.defs) ∙ flat_placed (def_retyped h) types_in def_placed p.defs ∙ ap (map h) (sym (defs_as_parts p.defs)))

@@ -11,7 +11,7 @@ use Rattle.ac_terms.specs.Defs.{Packet}
 use Rattle.ac_terms.specs.Spelling.{four_written}
 use Rattle.ac_terms.specs.SpelledBy.{body_bytes}
 use Rattle.ac_terms.specs.Bounds.{fits_type, fits_packet}
-use Rattle.ac_terms.specs.Tables.{places, number_in, numbered}
+use Rattle.ac_terms.specs.Tables.{type_places, number_in, numbered}
 use Rattle.ac_terms.proofs.Retyped.{packet_retyped, body_spelled, packet_placed}
 use Rattle.ac_terms.proofs.RetypedBounds.{packet_fits}
 
@@ -82,7 +82,7 @@ module _ (table : List Typ) (few : length table < 2 ^ 32) where
   pub stands_spelled : (p : Packet) → body_bytes (numbered stands) (packet_retyped in_place p) ≡ body_bytes (numbered table) p
   stands_spelled p = body_spelled in_place (numbered stands) p ∙ ap (λ f. body_bytes f p) (λ i T. alike T i)
 
-  pub stands_places : (p : Packet) → places (packet_retyped in_place p) ≡ map in_place (places p)
+  pub stands_places : (p : Packet) → type_places (packet_retyped in_place p) ≡ map in_place (type_places p)
   stands_places p = packet_placed in_place p
 
   pub stands_fit : (p : Packet) → fits_packet p ≡ true → fits_packet (packet_retyped in_place p) ≡ true

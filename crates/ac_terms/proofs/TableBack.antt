@@ -19,7 +19,7 @@ use Rattle.ac_terms.specs.SpelledBy.{pattern_bytes, term_bytes, value_bytes, def
 use Rattle.ac_terms.specs.Bounds.{is_four, fits_type, fits_pattern, fits_term, fits_value, fits_def, fits_packet, is_module_or_import, def_nesting, Spells}
 use Rattle.ac_terms.specs.ReadBy.{read_pattern, read_term, read_value, read_def}
 use Rattle.ac_terms.specs.PacketReading.{read_two, packet_of}
-use Rattle.ac_terms.specs.Tables.{places, is_among, with_types, table_of, number_in, numbered, in_full, tabled_bytes, SpellsByTable, SpellsIn, InFull, ByTable, IsTable, tabled_bytes_by}
+use Rattle.ac_terms.specs.Tables.{type_places, is_among, with_types, table_of, number_in, numbered, in_full, tabled_bytes, SpellsByTable, SpellsIn, InFull, ByTable, IsTable, tabled_bytes_by}
 use Rattle.ac_terms.specs.TableReading.{read_number, read_body, read_tabled, spells_by_table, tabled_packet_of, any_packet_of}
 use Rattle.ac_terms.proofs.Back.{Back, back_after, back_list, back_two_bytes, back_four_bytes, none_begins}
 use Rattle.ac_terms.proofs.TypeBack.{back_type}
@@ -76,23 +76,23 @@ module _ (table : List Typ) (few : length table < 2 ^ 32) where
   def-none_begins d e r s i j v w h k f g p = none_begins (read_def (read_number table) read_two 500) (back_whole_def d i v h f) (back_whole_def e j w k g) r s p
 
 -- a packet has one spelling with a table, whichever table the words of the format allow
-pub any_table : (p : Packet) (table : List Typ) (numbers : List ℕ) → IsTable table numbers (places p) → tabled_bytes_by table p ≡ tabled_bytes p
-any_table p table numbers h = ap (λ t. tabled_bytes_by t p) (only_table table numbers (places p) h).0
+pub any_table : (p : Packet) (table : List Typ) (numbers : List ℕ) → IsTable table numbers (type_places p) → tabled_bytes_by table p ≡ tabled_bytes p
+any_table p table numbers h = ap (λ t. tabled_bytes_by t p) (only_table table numbers (type_places p) h).0
 
 -- a packet's table is short where its places have few bytes of types
-pub few_types : (p : Packet) → in_full (places p) ≤ longest_tabled → length (table_of p) ≤ longest_tabled
-few_types p h = omega (arith, h, full_long (with_types [] (places p)), table_full [] (places p))
+pub few_types : (p : Packet) → in_full (type_places p) ≤ longest_tabled → length (table_of p) ≤ longest_tabled
+few_types p h = omega (arith, h, full_long (with_types [] (type_places p)), table_full [] (type_places p))
 
 -- a packet is read back from its spelling with a table, whatever follows
-pub back_tabled : (p : Packet) → fits_packet p ≡ true → in_full (places p) ≤ longest_tabled → Back read_tabled (tabled_bytes p) p
+pub back_tabled : (p : Packet) → fits_packet p ≡ true → in_full (type_places p) ≤ longest_tabled → Back read_tabled (tabled_bytes p) p
 back_tabled p w h =
     let table : List Typ = table_of p in
     let low : length table ≤ longest_tabled = few_types p h in
     let few : length table < 2 ^ 32 = omega (arith, low) in
-    let fit : list_all (fits_type true) table ≡ true = table_all (fits_type true) [] (places p) refl (packet_types_fit p w) in
+    let fit : list_all (fits_type true) table ≡ true = table_all (fits_type true) [] (type_places p) refl (packet_types_fit p w) in
     record {
       reads = (back_after (λ t. read_body (read_number t)) (back_list (back_type true) four_written table (back_four_bytes (length table) (lt_is (length table) (2 ^ 32) few)) fit)
-          (back_body (numbered table) (read_number table) (is_among table) (back_number table few) p w (all_among [] (places p)))).reads;
+          (back_body (numbered table) (read_number table) (is_among table) (back_number table few) p w (all_among [] (type_places p)))).reads;
     }
 
 -- a string spells at most one packet with a table
@@ -125,14 +125,14 @@ by_table_sound bytes p e =
     let a = both_true _ _ e in
     let b = both_true _ _ a.0 in
     let c = both_true _ _ b.0 in
-    record { fits = c.0; spelled = bytes_eq bytes (tabled_bytes p) c.1; short = le_true (length bytes) longest_tabled b.1; spread = le_true (in_full (places p)) longest_tabled a.1 }
+    record { fits = c.0; spelled = bytes_eq bytes (tabled_bytes p) c.1; short = le_true (length bytes) longest_tabled b.1; spread = le_true (in_full (type_places p)) longest_tabled a.1 }
 
 by_table_whole : (bytes : Bytes) (p : Packet) → SpellsByTable bytes p → spells_by_table bytes p ≡ true
 by_table_whole bytes p s =
     let same : same_bytes bytes (tabled_bytes p) ≡ true = subst (λ b. same_bytes bytes b ≡ true) s.spelled (bytes_refl bytes) in
     let c : (fits_packet p && same_bytes bytes (tabled_bytes p)) ≡ true = and_true {a = fits_packet p} {b = same_bytes bytes (tabled_bytes p)} s.fits same in
     let b : (fits_packet p && same_bytes bytes (tabled_bytes p) && nat_le (length bytes) longest_tabled) ≡ true = and_true {a = fits_packet p && same_bytes bytes (tabled_bytes p)} {b = nat_le (length bytes) longest_tabled} c (le_is (length bytes) longest_tabled s.short) in
-    and_true {a = fits_packet p && same_bytes bytes (tabled_bytes p) && nat_le (length bytes) longest_tabled} {b = nat_le (in_full (places p)) longest_tabled} b (le_is (in_full (places p)) longest_tabled s.spread)
+    and_true {a = fits_packet p && same_bytes bytes (tabled_bytes p) && nat_le (length bytes) longest_tabled} {b = nat_le (in_full (type_places p)) longest_tabled} b (le_is (in_full (type_places p)) longest_tabled s.spread)
 
 pub table_read_is_spelled : (bytes : Bytes) (p : Packet) → tabled_packet_of bytes ≡ Some p → SpellsByTable bytes p
 table_read_is_spelled bytes p e = by_table_sound bytes p (by (read_tabled bytes) e)

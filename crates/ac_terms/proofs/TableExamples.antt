@@ -7,7 +7,7 @@ use Rattle.ac_types.specs.Types.{Bytes, TInt, TStr, TUnit, TTuple, TList, typs}
 use Rattle.ac_terms.specs.Terms.{KInt, KStr, KTuple, KList, pvalues}
 use Rattle.ac_terms.specs.Defs.{Packet}
 use Rattle.ac_terms.specs.Bounds.{fits_packet}
-use Rattle.ac_terms.specs.Tables.{places, table_of, in_full, counted_up, tabled_bytes, SpellsByTable}
+use Rattle.ac_terms.specs.Tables.{type_places, table_of, in_full, counted_up, tabled_bytes, SpellsByTable}
 use Rattle.ac_terms.specs.TableReading.{read_tabled, tabled_packet_of, any_packet_of, renewed}
 use Rattle.ac_terms.proofs.Samples.{five_packet, pair_type, pair_packet}
 
@@ -32,7 +32,7 @@ pub no_byte_more : any_packet_of (five_tabled ++ 0x00 ∷ []) ≡ None
 no_byte_more = refl
 
 -- the packet of `fun (u : unit) -> (M1.y, M2.z)`: three types in the order in which they come first: int in the import, the packet's own, unit in the lambda
-pub pair_places : places pair_packet ≡ TInt ∷ TInt ∷ TInt ∷ pair_type ∷ TUnit ∷ []
+pub pair_places : type_places pair_packet ≡ TInt ∷ TInt ∷ TInt ∷ pair_type ∷ TUnit ∷ []
 pair_places = refl
 
 pub pair_table : table_of pair_packet ≡ TInt ∷ pair_type ∷ TUnit ∷ []
@@ -55,7 +55,7 @@ pair_by_table = refl
 pub pair_tabled_length : length pair_tabled ≡ 99
 pair_tabled_length = refl
 
-pub pair_in_full : in_full (places pair_packet) ≡ 10
+pub pair_in_full : in_full (type_places pair_packet) ≡ 10
 pair_in_full = refl
 
 pub pair_fits : IsTrue (fits_packet pair_packet)

@@ -10,7 +10,7 @@ use Rattle.ac_types.proofs.FirstLaws.{none≢some, some_eq}
 use Rattle.ac_types.proofs.Same.{both_true, and_true, same_eq, same_refl}
 use Rattle.ac_types.specs.Types.{Typ, TInt, TBool, TStr, TUnit, TExn, TTuple, TList, TOpt, TFun, TAbs, TMine, same}
 use Rattle.ac_terms.specs.Spelling.{type_bytes}
-use Rattle.ac_terms.specs.Tables.{is_among, with_type, with_types, number_in, in_full, counted_up, are_distinct, IsTable}
+use Rattle.ac_terms.specs.Tables.{is_among, with_type, with_types, number_in, in_full, counted_up, types_distinct, IsTable}
 use Rattle.ac_terms.proofs.AllLaws.{all_append}
 use Rattle.ac_terms.proofs.TestLaws.{lt_true, lt_is, eq_true, eq_self, not_true}
 
@@ -123,17 +123,17 @@ or_false : (a b : Bool) → (a || b) ≡ false → (a ≡ false) × (b ≡ false
 or_false true b e = absurd (true≢false e)
 or_false false b e = (refl, e)
 
-distinct_last : (xs : List Typ) (T : Typ) → are_distinct xs ≡ true → is_among xs T ≡ false → are_distinct (xs ++ T ∷ []) ≡ true
+distinct_last : (xs : List Typ) (T : Typ) → types_distinct xs ≡ true → is_among xs T ≡ false → types_distinct (xs ++ T ∷ []) ≡ true
 distinct_last [] T d n = refl
 distinct_last (U ∷ xs) T d n =
-    let a = both_true (not (is_among xs U)) (are_distinct xs) d in
+    let a = both_true (not (is_among xs U)) (types_distinct xs) d in
     let b = or_false (same T U) (is_among xs T) n in
     let other : is_among (xs ++ T ∷ []) U ≡ false = list_any-append (same U) xs (T ∷ []) ∙ ap (λ x. x || is_among (T ∷ []) U) (not_true (is_among xs U) a.0) ∙ ap (λ x. x || false) (same_other T U b.0) in
-    and_true {a = not (is_among (xs ++ T ∷ []) U)} {b = are_distinct (xs ++ T ∷ [])} (ap not other) (distinct_last xs T a.1 b.1)
+    and_true {a = not (is_among (xs ++ T ∷ []) U)} {b = types_distinct (xs ++ T ∷ [])} (ap not other) (distinct_last xs T a.1 b.1)
 
-table_distinct : (t Ts : List Typ) → are_distinct t ≡ true → are_distinct (with_types t Ts) ≡ true
+table_distinct : (t Ts : List Typ) → types_distinct t ≡ true → types_distinct (with_types t Ts) ≡ true
 table_distinct t [] d = d
-table_distinct t (T ∷ Ts) d = table_distinct (with_type t T) Ts (with_cases (λ x. are_distinct x ≡ true) t T (λ e. d) (λ e. distinct_last t T d e))
+table_distinct t (T ∷ Ts) d = table_distinct (with_type t T) Ts (with_cases (λ x. types_distinct x ≡ true) t T (λ e. d) (λ e. distinct_last t T d e))
 
 -- numbers stay as a table grows, and the next one is the count
 number_stays : (xs ys : List Typ) (T : Typ) → is_among xs T ≡ true → number_in (xs ++ ys) T ≡ number_in xs T
@@ -203,13 +203,13 @@ among_at [] n T e = absurd (none≢some e)
 among_at (U ∷ t) zero T e = ap (λ x. x || is_among t T) (ap (same T) (some_eq e) ∙ same_refl T)
 among_at (U ∷ t) (suc n) T e = or_right (same T U) (is_among t T) (among_at t n T e)
 
-number_at : (t : List Typ) (n : ℕ) (T : Typ) → are_distinct t ≡ true → slice_get t n ≡ Some T → number_in t T ≡ n
+number_at : (t : List Typ) (n : ℕ) (T : Typ) → types_distinct t ≡ true → slice_get t n ≡ Some T → number_in t T ≡ n
 number_at [] n T d e = absurd (none≢some e)
 number_at (U ∷ t) zero T d e = ap (λ b. elim b as (λ z. ℕ) [ true ↦ 0 | false ↦ suc (number_in t T) ]) (ap (same T) (some_eq e) ∙ same_refl T)
 number_at (U ∷ t) (suc n) T d e = by (number_at t n T a.1 e) (same T U) refl
   where
-    a : (not (is_among t U) ≡ true) × (are_distinct t ≡ true)
-    a = both_true (not (is_among t U)) (are_distinct t) d
+    a : (not (is_among t U) ≡ true) × (types_distinct t ≡ true)
+    a = both_true (not (is_among t U)) (types_distinct t) d
 
     by : number_in t T ≡ n → (b : Bool) → same T U ≡ b → elim b as (λ z. ℕ) [ true ↦ 0 | false ↦ suc (number_in t T) ] ≡ suc n
     by h false q = ap suc h
@@ -232,10 +232,10 @@ get_end : (xs : List Typ) → slice_get (xs ++ []) (length xs) ≡ None
 get_end [] = refl
 get_end (x ∷ xs) = get_end xs
 
-distinct_before : (xs : List Typ) (T : Typ) (ys : List Typ) → are_distinct (xs ++ T ∷ ys) ≡ true → is_among xs T ≡ false
+distinct_before : (xs : List Typ) (T : Typ) (ys : List Typ) → types_distinct (xs ++ T ∷ ys) ≡ true → is_among xs T ≡ false
 distinct_before [] T ys d = refl
 distinct_before (V ∷ xs) T ys d =
-    let a = both_true (not (is_among (xs ++ T ∷ ys) V)) (are_distinct (xs ++ T ∷ ys)) d in
+    let a = both_true (not (is_among (xs ++ T ∷ ys) V)) (types_distinct (xs ++ T ∷ ys)) d in
     let b = or_false (is_among xs V) (is_among (T ∷ ys) V) (sym (list_any-append (same V) xs (T ∷ ys)) ∙ not_true (is_among (xs ++ T ∷ ys) V) a.0) in
     let c = or_false (same V T) (is_among ys V) b.1 in
     ap (λ x. x || is_among xs T) (same_other V T c.0) ∙ distinct_before xs T ys a.1
@@ -249,22 +249,22 @@ with_new t T e = ap (λ b. elim b as (λ z. List Typ) [ true ↦ t | false ↦ t
 
 -- a table that the words of the format ask for is the one that grows with the places
 abbrev OnlyFrom : List ℕ → List Typ → Type 0
-OnlyFrom ns Ts = (t u : List Typ) → are_distinct (t ++ u) ≡ true → map (slice_get (t ++ u)) ns ≡ map Some Ts → counted_up (length t) ns ≡ Some (length (t ++ u)) → with_types t Ts ≡ t ++ u
+OnlyFrom ns Ts = (t u : List Typ) → types_distinct (t ++ u) ≡ true → map (slice_get (t ++ u)) ns ≡ map Some Ts → counted_up (length t) ns ≡ Some (length (t ++ u)) → with_types t Ts ≡ t ++ u
 
 module _ (n : ℕ) (ns : List ℕ) (T : Typ) (Ts : List Typ) (again : OnlyFrom ns Ts) (t : List Typ) where
-  next : (u v : List Typ) → u ≡ v → are_distinct (t ++ u) ≡ true → slice_get (t ++ u) n ≡ Some T → map (slice_get (t ++ u)) ns ≡ map Some Ts → n ≡ length t → counted_up (suc (length t)) ns ≡ Some (length (t ++ u)) → with_types (with_type t T) Ts ≡ t ++ u
+  next : (u v : List Typ) → u ≡ v → types_distinct (t ++ u) ≡ true → slice_get (t ++ u) n ≡ Some T → map (slice_get (t ++ u)) ns ≡ map Some Ts → n ≡ length t → counted_up (suc (length t)) ns ≡ Some (length (t ++ u)) → with_types (with_type t T) Ts ≡ t ++ u
   next u [] p d here later q h = absurd (none≢some (sym (get_end t) ∙ ap (slice_get (t ++ [])) (sym q) ∙ ap (λ x. slice_get (t ++ x) n) (sym p) ∙ here))
   next u (U ∷ v) p d here later q h =
       let first : U ≡ T = some_eq (sym (get_next t U v) ∙ ap (slice_get (t ++ U ∷ v)) (sym q) ∙ ap (λ x. slice_get (t ++ x) n) (sym p) ∙ here) in
       let same : t ++ u ≡ t ++ T ∷ v = ap (λ x. t ++ x) (p ∙ ap (λ x. x ∷ v) first) in
       let parts : t ++ u ≡ (t ++ T ∷ []) ++ v = same ∙ sym (append_assoc t (T ∷ []) v) in
-      let new : is_among t T ≡ false = distinct_before t T v (ap are_distinct (sym same) ∙ d) in
+      let new : is_among t T ≡ false = distinct_before t T v (ap types_distinct (sym same) ∙ d) in
       let long : length (t ++ T ∷ []) ≡ suc (length t) = omega (arith, length-append t (T ∷ [])) in
       ap (λ x. with_types x Ts) (with_new t T new) ∙
-      again (t ++ T ∷ []) v (ap are_distinct (sym parts) ∙ d) (ap (λ x. map (slice_get x) ns) (sym parts) ∙ later) (ap (λ x. counted_up x ns) long ∙ h ∙ ap (λ x. Some (length x)) parts) ∙
+      again (t ++ T ∷ []) v (ap types_distinct (sym parts) ∙ d) (ap (λ x. map (slice_get x) ns) (sym parts) ∙ later) (ap (λ x. counted_up x ns) long ∙ h ∙ ap (λ x. Some (length x)) parts) ∙
       sym parts
 
-  one_more : (u : List Typ) → are_distinct (t ++ u) ≡ true → slice_get (t ++ u) n ≡ Some T → map (slice_get (t ++ u)) ns ≡ map Some Ts → (b e : Bool) → nat_lt n (length t) ≡ b → nat_eq n (length t) ≡ e →
+  one_more : (u : List Typ) → types_distinct (t ++ u) ≡ true → slice_get (t ++ u) n ≡ Some T → map (slice_get (t ++ u)) ns ≡ map Some Ts → (b e : Bool) → nat_lt n (length t) ≡ b → nat_eq n (length t) ≡ e →
       elim b as (λ z. Option ℕ) [ true ↦ counted_up (length t) ns | false ↦ elim e as (λ z. Option ℕ) [ true ↦ counted_up (suc (length t)) ns | false ↦ None ] ] ≡ Some (length (t ++ u)) → with_types (with_type t T) Ts ≡ t ++ u
   one_more u d here later true e q r h =
       let low : n < length t = lt_true n (length t) q in
@@ -272,14 +272,14 @@ module _ (n : ℕ) (ns : List ℕ) (T : Typ) (Ts : List Typ) (again : OnlyFrom n
   one_more u d here later false true q r h = next u u refl d here later (eq_true n (length t) r) h
   one_more u d here later false false q r h = absurd (none≢some h)
 
-only_from : (ns : List ℕ) (Ts t u : List Typ) → are_distinct (t ++ u) ≡ true → map (slice_get (t ++ u)) ns ≡ map Some Ts → counted_up (length t) ns ≡ Some (length (t ++ u)) → with_types t Ts ≡ t ++ u
+only_from : (ns : List ℕ) (Ts t u : List Typ) → types_distinct (t ++ u) ≡ true → map (slice_get (t ++ u)) ns ≡ map Some Ts → counted_up (length t) ns ≡ Some (length (t ++ u)) → with_types t Ts ≡ t ++ u
 only_from [] [] t [] d s c = sym (append-nil t)
 only_from [] [] t (U ∷ u) d s c = absurd (omega (arith, some_eq c, length-append t (U ∷ u)))
 only_from [] (T ∷ Ts) t u d s c = absurd (none≢some (ap (λ l. slice_get l 0) s))
 only_from (n ∷ ns) [] t u d s c = absurd (none≢some (sym (ap (λ l. slice_get l 0) s)))
 only_from (n ∷ ns) (T ∷ Ts) t u d s c = one_more n ns T Ts (only_from ns Ts) t u d (some_eq (ap (λ l. slice_get l 0) s)) (ap rest_of s) (nat_lt n (length t)) (nat_eq n (length t)) refl refl c
 
-only_numbers : (t : List Typ) (ns : List ℕ) (Ts : List Typ) → are_distinct t ≡ true → map (slice_get t) ns ≡ map Some Ts → ns ≡ map (number_in t) Ts
+only_numbers : (t : List Typ) (ns : List ℕ) (Ts : List Typ) → types_distinct t ≡ true → map (slice_get t) ns ≡ map Some Ts → ns ≡ map (number_in t) Ts
 only_numbers t [] [] d s = refl
 only_numbers t [] (T ∷ Ts) d s = absurd (none≢some (ap (λ l. slice_get l 0) s))
 only_numbers t (n ∷ ns) [] d s = absurd (none≢some (sym (ap (λ l. slice_get l 0) s)))

@@ -8,7 +8,7 @@ use Rattle.ac_terms.specs.Defs.{Packet}
 use Rattle.ac_terms.specs.Spelling.{four_written, listed, type_bytes, packet_bytes}
 use Rattle.ac_terms.specs.SpelledBy.{body_bytes}
 use Rattle.ac_terms.specs.Bounds.{fits_packet, Spells}
-use Rattle.ac_terms.specs.Tables.{places, table_of, numbered, in_full, tabled_bytes, SpellsByTable}
+use Rattle.ac_terms.specs.Tables.{type_places, table_of, numbered, in_full, tabled_bytes, SpellsByTable}
 use Rattle.ac_terms.proofs.Measures.{weight, body}
 use Rattle.ac_terms.proofs.TableLaws.{full_long, full_spelled, table_full}
 
@@ -30,23 +30,23 @@ tabled_long p =
     omega (arith, length-append (listed four_written type_bytes table) (body_bytes (numbered table) p), length-append (four_written (length table)) (flat_map type_bytes table), full_spelled table)
 
 -- the two lengths: each place of a type costs at most four bytes more, and the count of the table four
-pub longer : (p : Packet) → fits_packet p ≡ true → length (tabled_bytes p) ≤ length (packet_bytes p) + 4 + 4 * length (places p)
+pub longer : (p : Packet) → fits_packet p ≡ true → length (tabled_bytes p) ≤ length (packet_bytes p) + 4 + 4 * length (type_places p)
 longer p w =
     let m = body p w in
     let table : List Typ = table_of p in
-    omega (arith, packet_long p, tabled_long p, m.weighed type_bytes, m.weighed (numbered table), four_weight table (places p), full_weight (places p), table_full [] (places p))
+    omega (arith, packet_long p, tabled_long p, m.weighed type_bytes, m.weighed (numbered table), four_weight table (type_places p), full_weight (type_places p), table_full [] (type_places p))
 
 -- there are at most two places for three bytes
-pub two_for_three : (p : Packet) → fits_packet p ≡ true → 3 * length (places p) ≤ 2 * length (packet_bytes p)
+pub two_for_three : (p : Packet) → fits_packet p ≡ true → 3 * length (type_places p) ≤ 2 * length (packet_bytes p)
 two_for_three p w =
     let m = body p w in
-    omega (arith, packet_long p, m.weighed type_bytes, m.dense, full_weight (places p), full_long (places p))
+    omega (arith, packet_long p, m.weighed type_bytes, m.dense, full_weight (type_places p), full_long (type_places p))
 
 -- the types of the places are among the bytes
-pub full_within : (p : Packet) → fits_packet p ≡ true → in_full (places p) ≤ length (packet_bytes p)
+pub full_within : (p : Packet) → fits_packet p ≡ true → in_full (type_places p) ≤ length (packet_bytes p)
 full_within p w =
     let m = body p w in
-    omega (arith, packet_long p, m.weighed type_bytes, full_weight (places p))
+    omega (arith, packet_long p, m.weighed type_bytes, full_weight (type_places p))
 
 pub also_by_table : (bytes : Bytes) (p : Packet) → Spells bytes p → SpellsByTable (tabled_bytes p) p × (length (tabled_bytes p) ≤ longest_renewed)
 also_by_table bytes p s =

@@ -8,7 +8,7 @@ use Rattle.ac_terms.specs.Defs.{Packet}
 use Rattle.ac_terms.specs.Parts.{part_types, all_value_parts}
 use Rattle.ac_terms.specs.Pieces.{two_written}
 use Rattle.ac_terms.specs.SpelledBy.{all_value_bytes}
-use Rattle.ac_terms.specs.Tables.{places, with_types, numbered, tabled_bytes_by, tabled_bytes}
+use Rattle.ac_terms.specs.Tables.{type_places, with_types, numbered, tabled_bytes_by, tabled_bytes}
 
 abbrev pub ints : List ℤ → PValues
 ints ns = pvalues (map KInt ns)
@@ -26,7 +26,7 @@ nine_each f (n ∷ ns) = omega (arith, nine_each f ns)
 
 pub ints_long : (ns : List ℤ) → length (tabled_bytes (ints_packet ns)) ≡ 22 + 9 * length ns
 ints_long ns =
-    let places_are : places (ints_packet ns) ≡ TList TInt ∷ [] = ap (λ Ts. TList TInt ∷ Ts) (no_types_in ns) in
+    let places_are : type_places (ints_packet ns) ≡ TList TInt ∷ [] = ap (λ Ts. TList TInt ∷ Ts) (no_types_in ns) in
     let long : length (tabled_bytes_by (TList TInt ∷ []) (ints_packet ns)) ≡ 22 + 9 * length ns = omega (arith, nine_each (numbered (TList TInt ∷ [])) ns) in
     ap (λ Ts. length (tabled_bytes_by (with_types [] Ts) (ints_packet ns))) places_are ∙ long
 

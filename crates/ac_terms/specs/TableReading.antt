@@ -8,7 +8,7 @@ use Rattle.ac_terms.specs.Defs.{Packet}
 use Rattle.ac_terms.specs.Bounds.{fits_packet}
 use Rattle.ac_terms.specs.ReadBy.{read_def, read_value}
 use Rattle.ac_terms.specs.PacketReading.{ReadsPart, one, then_read, pair, bytes_read, read_list, read_two, read_four, read_type, a_packet, packet_of}
-use Rattle.ac_terms.specs.Tables.{places, in_full, tabled_bytes}
+use Rattle.ac_terms.specs.Tables.{type_places, in_full, tabled_bytes}
 
 -- a number of four bytes, read as the type of a table that it stands for
 abbrev pub read_number : List Typ → ReadsPart Typ
@@ -24,7 +24,7 @@ read_tabled bs = then_read (bytes_read 5) (λ head. then_read (read_list read_fo
 
 -- whether bytes spell a packet with a table
 abbrev pub spells_by_table : Bytes → Packet → Bool
-spells_by_table bytes p = fits_packet p && same_bytes bytes (tabled_bytes p) && nat_le (length bytes) longest_tabled && nat_le (in_full (places p)) longest_tabled
+spells_by_table bytes p = fits_packet p && same_bytes bytes (tabled_bytes p) && nat_le (length bytes) longest_tabled && nat_le (in_full (type_places p)) longest_tabled
 
 -- the packet that bytes spell with a table, where they spell one: what is read of them, if it is spelled so
 abbrev pub tabled_packet_of : Bytes → Option Packet

@@ -11,8 +11,8 @@ use Rattle.ac_terms.specs.Bounds.{Spells, fits_packet}
 use Rattle.ac_terms.specs.Tags as tag
 
 -- the types in all places of a packet, in the order of its bytes: those of the definitions, the packet's own, those of the value
-abbrev pub places : Packet → List Typ
-places p = part_types (flat_map def_parts p.defs ++ OfType p.ty ∷ value_parts p.value)
+abbrev pub type_places : Packet → List Typ
+type_places p = part_types (flat_map def_parts p.defs ++ OfType p.ty ∷ value_parts p.value)
 
 -- whether a type is among some
 abbrev pub is_among : List Typ → Typ → Bool
@@ -29,7 +29,7 @@ with_types table (T ∷ Ts) = with_types (with_type table T) Ts
 
 -- the table of a packet: each type of its places, in the order in which they come for the first time
 abbrev pub table_of : Packet → List Typ
-table_of p = with_types [] (places p)
+table_of p = with_types [] (type_places p)
 
 -- the number of a type in a table: how many stand before it
 abbrev pub number_in : List Typ → Typ → ℕ
@@ -56,7 +56,7 @@ pub record SpellsByTable (bytes : Bytes) (p : Packet) : Type 0 where
   pub fits : IsTrue (fits_packet p)
   pub spelled : bytes ≡ tabled_bytes p
   pub short : length bytes ≤ longest_tabled
-  pub spread : in_full (places p) ≤ longest_tabled
+  pub spread : in_full (type_places p) ≤ longest_tabled
 
 -- bytes spell a packet in one of its versions: 1, with types in full, or 3, with a table
 pub data SpellsIn (bytes : Bytes) (p : Packet) : Type 0 where
@@ -71,12 +71,12 @@ counted_up k [] = Some k
 counted_up k (n ∷ ns) = elim (nat_lt n k) [ true ↦ counted_up k ns | false ↦ elim (nat_eq n k) [ true ↦ counted_up (suc k) ns | false ↦ None ] ]
 
 -- the types of a table are distinct
-abbrev pub are_distinct : List Typ → Bool
-are_distinct [] = true
-are_distinct (T ∷ Ts) = not (is_among Ts T) && are_distinct Ts
+abbrev pub types_distinct : List Typ → Bool
+types_distinct [] = true
+types_distinct (T ∷ Ts) = not (is_among Ts T) && types_distinct Ts
 
 -- a table of distinct types and the numbers in some places: each number is in the table, each type is used, first ones come in order, and they stand for these types
 pub record IsTable (table : List Typ) (numbers : List ℕ) (Ts : List Typ) : Type 0 where
-  pub distinct : IsTrue (are_distinct table)
+  pub distinct : IsTrue (types_distinct table)
   pub in_order : counted_up 0 numbers ≡ Some (length table)
   pub stand_for : map (slice_get table) numbers ≡ map Some Ts

@@ -11,7 +11,7 @@ ghost use Rattle.ac_terms.specs.Spelling.{two_written, type_bytes, value_bytes};
 ghost use Rattle.ac_terms.specs.Nesting.{value_nesting};
 ghost use Rattle.ac_terms.specs.Bounds.{Spells};
 ghost use Rattle.ac_terms.specs.PacketReading.{packet_of};
-ghost use Rattle.ac_terms.specs.Tables.{places, with_types, number_in, tabled_bytes_by, tabled_bytes, SpellsByTable, SpellsIn, IsTable};
+ghost use Rattle.ac_terms.specs.Tables.{type_places, with_types, number_in, tabled_bytes_by, tabled_bytes, SpellsByTable, SpellsIn, IsTable};
 ghost use Rattle.ac_terms.specs.TableReading.{any_packet_of, renewed};
 ghost use Rattle.ac_terms.specs.Heads.{Head, packed_heads};
 
@@ -54,7 +54,7 @@ pub fn one_table()
         IsTable table numbers Ts → (table ≡ with_types [] Ts) ×
         (numbers ≡ map (number_in table) Ts) }
     ensures spelling { (p : Packet) (table : List Typ) (numbers : List ℕ) →
-        IsTable table numbers (places p) → tabled_bytes_by table p ≡ tabled_bytes p }
+        IsTable table numbers (type_places p) → tabled_bytes_by table p ≡ tabled_bytes p }
 {}
 
 /// A string renewed spells what it spelled, and renewing it again changes nothing.

@@ -6,7 +6,7 @@ ghost use Rattle.ac_terms.specs.Read.{expr_of, arm_of, value_of, home_of};
 ghost use Rattle.ac_terms.specs.Renumbered.{home_by, renumbered, all_renumbered, arms_renumbered, value_renumbered, values_renumbered};
 
 use crate::term::{Arm, Home, PVal, Term};
-use ac_types::{Box, Many, Memory};
+use ac_types::{Boxed, Many, Memory};
 use std::alloc::Global;
 
 /// Numbers that stand for those of definitions.
@@ -78,11 +78,11 @@ impl<N: Numbering> Copier<N> {
 
     // The same in a box.
     #[cycle(renumber)]
-    fn boxed(&self, term: &Box<Term>) -> Result<Box<Term>, Memory>
+    fn boxed(&self, term: &Boxed<Term>) -> Result<Boxed<Term>, Memory>
         ensures { IfOk result (λ t. expr_of t ≡ renumbered (N.stands_for self.now.by)
             (expr_of term.now)) }
     {
-        Box::new(self.alloc, self.term(term)?)
+        Boxed::new(self.alloc, self.term(term)?)
     }
 
     #[cycle(renumber)]
@@ -146,11 +146,11 @@ impl<N: Numbering> Copier<N> {
 
     // The same in a box.
     #[cycle(renumber)]
-    fn boxed_value(&self, value: &Box<PVal>) -> Result<Box<PVal>, Memory>
+    fn boxed_value(&self, value: &Boxed<PVal>) -> Result<Boxed<PVal>, Memory>
         ensures { IfOk result (λ v. value_of v ≡ value_renumbered (N.stands_for self.now.by)
             (value_of value.now)) }
     {
-        Box::new(self.alloc, self.value(value)?)
+        Boxed::new(self.alloc, self.value(value)?)
     }
 
     #[cycle(renumber)]

@@ -1,7 +1,7 @@
 // Parts of trees, and a module of one field. Want of memory ends the test.
 
 use ac_terms::{Def, Entry, Env, Field, Module, Seen, Term};
-use ac_types::{Atom, Box, Many, Name, Sig, Text, Ty, TyField, Version, Word};
+use ac_types::{Atom, Boxed, Many, Name, Sig, Text, Ty, TyField, Version, Word};
 use std::alloc::Global;
 use std::process::Abort;
 
@@ -16,8 +16,8 @@ pub fn word(rt: &impl Abort, alloc: Global, bytes: &[u8]) -> Word {
 }
 
 /// The item in a box.
-pub fn boxed<T: Drop>(rt: &impl Abort, alloc: Global, item: T) -> Box<T> {
-    Box::new(alloc, item).expect(rt, "memory")
+pub fn boxed<T: Drop>(rt: &impl Abort, alloc: Global, item: T) -> Boxed<T> {
+    Boxed::new(alloc, item).expect(rt, "memory")
 }
 
 /// A list of one item.

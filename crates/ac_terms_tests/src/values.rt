@@ -1,7 +1,7 @@
 // A store and its lists, where memory suffices.
 
 use ac_values::read::{entry, int_in};
-use ac_values::{Chain, Node, Store};
+use ac_values::{Node, SharedLists, Store};
 
 #[test]
 fn nodes_are_found(rt: HostRuntime) {
@@ -16,7 +16,7 @@ fn nodes_are_found(rt: HostRuntime) {
 
 #[test]
 fn lists_are_found(rt: HostRuntime) {
-    let mut lists = Chain::new(rt.alloc());
+    let mut lists = SharedLists::new(rt.alloc());
     let number = lists.push(5u8, 0).expect(&rt, "memory");
     assert_eq!(rt; lists.top(number), Some((5u8, 0)));
 }

@@ -15,17 +15,17 @@ struct Cell<T> {
 }
 
 /// Lists that share their tails, each with a number. List 0 is empty.
-pub struct Chain<T> {
+pub struct SharedLists<T> {
     cells: Vec<Cell<T>>,
 }
 
-impl<T: Drop> Drop for Chain<T> {
+impl<T: Drop> Drop for SharedLists<T> {
     fn drop(self) {
-        let Chain { cells: _ } = self;
+        let SharedLists { cells: _ } = self;
     }
 }
 
-impl<T> Model for Chain<T> {
+impl<T> Model for SharedLists<T> {
     ghost use Rattle.std.specs.Prelude.{List};
     ghost use Rattle.std.specs.Coded.{coded_list};
 
@@ -40,13 +40,13 @@ impl<T> Model for Chain<T> {
     ghost invariant = { λ c. AreEarlier c.cells.items };
 }
 
-impl<T: Copy> Chain<T> {
+impl<T: Copy> SharedLists<T> {
     /// The empty list alone.
     #[tactic(auto, using(crate::proofs::ChainLaws::lists_none))]
-    pub fn new(alloc: Global) -> Chain<T>
+    pub fn new(alloc: Global) -> SharedLists<T>
         ensures { result ≡ [] ∷ [] }
     {
-        Chain {
+        SharedLists {
             cells: Vec::new(alloc),
         }
     }

@@ -6,6 +6,6 @@ mod node;
 pub mod read;
 mod store;
 
-pub use chain::Chain;
+pub use chain::SharedLists;
 pub use node::{Node, Value};
 pub use store::Store;

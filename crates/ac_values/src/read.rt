@@ -11,7 +11,7 @@ use ac_code::CodeId;
 use ac_types::{BareExn, Many, Text, TextExn};
 
 /// The newest of a list of values, and the rest.
-pub fn opened(store: &Store, v: Value) -> Option<(Value, Value)>
+pub fn newest_and_rest(store: &Store, v: Value) -> Option<(Value, Value)>
     ensures { MatchOption result (newest_and_rest (stands_as store.now v.0) ≡ None)
         (λ p. (p.0.0 < v.0) ×
         (p.1.0 < v.0) × (v.0 < length store.now) ×
@@ -42,12 +42,12 @@ pub fn entry(store: &Store, list: Value, i: usize) -> Option<Value>
 {
     let mut rest = list;
     for _ in 0..i {
-        match opened(store, rest) {
+        match newest_and_rest(store, rest) {
             Some((_, older)) => rest = older,
             None => return None,
         }
     }
-    match opened(store, rest) {
+    match newest_and_rest(store, rest) {
         Some((newest, _)) => Some(newest),
         None => None,
     }
@@ -90,7 +90,7 @@ pub fn without(store: &Store, list: Value, n: usize) -> Option<Value>
 {
     let mut rest = list;
     for _ in 0..n {
-        match opened(store, rest) {
+        match newest_and_rest(store, rest) {
             Some((_, older)) => rest = older,
             None => return None,
         }

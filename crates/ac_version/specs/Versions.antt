@@ -12,13 +12,13 @@ fits (From n) (Number k) = nat_le n k
 fits r MyName = false
 
 -- each range is fitted by the atom at its place; only with a star are further atoms allowed, whatever they are
-abbrev pub fit : List Range → Bool → List Atom → Bool
-fit [] star [] = true
-fit [] star (a ∷ more) = star
-fit (r ∷ rs) star (a ∷ more) = fits r a && fit rs star more
-fit (r ∷ rs) star [] = false
+abbrev pub atoms_fit : List Range → Bool → List Atom → Bool
+atoms_fit [] star [] = true
+atoms_fit [] star (a ∷ more) = star
+atoms_fit (r ∷ rs) star (a ∷ more) = fits r a && atoms_fit rs star more
+atoms_fit (r ∷ rs) star [] = false
 
 -- a version meets ranges that it fits; an exact name is met by the definition that has it
 abbrev pub meets : List Atom → Constraint → Bytes → Bool
-meets version (Ranges rs star) own = fit rs star version
+meets version (Ranges rs star) own = atoms_fit rs star version
 meets version (Exact n) own = same_bytes own n

@@ -2,7 +2,7 @@
 
 ghost use Rattle.std.specs.Prelude.{◌≡◌, map};
 ghost use Rattle.ac_types.specs.ReadTypes.{atom_of, range_of, constraint_of};
-ghost use Rattle.ac_version.specs.Versions.{fits, fit, meets};
+ghost use Rattle.ac_version.specs.Versions.{fits, atoms_fit, meets};
 
 use ac_types::{Atom, Constraint, Name, Range, Version};
 
@@ -19,7 +19,7 @@ pub fn meets(v: &Version, c: &Constraint, own: &Name) -> bool
 
 /// Whether each range is fitted by the atom at its place; only with a star may atoms be left over.
 pub fn fit(ranges: &[Range], star: bool, atoms: &[Atom]) -> bool
-    ensures { result ≡ fit (map range_of ranges.now) star (map atom_of atoms.now) }
+    ensures { result ≡ atoms_fit (map range_of ranges.now) star (map atom_of atoms.now) }
 {
     if atoms.len() < ranges.len() {
         return false;

@@ -11,7 +11,7 @@ use Rattle.ac_outside.specs.Outside.{Extends}
 use Rattle.ac_meaning.specs.Writes.{Console, written}
 use Rattle.ac_meaning.specs.Acts.{Outcome, writes_of, crossings_of}
 use Rattle.ac_meaning.specs.Loads.{IsLoaded}
-use Rattle.ac_acceptance.specs.Accepting.{Shelved}
+use Rattle.ac_load_rules.specs.Accepting.{Shelved}
 use Rattle.ac_load.specs.declared.kind.Kind.{Kind}
 use Rattle.ac_load.specs.declared.kind.Kind.TheVariants as kind
 use Rattle.ac_load.specs.declared.kind.Refusal.{Refusal}

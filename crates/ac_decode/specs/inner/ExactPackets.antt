@@ -6,8 +6,8 @@ use Rattle.ac_terms.specs.Terms.{Expr}
 use Rattle.ac_terms.specs.Defs.{Field, Def, Packet}
 use Rattle.ac_terms.specs.PacketReading.{ReadsPart, one, then_read, pair, read_list, tagged, nothing, read_byte, a_field, a_module, an_import, a_packet}
 use Rattle.ac_terms.specs.Tags.{packet_mark, packet_in_full}
-use Rattle.ac_pieces.specs.ExactReading.{passing, exact_two, exact_four, exact_lower, exact_upper, exact_long_count, exact_version, exact_constraint, exact_resolves}
-use Rattle.ac_pieces.specs.ExactTypes.{exact_all_typed, exact_sig}
+use Rattle.ac_decode_pieces.specs.ExactReading.{passing, exact_two, exact_four, exact_lower, exact_upper, exact_long_count, exact_version, exact_constraint, exact_resolves}
+use Rattle.ac_decode_pieces.specs.ExactTypes.{exact_all_typed, exact_sig}
 use Rattle.ac_decode.specs.inner.ExactTerms.{exact_term, exact_value}
 
 -- what a packet begins with, and a version

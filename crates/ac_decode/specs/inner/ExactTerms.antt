@@ -7,7 +7,7 @@ use Rattle.ac_types.specs.Exceptions.{has_text, resolve_failure}
 use Rattle.ac_terms.specs.PrimitiveTypes.{primitives}
 use Rattle.ac_terms.specs.Bounds.{takes, is_lambda}
 use Rattle.ac_terms.specs.PacketReading.{ReadsPart, give, one, then_read, two_parts_read, three, pair, times, tagged, nothing, read_byte, read_with_text, argument_count, home_number}
-use Rattle.ac_pieces.specs.ExactReading.{passing, exact_two, exact_four, exact_eight, exact_truth, exact_lower, exact_text, exact_width, exact_long_count}
+use Rattle.ac_decode_pieces.specs.ExactReading.{passing, exact_two, exact_four, exact_eight, exact_truth, exact_lower, exact_text, exact_width, exact_long_count}
 
 -- the number of an exception and of a primitive, and a home
 abbrev pub is_exn : ℕ → Bool

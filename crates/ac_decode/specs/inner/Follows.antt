@@ -5,19 +5,19 @@ use Rattle.ac_terms.specs.Terms.{Pattern, PTuple, PCons, PPresent, PExnOf, no_pa
 use Rattle.ac_terms.specs.Read.{pattern_of, expr_of, value_of, home_of}
 use Rattle.ac_terms.specs.Bounds.{is_lambda}
 use Rattle.ac_terms.specs.PacketReading.{ReadsPart, give, one, two_parts_read, three, times}
-use Rattle.ac_pieces.specs.ExactReading.{passing}
+use Rattle.ac_decode_pieces.specs.ExactReading.{passing}
 use Rattle.ac_decode.specs.declared.heads.PatHead.{PatHead}
 use Rattle.ac_decode.specs.declared.heads.PatHead.TheVariants as pat
-use Rattle.ac_decode.specs.declared.heads.Around.{Around}
-use Rattle.ac_decode.specs.declared.heads.Around.TheVariants as around
+use Rattle.ac_decode.specs.declared.heads.Wrapper.{Wrapper}
+use Rattle.ac_decode.specs.declared.heads.Wrapper.TheVariants as around
 use Rattle.ac_decode.specs.declared.heads.Joint.{Joint}
 use Rattle.ac_decode.specs.declared.heads.Joint.TheVariants as joint
 use Rattle.ac_decode.specs.declared.heads.Row.{Row}
 use Rattle.ac_decode.specs.declared.heads.Row.TheVariants as row
 use Rattle.ac_decode.specs.declared.heads.Cases.{Cases}
 use Rattle.ac_decode.specs.declared.heads.Cases.TheVariants as cases
-use Rattle.ac_decode.specs.declared.heads.Head.{Head}
-use Rattle.ac_decode.specs.declared.heads.Head.TheVariants as head
+use Rattle.ac_decode.specs.declared.heads.TermHead.{TermHead}
+use Rattle.ac_decode.specs.declared.heads.TermHead.TheVariants as head
 use Rattle.ac_decode.specs.declared.heads.ValueHead.{ValueHead}
 use Rattle.ac_decode.specs.declared.heads.ValueHead.TheVariants as value
 use Rattle.ac_decode.specs.inner.ExactTerms.{exact_cases}
@@ -30,7 +30,7 @@ pattern_follows f pat.Present = one PPresent f
 pattern_follows f (pat.Exn x) = one (PExnOf (texted_number x)) f
 
 -- a term around one, of two, and of several
-abbrev pub put_around : Around → Expr → Expr
+abbrev pub put_around : Wrapper → Expr → Expr
 put_around (around.Exn x) = ExnOf (texted_number x)
 put_around around.Present = Present
 put_around (around.Lam ty) = Lam (typ_of ty)
@@ -53,7 +53,7 @@ abbrev pub put_cases : Cases → Expr → Arms → Expr
 put_cases cases.Match = Match
 put_cases cases.Try = Try
 
-abbrev pub term_follows : ReadsPart Pattern → ReadsPart Expr → ReadsPart PValue → Head → ReadsPart Expr
+abbrev pub term_follows : ReadsPart Pattern → ReadsPart Expr → ReadsPart PValue → TermHead → ReadsPart Expr
 term_follows p f g (head.Leaf t) = give (expr_of t)
 term_follows p f g (head.Around a) = one (put_around a) f
 term_follows p f g (head.Joint j) = two_parts_read (put_joint j) f f

@@ -6,7 +6,7 @@ use Rattle.ac_code.specs.Code as instr
 use Rattle.ac_code.specs.Code.{Instr, Block}
 use Rattle.ac_code.specs.ReadCode.{instr_of, block_of}
 use Rattle.ac_generate.specs.declared.writer.Writer as code
-use Rattle.ac_generate.specs.Sizes.{size, bound, unbind}
+use Rattle.ac_generate.specs.Sizes.{size, variable_count, unbind}
 use Rattle.ac_generate.specs.Generate.{code as code_at, all_code, seq_code, rest_code, arm_code, value_code, all_value_code, lambda_block, blocks, all_blocks, arm_blocks, value_blocks, all_value_blocks}
 
 -- with the number of the first block that is new
@@ -69,7 +69,7 @@ wrote_arms c G cases d = record { first = d.first; instrs = d.instrs ++ arm_code
 
 -- where the jump of an arm that begins at address p stands, and those of some arms
 abbrev pub arm_end : Pattern → Expr → ℕ → ℕ
-arm_end q b p = suc p + size b + length (unbind (bound q))
+arm_end q b p = suc p + size b + length (unbind (variable_count q))
 
 abbrev pub ends : Arms → ℕ → List ℕ
 ends no_arms p = []

@@ -7,9 +7,9 @@ use Rattle.ac_terms.specs.Defs.{Environment, Seen, Own', Shelf}
 use Rattle.ac_syntax.specs.Signs.{Sign}
 use Rattle.ac_syntax.specs.Trees.{ProgramTree}
 use Rattle.ac_syntax.specs.Programs.{IsProgram, IsModule}
-use Rattle.ac_scopes.specs.Surfaces.{surface_main}
-use Rattle.ac_acceptance.specs.Causes.{linked_behind, loaded, main_type, cause}
-use Rattle.ac_acceptance.specs.Accepting.{Shelved, IsPart, IsRefused}
+use Rattle.ac_resolve_scopes.specs.Surfaces.{surface_main}
+use Rattle.ac_load_rules.specs.Causes.{linked_behind, loaded, main_type, refusal_cause}
+use Rattle.ac_load_rules.specs.Accepting.{Shelved, IsPart, IsRefused}
 use Rattle.ac_load.specs.Kinds.{OfCause}
 use Rattle.ac_load.specs.declared.kind.Kind.{Kind}
 
@@ -19,14 +19,14 @@ linked_part seen n E = take n E ++ linked_behind seen (take n E) (drop n E)
 
 -- a tree has these entries, with those in front, and this term, of this type; no cause refuses it
 pub record IsTaken (E : Environment) (seen : Seen) (p : ProgramTree) (F : Environment) (e : Expr) (T : Typ) : Type 0 where
-  pub sound : cause sha256 E seen p ≡ None
+  pub sound : refusal_cause sha256 E seen p ≡ None
   pub entries : F ≡ loaded sha256 E seen p
   pub main : e ≡ surface_main sha256 E p
   pub typed : main_type sha256 E seen p ≡ Some T
 
 -- or it is refused, for a cause of this kind
 abbrev pub IsTreeRefused : Environment → Seen → ProgramTree → Kind → Type 0
-IsTreeRefused E seen p kind = OfCause (λ c. cause sha256 E seen p ≡ Some c) kind
+IsTreeRefused E seen p kind = OfCause (λ c. refusal_cause sha256 E seen p ≡ Some c) kind
 
 -- a text from `seen` is refused behind the entries E, for a cause of this kind
 abbrev pub RejectsPart : (List Sign → ProgramTree → Type 0) → Environment → Seen → Bytes → Kind → Type 0

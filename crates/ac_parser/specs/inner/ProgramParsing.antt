@@ -21,9 +21,9 @@ use Rattle.ac_syntax.specs.declared.surface.SAbbrev.{SAbbrev}
 use Rattle.ac_syntax.specs.declared.surface.SSig.{SSig}
 use Rattle.ac_syntax.specs.declared.surface.SWants.{SWants}
 use Rattle.ac_syntax.specs.declared.surface.SDef.{SDef}
-use Rattle.ac_syntax.specs.declared.stop.Stop.{Stop}
-use Rattle.ac_syntax.specs.declared.stop.Stop.TheVariants as stop
-use Rattle.ac_parser_patterns.specs.Reading.{Taken, Finds, ReadsOr}
+use Rattle.ac_syntax.specs.declared.stop.ParseError.{ParseError}
+use Rattle.ac_syntax.specs.declared.stop.ParseError.TheVariants as stop
+use Rattle.ac_parser_patterns.specs.Reading.{TakenSigns, FindsOr, ReadsOr}
 use Rattle.ac_syntax.specs.declared.sign.Symbol.TheVariants.{By, Colon, Comma, Equals, NameWord, Struct}
 
 -- the first sign is this upper name
@@ -58,11 +58,11 @@ abbrev pub NoComma : List Sign → Type 0
 NoComma rest = NoSymbol Comma rest
 
 -- the only such reading is here, or there is none
-abbrev pub ReadsOnly : {A X : Type 0} → (List Sign → A → List Sign → Type 0) → (List Sign → Type 0) → (X → A) → List sign.Sign → Result (X × Bor (List sign.Sign)) Stop → Type 0
+abbrev pub ReadsOnly : {A X : Type 0} → (List Sign → A → List Sign → Type 0) → (List Sign → Type 0) → (X → A) → List sign.Sign → Result (X × Bor (List sign.Sign)) ParseError → Type 0
 ReadsOnly Grammar Next value signs result = ReadsOr (NoRead Grammar Next) (OnlyRead Grammar Next) value signs result
 
 -- the same once this sign stands in front
-abbrev pub ReadsBehind : {A X : Type 0} → Sign → (List Sign → A → List Sign → Type 0) → (List Sign → Type 0) → (X → A) → List sign.Sign → Result (X × Bor (List sign.Sign)) Stop → Type 0
+abbrev pub ReadsBehind : {A X : Type 0} → Sign → (List Sign → A → List Sign → Type 0) → (List Sign → Type 0) → (X → A) → List sign.Sign → Result (X × Bor (List sign.Sign)) ParseError → Type 0
 ReadsBehind t Grammar Next value signs result = ReadsOr (λ ts. NoRead Grammar Next (t ∷ ts)) (λ ts x rest. OnlyRead Grammar Next (t ∷ ts) x rest) value signs result
 
 -- this stands at the front of the signs, and no more are left
@@ -71,8 +71,8 @@ pub record Within (P : List Sign → List Sign → Type 0) (signs rest : List si
   pub within : length rest ≤ length signs
 
 -- the same where the reading may be of no sign
-abbrev pub ReadsWithin : {A X : Type 0} → (List Sign → A → List Sign → Type 0) → (List Sign → Type 0) → (X → A) → List sign.Sign → Result (X × Bor (List sign.Sign)) Stop → Type 0
-ReadsWithin Grammar Next value signs result = Finds result (λ x. Within (λ ts rest. OnlyRead Grammar Next ts (value x.0) rest) signs x.1.now) (NoRead Grammar Next (read_signs signs))
+abbrev pub ReadsWithin : {A X : Type 0} → (List Sign → A → List Sign → Type 0) → (List Sign → Type 0) → (X → A) → List sign.Sign → Result (X × Bor (List sign.Sign)) ParseError → Type 0
+ReadsWithin Grammar Next value signs result = FindsOr result (λ x. Within (λ ts rest. OnlyRead Grammar Next ts (value x.0) rest) signs x.1.now) (NoRead Grammar Next (read_signs signs))
 
 -- an `=` stands behind
 abbrev pub BeginsEquals : List Sign → Type 0
@@ -169,8 +169,8 @@ pub record NothingGoesOn (ts : List Sign) : Type 0 where
   pub no_expr : (e : Tree) (rest : List Sign) → IsExpr ts e rest → ⊥
 
 -- the definition at the front is read, or all of the signs are left where none begins
-abbrev pub ReadsDef : List sign.Sign → Result (Option SDef × Bor (List sign.Sign)) Stop → Type 0
-ReadsDef signs result = Finds result (λ x. MatchOption x.0 ((x.1.now ≡ signs) × NoRead ParsesDef Anything (read_signs signs)) (λ d. Taken (λ ts rest. OnlyRead ParsesDef NoComma ts (def_tree_of d) rest) signs x.1.now)) (NothingGoesOn (read_signs signs))
+abbrev pub ReadsDef : List sign.Sign → Result (Option SDef × Bor (List sign.Sign)) ParseError → Type 0
+ReadsDef signs result = FindsOr result (λ x. MatchOption x.0 ((x.1.now ≡ signs) × NoRead ParsesDef Anything (read_signs signs)) (λ d. TakenSigns (λ ts rest. OnlyRead ParsesDef NoComma ts (def_tree_of d) rest) signs x.1.now)) (NothingGoesOn (read_signs signs))
 
 -- these definitions are read, and none begins at the rest
 pub record DefsRead (ts : List Sign) (done : List DefTree) (rest : List Sign) : Type 0 where
@@ -178,7 +178,7 @@ pub record DefsRead (ts : List Sign) (done : List DefTree) (rest : List Sign) : 
   pub end : NoRead ParsesDef Anything rest
 
 -- the stop that a fault of a version or a constraint is answered by
-abbrev pub stopped : VersionFault → Stop → Type 0
+abbrev pub stopped : VersionFault → ParseError → Type 0
 stopped bad.Memory e = e ≡ stop.Memory
 stopped bad.Bad e = (left : ℕ) × (e ≡ stop.Syntax left)
 

@@ -13,8 +13,8 @@ use Rattle.ac_machine_engine.specs.Seen.{MachineSeen}
 use Rattle.ac_meaning.specs.Worlds.{Made}
 use Rattle.ac_meaning.specs.Packing.{of_fault, Landing, Sinks, Lands}
 use Rattle.ac_meaning.specs.BarePacking.{bare_packed}
-use Rattle.ac_simulation.specs.Running.{with_more}
-use Rattle.ac_stands.specs.Stands.{stands}
+use Rattle.ac_machine_proof.specs.Running.{with_more}
+use Rattle.ac_machine_meaning.specs.Stands.{stands}
 use Rattle.ac_run.specs.Sessions.{Streams}
 use Rattle.ac_run.specs.inner.Notes.{Notes}
 use Rattle.ac_run.specs.inner.Turns.{Served}

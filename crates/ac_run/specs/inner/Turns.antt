@@ -14,7 +14,7 @@ use Rattle.ac_machine_engine.specs.Seen.{MachineSeen, standing}
 use Rattle.ac_meaning.specs.Writes.{Write, string_of}
 use Rattle.ac_meaning.specs.Worlds.{Exception, World, end_of_file_exn, bad_frame}
 use Rattle.ac_meaning.specs.Acts.{Outcome, Stuck, Over, Leads, writes_of}
-use Rattle.ac_simulation.specs.Running.{on, machine_step}
+use Rattle.ac_machine_proof.specs.Running.{on, machine_step}
 use Rattle.ac_run.specs.Sessions.{Session, environment, Streams, with_writes, StopsIn, StopsBehind, left_of, IsEnd, Leaves}
 use Rattle.ac_run.specs.Journals.{read_journal, noted}
 use Rattle.ac_run.specs.inner.Inboxes.{MayCome, IsLeft}

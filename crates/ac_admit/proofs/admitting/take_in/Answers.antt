@@ -8,7 +8,7 @@ use Rattle.ac_rules.specs.Typing.{holds}
 use Rattle.ac_rules.specs.Packets.{Placed}
 use Rattle.ac_check.specs.declared.fault.CheckFault.{CheckFault}
 use Rattle.ac_check.specs.Checking.{RefusesWhere}
-use Rattle.ac_parts.specs.Numbers.{number_for}
+use Rattle.ac_terms_renumber.specs.Numbers.{number_for}
 use Rattle.ac_admit.proofs.AcceptLaws.{accepts, refuses}
 use Rattle.ac_admit.proofs.admitting.take_in.Goals as goal
 

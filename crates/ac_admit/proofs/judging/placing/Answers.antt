@@ -9,8 +9,8 @@ use Rattle.ac_terms.specs.Bounds.{fits_def}
 use Rattle.ac_terms.specs.Read.{environment_of, packet_of, pdef_of}
 use Rattle.ac_terms.proofs.BoundsLaws.{packet_bounds}
 use Rattle.ac_rules.specs.Packets.{Full, Unresolved, places}
-use Rattle.ac_placing.specs.declared.places.Place as code_place
-use Rattle.ac_placing.specs.Placed.{state_of}
+use Rattle.ac_admit_placing.specs.declared.places.Place as code_place
+use Rattle.ac_admit_placing.specs.Placed.{state_of}
 use Rattle.ac_admit.specs.Refusing.{IsFor}
 use Rattle.ac_admit.proofs.CauseLaws.{first_for, second_for, third_for, fourth_for, none_of_four}
 use Rattle.ac_admit.proofs.RoomLaws.{few_own, own_fit, own_wrong, own_clash, few_both, few_with_defs, few_in_all, few_places, room_in_all, none_unlinked}

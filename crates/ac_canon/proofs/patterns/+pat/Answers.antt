@@ -51,9 +51,9 @@ put_pattern-returns-in_ok-put_u8-in-Present g t c =
     put_pattern_as _ _ _ _ _ _ _ (c.in-Present.is ∙ ap pat.Present (sym c.deref-in-Present.ensures)) (pattern_of-Present _) (put_behind _ _ _ _ _ _ c.in_ok-put_u8-in-Present.ensures.ok c.put_pattern-in-Present.ensures)
 
 pub put_pattern-returns-in-Exn : goal.put_pattern-returns-in-Exn
-put_pattern-returns-in-Exn g t c = put_pattern_as _ _ _ _ _ _ _ c.in-Exn.is (pattern_of-Exn _) (rw c.number.ensures at c.put_byte.ensures)
+put_pattern-returns-in-Exn g t c = put_pattern_as _ _ _ _ _ _ _ c.in-Exn.is (pattern_of-Exn _) (rw c.number.ensures at c.put_tagged_byte.ensures)
 
-pub put_pattern-returns-in_ok-put_byte-in-ExnOf : goal.put_pattern-returns-in_ok-put_byte-in-ExnOf
-put_pattern-returns-in_ok-put_byte-in-ExnOf g t c =
+pub put_pattern-returns-in_ok-put_tagged_byte-in-ExnOf : goal.put_pattern-returns-in_ok-put_tagged_byte-in-ExnOf
+put_pattern-returns-in_ok-put_tagged_byte-in-ExnOf g t c =
     put_pattern_as _ _ _ _ _ _ _ (c.in-ExnOf.is ∙ ap (pat.ExnOf _) (sym c.deref-in-ExnOf.ensures)) (pattern_of-ExnOf _ _)
-    (put_behind _ _ _ _ _ _ (rw c.number-in-ExnOf.ensures at c.in_ok-put_byte-in-ExnOf.ensures) c.put_pattern-in-ExnOf.ensures)
+    (put_behind _ _ _ _ _ _ (rw c.number-in-ExnOf.ensures at c.in_ok-put_tagged_byte-in-ExnOf.ensures) c.put_pattern-in-ExnOf.ensures)

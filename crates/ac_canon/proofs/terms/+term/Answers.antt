@@ -27,12 +27,12 @@ pub put_term-returns-in-Unit : goal.put_term-returns-in-Unit
 put_term-returns-in-Unit g t c = put_term_as _ _ _ _ _ _ _ _ c.in-Unit.is expr_of-Unit c.put_u8.ensures.ok
 
 pub put_term-returns-in-ExnVal : goal.put_term-returns-in-ExnVal
-put_term-returns-in-ExnVal g t c = put_term_as _ _ _ _ _ _ _ _ c.in-ExnVal.is (expr_of-Exn _) (rw c.number.ensures at c.put_byte.ensures)
+put_term-returns-in-ExnVal g t c = put_term_as _ _ _ _ _ _ _ _ c.in-ExnVal.is (expr_of-Exn _) (rw c.number.ensures at c.put_tagged_byte.ensures)
 
-pub put_term-returns-in_ok-put_byte-in-ExnOf : goal.put_term-returns-in_ok-put_byte-in-ExnOf
-put_term-returns-in_ok-put_byte-in-ExnOf g t c =
+pub put_term-returns-in_ok-put_tagged_byte-in-ExnOf : goal.put_term-returns-in_ok-put_tagged_byte-in-ExnOf
+put_term-returns-in_ok-put_tagged_byte-in-ExnOf g t c =
     put_term_as _ _ _ _ _ _ _ _ (c.in-ExnOf.is ∙ ap (term.ExnOf _) (sym c.deref.ensures)) (expr_of-ExnOf _ _)
-    (put_behind _ _ _ _ _ _ (rw c.number-in-ExnOf.ensures at c.in_ok-put_byte-in-ExnOf.ensures) c.put_term.ensures)
+    (put_behind _ _ _ _ _ _ (rw c.number-in-ExnOf.ensures at c.in_ok-put_tagged_byte-in-ExnOf.ensures) c.put_term.ensures)
 
 pub put_term-returns-in-Tuple : goal.put_term-returns-in-Tuple
 put_term-returns-in-Tuple g t c = put_term_as _ _ _ _ _ _ _ _ (c.in-Tuple.is ∙ ap term.Tuple (sym c.as_slice.ensures)) (expr_of-Tuple _) c.put_tuple.ensures
@@ -52,10 +52,10 @@ put_term-returns-in_ok-put_one-in-Cons g t c =
     (put_behind _ _ _ _ _ _ c.in_ok-put_one-in-Cons.ensures c.put_term-in-Cons.ensures)
 
 pub put_term-returns-in-Var : goal.put_term-returns-in-Var
-put_term-returns-in-Var g t c = put_term_as _ _ _ _ _ _ _ _ c.in-Var.is (expr_of-Var _) c.put_number.ensures
+put_term-returns-in-Var g t c = put_term_as _ _ _ _ _ _ _ _ c.in-Var.is (expr_of-Var _) c.put_tagged_number.ensures
 
 pub put_term-returns-in-Own : goal.put_term-returns-in-Own
-put_term-returns-in-Own g t c = put_term_as _ _ _ _ _ _ _ _ c.in-Own.is (expr_of-Own _) c.put_number-in-Own.ensures
+put_term-returns-in-Own g t c = put_term_as _ _ _ _ _ _ _ _ c.in-Own.is (expr_of-Own _) c.put_tagged_number-in-Own.ensures
 
 pub put_term-returns-in-Ref : goal.put_term-returns-in-Ref
 put_term-returns-in-Ref g t c = put_term_as _ _ _ _ _ _ _ _ c.in-Ref.is (expr_of-Ref _ _) c.put_field_of.ensures
@@ -129,7 +129,7 @@ pub put_sequence-returns : goal.put_sequence-returns
 put_sequence-returns g t c = put_third _ _ _ _ _ _ _ _ c.in_ok-put_u8.ensures.ok (rw (sym (count_terms c.args.parts.now)) at c.in_ok-put_count_u32.ensures) c.put_terms.ensures
 
 pub put_primitive-returns : goal.put_primitive-returns
-put_primitive-returns g t c = put_behind _ _ _ _ _ _ (rw c.number.ensures at c.in_ok-put_byte.ensures) c.put_terms.ensures
+put_primitive-returns g t c = put_behind _ _ _ _ _ _ (rw c.number.ensures at c.in_ok-put_tagged_byte.ensures) c.put_terms.ensures
 
 pub put_cases-returns : goal.put_cases-returns
 put_cases-returns g t c = put_next _ _ _ _ _ c.in_ok-put_count_u16.ensures c.put_arms.ensures

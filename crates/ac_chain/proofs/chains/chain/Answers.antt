@@ -14,16 +14,16 @@ use Rattle.ac_chain.proofs.ProvenanceLaws.{all_provenance}
 use Rattle.ac_chain.proofs.Endings.{clash_fault, all_have_run, all_faults}
 use Rattle.ac_chain.proofs.chains.chain.Goals as goal
 
-pub first_clash-requires-clause-many : goal.first_clash-requires-clause-many
-first_clash-requires-clause-many g c =
+pub first_program_clash-requires-clause-many : goal.first_program_clash-requires-clause-many
+first_program_clash-requires-clause-many g c =
     let same = as_many (texts_of c.args.programs.now) (shelf_of c.args.shelf.now) (programs_of c.in_ok-loaded.loaded) (subst (λ (ts : List Text). LoadAs (texts_of ts) (shelf_of c.args.shelf.now) (programs_of c.in_ok-loaded.loaded)) c.as_slice.ensures c.in_ok-loaded.ensures.load) in
     let a = length-map {B = Environment × Expr} c.in_ok-loaded.loaded (λ (l : Loaded). (environment_of l.env, expr_of l.main)) in
     let b = length-map c.args.programs.now bytes_of in
     let d = ap length c.as_slice-2.ensures in
     omega (arith, same, a, b, d)
 
-pub first_clash-requires-clause-few : goal.first_clash-requires-clause-few
-first_clash-requires-clause-few g c = subst AreFew (sym c.as_slice-2.ensures) (are_few c.in_ok-loaded.loaded c.in_ok-loaded.ensures.loaded)
+pub first_program_clash-requires-clause-few : goal.first_program_clash-requires-clause-few
+first_program_clash-requires-clause-few g c = subst AreFew (sym c.as_slice-2.ensures) (are_few c.in_ok-loaded.loaded c.in_ok-loaded.ensures.loaded)
 
 pub returns-in-Ok-None-clause-ran : goal.returns-in-Ok-None-clause-ran
 returns-in-Ok-None-clause-ran g c =

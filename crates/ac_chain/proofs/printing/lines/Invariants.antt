@@ -1,5 +1,5 @@
 use Rattle.std.proofs.Common.{◌≡◌, ◌+◌, ◌++◌, drop}
-use Rattle.ac_literals.specs.NumberedLines.{lines_from}
+use Rattle.ac_text.specs.NumberedLines.{lines_from}
 use Rattle.ac_chain.specs.StringLines.{part_lines}
 use Rattle.ac_chain.proofs.printing.lines.Given as goal
 

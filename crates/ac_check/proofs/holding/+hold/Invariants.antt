@@ -4,7 +4,7 @@ use Rattle.ac_terms.specs.Terms.{exprs, arms, pvalues}
 use Rattle.ac_terms.specs.Read.{environment_of, expr_of, arm_of, value_of}
 use Rattle.ac_rules.specs.Views.{Coloured}
 use Rattle.ac_rules.specs.Typing.{all_hold, each_holds}
-use Rattle.ac_views.specs.Sites.{typs_of}
+use Rattle.ac_check_views.specs.Sites.{typs_of}
 use Rattle.ac_check.specs.inner.Captured.{all_captured_hold, arms_captured_hold}
 use Rattle.ac_check.specs.inner.Heads.{AreHeads}
 use Rattle.ac_check.proofs.holding.+hold.Given as goal

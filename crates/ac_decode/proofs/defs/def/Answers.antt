@@ -1,6 +1,6 @@
 use Rattle.std.proofs.lemmas.Result.{err_from_is_err_and}
 use Rattle.ac_terms.specs.Read.{pdef_of}
-use Rattle.ac_pieces.proofs.Tags.{no_tag, after_tag}
+use Rattle.ac_decode_pieces.proofs.Tags.{no_tag, after_tag}
 use Rattle.ac_decode.specs.inner.ExactPackets.{def_table, exact_def}
 use Rattle.ac_decode.proofs.defs.def.Goals as goal
 

@@ -3,7 +3,7 @@ use Rattle.ac_terms.specs.Defs.{Def}
 use Rattle.ac_terms.specs.Read.{pdef_of}
 use Rattle.ac_decode.specs.inner.ExactPackets.{exact_def}
 use Rattle.ac_terms.specs.PacketReading.{times}
-use Rattle.ac_pieces.proofs.Loops.{with_front}
+use Rattle.ac_decode_pieces.proofs.Loops.{with_front}
 use Rattle.ac_decode.proofs.defs.some_defs.Given as goal
 
 abbrev pub invariant-loop : goal.invariant-loop

@@ -4,7 +4,7 @@ use Rattle.ac_terms.specs.Defs.{Field}
 use Rattle.ac_terms.specs.Read.{field_of}
 use Rattle.ac_decode.specs.inner.ExactPackets.{exact_field}
 use Rattle.ac_terms.specs.PacketReading.{times}
-use Rattle.ac_pieces.proofs.Loops.{with_front, starts, goes_on, ends, all_read, onto_list}
+use Rattle.ac_decode_pieces.proofs.Loops.{with_front, starts, goes_on, ends, all_read, onto_list}
 use Rattle.ac_decode.proofs.defs.some_fields.Goals as goal
 
 pub loop-init : goal.loop-init

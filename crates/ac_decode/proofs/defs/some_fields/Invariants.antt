@@ -3,7 +3,7 @@ use Rattle.ac_terms.specs.Defs.{Field}
 use Rattle.ac_terms.specs.Read.{field_of}
 use Rattle.ac_decode.specs.inner.ExactPackets.{exact_field}
 use Rattle.ac_terms.specs.PacketReading.{times}
-use Rattle.ac_pieces.proofs.Loops.{with_front}
+use Rattle.ac_decode_pieces.proofs.Loops.{with_front}
 use Rattle.ac_decode.proofs.defs.some_fields.Given as goal
 
 abbrev pub invariant-loop : goal.invariant-loop

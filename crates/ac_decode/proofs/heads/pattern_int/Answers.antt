@@ -16,7 +16,7 @@ with p = (PInt p.0, p.1)
 pub returns : goal.returns
 returns c = λ f.
     let z = c.in_ok-z.z in
-    let left = c.eight.new.cursor.left in
+    let left = c.take_eight.new.cursor.left in
     ap (option_map with) c.in_ok-z.ensures
     ∙ ap (λ (t : Pattern). Some (t, left)) (sym (pattern_of-Int z))
     ∙ ap (λ (w : ℤ). Some (pattern_of (tree.Int w), left)) (sym (to_z-of_z w64 z (read_fits c.args.cursor.now.left z left c.in_ok-z.ensures)))

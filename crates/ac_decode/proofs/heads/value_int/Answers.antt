@@ -16,7 +16,7 @@ with p = (KInt p.0, p.1)
 pub returns : goal.returns
 returns c = λ f g.
     let z = c.in_ok-z.z in
-    let left = c.eight.new.cursor.left in
+    let left = c.take_eight.new.cursor.left in
     ap (option_map with) c.in_ok-z.ensures
     ∙ ap (λ (t : PValue). Some (t, left)) (sym (value_of-Int z))
     ∙ ap (λ (w : ℤ). Some (value_of (tree.Int w), left)) (sym (to_z-of_z w64 z (read_fits c.args.cursor.now.left z left c.in_ok-z.ensures)))

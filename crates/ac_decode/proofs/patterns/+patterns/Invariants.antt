@@ -3,12 +3,12 @@ use Rattle.ac_terms.specs.Terms.{no_patterns, pattern'}
 use Rattle.ac_terms.specs.Read.{pattern_of}
 use Rattle.ac_decode.specs.inner.ExactTerms.{exact_pattern}
 use Rattle.ac_terms.specs.PacketReading.{times}
-use Rattle.ac_pieces.proofs.Loops.{with_front}
+use Rattle.ac_decode_pieces.proofs.Loops.{with_front}
 use Rattle.ac_decode.proofs.patterns.+patterns.Given as goal
 
 -- three for each level
-abbrev pub decreases-pattern : goal.decreases-pattern
-decreases-pattern g l = 3 * l.depth
+abbrev pub decreases-take_pattern : goal.decreases-take_pattern
+decreases-take_pattern g l = 3 * l.depth
 
 abbrev pub decreases-boxed_pattern : goal.decreases-boxed_pattern
 decreases-boxed_pattern g l = 3 * l.depth + 1

@@ -9,9 +9,9 @@ use Rattle.ac_terms.specs.declared.term.Arm.{Arm}
 use Rattle.ac_terms.specs.declared.term.PVal.{PVal}
 use Rattle.ac_decode.specs.inner.ExactTerms.{an_arm, exact_cases, exact_pattern, exact_term, exact_value}
 use Rattle.ac_terms.specs.PacketReading.{times, pair}
-use Rattle.ac_pieces.proofs.Loops.{with_front, starts, goes_on, ends, all_read}
+use Rattle.ac_decode_pieces.proofs.Loops.{with_front, starts, goes_on, ends, all_read}
 use Rattle.ac_decode.specs.inner.Follows.{term_follows, value_follows, put_around, put_joint, put_row, put_cases}
-use Rattle.ac_pieces.proofs.Steps.{answered_by, refused_by, made, paired, tripled, refused_first, joined_read}
+use Rattle.ac_decode_pieces.proofs.Steps.{answered_by, refused_by, made, paired, tripled, refused_first, joined_read}
 use Rattle.ac_decode.proofs.Cycles.{no_term_deeper, term_led, no_term_tag, no_value_deeper, value_led, no_value_tag, tested_read, tested_none}
 use Rattle.ac_decode.proofs.Ontos.{onto_terms, onto_arms, onto_values}
 use Rattle.ac_decode.proofs.terms.+terms.Goals as goal
@@ -70,17 +70,17 @@ pub all_values-returns : goal.all_values-returns
 all_values-returns g t c =
     all_read no_pvalues pvalue (exact_value (g.T.Types.reads_type c.args.types.now) c.args.depth) (map value_of c.loop.items) c.args.count c.loop.counter c.loop.cursor.left _ (pvalues (map value_of c.loop.items)) c.loop-test.false c.loop.invariant (onto_values (map value_of c.loop.items))
 
-pub term-returns-then-depth-eq0 : goal.term-returns-then-depth-eq0
-term-returns-then-depth-eq0 g t c = no_term_deeper (g.T.Types.reads_type c.args.types.now) c.args.within c.args.depth c.args.cursor.now.left c.if-depth-eq0.true
+pub take_term-returns-then-depth-eq0 : goal.take_term-returns-then-depth-eq0
+take_term-returns-then-depth-eq0 g t c = no_term_deeper (g.T.Types.reads_type c.args.types.now) c.args.within c.args.depth c.args.cursor.now.left c.if-depth-eq0.true
 
-pub term-returns-in_err-tag : goal.term-returns-in_err-tag
-term-returns-in_err-tag g t c =
+pub take_term-returns-in_err-tag : goal.take_term-returns-in_err-tag
+take_term-returns-in_err-tag g t c =
     let p = err_from_is_err_and c.from_residual.result c.from_residual.ensures.1 in
     let e : c.args.depth ≡ suc (c.args.depth - 1) = omega arith in
     rw (p.1, p.2) (no_term_tag (g.T.Types.reads_type c.args.types.now) c.args.within c.args.depth (c.args.depth - 1) c.args.cursor.now.left c.in_err-tag.field-0.0 e c.in_err-tag.ensures)
 
-pub term-returns-in_err-head : goal.term-returns-in_err-head
-term-returns-in_err-head g t c =
+pub take_term-returns-in_err-head : goal.take_term-returns-in_err-head
+take_term-returns-in_err-head g t c =
     let q = err_from_is_err_and c.from_residual-in_err-head.result c.from_residual-in_err-head.ensures.1 in
     let e : c.args.depth ≡ suc (c.args.depth - 1) = omega arith in
     let p = exact_pattern (g.T.Types.reads_type c.args.types.now) (c.args.depth - 1) in
@@ -88,16 +88,16 @@ term-returns-in_err-head g t c =
     let v = exact_value (g.T.Types.reads_type c.args.types.now) (c.args.depth - 1) in
     rw (q.1, q.2) (refused_by c.in_err-head.field-0.0 (term_led (g.T.Types.reads_type c.args.types.now) c.args.within c.args.depth (c.args.depth - 1) c.args.cursor.now.left _ _ e c.in_ok-tag.ensures) (c.in_err-head.ensures p f v))
 
-pub term-returns-in-Leaf : goal.term-returns-in-Leaf
-term-returns-in-Leaf g t c =
+pub take_term-returns-in-Leaf : goal.take_term-returns-in-Leaf
+take_term-returns-in-Leaf g t c =
     let e : c.args.depth ≡ suc (c.args.depth - 1) = omega arith in
     let p = exact_pattern (g.T.Types.reads_type c.args.types.now) (c.args.depth - 1) in
     let f = exact_term (g.T.Types.reads_type c.args.types.now) c.args.within (c.args.depth - 1) in
     let v = exact_value (g.T.Types.reads_type c.args.types.now) (c.args.depth - 1) in
     term_led (g.T.Types.reads_type c.args.types.now) c.args.within c.args.depth (c.args.depth - 1) c.args.cursor.now.left _ _ e c.in_ok-tag.ensures ∙ c.in_ok-head.ensures p f v ∙ ap (λ h. term_follows p f v h c.term_head.new.cursor.left) c.in-Leaf.is
 
-pub term-returns-in-Around : goal.term-returns-in-Around
-term-returns-in-Around g t c =
+pub take_term-returns-in-Around : goal.take_term-returns-in-Around
+take_term-returns-in-Around g t c =
     let e : c.args.depth ≡ suc (c.args.depth - 1) = omega arith in
     let p = exact_pattern (g.T.Types.reads_type c.args.types.now) (c.args.depth - 1) in
     let f = exact_term (g.T.Types.reads_type c.args.types.now) c.args.within (c.args.depth - 1) in
@@ -105,8 +105,8 @@ term-returns-in-Around g t c =
     answered_by _ _ _ (term_led (g.T.Types.reads_type c.args.types.now) c.args.within c.args.depth (c.args.depth - 1) c.args.cursor.now.left _ _ e c.in_ok-tag.ensures ∙ c.in_ok-head.ensures p f v ∙ ap (λ h. term_follows p f v h c.term_head.new.cursor.left) c.in-Around.is)
     (made expr_of expr_of (put_around c.in-Around.kind) c.boxed_term.result c.around.result _ _ c.boxed_term.ensures c.around.ensures)
 
-pub term-returns-in-Joint : goal.term-returns-in-Joint
-term-returns-in-Joint g t c =
+pub take_term-returns-in-Joint : goal.take_term-returns-in-Joint
+take_term-returns-in-Joint g t c =
     let e : c.args.depth ≡ suc (c.args.depth - 1) = omega arith in
     let p = exact_pattern (g.T.Types.reads_type c.args.types.now) (c.args.depth - 1) in
     let f = exact_term (g.T.Types.reads_type c.args.types.now) c.args.within (c.args.depth - 1) in
@@ -114,8 +114,8 @@ term-returns-in-Joint g t c =
     answered_by _ _ _ (term_led (g.T.Types.reads_type c.args.types.now) c.args.within c.args.depth (c.args.depth - 1) c.args.cursor.now.left _ _ e c.in_ok-tag.ensures ∙ c.in_ok-head.ensures p f v ∙ ap (λ h. term_follows p f v h c.term_head.new.cursor.left) c.in-Joint.is ∙ paired (put_joint c.in-Joint.kind) f f _)
     (made (λ (q : Term × Term). (expr_of q.0, expr_of q.1)) expr_of (λ (q : Expr × Expr). put_joint c.in-Joint.kind q.0 q.1) c.two_terms.result c.joint.result _ _ c.two_terms.ensures c.joint.ensures)
 
-pub term-returns-in-Choice : goal.term-returns-in-Choice
-term-returns-in-Choice g t c =
+pub take_term-returns-in-Choice : goal.take_term-returns-in-Choice
+take_term-returns-in-Choice g t c =
     let e : c.args.depth ≡ suc (c.args.depth - 1) = omega arith in
     let p = exact_pattern (g.T.Types.reads_type c.args.types.now) (c.args.depth - 1) in
     let f = exact_term (g.T.Types.reads_type c.args.types.now) c.args.within (c.args.depth - 1) in
@@ -123,8 +123,8 @@ term-returns-in-Choice g t c =
     answered_by _ _ _ (term_led (g.T.Types.reads_type c.args.types.now) c.args.within c.args.depth (c.args.depth - 1) c.args.cursor.now.left _ _ e c.in_ok-tag.ensures ∙ c.in_ok-head.ensures p f v ∙ ap (λ h. term_follows p f v h c.term_head.new.cursor.left) c.in-Choice.is ∙ tripled If f f f _)
     (made (λ (q : Term × (Term × Term)). (expr_of q.0, (expr_of q.1.0, expr_of q.1.1))) expr_of (λ (q : Expr × (Expr × Expr)). If q.0 q.1.0 q.1.1) c.three_terms.result c.choice.result _ _ c.three_terms.ensures c.choice.ensures)
 
-pub term-returns-in-Row : goal.term-returns-in-Row
-term-returns-in-Row g t c =
+pub take_term-returns-in-Row : goal.take_term-returns-in-Row
+take_term-returns-in-Row g t c =
     let e : c.args.depth ≡ suc (c.args.depth - 1) = omega arith in
     let p = exact_pattern (g.T.Types.reads_type c.args.types.now) (c.args.depth - 1) in
     let f = exact_term (g.T.Types.reads_type c.args.types.now) c.args.within (c.args.depth - 1) in
@@ -132,8 +132,8 @@ term-returns-in-Row g t c =
     answered_by _ _ _ (term_led (g.T.Types.reads_type c.args.types.now) c.args.within c.args.depth (c.args.depth - 1) c.args.cursor.now.left _ _ e c.in_ok-tag.ensures ∙ c.in_ok-head.ensures p f v ∙ ap (λ h. term_follows p f v h c.term_head.new.cursor.left) c.in-Row.is)
     (made (λ (ts : List Term). exprs (map expr_of ts)) expr_of (put_row c.in-Row.kind) c.all_terms.result c.row.result _ _ c.all_terms.ensures c.row.ensures)
 
-pub term-returns-in-Cases : goal.term-returns-in-Cases
-term-returns-in-Cases g t c =
+pub take_term-returns-in-Cases : goal.take_term-returns-in-Cases
+take_term-returns-in-Cases g t c =
     let e : c.args.depth ≡ suc (c.args.depth - 1) = omega arith in
     let p = exact_pattern (g.T.Types.reads_type c.args.types.now) (c.args.depth - 1) in
     let f = exact_term (g.T.Types.reads_type c.args.types.now) c.args.within (c.args.depth - 1) in
@@ -141,8 +141,8 @@ term-returns-in-Cases g t c =
     answered_by _ _ _ (term_led (g.T.Types.reads_type c.args.types.now) c.args.within c.args.depth (c.args.depth - 1) c.args.cursor.now.left _ _ e c.in_ok-tag.ensures ∙ c.in_ok-head.ensures p f v ∙ ap (λ h. term_follows p f v h c.term_head.new.cursor.left) c.in-Cases.is ∙ paired (put_cases c.in-Cases.kind) f (exact_cases p f) _)
     (made (λ (q : Term × List Arm). (expr_of q.0, arms (map arm_of q.1))) expr_of (λ (q : Expr × Arms). put_cases c.in-Cases.kind q.0 q.1) c.with_arms.result c.cases.result _ _ c.with_arms.ensures c.cases.ensures)
 
-pub term-returns-in-Captured : goal.term-returns-in-Captured
-term-returns-in-Captured g t c =
+pub take_term-returns-in-Captured : goal.take_term-returns-in-Captured
+take_term-returns-in-Captured g t c =
     let e : c.args.depth ≡ suc (c.args.depth - 1) = omega arith in
     let p = exact_pattern (g.T.Types.reads_type c.args.types.now) (c.args.depth - 1) in
     let f = exact_term (g.T.Types.reads_type c.args.types.now) c.args.within (c.args.depth - 1) in
@@ -252,4 +252,4 @@ function-returns-in_err-term g t c =
 
 pub function-returns : goal.function-returns
 function-returns g t c =
-    answered_by _ _ _ (tested_read is_lambda (exact_term (g.T.Types.reads_type c.args.types.now) true c.args.depth) c.args.cursor.now.left _ _ c.in_ok-term.ensures) (c.lambda.ensures c.term.new.cursor.left)
+    answered_by _ _ _ (tested_read is_lambda (exact_term (g.T.Types.reads_type c.args.types.now) true c.args.depth) c.args.cursor.now.left _ _ c.in_ok-term.ensures) (c.lambda.ensures c.take_term.new.cursor.left)

@@ -3,12 +3,12 @@ use Rattle.ac_terms.specs.Terms.{no_exprs, expr, no_arms, no_pvalues, pvalue}
 use Rattle.ac_terms.specs.Read.{expr_of, arm_of, value_of}
 use Rattle.ac_decode.specs.inner.ExactTerms.{an_arm, exact_pattern, exact_term, exact_value}
 use Rattle.ac_terms.specs.PacketReading.{times, pair}
-use Rattle.ac_pieces.proofs.Loops.{with_front}
+use Rattle.ac_decode_pieces.proofs.Loops.{with_front}
 use Rattle.ac_decode.proofs.terms.+terms.Given as goal
 
 -- five for each level
-abbrev pub decreases-term : goal.decreases-term
-decreases-term g l = 5 * l.depth
+abbrev pub decreases-take_term : goal.decreases-take_term
+decreases-take_term g l = 5 * l.depth
 
 abbrev pub decreases-boxed_term : goal.decreases-boxed_term
 decreases-boxed_term g l = 5 * l.depth + 1

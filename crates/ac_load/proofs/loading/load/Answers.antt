@@ -3,7 +3,7 @@ use Rattle.std.proofs.lemmas.List.{length-map}
 use Rattle.ac_types.specs.ReadTypes.{typ_of}
 use Rattle.ac_terms.specs.Read.{environment_of, entry_of, expr_of}
 use Rattle.ac_terms.specs.declared.def.Entry.{Entry}
-use Rattle.ac_acceptance.specs.Accepting.{nothing}
+use Rattle.ac_load_rules.specs.Accepting.{nothing}
 use Rattle.ac_load.specs.declared.shelf.ShelfEntry.{ShelfEntry}
 use Rattle.ac_load.specs.Loading.{shelved, shelf_of}
 use Rattle.ac_load.proofs.Loaded.{loads_ready}

@@ -8,9 +8,9 @@ use Rattle.ac_terms.specs.Read.{environment_of, seen_of, entry_of, expr_of}
 use Rattle.ac_terms.specs.declared.env.Env.{Env}
 use Rattle.ac_terms.specs.declared.term.Term.{Term}
 use Rattle.ac_rules.specs.declared.loaded.Loaded.{Loaded}
-use Rattle.ac_acceptance.specs.Counted.{has_counted}
-use Rattle.ac_causes.specs.PartCauses.{term_type, part_cause, Tells}
-use Rattle.ac_causes.specs.declared.fault.PartFault.{PartFault}
+use Rattle.ac_load_rules.specs.Counted.{has_counted}
+use Rattle.ac_load_causes.specs.PartCauses.{term_type, part_cause, Tells}
+use Rattle.ac_load_causes.specs.declared.fault.PartFault.{PartFault}
 use Rattle.ac_load.proofs.TreeLaws.{linked_length, still_counted}
 use Rattle.ac_load.proofs.part.linked_part.Goals as goal
 

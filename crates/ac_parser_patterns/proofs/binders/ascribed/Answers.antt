@@ -1,7 +1,7 @@
 use Rattle.std.proofs.Common.{arith}
 use Rattle.std.proofs.lemmas.Result.{err_from_is_err_and}
 use Rattle.ac_syntax.specs.TypeForms.{IsType}
-use Rattle.ac_syntax.specs.ReadTrees.{type_of}
+use Rattle.ac_syntax.specs.ReadTrees.{type_tree_of}
 use Rattle.ac_syntax.proofs.OnStop.{on_syntax_more}
 use Rattle.ac_parser_patterns.specs.Pieces.{Before, IsAscribed}
 use Rattle.ac_parser_patterns.proofs.Readers.{no_symbol, behind, behind_none}
@@ -15,4 +15,4 @@ returns-in_err-behind c =
 
 pub returns : goal.returns
 returns c =
-    reads_more type_of (Before c.args.symbol IsType) (IsAscribed c.args.symbol) c.in_ok-behind.behind.now c.args.signs.now c.type_before.result c.type_before.ensures (omega (arith, c.in_ok-behind.ensures.shorter)) (λ x s o. behind c.in_ok-behind.ensures.found o) (behind_none c.in_ok-behind.ensures.found)
+    reads_more type_tree_of (Before c.args.symbol IsType) (IsAscribed c.args.symbol) c.in_ok-behind.behind.now c.args.signs.now c.type_before.result c.type_before.ensures (omega (arith, c.in_ok-behind.ensures.shorter)) (λ x s o. behind c.in_ok-behind.ensures.found o) (behind_none c.in_ok-behind.ensures.found)

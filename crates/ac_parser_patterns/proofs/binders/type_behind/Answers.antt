@@ -1,6 +1,6 @@
 use Rattle.std.proofs.Common.{arith}
 use Rattle.std.proofs.lemmas.Result.{err_from_is_err_and}
-use Rattle.ac_syntax.specs.ReadTrees.{type_of}
+use Rattle.ac_syntax.specs.ReadTrees.{type_tree_of}
 use Rattle.ac_syntax.proofs.OnStop.{on_syntax_more}
 use Rattle.ac_parser_patterns.specs.Pieces.{Behind, IsLastType}
 use Rattle.ac_parser_patterns.proofs.Readers.{no_symbol, behind, behind_none}
@@ -14,4 +14,4 @@ returns-in_err-behind c =
 
 pub returns : goal.returns
 returns c =
-    reads_more type_of IsLastType (Behind c.args.symbol IsLastType) c.in_ok-behind.behind.now c.args.signs.now c.last_type.result c.last_type.ensures (omega (arith, c.in_ok-behind.ensures.shorter)) (λ x s o. behind c.in_ok-behind.ensures.found o) (behind_none c.in_ok-behind.ensures.found)
+    reads_more type_tree_of IsLastType (Behind c.args.symbol IsLastType) c.in_ok-behind.behind.now c.args.signs.now c.last_type.result c.last_type.ensures (omega (arith, c.in_ok-behind.ensures.shorter)) (λ x s o. behind c.in_ok-behind.ensures.found o) (behind_none c.in_ok-behind.ensures.found)

@@ -1,6 +1,6 @@
 use Rattle.std.proofs.Common.{◌∙◌, ap, sym, refl}
 use Rattle.std.proofs.lemmas.Result.{err_from_is_err_and}
-use Rattle.ac_syntax.specs.Trees.{height}
+use Rattle.ac_syntax.specs.Trees.{tree_height}
 use Rattle.ac_syntax.specs.ReadTrees.{tree_of}
 use Rattle.ac_parser_patterns.proofs.ExprLaws.{tree_of-kind}
 use Rattle.ac_parser_patterns.proofs.build.made.Goals as goal
@@ -13,4 +13,4 @@ returns-in_err-tree c =
 pub returns : goal.returns
 returns c =
     let is = ap tree_of c.in_ok-tree.ensures ∙ tree_of-kind c.args.at c.args.kind in
-    record { tree = is; height = c.requires ∙ sym (ap height is); left = refl }
+    record { tree = is; height = c.requires ∙ sym (ap tree_height is); left = refl }

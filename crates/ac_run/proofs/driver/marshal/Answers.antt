@@ -7,7 +7,7 @@ use Rattle.ac_values.specs.Values.{stands_as}
 use Rattle.ac_values.specs.declared.node.Node.{Node}
 use Rattle.ac_machine_engine.specs.Resumes.{resumed_text}
 use Rattle.ac_meaning.specs.Packing.{answer}
-use Rattle.ac_crossing.specs.Crossing.{Departs}
+use Rattle.ac_pack.specs.Crossing.{Departs}
 use Rattle.ac_run.specs.inner.Crossed.{string_held}
 use Rattle.ac_run.specs.declared.end.RunEnd.TheVariants as end
 use Rattle.ac_run.proofs.Crossings.{taken, string_answers, no_string, fault_answers}

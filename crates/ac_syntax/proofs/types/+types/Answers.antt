@@ -2,11 +2,11 @@ use Rattle.std.proofs.Common.{◌<◌, ◌≤◌, ◌-◌, ◌+◌, ℕ, List, [
 use Rattle.std.proofs.lemmas.List.{map-append}
 use Rattle.std.proofs.lemmas.Result.{IfOk-weaker, IfErr-weaker, err_from_is_err_and}
 use Rattle.ac_syntax.specs.Signs.{here}
-use Rattle.ac_syntax.specs.Trees.{TypeTree, TyFun, type_trees, type_height, highest_type}
+use Rattle.ac_syntax.specs.Trees.{TypeTree, TyFun, type_trees, type_height, highest_type_tree}
 use Rattle.ac_syntax.specs.TypeForms.{Whole, IsTypeTree}
 use Rattle.ac_syntax.specs.PartParsing.{suffixed_by, TupleOf}
 use Rattle.ac_syntax.specs.ReadSigns.{read_signs}
-use Rattle.ac_syntax.specs.ReadTrees.{type_of}
+use Rattle.ac_syntax.specs.ReadTrees.{type_tree_of}
 use Rattle.ac_syntax.proofs.OnStop.{on_syntax_more, refused}
 use Rattle.ac_syntax.proofs.TypeLaws.{type_of-Tuple}
 use Rattle.ac_syntax.proofs.TypeSteps.{SuffixesSoFar, FactorsRead, flat_none, higher, whole_alone, whole_none, whole_arrow, arrow_none, arrow_high, product_alone, product_none, product_tuple, tuple_none, tuple_high, second_none, next_read, next_none, all_read, highest_next, single_first, suffixed_none, suffixed_alone, next_suffixed, suffix_high, parens_tree, unopened_none, unclosed_none}
@@ -29,7 +29,7 @@ pub product-returns-clause-tree : goal.product-returns-clause-tree
 product-returns-clause-tree t c =
     IfOk-weaker c.tuple.result _ _
     (λ x o. product_tuple _ _ _ _ _ c.in_ok-first.ensures.tree c.in-Some.ensures.found _ _
-    (subst (λ (at : ℕ). TupleOf c.args.depth at (type_of c.in_ok-first.first.tree) (read_signs c.in-Some.behind.now) (type_of x.0.tree) (read_signs x.1.now)) c.here.ensures o)) c.tuple.ensures.tree
+    (subst (λ (at : ℕ). TupleOf c.args.depth at (type_tree_of c.in_ok-first.first.tree) (read_signs c.in-Some.behind.now) (type_tree_of x.0.tree) (read_signs x.1.now)) c.here.ensures o)) c.tuple.ensures.tree
 
 pub product-returns-clause-none : goal.product-returns-clause-none
 product-returns-clause-none t c =
@@ -64,7 +64,7 @@ suffixed-loop-suffix-init t c =
     record {
       so_far = single_first _ _ _ _ c.in_ok-item.ensures.tree;
       height = c.in_ok-item.ensures.height;
-      low = let low : type_height (type_of c.in_ok-item.item.tree) ≤ c.args.depth = c.in_ok-item.ensures.tree.low in omega (arith, c.in_ok-item.ensures.height);
+      low = let low : type_height (type_tree_of c.in_ok-item.item.tree) ≤ c.args.depth = c.in_ok-item.ensures.tree.low in omega (arith, c.in_ok-item.ensures.height);
       shorter = c.in_ok-item.ensures.shorter;
     }
 
@@ -77,8 +77,8 @@ suffixed-returns-then-item-depth-clause-none t c =
 pub suffixed-loop-suffix-preserved : goal.suffixed-loop-suffix-preserved
 suffixed-loop-suffix-preserved t c =
     let next = next_suffixed _ _ _ _ c.loop-suffix.invariant.so_far c.in-Some.suffix _ c.in-Some.ensures.found in
-    let made = c.in_ok-item-2.ensures.tree ∙ ap (λ (at : ℕ). suffixed_by c.in-Some.suffix at (type_of c.loop-suffix.item.tree)) c.here-at.ensures in
-    let one = higher c.in-Some.suffix (here (read_signs c.args.signs.now)) (type_of c.loop-suffix.item.tree) in
+    let made = c.in_ok-item-2.ensures.tree ∙ ap (λ (at : ℕ). suffixed_by c.in-Some.suffix at (type_tree_of c.loop-suffix.item.tree)) c.here-at.ensures in
+    let one = higher c.in-Some.suffix (here (read_signs c.args.signs.now)) (type_tree_of c.loop-suffix.item.tree) in
     let same = ap type_height made in
     record {
       so_far = subst (λ (u : TypeTree). SuffixesSoFar c.args.depth (read_signs c.args.signs.now) u (read_signs c.in-Some.behind.now)) (sym made) next;
@@ -94,7 +94,7 @@ suffixed-returns-clause-tree t c =
 pub tuple-returns-in_err-second-clause-none : goal.tuple-returns-in_err-second-clause-none
 tuple-returns-in_err-second-clause-none t c =
     let p = err_from_is_err_and c.from_residual-in_err-second.result c.from_residual-in_err-second.ensures.1 in
-    rw (p.1, p.2) (on_syntax_more _ (second_none _ (type_of c.args.first.tree) _) c.in_err-second.ensures.none)
+    rw (p.1, p.2) (on_syntax_more _ (second_none _ (type_tree_of c.args.first.tree) _) c.in_err-second.ensures.none)
 
 pub tuple-returns-in_err-part-clause-none : goal.tuple-returns-in_err-part-clause-none
 tuple-returns-in_err-part-clause-none t c =
@@ -104,19 +104,19 @@ tuple-returns-in_err-part-clause-none t c =
 pub tuple-loop-behind-preserved : goal.tuple-loop-behind-preserved
 tuple-loop-behind-preserved t c =
     let next = next_read _ _ _ _ _ c.loop-behind.invariant.read _ _ _ c.in-Some.ensures.found c.in_ok-part.ensures.tree in
-    let parts = ap (map type_of) c.in_ok-push-3.ensures.ok ∙ map-append type_of c.loop-behind.parts (c.in_ok-part.part.tree ∷ []) in
-    let low : type_height (type_of c.in_ok-part.part.tree) ≤ c.args.depth - 1 = c.in_ok-part.ensures.tree.low in
+    let parts = ap (map type_tree_of) c.in_ok-push-3.ensures.ok ∙ map-append type_tree_of c.loop-behind.parts (c.in_ok-part.part.tree ∷ []) in
+    let low : type_height (type_tree_of c.in_ok-part.part.tree) ≤ c.args.depth - 1 = c.in_ok-part.ensures.tree.low in
     record {
-      read = subst (λ (l : List TypeTree). FactorsRead (c.args.depth - 1) (type_of c.args.first.tree) (read_signs c.args.signs.now) l (read_signs c.in_ok-part.later.now)) (sym parts) next;
-      height = highest_next (map type_of c.loop-behind.parts) (type_of c.in_ok-part.part.tree) _ _ _ _ parts c.loop-behind.invariant.height c.in_ok-part.ensures.height c.max-height-in-Some.ensures;
+      read = subst (λ (l : List TypeTree). FactorsRead (c.args.depth - 1) (type_tree_of c.args.first.tree) (read_signs c.args.signs.now) l (read_signs c.in_ok-part.later.now)) (sym parts) next;
+      height = highest_next (map type_tree_of c.loop-behind.parts) (type_tree_of c.in_ok-part.part.tree) _ _ _ _ parts c.loop-behind.invariant.height c.in_ok-part.ensures.height c.max-height-in-Some.ensures;
       low = omega (arith, c.max-height-in-Some.ensures, c.loop-behind.invariant.low, low, c.in_ok-part.ensures.height);
       shorter = omega (arith, c.loop-behind.invariant.shorter, c.in-Some.ensures.shorter, c.in_ok-part.ensures.shorter);
     }
 
 pub tuple-returns-clause-tree : goal.tuple-returns-clause-tree
 tuple-returns-clause-tree t c =
-    let low : highest_type (type_trees (map type_of c.loop-behind.parts)) + 1 ≤ c.args.depth = omega (arith, c.loop-behind.invariant.height, c.loop-behind.invariant.low) in
-    subst (λ (u : TypeTree). TupleOf c.args.depth c.args.at (type_of c.args.first.tree) (read_signs c.args.signs.now) u (read_signs c.loop-behind.rest.now)) (sym (type_of-Tuple c.args.at c.loop-behind.parts))
+    let low : highest_type_tree (type_trees (map type_tree_of c.loop-behind.parts)) + 1 ≤ c.args.depth = omega (arith, c.loop-behind.invariant.height, c.loop-behind.invariant.low) in
+    subst (λ (u : TypeTree). TupleOf c.args.depth c.args.at (type_tree_of c.args.first.tree) (read_signs c.args.signs.now) u (read_signs c.loop-behind.rest.now)) (sym (type_of-Tuple c.args.at c.loop-behind.parts))
     (all_read _ _ _ _ _ c.loop-behind.invariant.read _ _ c.in_default.ensures.found low)
 
 pub tuple-returns-clause-height : goal.tuple-returns-clause-height
@@ -143,7 +143,7 @@ whole_type-returns-in-Err-clause-none t c =
 pub whole_type-returns-in_ok-function-in-Ok-clause-tree :
     goal.whole_type-returns-in_ok-function-in-Ok-clause-tree
 whole_type-returns-in_ok-function-in-Ok-clause-tree t c =
-    let made = c.in_ok-function-in-Ok.ensures.tree ∙ ap (λ (at : ℕ). TyFun at (type_of c.in_ok-from.from.tree) (type_of c.in-Ok.to.tree)) c.here.ensures in
-    let low : type_height (type_of c.in_ok-from.from.tree) < c.args.depth = omega (arith, c.in_ok-from.ensures.height, c.if-from-depth.false) in
+    let made = c.in_ok-function-in-Ok.ensures.tree ∙ ap (λ (at : ℕ). TyFun at (type_tree_of c.in_ok-from.from.tree) (type_tree_of c.in-Ok.to.tree)) c.here.ensures in
+    let low : type_height (type_tree_of c.in_ok-from.from.tree) < c.args.depth = omega (arith, c.in_ok-from.ensures.height, c.if-from-depth.false) in
     subst (λ (u : TypeTree). IsTypeTree c.args.depth Whole (read_signs c.args.signs.now) u (read_signs c.in-Ok.end.now)) (sym made)
     (whole_arrow _ _ _ _ _ c.in_ok-from.ensures.tree c.in-Some.ensures.found _ _ c.in-Ok.ensures.tree low)

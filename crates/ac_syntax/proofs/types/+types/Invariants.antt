@@ -1,7 +1,7 @@
 use Rattle.std.proofs.Common.{◌≡◌, ◌<◌, ◌≤◌, ◌+◌, ◌*◌, ◌-◌, map, length}
-use Rattle.ac_syntax.specs.Trees.{type_trees, type_height, highest_type}
+use Rattle.ac_syntax.specs.Trees.{type_trees, type_height, highest_type_tree}
 use Rattle.ac_syntax.specs.ReadSigns.{read_signs}
-use Rattle.ac_syntax.specs.ReadTrees.{type_of}
+use Rattle.ac_syntax.specs.ReadTrees.{type_tree_of}
 use Rattle.ac_syntax.proofs.TypeSteps.{SuffixesSoFar, FactorsRead}
 use Rattle.ac_syntax.proofs.types.+types.Given as goal
 
@@ -23,8 +23,8 @@ decreases-whole_type l = 5 * length l.signs.now + 4
 
 abbrev pub invariant-suffixed-loop-suffix : goal.invariant-suffixed-loop-suffix
 invariant-suffixed-loop-suffix l = record {
-  so_far : SuffixesSoFar l.depth (read_signs l.signs) (type_of l.item.tree) (read_signs l.rest);
-  height : l.item.height ≡ type_height (type_of l.item.tree);
+  so_far : SuffixesSoFar l.depth (read_signs l.signs) (type_tree_of l.item.tree) (read_signs l.rest);
+  height : l.item.height ≡ type_height (type_tree_of l.item.tree);
   low : l.item.height ≤ l.depth;
   shorter : length l.rest < length l.signs;
 }
@@ -34,8 +34,8 @@ decreases-suffixed-loop-suffix l = length l.rest
 
 abbrev pub invariant-tuple-loop-behind : goal.invariant-tuple-loop-behind
 invariant-tuple-loop-behind l = record {
-  read : FactorsRead (l.depth - 1) (type_of l.fn.first.tree) (read_signs l.signs) (map type_of l.parts) (read_signs l.rest);
-  height : l.height ≡ highest_type (type_trees (map type_of l.parts));
+  read : FactorsRead (l.depth - 1) (type_tree_of l.fn.first.tree) (read_signs l.signs) (map type_tree_of l.parts) (read_signs l.rest);
+  height : l.height ≡ highest_type_tree (type_trees (map type_tree_of l.parts));
   low : l.height < l.depth;
   shorter : length l.rest < length l.signs;
 }

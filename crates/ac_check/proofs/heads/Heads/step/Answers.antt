@@ -8,8 +8,8 @@ use Rattle.ac_types.specs.declared.ty.Ty.{Ty}
 use Rattle.ac_types.specs.declared.ty.Ty.TheVariants as ty
 use Rattle.ac_terms.specs.Read.{environment_of}
 use Rattle.ac_rules.specs.Views.{representation}
-use Rattle.ac_views.proofs.ReadAs.{read_as}
-use Rattle.ac_views.proofs.TopLaws.{not_sealed}
+use Rattle.ac_check_views.proofs.ReadAs.{read_as}
+use Rattle.ac_check_views.proofs.TopLaws.{not_sealed}
 use Rattle.ac_check.specs.inner.Heads.{Key, key_cmp, abstract_type, IsEnd}
 use Rattle.ac_check.proofs.EndLaws.{ends_here, found_end, stands_for, stands_for_none}
 use Rattle.ac_check.proofs.heads.Heads.step.Goals as goal

@@ -1,5 +1,0 @@
-use Rattle.ac_acceptance.proofs.OneAnswer.{not_both}
-use Rattle.ac_acceptance.proofs.laws.not_refused.Goals as goal
-
-pub returns : goal.returns
-returns c digest text shelf part cause F e T r a = not_both digest r a

@@ -1,5 +1,0 @@
-use Rattle.ac_acceptance.proofs.OneAnswer.{one_result}
-use Rattle.ac_acceptance.proofs.laws.one_result.Goals as goal
-
-pub returns : goal.returns
-returns c digest text shelf F G e f T U a b = one_result digest a b

@@ -1,7 +1,0 @@
-use Rattle.std.proofs.Common.{◌≡◌, ◌++◌, drop}
-use Rattle.ac_answers.specs.Checking.{verdict_lines}
-use Rattle.ac_answers.proofs.VerdictLines.{named}
-use Rattle.ac_answers.proofs.checking.lines_of.Given as goal
-
-abbrev pub invariant-loop-i : goal.invariant-loop-i
-invariant-loop-i l = l.lines.0 ++ verdict_lines (named (drop l.i l.names)) (drop l.i l.verdicts) ≡ verdict_lines (named l.names) l.verdicts

@@ -1,0 +1,16 @@
+use Rattle.std.proofs.Common.{option_map}
+use Rattle.std.proofs.lemmas.Result.{err_from_is_err_and}
+use Rattle.ac_types.specs.ReadTypes.{typ_of}
+use Rattle.ac_decode_pieces.specs.ExactTypes.{manifest_table, exact_manifest}
+use Rattle.ac_decode_pieces.proofs.Tags.{no_tag, after_tag}
+use Rattle.ac_decode_pieces.proofs.sigs.manifest.Goals as goal
+
+pub returns-in_err-tag : goal.returns-in_err-tag
+unfolding exact_manifest
+returns-in_err-tag g c =
+    let p = err_from_is_err_and c.from_residual.result c.from_residual.ensures.1 in
+    rw (p.1, p.2) (no_tag (manifest_table (g.T.Types.reads_type c.args.types.now)) c.args.cursor.now.left c.in_err-tag.field-0.0 c.in_err-tag.ensures)
+
+pub returns : goal.returns
+unfolding exact_manifest
+returns g c = after_tag (option_map typ_of) (manifest_table (g.T.Types.reads_type c.args.types.now)) c.args.cursor.now.left c.in_ok-tag.tag _ c.manifest_behind.result _ c.in_ok-tag.ensures c.manifest_behind.ensures

@@ -1,5 +1,0 @@
-use Rattle.ac_elaborate.proofs.Kept.{all_named}
-use Rattle.ac_elaborate.proofs.laws.named_entries_keep.Goals as goal
-
-pub returns : goal.returns
-returns c = all_named

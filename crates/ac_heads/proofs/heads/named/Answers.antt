@@ -1,5 +1,0 @@
-use Rattle.ac_heads.proofs.HeadLaws.{puts_before}
-use Rattle.ac_heads.proofs.heads.named.Goals as goal
-
-pub returns : goal.returns
-returns c = puts_before _ _ _ _ _ _ _ c.in_ok-extend.ensures.ok c.numbered.ensures

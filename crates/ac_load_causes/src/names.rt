@@ -1,0 +1,42 @@
+// The first entry of each name that has a text.
+
+ghost use Rattle.std.specs.Prelude.{◌≡◌, ◌∷◌, OnOk, Some, option_map};
+ghost use Rattle.std.specs.Option.{option_copied};
+ghost use Rattle.ac_terms.specs.Read.{environment_of, name_of_code};
+ghost use Rattle.ac_load_causes.specs.inner.Named.{told_name, number_under, put_number};
+
+use ac_canon::has_text;
+use ac_terms::Env;
+use ac_types::{Memory, Name};
+use std::collections::BTreeMap;
+
+/// Numbers of entries by their names.
+pub type Numbers<'a> = BTreeMap<&'a [u8], u32>;
+
+/// The number under a name.
+pub fn number_under<'a>(numbers: &Numbers<'a>, name: &'a Name) -> Option<u32>
+    ensures { result ≡ number_under numbers.now name.now.0 }
+{
+    numbers.get(&name.0.as_slice()).copied()
+}
+
+/// Puts a number under a name, in the place of the one that had it.
+pub fn set_number<'a>(numbers: &mut Numbers<'a>, name: &'a Name, number: u32) -> Result<(), Memory>
+    ensures { OnOk result (number_under numbers.new
+        ≡ put_number name.now.0 number (number_under numbers.old)) }
+{
+    numbers.insert(name.0.as_slice(), number)?;
+    Ok(())
+}
+
+/// The name that entry `i` keeps, where it has a canonical text.
+#[tactic(auto, using(ac_terms::proofs::EnvLaws::env_laws))]
+pub fn told_name(env: &Env, i: u32) -> Option<&Name>
+    ensures { option_map name_of_code (option_copied result) ≡ told_name (environment_of env.now)
+        i }
+{
+    if !has_text(env, i) {
+        return None;
+    }
+    env.entry(i)?.name.as_ref()
+}

@@ -1,0 +1,5 @@
+use Rattle.ac_pack_heads.proofs.HeadLaws.{puts_before}
+use Rattle.ac_pack_heads.proofs.heads.named_head.Goals as goal
+
+pub returns : goal.returns
+returns c = puts_before _ _ _ _ _ _ _ c.in_ok-extend.ensures.ok c.numbered.ensures

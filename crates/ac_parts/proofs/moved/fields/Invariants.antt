@@ -1,8 +1,0 @@
-use Rattle.std.proofs.Common.{◌≡◌, map, take}
-use Rattle.ac_terms.specs.Read.{field_of}
-use Rattle.ac_parts.proofs.MadeLaws.{field_made}
-use Rattle.ac_parts.specs.Numbers.{number_for}
-use Rattle.ac_parts.proofs.moved.fields.Given as goal
-
-abbrev pub invariant-loop-one : goal.invariant-loop-one
-invariant-loop-one l = map field_of l.found ≡ map (field_made (number_for l.numbers)) (take l.one-index l.all)

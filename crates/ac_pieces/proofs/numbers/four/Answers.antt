@@ -1,6 +1,0 @@
-use Rattle.std.proofs.Common.{arith}
-use Rattle.ac_pieces.proofs.Taken.{four_taken}
-use Rattle.ac_pieces.proofs.numbers.four.Goals as goal
-
-pub returns-in-Some : goal.returns-in-Some
-returns-in-Some c = four_taken _ _ _ (omega arith) c.in-Some.ensures.0

@@ -1,5 +1,0 @@
-use Rattle.ac_scopes.proofs.AddedEntries.{term_refers}
-use Rattle.ac_scopes.proofs.laws.term_refers.Goals as goal
-
-pub returns : goal.returns
-returns c = term_refers

@@ -1,8 +1,0 @@
-use Rattle.std.proofs.Common.{◌≡◌, ◌++◌, drop, map}
-use Rattle.ac_code.specs.ReadCode.{instr_of}
-use Rattle.ac_literals.specs.NumberedLines.{lines_from}
-use Rattle.ac_shown.specs.Listing.{instr_line, instr_lines}
-use Rattle.ac_shown.proofs.blocks.put_instrs.Given as goal
-
-abbrev pub invariant-loop-address : goal.invariant-loop-address
-invariant-loop-address l = l.text.0 ++ lines_from instr_line l.address (drop l.address (map instr_of l.instrs)) ≡ l.initial.text.0 ++ instr_lines (map instr_of l.instrs)

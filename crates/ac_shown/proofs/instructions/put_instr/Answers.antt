@@ -1,4 +1,0 @@
-use Rattle.ac_shown.proofs.instructions.put_instr.Goals as goal
-
-pub returns-in-RecClosure : goal.returns-in-RecClosure
-returns-in-RecClosure c = rw c.in-RecClosure.is c.put_numbered-in-RecClosure.ensures

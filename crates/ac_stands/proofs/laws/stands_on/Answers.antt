@@ -1,5 +1,0 @@
-use Rattle.ac_stands.proofs.Meanings.{meaning_stays}
-use Rattle.ac_stands.proofs.laws.stands_on.Goals as goal
-
-pub returns : goal.returns
-returns c = λ K L more m e v. meaning_stays K L (more, e) m v

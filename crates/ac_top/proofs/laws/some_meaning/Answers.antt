@@ -1,5 +1,0 @@
-use Rattle.ac_answers.proofs.TextLaws.{some_meaning}
-use Rattle.ac_top.proofs.laws.some_meaning.Goals as goal
-
-pub returns : goal.returns
-returns c = some_meaning

@@ -1,9 +1,0 @@
-//! The top call in a process: its words, and the files and streams of the system.
-#![tactic(auto)]
-
-mod call;
-mod words;
-
-pub use ac_top::Status;
-pub use call::call_really;
-pub use words::words_of;

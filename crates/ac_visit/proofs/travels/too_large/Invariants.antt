@@ -1,7 +1,0 @@
-use Rattle.std.proofs.Common.{◌<◌}
-use Rattle.ac_types.specs.Types.{height}
-use Rattle.ac_types.specs.ReadTypes.{typ_of}
-use Rattle.ac_visit.proofs.travels.too_large.Given as goal
-
-abbrev pub invariant-loop : goal.invariant-loop
-invariant-loop l = l.counter < height (typ_of l.ty)

@@ -1,6 +1,0 @@
-use Rattle.std.proofs.Common.{refl}
-use Rattle.ac_walk.proofs.WalkLaws.{put}
-use Rattle.ac_walk.proofs.walk.Walk.nil.Goals as goal
-
-pub returns : goal.returns
-returns c = put _ _ _ _ refl refl refl c.count.ensures

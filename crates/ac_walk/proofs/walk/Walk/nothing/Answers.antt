@@ -1,6 +1,0 @@
-use Rattle.std.proofs.Common.{[], sym, refl, append-nil}
-use Rattle.ac_walk.proofs.WalkLaws.{went}
-use Rattle.ac_walk.proofs.walk.Walk.nothing.Goals as goal
-
-pub returns : goal.returns
-returns c = went tt _ _ [] [] [] refl (λ ks. refl) (sym (append-nil _)) (sym (append-nil _))

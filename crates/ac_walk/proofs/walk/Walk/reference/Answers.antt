@@ -1,6 +1,0 @@
-use Rattle.std.proofs.Common.{◌∷◌, [], sym, refl, append-nil}
-use Rattle.ac_walk.proofs.WalkLaws.{went}
-use Rattle.ac_walk.proofs.walk.Walk.reference.Goals as goal
-
-pub returns : goal.returns
-returns c = went tt _ _ (_ ∷ []) (_ ∷ []) [] refl c.in_ok-named.ensures c.in_ok-push.ensures.ok (sym (append-nil _))

@@ -1,0 +1,123 @@
+// A call of `acute`, and what it left.
+
+use crate::faults::{Fault, Place, numbers_at};
+use ac_outside::{MemoryFiles, MemorySink, MemorySource, OpenGate};
+use ac_text_page::Page;
+use ac_types::{Memory, Text, both};
+use acute_top::{Status, acute};
+use std::alloc::Global;
+use std::thread::Threads;
+
+/// How a call ended, and what it wrote.
+pub struct Left {
+    pub status: u8,
+    pub output: Text,
+    pub errors: Text,
+}
+
+impl Drop for Left {
+    fn drop(self) {
+        let Left {
+            status: _,
+            output: _,
+            errors: _,
+        } = self;
+    }
+}
+
+/// Calls `acute` with these words over these files, with this on standard input and these faults,
+/// of which those of files are the files' own.
+pub fn call<R: Threads + Sync>(
+    rt: &R,
+    alloc: Global,
+    words: &[String],
+    files: &mut MemoryFiles,
+    input: &[u8],
+    faults: &[Fault],
+) -> Result<Left, Memory> {
+    let sinks = both(
+        sink(alloc, faults, Place::Output),
+        sink(alloc, faults, Place::Errors),
+    );
+    let (mut input, (mut output, mut errors)) = both(source(alloc, input, faults), sinks)?;
+    let Status(status) = acute(
+        rt,
+        alloc,
+        words,
+        files,
+        &mut input,
+        &mut output,
+        &mut errors,
+        &OpenGate,
+    );
+    left_by(alloc, status, &output, &errors)
+}
+
+// These bytes on standard input, with its faults.
+fn source(alloc: Global, bytes: &[u8], faults: &[Fault]) -> Result<MemorySource, Memory> {
+    let numbers = numbers_at(alloc, faults, Place::Input);
+    let (bytes, numbers) = both(Text::from_slice(alloc, bytes), numbers)?;
+    Ok(MemorySource::new(bytes, numbers))
+}
+
+// An empty stream, with the faults of this place.
+fn sink(alloc: Global, faults: &[Fault], place: Place) -> Result<MemorySink, Memory> {
+    Ok(MemorySink::new(alloc, numbers_at(alloc, faults, place)?))
+}
+
+fn left_by(
+    alloc: Global,
+    status: u8,
+    output: &MemorySink,
+    errors: &MemorySink,
+) -> Result<Left, Memory> {
+    let (output, errors) = both(output.bytes().copy(alloc), errors.bytes().copy(alloc))?;
+    Ok(Left {
+        status,
+        output,
+        errors,
+    })
+}
+
+/// The words of a line, which are parted by single spaces.
+pub fn words_in(alloc: Global, line: &str) -> Result<Vec<String>, Memory> {
+    let mut words = Vec::new(alloc);
+    for word in line.split(' ') {
+        words.push(String::from_str(alloc, word)?)?;
+    }
+    Ok(words)
+}
+
+/// Prints a status.
+pub fn put_status(page: &mut Page, status: u8) {
+    page.put(b"status ");
+    page.number(u64::from(status));
+    page.put(b"\n");
+}
+
+/// Prints what stands on a stream, if anything does.
+pub fn put_stream(page: &mut Page, name: &[u8], bytes: &[u8]) {
+    if bytes.is_empty() {
+        return;
+    }
+    page.put(name);
+    page.put(b" |");
+    for byte in bytes {
+        put_byte(page, *byte);
+    }
+    page.put(b"\n");
+}
+
+// A byte that isn't one of a text is shown by its digits.
+fn put_byte(page: &mut Page, byte: u8) {
+    let digits = b"0123456789abcdef".as_slice();
+    match byte {
+        b'\n' => page.put(b"\n|"),
+        b'\t' | 32..=126 => page.put(&[byte]),
+        _ => {
+            let high = digits[usize::from(byte / 16)];
+            let low = digits[usize::from(byte % 16)];
+            page.put(&[b'\\', b'x', high, low]);
+        }
+    }
+}

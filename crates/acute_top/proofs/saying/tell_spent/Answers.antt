@@ -1,0 +1,5 @@
+use Rattle.std.proofs.Common.{inl, ◌∙◌}
+use Rattle.acute_top.proofs.saying.tell_spent.Goals as goal
+
+pub returns-in-Ok : goal.returns-in-Ok
+returns-in-Ok g c = inl (rw (c.as_slice.ensures ∙ c.in-Ok.ensures) at c.say.ensures.said)

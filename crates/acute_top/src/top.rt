@@ -1,0 +1,102 @@
+// The top call: what the words ask for, from files and input to output.
+ghost use Rattle.std.specs.Prelude.{◌≡◌, Bool, Some, IsTrue};
+ghost use Rattle.acute_words.specs.Commands.{command_of, request_of};
+ghost use Rattle.acute_top.specs.Channels.{KeptBut, NotStandard};
+ghost use Rattle.acute_top.specs.Handed.{call, handed};
+ghost use Rattle.acute_top.specs.Requests.{Touches, channel_read, channel_written};
+ghost use Rattle.acute_top.specs.Endings.{texts, CallEnded};
+ghost use Rattle.acute_top.specs.inner.Apart.{IsApart, HasFewPrograms};
+
+use crate::answering::{check_files, make_program, show_file};
+use crate::chaining::chain_files;
+use crate::run::run_file;
+use crate::saying::{no_memory, refuse_words};
+use ac_outside::{Files, Gate, Sink, Source};
+use acute_answers::{Showing, Status};
+use acute_words::{Command, read_words};
+use std::alloc::Global;
+use std::thread::Threads;
+
+/// Does what the words ask for, which are those after the program's own name. Each piece of parallel
+/// work passes the gate.
+pub fn acute<R: Threads + Sync, F: Files, I: Source, O: Sink, E: Sink, G: Gate + Sync>(
+    rt: &R,
+    alloc: Global,
+    words: &[String],
+    files: &mut F,
+    input: &mut I,
+    output: &mut O,
+    errors: &mut E,
+    gate: &G,
+) -> Status
+    // How the call ends: a row for each way. Those without a run ask that input is idle, which it
+    // is only where it is as it was.
+    ensures ends { (idle : Bool) × (IsTrue idle → input.new ≡ input.old) ×
+        CallEnded (command_of (texts words.now)) (handed F.Files I.Source O.Sink E.Sink
+        (call files.old input.old output.old errors.old)
+        (call files.new input.new output.new errors.new) idle) result }
+    // No file is created or changed but that of the channel to which the run sends.
+    ensures kept { IsTrue F.told → KeptBut (channel_written (command_of (texts words.now)))
+        (F.contents files.old) (F.contents files.new) }
+    // Nothing is read from input but by a run that has it as its channel.
+    ensures idle { NotStandard (channel_read (command_of (texts words.now))) →
+        input.new ≡ input.old }
+    // Where the words are refused no file is touched; where no shelf is given and no channel is a
+    // file, only those whose texts are loaded are, one after another.
+    ensures touched { Touches F.reads (command_of (texts words.now)) files.old files.new }
+{
+    match read_words(alloc, words) {
+        Ok(Some(command)) => obey(rt, alloc, command, files, input, output, errors, gate),
+        Ok(None) => refuse_words(errors),
+        Err(_) => no_memory(errors),
+    }
+}
+
+// Does what a command asks for.
+fn obey<R: Threads + Sync, F: Files, I: Source, O: Sink, E: Sink, G: Gate + Sync>(
+    rt: &R,
+    alloc: Global,
+    command: Command,
+    files: &mut F,
+    input: &mut I,
+    output: &mut O,
+    errors: &mut E,
+    gate: &G,
+) -> Status
+    requires apart { IsApart (request_of command) }
+    requires short { HasFewPrograms (request_of command) }
+    ensures ends { (idle : Bool) × (IsTrue idle → input.new ≡ input.old) ×
+        CallEnded (Some (request_of command.entry)) (handed F.Files I.Source O.Sink E.Sink
+        (call files.old input.old output.old errors.old)
+        (call files.new input.new output.new errors.new) idle) result }
+    ensures kept { IsTrue F.told → KeptBut (channel_written (Some (request_of command.entry)))
+        (F.contents files.old) (F.contents files.new) }
+    ensures idle { NotStandard (channel_read (Some (request_of command.entry))) →
+        input.new ≡ input.old }
+    ensures touched { Touches F.reads (Some (request_of command.entry)) files.old files.new }
+{
+    match command {
+        Command::Run(run) => run_file(alloc, run, files, input, output, errors),
+        Command::Names(program) => {
+            show_file(alloc, Showing::Names, program, files, output, errors)
+        }
+        Command::Code(program) => show_file(alloc, Showing::Code, program, files, output, errors),
+        Command::Make(program) => make_program(alloc, program, output, errors),
+        Command::Check(texts) => {
+            let names = texts.files.as_slice();
+            check_files(rt, alloc, names, texts.shelf, files, output, errors, gate)
+        }
+        Command::Chain(chain) => {
+            let programs = chain.files.as_slice();
+            chain_files(
+                alloc,
+                programs,
+                chain.shelf,
+                chain.steps,
+                files,
+                output,
+                errors,
+            )
+        }
+    }
+}

@@ -1,0 +1,22 @@
+-- What is asked for, by the values that were given.
+use Rattle.std.proofs.Common.{◌≡◌, refl, codes, Bool, List, Option}
+use Rattle.std.specs.Prelude.{is_some}
+use Rattle.acute_words.specs.Form.{Given, Text}
+use Rattle.acute_words.specs.WordValues.{all_in, first_in}
+use Rattle.acute_words.specs.Commands.{ProgramFiles, chain_by, chain_of, check_by, check_of, make_by, make_of, program_of, run_by, run_of}
+
+pub run_is : (g : Given) (p : Option ProgramFiles) (steps from to : Option Text) → p ≡ program_of g → steps ≡ first_in (codes "steps") g
+    → from ≡ first_in (codes "in") g → to ≡ first_in (codes "out") g → run_by p steps from to ≡ run_of g
+run_is g p steps from to p_is steps_is from_is to_is = rw (p_is, steps_is, from_is, to_is) refl
+
+pub make_is : (g : Given) (seed modules : Option Text) (runs : Bool) → seed ≡ first_in (codes "SEED") g → modules ≡ first_in (codes "MODULES") g
+    → runs ≡ is_some (all_in (codes "run") g) → make_by seed modules runs ≡ make_of g
+make_is g seed modules runs seed_is modules_is runs_is = rw (seed_is, modules_is, runs_is) refl
+
+pub check_is : (g : Given) (files : Option (List Text)) (shelf : Option Text) → files ≡ all_in (codes "FILE") g → shelf ≡ first_in (codes "shelf") g
+    → check_by files shelf ≡ check_of g
+check_is g files shelf files_is shelf_is = rw (files_is, shelf_is) refl
+
+pub chain_is : (g : Given) (files : Option (List Text)) (shelf steps : Option Text) → files ≡ all_in (codes "FILE") g → shelf ≡ first_in (codes "shelf") g
+    → steps ≡ first_in (codes "steps") g → chain_by files shelf steps ≡ chain_of g
+chain_is g files shelf steps files_is shelf_is steps_is = rw (files_is, shelf_is, steps_is) refl
