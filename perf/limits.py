@@ -13,7 +13,7 @@ import pathlib, re, sys
 
 CRATES = pathlib.Path(__file__).resolve().parent.parent / "crates"
 HOMES = [("ac_types/src/limits.rt", "ac_types/specs/Limits.antt"), ("ac_terms/src/tags.rt", "ac_terms/specs/Tags.antt")]
-TESTS = re.compile(r"\w+_(tests|table)/|(ac_text_page|ac_table_text|ac_table_pile|ac_table_ranges)/")
+TESTS = re.compile(r"\w+_(tests|table)/|ac_text/src/page\.rt|(ac_table_text|ac_table_pile|ac_table_ranges)/")
 
 NUMBER = re.compile(r"(?<![\w.])(0x[0-9A-Fa-f]+|[0-9][0-9_]*)([iu](8|16|32|64|size))?(?![\w.])")
 SAID = re.compile(r"(?<![\w.,^-])[0-9]{1,3}(,[0-9]{3})*(?![\w,])")
@@ -33,7 +33,7 @@ OWN = [
     (r"ac_syntax/specs/(Expressions|TypeForms)\.antt|ac_parser_(expressions/specs/inner/Levels|patterns/specs/Pieces)\.antt", 9, "the levels of operators"),
     (r"ac_lexer/(src/(quoted|words)\.rt|specs/(Gaps|Spellings)\.antt)|ac_text/.*", 16, "characters and digits"),
     (r"acute_words/(src/values\.rt|specs/WordValues\.antt)", 10, "digits"),
-    (r"(acute_answers|acute_top|acute_chain|acute_files|ac_text_places)/specs/.*", 10, "line feeds"),
+    (r"(acute_answers|acute_top|acute_chain|acute_files|ac_text)/specs/.*", 10, "line feeds"),
     (r"ac_explain/src/place\.rt", 255, "bytes of characters"),
     (r"ac_make/.*", 1000, "the numbers that are drawn"),
 ]

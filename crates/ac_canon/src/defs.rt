@@ -1,8 +1,10 @@
 // The canonical texts of modules and imports.
 
-ghost use Rattle.std.specs.Prelude.{◌≡◌, ◌++◌, [], Some, map, is_some, unwrap_or, OnOk, IfOk, IsSome};
-ghost use Rattle.ac_terms.specs.Defs.{Environment};
-ghost use Rattle.ac_terms.specs.Read.{environment_of, bytes_of, field_of, module_of_code, import_of_code, def_of_code};
+ghost use Rattle.std.specs.Prelude.{◌≡◌, ◌++◌, [], Some, map, is_some, option_map, unwrap_or, OnOk, IfOk, IsSome};
+ghost use Rattle.std.specs.Option.{option_copied};
+ghost use Rattle.ac_types.specs.Partial.{given};
+ghost use Rattle.ac_terms.specs.Defs.{Environment, name_at};
+ghost use Rattle.ac_terms.specs.Read.{environment_of, name_of_code, bytes_of, field_of, module_of_code, import_of_code, def_of_code};
 ghost use Rattle.ac_terms.specs.Spelling.{two_written, listed};
 ghost use Rattle.ac_terms.specs.SpelledBy.{field_bytes, module_bytes, import_bytes};
 ghost use Rattle.ac_terms.specs.Names.{text_of_def, text_of_entry};
@@ -13,7 +15,7 @@ use crate::spelling::{ByName, Spelling};
 use crate::terms::put_term;
 use ac_bytes::Out;
 use ac_terms::{Def, Env, Field, Import, Module, tags};
-use ac_types::{Constraint, Memory, Text};
+use ac_types::{Constraint, Memory, Name, Text};
 use std::alloc::Global;
 
 /// Whether entry `i` is a module or an import by version, which have a canonical text.
@@ -25,6 +27,19 @@ pub fn has_text(env: &Env, i: u32) -> bool
         None => false,
         Some(entry) => is_spelled(&entry.def),
     }
+}
+
+/// The name that entry `i` keeps, where it has a canonical text.
+#[tactic(auto, using(ac_terms::proofs::EnvLaws::env_laws))]
+pub fn told_name(env: &Env, i: u32) -> Option<&Name>
+    ensures { option_map name_of_code (option_copied result) ≡
+        given (is_some (text_of_entry (environment_of env.now) i))
+        (name_at (environment_of env.now) i) }
+{
+    if !has_text(env, i) {
+        return None;
+    }
+    env.entry(i)?.name.as_ref()
 }
 
 fn is_spelled(def: &Def) -> bool

@@ -17,7 +17,7 @@ mod types;
 mod values;
 
 pub use counts::{put_count_u8, put_count_u16, put_count_u32};
-pub use defs::{def_text, has_text, put_import, put_module};
+pub use defs::{def_text, has_text, put_import, put_module, told_name};
 pub use packets::{ByNumber, put_resolves};
 pub use spelling::{ByName, Spelling};
 pub use terms::{put_term, put_value, term_bytes};

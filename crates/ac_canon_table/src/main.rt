@@ -16,7 +16,7 @@ mod reading;
 use ac_canon::{def_text, has_text};
 use ac_names::{has_name, name_hex, name_of};
 use ac_terms::{Def, Entry, Env, Seen};
-use ac_text_page::Page;
+use ac_text::Page;
 use ac_types::{Many, Memory, Name};
 use reading::read;
 use std::alloc::Global;

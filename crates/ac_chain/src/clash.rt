@@ -10,8 +10,8 @@ ghost use Rattle.ac_chain.specs.ChainTexts.{programs_of};
 ghost use Rattle.ac_chain.specs.inner.Running.{AreFew};
 
 use crate::chained::ChainFault;
-use crate::known::{have_one_text, told_name};
-use ac_canon::def_text;
+use crate::known::have_one_text;
+use ac_canon::{def_text, told_name};
 use ac_rules::Loaded;
 use ac_terms::Env;
 use ac_types::Memory;

@@ -1,17 +1,13 @@
 // Whether the definitions of one name have one text.
 
-ghost use Rattle.std.specs.Prelude.{◌≡◌, ◌<◌, ◌≤◌, ◌^◌, true, length, is_some, option_map, IfOk};
-ghost use Rattle.std.specs.Option.{option_copied};
-ghost use Rattle.ac_types.specs.Partial.{given};
-ghost use Rattle.ac_terms.specs.Defs.{name_at};
-ghost use Rattle.ac_terms.specs.Names.{text_of_entry};
-ghost use Rattle.ac_terms.specs.Read.{environment_of, name_of_code};
+ghost use Rattle.std.specs.Prelude.{◌≡◌, ◌<◌, ◌≤◌, ◌^◌, true, length, IfOk};
+ghost use Rattle.ac_terms.specs.Read.{environment_of};
 ghost use Rattle.ac_colours.specs.Chains.{HaveOneText};
 ghost use Rattle.ac_chain.specs.ChainTexts.{programs_of};
 ghost use Rattle.ac_chain.specs.inner.Known.{Keeps, KeepsEntry, KeepsEntries, NamesGrow};
 ghost use Rattle.ac_chain.specs.inner.Running.{AreFew};
 
-use ac_canon::{def_text, has_text};
+use ac_canon::{def_text, told_name};
 use ac_names::{AddFault, NameTable};
 use ac_rules::Loaded;
 use ac_terms::Env;
@@ -89,17 +85,4 @@ fn add_entry(alloc: Global, known: &mut Known, env: &Env, i: u32) -> Result<bool
         None => Ok(true),
         Some(name) => known.add(*name, def_text(alloc, env, i)?),
     }
-}
-
-/// The name that entry `i` keeps, where it has a canonical text.
-#[tactic(auto, using(ac_terms::proofs::EnvLaws::env_laws))]
-pub fn told_name(env: &Env, i: u32) -> Option<&Name>
-    ensures { option_map name_of_code (option_copied result) ≡
-        given (is_some (text_of_entry (environment_of env.now) i))
-        (name_at (environment_of env.now) i) }
-{
-    if !has_text(env, i) {
-        return None;
-    }
-    env.entry(i)?.name.as_ref()
 }

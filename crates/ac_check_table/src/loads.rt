@@ -2,7 +2,7 @@
 
 use crate::types::write_type;
 use ac_load::{Kind, Refusal, Shelf, load};
-use ac_text_page::Page;
+use ac_text::Page;
 use std::alloc::Global;
 
 fn write_place(page: &mut Page, cause: &[u8], at: u32) {

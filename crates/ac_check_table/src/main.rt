@@ -23,7 +23,7 @@ mod types;
 use ac_check::CheckFault;
 use ac_modules::valuable;
 use ac_terms::{Home, Term};
-use ac_text_page::Page;
+use ac_text::Page;
 use ac_types::{Memory, Ty};
 use loads::write_program;
 use reading::read;

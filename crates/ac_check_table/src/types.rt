@@ -1,6 +1,6 @@
 // Types, written.
 
-use ac_text_page::Page;
+use ac_text::Page;
 use ac_types::{Many, Name, Ty};
 
 /// The name that the module keeps.

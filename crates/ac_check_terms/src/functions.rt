@@ -14,7 +14,7 @@ use std::alloc::Global;
 
 /// The type of a function whose argument and result have these types.
 #[tactic(auto, using(ac_types::proofs::SizeLaws::type_laws))]
-pub fn function_type(alloc: Global, from: Ty, to: Option<Ty>) -> Result<Option<Ty>, Memory>
+pub fn kept_function_type(alloc: Global, from: Ty, to: Option<Ty>) -> Result<Option<Ty>, Memory>
     ensures { IfOk result (λ o. option_map typ_of o ≡ kept_in Coloured
         (option_map (TFun (typ_of from)) (option_map typ_of to))) }
 {
@@ -32,7 +32,7 @@ pub fn own_type(alloc: Global, from: &Ty, to: &Ty) -> Result<Option<Ty>, Memory>
         (Some (TFun (typ_of from.now) (typ_of to.now)))) }
 {
     let (from, to) = both(from.copy(alloc), to.copy(alloc))?;
-    function_type(alloc, from, Some(to))
+    kept_function_type(alloc, from, Some(to))
 }
 
 /// The type of an application, where the function and its argument have these types.

@@ -14,7 +14,7 @@ ghost use Rattle.ac_check_terms.specs.inner.Parts.{types_in, arm_type};
 use crate::arms::{both_same, go_on, if_type, is_test, sequence_type};
 use crate::data::{cons_type, empty_type, nil_type, present_type, tuple_type};
 use crate::exceptions::text_exception_type;
-use crate::functions::{applied, function_type, own_type, recursive_type};
+use crate::functions::{applied, kept_function_type, own_type, recursive_type};
 use crate::patterns::variables;
 use crate::primitives::result_type;
 use crate::scope::{TypeScope, variable_type};
@@ -171,7 +171,7 @@ fn function<'a>(
         return Ok(None);
     };
     let to = typed(alloc, &*body, &*site, &TypeScope::One(&*vars, &from))?;
-    function_type(alloc, from, to)
+    kept_function_type(alloc, from, to)
 }
 
 // The type of a recursive function, which sees itself.

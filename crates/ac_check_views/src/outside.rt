@@ -5,8 +5,8 @@ ghost use Rattle.ac_types.specs.Types.{TAbs, with_mine, all_with_mine};
 ghost use Rattle.ac_types.specs.ReadTypes.{typ_of};
 ghost use Rattle.ac_check_views.specs.Sites.{typs_of};
 
-use crate::types::{function_type, list_type, option_type};
-use ac_types::{Many, Memory, Name, Ty, both};
+use crate::types::{list_type, option_type};
+use ac_types::{Many, Memory, Name, Ty, both, function_type};
 use std::alloc::Global;
 
 /// A type of a signature, whose own types are from outside types of this name.

@@ -15,9 +15,9 @@ use crate::opened::opened;
 use crate::site::Site;
 use crate::sizes::is_small_here;
 use crate::types::{
-    Base, ends, function_type, is_base, list_item, list_type, option_item, option_type, tuple_parts,
+    Base, ends, is_base, list_item, list_type, option_item, option_type, tuple_parts,
 };
-use ac_types::{Many, Memory, Ty, both, same_types};
+use ac_types::{Many, Memory, Ty, both, function_type, same_types};
 use std::alloc::Global;
 
 // Whether a type as the site's home sees it is another.

@@ -2,13 +2,13 @@
 
 ghost use Rattle.std.specs.Prelude.{◌≡◌, IfOk, option_map, Some};
 ghost use Rattle.std.specs.Option.{option_copied};
-ghost use Rattle.ac_types.specs.Types.{TList, TOpt, TFun, same};
+ghost use Rattle.ac_types.specs.Types.{TList, TOpt, same};
 ghost use Rattle.ac_types.specs.ReadTypes.{typ_of};
 ghost use Rattle.ac_rules.specs.Views.{Coloured};
 ghost use Rattle.ac_rules.specs.Typing.{kept_in, list_item, option_item, tuple_parts};
 ghost use Rattle.ac_check_views.specs.Sites.{base_typ, typs_of, ends_of, read_ends};
 
-use ac_types::{Boxed, Many, Memory, Ty, both, same_types, small};
+use ac_types::{Boxed, Many, Memory, Ty, same_types, small};
 use std::alloc::Global;
 
 /// A type without parts and without a name.
@@ -49,15 +49,6 @@ pub fn option_type(alloc: Global, item: Ty) -> Result<Ty, Memory>
     ensures { IfOk result (λ t. typ_of t ≡ TOpt (typ_of item)) }
 {
     Ok(Ty::Opt(Boxed::new(alloc, item)?))
-}
-
-/// The type of functions from the one type to the other.
-#[tactic(auto, using(ac_types::proofs::SizeLaws::type_laws))]
-pub fn function_type(alloc: Global, from: Ty, to: Ty) -> Result<Ty, Memory>
-    ensures { IfOk result (λ t. typ_of t ≡ TFun (typ_of from) (typ_of to)) }
-{
-    let (from, to) = both(Boxed::new(alloc, from), Boxed::new(alloc, to))?;
-    Ok(Ty::Fun(from, to))
 }
 
 /// Whether a type is this one.

@@ -12,7 +12,7 @@ mod entries;
 
 use ac_closure::{NeedFault, needed};
 use ac_terms::Env;
-use ac_text_page::Page;
+use ac_text::Page;
 use ac_types::{Many, Memory, Text};
 use entries::Make;
 use std::alloc::Global;

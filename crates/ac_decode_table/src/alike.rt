@@ -2,7 +2,7 @@
 
 use ac_decode::{DecodeFault, decode, encode};
 use ac_terms::Packet;
-use ac_text_page::Page;
+use ac_text::Page;
 use ac_types::{Memory, Text};
 use std::alloc::Global;
 

@@ -20,7 +20,7 @@ mod defs;
 
 use ac_decode::DecodeFault;
 use ac_table_text::{Leaves, Sheet};
-use ac_text_page::Page;
+use ac_text::Page;
 use ac_types::{Memory, Text};
 use alike::{read_again, write_changes, write_prefixes};
 use defs::write_packet;

@@ -10,7 +10,7 @@ mod untyped;
 mod wants;
 
 use ac_load::{Kind, Shelf, load};
-use ac_text_page::Page;
+use ac_text::Page;
 use reasons::write_refusal;
 use std::alloc::Global;
 use std::io::{ErrorKind, Write};

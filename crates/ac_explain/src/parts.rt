@@ -3,7 +3,7 @@
 
 use ac_syntax::{SArm, SExpr, SExprKind};
 use ac_terms::{Arm, Pat, Term};
-use ac_types::{Boxed, Many, Memory, Ty, both};
+use ac_types::{Many, Memory, Ty, both, function_type};
 use std::alloc::Global;
 
 /// An expression, the term that it elaborates to, and the types of the variables in scope, the
@@ -82,15 +82,10 @@ fn add_under<'a>(
     parts.push(Part { tree, term, vars })
 }
 
-// A copy of a type in a box.
-fn boxed(alloc: Global, ty: &Ty) -> Result<Boxed<Ty>, Memory> {
-    Boxed::new(alloc, ty.copy(alloc)?)
-}
-
-// The type of the functions between two types.
-fn function_type(alloc: Global, from: &Ty, to: &Ty) -> Result<Ty, Memory> {
-    let (from, to) = both(boxed(alloc, from), boxed(alloc, to))?;
-    Ok(Ty::Fun(from, to))
+// The type of the functions between two types, with copies of both.
+fn type_of_functions(alloc: Global, from: &Ty, to: &Ty) -> Result<Ty, Memory> {
+    let (from, to) = both(from.copy(alloc), to.copy(alloc))?;
+    function_type(alloc, from, to)
 }
 
 // Adds the body of a recursive function, which sees the function and its argument.
@@ -104,7 +99,7 @@ fn add_recursive<'a>(
     let Term::Rec(from, to, body) = term else {
         return Ok(());
     };
-    let own = function_type(alloc, from, to)?;
+    let own = type_of_functions(alloc, from, to)?;
     let outer = under_one(alloc, &own, vars);
     drop(own);
     add_under(alloc, parts, tree, body, from, &outer?)

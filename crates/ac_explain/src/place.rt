@@ -2,7 +2,7 @@
 
 ghost use Rattle.std.specs.Prelude.{◌≤◌, length};
 
-use ac_text_page::Page;
+use ac_text::Page;
 
 // The most bytes of a line that are shown in front of a place, and as many from it on.
 const SHOWN: usize = 100;

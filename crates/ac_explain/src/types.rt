@@ -1,6 +1,6 @@
 // Types, as the language writes them.
 
-use ac_text_page::Page;
+use ac_text::Page;
 use ac_types::{Many, Ty};
 
 #[cycle(types)]

@@ -5,7 +5,6 @@ use Rattle.std.proofs.lemmas.List.{append-nil, append_assoc, map-append, map-set
 use Rattle.ac_code.specs.Code as instr
 use Rattle.ac_generate.specs.inner.Drafts.{Draft, put, put_all}
 use Rattle.ac_generate.specs.Sizes.{unbind}
-use Rattle.ac_types.proofs.SizeLaws.{typ_of-Fun}
 use Rattle.ac_terms.proofs.PatternForms.{pattern_forms}
 use Rattle.ac_generate.proofs.FormLaws.{scope_forms}
 
@@ -21,8 +20,6 @@ map_reverse f (x ∷ xs) = ap (map f) (reverse_cons x xs) ∙ map-append f (reve
 pub ruleset scope_laws = (scope_forms, append-nil, append_assoc, map-append, reverse-append, reverse-reverse, reverse_cons, map_reverse)
 
 pub ruleset pattern_laws = (pattern_forms, append-nil, append_assoc, map-append, common_steps)
-
-pub ruleset type_laws = (typ_of-Fun)
 
 pub put_none : (d : Draft) → put_all (unbind 0) d ≡ d
 unfolding put_all

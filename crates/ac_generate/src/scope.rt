@@ -9,7 +9,7 @@ ghost use Rattle.ac_terms.specs.Parts.{pattern_types, all_pattern_types};
 ghost use Rattle.ac_generate.specs.inner.CodeScopes.{types_of};
 
 use ac_terms::Pat;
-use ac_types::{Boxed, Many, Memory, Ty};
+use ac_types::{Many, Memory, Ty, both, function_type};
 use std::alloc::Global;
 
 /// The variables around a term, each with its type.
@@ -115,12 +115,10 @@ fn add_all_variables(alloc: Global, pats: &[Pat], types: &mut Vec<Ty>) -> Result
     Ok(())
 }
 
-/// The type of a function.
-#[tactic(auto, using(crate::proofs::WriterLaws::type_laws))]
-pub fn function_type(alloc: Global, from: &Ty, to: &Ty) -> Result<Ty, Memory>
+/// The type of the functions from the one type to the other, with copies of both.
+pub fn type_of_functions(alloc: Global, from: &Ty, to: &Ty) -> Result<Ty, Memory>
     ensures { IfOk result (λ ty. typ_of ty ≡ TFun (typ_of from.now) (typ_of to.now)) }
 {
-    let from = Boxed::new(alloc, from.copy(alloc)?)?;
-    let to = Boxed::new(alloc, to.copy(alloc)?)?;
-    Ok(Ty::Fun(from, to))
+    let (from, to) = both(from.copy(alloc), to.copy(alloc))?;
+    function_type(alloc, from, to)
 }

@@ -8,7 +8,7 @@ ghost use Rattle.ac_terms.specs.Read.{home_of, expr_of, arm_of, value_of};
 ghost use Rattle.ac_generate.specs.inner.CodeScopes.{types_of};
 ghost use Rattle.ac_generate.specs.inner.Drafts.{draft_of, address, count, block_begun, block_ended, wrote, wrote_all, wrote_seq, wrote_arm, wrote_arms, arm_end, ends, wrote_value, wrote_values};
 
-use crate::scope::{CodeScope, function_type, pattern_types};
+use crate::scope::{CodeScope, pattern_types, type_of_functions};
 use crate::writer::Writer;
 use ac_code::{CodeId, Instr};
 use ac_terms::{Arm, Home, PVal, Term};
@@ -171,7 +171,7 @@ impl Writer {
             (typ_of to.now) ∷ types_of scope.now) (expr_of body.now)
             (block_begun (draft_of self.old)))) }
     {
-        let function = function_type(self.alloc, from, to)?;
+        let function = type_of_functions(self.alloc, from, to)?;
         let outer = CodeScope::Variable(&*scope, &function);
         let made = self.lambda(
             home,

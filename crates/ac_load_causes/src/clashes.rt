@@ -7,8 +7,8 @@ ghost use Rattle.ac_load_rules.specs.Causes.{first_entry_clash};
 ghost use Rattle.ac_types.specs.Partial.{differ};
 ghost use Rattle.ac_load_causes.specs.inner.Named.{clash};
 
-use crate::names::{Numbers, number_under, set_number, told_name};
-use ac_canon::def_text;
+use crate::names::{Numbers, number_under, set_number};
+use ac_canon::{def_text, told_name};
 use ac_terms::Env;
 use ac_types::Memory;
 use std::alloc::Global;

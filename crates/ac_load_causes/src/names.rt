@@ -1,12 +1,8 @@
 // The first entry of each name that has a text.
 
-ghost use Rattle.std.specs.Prelude.{◌≡◌, ◌∷◌, OnOk, Some, option_map};
-ghost use Rattle.std.specs.Option.{option_copied};
-ghost use Rattle.ac_terms.specs.Read.{environment_of, name_of_code};
-ghost use Rattle.ac_load_causes.specs.inner.Named.{told_name, number_under, put_number};
+ghost use Rattle.std.specs.Prelude.{◌≡◌, ◌∷◌, OnOk, Some};
+ghost use Rattle.ac_load_causes.specs.inner.Named.{number_under, put_number};
 
-use ac_canon::has_text;
-use ac_terms::Env;
 use ac_types::{Memory, Name};
 use std::collections::BTreeMap;
 
@@ -27,16 +23,4 @@ pub fn set_number<'a>(numbers: &mut Numbers<'a>, name: &'a Name, number: u32) ->
 {
     numbers.insert(name.0.as_slice(), number)?;
     Ok(())
-}
-
-/// The name that entry `i` keeps, where it has a canonical text.
-#[tactic(auto, using(ac_terms::proofs::EnvLaws::env_laws))]
-pub fn told_name(env: &Env, i: u32) -> Option<&Name>
-    ensures { option_map name_of_code (option_copied result) ≡ told_name (environment_of env.now)
-        i }
-{
-    if !has_text(env, i) {
-        return None;
-    }
-    env.entry(i)?.name.as_ref()
 }

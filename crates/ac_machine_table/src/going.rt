@@ -20,7 +20,7 @@ use ac_machine::step::step;
 use ac_machine_engine::Pause;
 use ac_machine_engine::engine::{EMPTY, Engine, Step};
 use ac_terms::Env;
-use ac_text_page::Page;
+use ac_text::Page;
 use ac_types::{Exn, Memory, Text, TextExn};
 use ac_values::Node;
 use std::alloc::Global;

@@ -12,7 +12,7 @@ mod going;
 mod notes;
 mod patterns;
 
-use ac_text_page::Page;
+use ac_text::Page;
 use ac_types::Memory;
 use blocks::{number, table_of};
 use defs::entries;

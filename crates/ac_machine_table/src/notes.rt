@@ -1,7 +1,7 @@
 // What is noted of a pause.
 
 use ac_machine_engine::Pause;
-use ac_text_page::Page;
+use ac_text::Page;
 use ac_values::Store;
 use ac_values::read::int_in;
 

@@ -1,7 +1,7 @@
 // A page of nodes in parentheses behind their forms.
 
 use ac_syntax::SName;
-use ac_text_page::Page;
+use ac_text::Page;
 use ac_types::Text;
 use std::alloc::Global;
 

@@ -13,8 +13,9 @@ ghost use Rattle.ac_resolve_names.specs.Entries.{keeps_name};
 
 use crate::entries::{has_value, type_outside};
 use crate::latest::Latest;
-use crate::primitive::{is_standard, named};
+use crate::primitive::named;
 use crate::variables::{Variables, number_of};
+use ac_resolve_scopes::is_standard;
 use ac_syntax::SName;
 use ac_terms::{Env, Term};
 use ac_types::{Memory, Ty, Word};

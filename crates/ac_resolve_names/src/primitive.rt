@@ -5,7 +5,7 @@ ghost use Rattle.ac_types.specs.ReadNumbers.{primitive_number};
 ghost use Rattle.ac_types.specs.ReadTypes.{typ_of};
 ghost use Rattle.ac_terms.specs.Read.{expr_of};
 ghost use Rattle.ac_resolve_names.specs.declared.primitive.NamedPrimitive.TheVariants.{Sub};
-ghost use Rattle.ac_resolve_scopes.specs.Standard.{beside_name, standard, io, str_primitives, is_standard, primitive_named};
+ghost use Rattle.ac_resolve_scopes.specs.Standard.{beside_name, standard, io, str_primitives, primitive_named};
 ghost use Rattle.ac_resolve_scopes.specs.Scopes.{primitive_of, primitive_function};
 ghost use Rattle.ac_resolve_names.specs.Primitives.{read_primitive, builtins_of};
 
@@ -173,11 +173,4 @@ pub fn named(standard: &Word, name: &Word) -> Option<NamedPrimitive>
 {
     let standard = Standard::named(standard)?;
     standard.primitive(name)
-}
-
-/// Whether this is the name of a standard module.
-pub fn is_standard(name: &Word) -> bool
-    ensures { result ≡ is_standard name.now }
-{
-    Standard::named(name).is_some()
 }

@@ -3,3 +3,6 @@
 #![tactic(auto)]
 
 pub mod laws;
+mod standard;
+
+pub use standard::is_standard;

@@ -9,7 +9,8 @@ ghost use Rattle.ac_resolve_signatures.specs.Reads.{known_in};
 use crate::flaws::Flaws;
 use crate::known::Scan;
 use crate::outside::{has, outside_of};
-use crate::standard::{is_primitive, is_standard};
+use crate::standard::is_primitive;
+use ac_resolve_scopes::is_standard;
 use ac_syntax::SName;
 
 /// What is wrong with a name behind a definition's name and a dot.

@@ -1,17 +1,9 @@
 // The names of the standard modules.
 
 ghost use Rattle.std.specs.Prelude.{◌≡◌, is_some};
-ghost use Rattle.ac_resolve_scopes.specs.Standard.{beside_name, is_standard, primitive_named, io, str_primitives};
+ghost use Rattle.ac_resolve_scopes.specs.Standard.{beside_name, primitive_named, io, str_primitives};
 
 use ac_types::Word;
-
-/// Whether the name is that of a standard module.
-pub fn is_standard(word: &Word) -> bool
-    ensures { result ≡ is_standard word.now }
-{
-    let name = word.text().as_slice();
-    b"IO".as_slice() == name || b"Str".as_slice() == name
-}
 
 /// Whether the two names with a dot between them are those of a primitive.
 pub fn is_primitive(owner: &Word, word: &Word) -> bool

@@ -12,7 +12,7 @@ use crate::flaws::Flaws;
 use crate::known::Scan;
 use crate::outside::{outside_of, size_under};
 use crate::size::Size;
-use crate::standard::is_standard;
+use ac_resolve_scopes::is_standard;
 use ac_syntax::{SName, SType, STypeKind};
 use ac_types::Word;
 use ac_types::limits::{HIGHEST_TYPE, MOST_TYPE_PARTS, WIDEST_TUPLE};

@@ -20,7 +20,7 @@ use ac_resolve_terms::RawProgram;
 use ac_syntax::{ParseFault, Surface};
 use ac_table_text::{Leaves, Sheet, write_term};
 use ac_terms::Env;
-use ac_text_page::Page;
+use ac_text::Page;
 use ac_types::Many;
 use definitions::write_added;
 use std::alloc::Global;

@@ -5,7 +5,7 @@ use crate::rows::{Reader, check_rows};
 use ac_lexer::{Token, lex};
 use ac_parser_patterns::pattern;
 use ac_syntax::{ParseError, SPatKind, Sign, signs};
-use ac_text_page::Page;
+use ac_text::Page;
 use ac_types::{BareExn, TextExn};
 use std::alloc::Global;
 use std::process::Abort;

@@ -1,6 +1,6 @@
 // Tables of texts, and behind `~` what is read of them.
 
-use ac_text_page::Page;
+use ac_text::Page;
 use std::alloc::Global;
 use std::process::Abort;
 

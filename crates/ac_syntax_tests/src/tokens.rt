@@ -3,7 +3,7 @@
 
 use crate::rows::{Reader, check_rows};
 use ac_lexer::{LexFault, Token, TokenKind, lex};
-use ac_text_page::Page;
+use ac_text::Page;
 use std::alloc::Global;
 use std::process::Abort;
 

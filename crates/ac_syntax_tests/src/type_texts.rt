@@ -4,7 +4,7 @@
 use crate::rows::{Reader, check_rows};
 use ac_lexer::{Token, lex};
 use ac_syntax::{ParseFault, SName, SSig, SSpec, SType, STypeKind, deep, parse_sig, parse_type};
-use ac_text_page::Page;
+use ac_text::Page;
 use ac_types::{Many, Text};
 use std::alloc::Global;
 use std::process::Abort;

@@ -2,7 +2,7 @@
 // last `*`; `!` where they are nothing.
 
 use crate::rows::{Reader, check_rows};
-use ac_text_page::Page;
+use ac_text::Page;
 use ac_types::{Atom, Constraint, Many, Name, Range, Version};
 use ac_version::{
     VToken, VersionFault, constraint_text, meets, read_constraint, read_version, version_text,

@@ -1,6 +1,6 @@
 // Where the same answers stand.
 
-use ac_text_page::Page;
+use ac_text::Page;
 use ac_types::Text;
 
 /// How places among answers are written.

@@ -1,7 +1,7 @@
 // A page of nodes in parentheses behind their forms.
 
 use ac_terms::Env;
-use ac_text_page::Page;
+use ac_text::Page;
 use ac_types::{Name, Text, Word};
 
 /// How strings and the names of definitions are written.

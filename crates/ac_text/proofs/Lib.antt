@@ -1,2 +1,3 @@
 mod LiteralExamples
+pub mod PlaceLaws
 pub mod Steps

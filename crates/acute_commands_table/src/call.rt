@@ -2,7 +2,7 @@
 
 use crate::faults::{Fault, Place, numbers_at};
 use ac_outside::{MemoryFiles, MemorySink, MemorySource, OpenGate};
-use ac_text_page::Page;
+use ac_text::Page;
 use ac_types::{Memory, Text, both};
 use acute_top::{Status, acute};
 use std::alloc::Global;

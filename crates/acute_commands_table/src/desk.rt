@@ -4,7 +4,7 @@ use crate::call::{Left, call, put_status, put_stream, words_in};
 use crate::faults::{Fault, Place, numbers_at};
 use crate::fronts::{End, are_alike, end_of, has_fronts, is_front_file, is_same_file, put_if_new};
 use ac_outside::{Files, MemoryFile, MemoryFiles, Put};
-use ac_text_page::Page;
+use ac_text::Page;
 use ac_types::{Many, Memory, Text, both};
 use std::alloc::Global;
 use std::thread::Threads;

@@ -2,7 +2,7 @@
 
 use crate::call::{Left, put_status, put_stream};
 use ac_outside::MemoryFiles;
-use ac_text_page::Page;
+use ac_text::Page;
 
 const READ_LINE: &[u8] = b"acute: read fault\n";
 

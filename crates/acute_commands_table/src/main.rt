@@ -34,7 +34,7 @@ mod faults;
 mod fronts;
 mod pairs;
 
-use ac_text_page::Page;
+use ac_text::Page;
 use acute_top_system::{Status, call_really, words_given};
 use desk::Desk;
 use faults::{Fault, place_of};

@@ -2,7 +2,7 @@
 
 use crate::call::{put_status, put_stream};
 use crate::children::{Ended, joined};
-use ac_text_page::Page;
+use ac_text::Page;
 
 /// Joins the processes of a line, and prints how both ended and what they wrote.
 pub fn join_pair(rt: &HostRuntime, page: &mut Page, line: &str) {

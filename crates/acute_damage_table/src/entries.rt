@@ -2,7 +2,7 @@
 
 use ac_table_text::{Leaves, Sheet, write_import, write_module};
 use ac_terms::{Def, Entry, Env, Seen};
-use ac_text_page::Page;
+use ac_text::Page;
 use std::alloc::Global;
 
 fn write_definition(sheet: &mut Sheet, def: &Def) {

@@ -28,7 +28,7 @@ mod packets;
 mod sections;
 mod statuses;
 
-use ac_text_page::Page;
+use ac_text::Page;
 use ac_types::{Memory, Text};
 use frames::sent_by;
 use sections::put_sections;

@@ -12,7 +12,7 @@ use ac_decode::{DecodeFault, decode, encode};
 use ac_load::{Kind, Shelf, load};
 use ac_rules::Loaded;
 use ac_terms::{Env, Packet};
-use ac_text_page::Page;
+use ac_text::Page;
 use ac_types::{Memory, Text, Ty};
 use std::alloc::Global;
 

@@ -8,7 +8,7 @@ use crate::frames::received;
 use crate::packets::taken_in;
 use crate::statuses::{of_lists, of_programs};
 use ac_table_ranges::{Places, put_answers, put_hex, put_lines};
-use ac_text_page::Page;
+use ac_text::Page;
 use ac_types::{Memory, Text};
 use std::alloc::Global;
 use std::thread::Threads;

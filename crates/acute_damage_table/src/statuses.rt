@@ -1,7 +1,7 @@
 // Strings that are files of a command.
 
 use ac_outside::{Files, MemoryFiles, OpenGate, Put, SureSink, SureSource};
-use ac_text_page::Page;
+use ac_text::Page;
 use ac_types::{Many, Memory, Text};
 use acute_top::{Status, acute};
 use std::alloc::Global;

@@ -5,7 +5,7 @@ use crate::faults::{Fault, Place, numbers_at};
 use crate::outcome::{Outcome, text_on};
 use crate::paced::Pace;
 use ac_outside::{MemorySink, OpenGate};
-use ac_text_page::Page;
+use ac_text::Page;
 use ac_types::{Memory, Text};
 use acute_top::{Status, acute};
 use std::alloc::Global;

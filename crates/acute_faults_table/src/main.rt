@@ -28,7 +28,7 @@ mod paced;
 mod trials;
 mod worlds;
 
-use ac_text_page::Page;
+use ac_text::Page;
 use ac_types::Memory;
 use desk::Desk;
 use faults::place_of;

@@ -2,7 +2,7 @@
 
 use crate::desk::Desk;
 use crate::paced::PacedFiles;
-use ac_text_page::Page;
+use ac_text::Page;
 use ac_types::{Memory, Text};
 use std::alloc::Global;
 

@@ -7,7 +7,7 @@ use crate::outcome::Outcome;
 use crate::paced::Pace;
 use crate::worlds::run;
 use ac_table_ranges::{Places, put_answers};
-use ac_text_page::Page;
+use ac_text::Page;
 use ac_types::{Memory, Text};
 use std::alloc::Global;
 use std::thread::Threads;

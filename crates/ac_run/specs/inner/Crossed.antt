@@ -1,7 +1,6 @@
 -- How a machine is answered that waits to marshal or to unmarshal.
-use Rattle.std.specs.Prelude.{◌≡◌, ℕ, Bool, [], ◌∷◌, Option, None}
+use Rattle.std.specs.Prelude.{◌≡◌, Bool, [], ◌∷◌, Option, None}
 use Rattle.ac_types.specs.Types.{Bytes, Typ}
-use Rattle.ac_terms.specs.Terms.{PValue}
 use Rattle.ac_terms.specs.Defs.{Environment}
 use Rattle.ac_code.specs.Code.{Code}
 use Rattle.ac_generate.specs.Generated.{value_generated, value_number}

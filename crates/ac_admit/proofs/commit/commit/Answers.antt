@@ -1,4 +1,4 @@
-use Rattle.std.proofs.Common.{◌≡◌, subst, map, false, List}
+use Rattle.std.proofs.Common.{subst, map, false, List}
 use Rattle.ac_types.specs.ReadTypes.{typ_of}
 use Rattle.ac_terms.specs.Read.{entry_of, value_of}
 use Rattle.ac_terms.specs.declared.def.Entry.{Entry}

@@ -105,10 +105,10 @@ function-returns-in_default t c =
 
 pub function-returns : goal.function-returns
 function-returns t c =
-    carry c.function_type.result _ _
+    carry c.kept_function_type.result _ _
     (function_some (entries_of c.args.site.now) c.args.site.now (types_in c.args.vars.now) (typ_of c.args.ty.now) (typ_of c.in-Some.from) (expr_of c.args.body.now) (option_map typ_of c.in_ok-to.to) _
     (ap (option_map typ_of) (sym c.in-Some.is) ∙ c.in_ok-from.ensures) c.in_ok-to.ensures (types_in-One c.args.vars _))
-    c.function_type.ensures
+    c.kept_function_type.ensures
 
 pub recursive-returns-in_default : goal.recursive-returns-in_default
 recursive-returns-in_default t c =

@@ -1,4 +1,4 @@
-use Rattle.std.proofs.Common.{sym, ap, ap₂, ◌∙◌, Some}
+use Rattle.std.proofs.Common.{sym, ap, ap₂, ◌∙◌}
 use Rattle.ac_terms.specs.Terms.{Str}
 use Rattle.ac_terms.specs.Read.{expr_of}
 use Rattle.ac_terms.specs.declared.term.Term.{Term}

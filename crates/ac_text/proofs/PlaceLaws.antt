@@ -3,7 +3,7 @@ use Rattle.std.proofs.Common.{◌≡◌, ◌≢◌, ◌≤◌, ◌<◌, ◌+◌,
 use Rattle.std.proofs.lemmas.Bool.{ne_eqb}
 use Rattle.std.proofs.Math.Seq.{drop-cons}
 use Rattle.std.proofs.Math.ListN.{drop_of_length-le}
-use Rattle.ac_text_places.specs.Places.{feeds, since_feed}
+use Rattle.ac_text.specs.Places.{feeds, since_feed}
 
 feed : (rest : List ℕ) → feeds (10 ∷ rest) ≡ suc (feeds rest)
 unfolding feeds

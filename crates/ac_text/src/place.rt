@@ -1,7 +1,7 @@
 // Places of a text: lines and columns.
 
 ghost use Rattle.std.specs.Prelude.{◌≡◌};
-ghost use Rattle.ac_text_places.specs.Places.{line_of, column_of};
+ghost use Rattle.ac_text.specs.Places.{line_of, column_of};
 
 /// A line and a column, both from 1. A column counts bytes.
 #[derive(Clone, Copy, Debug, PartialEq, Eq)]

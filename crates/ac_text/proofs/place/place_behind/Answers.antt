@@ -1,7 +1,7 @@
 use Rattle.std.proofs.Common.{arith}
-use Rattle.ac_text_places.proofs.PlaceLaws.{lines_feed, lines_no, columns_feed, columns_no, lines_end, columns_end}
-use Rattle.ac_text_places.proofs.place.place_behind.Goals.{then-byte-eq10, else-byte-eq10}
-use Rattle.ac_text_places.proofs.place.place_behind.Goals as goal
+use Rattle.ac_text.proofs.PlaceLaws.{lines_feed, lines_no, columns_feed, columns_no, lines_end, columns_end}
+use Rattle.ac_text.proofs.place.place_behind.Goals.{then-byte-eq10, else-byte-eq10}
+use Rattle.ac_text.proofs.place.place_behind.Goals as goal
 
 pub loop-byte-preserved : goal.loop-byte-preserved
 loop-byte-preserved c =

@@ -1,7 +1,7 @@
 use Rattle.std.proofs.Common.{w64, ap, ◌∙◌}
 use Rattle.std.proofs.lemmas.Int.{to_z-of_z}
 use Rattle.std.specs.Fmt.{signed_decimal}
-use Rattle.ac_text_page.proofs.page.Page.integer.Goals as goal
+use Rattle.ac_text.proofs.page.Page.integer.Goals as goal
 
 pub returns-in-Ok : goal.returns-in-Ok
 returns-in-Ok c =

@@ -1,6 +1,6 @@
 use Rattle.std.proofs.Common.{◌≡◌, ◌≤◌, ◌+◌, drop}
-use Rattle.ac_text_places.specs.Places.{feeds, since_feed}
-use Rattle.ac_text_places.proofs.place.place_behind.Given as goal
+use Rattle.ac_text.specs.Places.{feeds, since_feed}
+use Rattle.ac_text.proofs.place.place_behind.Given as goal
 
 abbrev pub invariant-loop-byte : goal.invariant-loop-byte
 invariant-loop-byte l = record {
