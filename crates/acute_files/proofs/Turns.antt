@@ -3,27 +3,23 @@ use Rattle.std.proofs.Common.{◌≡◌, ◌<◌, ◌+◌, ℕ, zero, suc, List,
 use Rattle.std.specs.Borrow.{Bor}
 use Rattle.ac_types.specs.Types.{Bytes}
 use Rattle.ac_types.specs.declared.text.Text.{Text}
-use Rattle.acute_files.specs.Files.{FilesSeen, Reading, files_read, IsTextOf}
+use Rattle.acute_files.specs.Files.{FilesSeen, Reading, files_read, names_in, IsTextOf}
 use Rattle.acute_files.specs.ManyTexts.{AreTexts, TextsFail, of_shelf_list, of_shelf_text, ReadInTurn}
 use Rattle.acute_files.specs.inner.Failing.{OneFails, ShelfFails, of_the_list, of_an_entry}
 use Rattle.acute_files.proofs.Wider.{Within, wide_text, wide_rose}
 
--- names behind references
-abbrev pub named : List (Bor Bytes) → List Bytes
-named names = map (λ s. s.now) names
-
 -- the names at a place
-pub named_there : (names : List (Bor Bytes)) (i : ℕ) (d : Bor Bytes) → i < length names → named names ≡ named (take i names) ++ (get_or names i d).now ∷ named (drop (suc i) names)
+pub named_there : (names : List (Bor Bytes)) (i : ℕ) (d : Bor Bytes) → i < length names → names_in names ≡ names_in (take i names) ++ (get_or names i d).now ∷ names_in (drop (suc i) names)
 named_there [] i d lt = absurd (omega (arith, lt))
 named_there (x ∷ names) zero d lt = refl
 named_there (x ∷ names) (suc i) d lt = ap (λ (l : List Bytes). x.now ∷ l) (named_there names i d (omega (arith, lt)))
 
-named_next : (names : List (Bor Bytes)) (i : ℕ) (d : Bor Bytes) → i < length names → named (take (suc i) names) ≡ named (take i names) ++ (get_or names i d).now ∷ []
+named_next : (names : List (Bor Bytes)) (i : ℕ) (d : Bor Bytes) → i < length names → names_in (take (suc i) names) ≡ names_in (take i names) ++ (get_or names i d).now ∷ []
 named_next [] i d lt = absurd (omega (arith, lt))
 named_next (x ∷ names) zero d lt = refl
 named_next (x ∷ names) (suc i) d lt = ap (λ (l : List Bytes). x.now ∷ l) (named_next names i d (omega (arith, lt)))
 
-pub named_more : (names : List (Bor Bytes)) (i : ℕ) (d : Bor Bytes) → i < length names → named (take (i + 1) names) ≡ named (take i names) ++ (get_or names i d).now ∷ []
+pub named_more : (names : List (Bor Bytes)) (i : ℕ) (d : Bor Bytes) → i < length names → names_in (take (i + 1) names) ≡ names_in (take i names) ++ (get_or names i d).now ∷ []
 named_more names i d lt = let next : i + 1 ≡ suc i = omega arith in rw next (named_next names i d lt)
 
 -- texts that are read between two moments are read between an earlier one and a later one

@@ -1,10 +1,10 @@
 // The texts of a program and of its shelf.
-ghost use Rattle.std.specs.Prelude.{◌≡◌, ◌≤◌, ℕ, None, IsTrue, IfOk, IsErrOf, length, option_map};
+ghost use Rattle.std.specs.Prelude.{◌≡◌, ◌≤◌, ℕ, None, IsTrue, IfOk, IsErrOf, length};
 ghost use Rattle.ac_types.specs.Limits.{most_shelf_entries};
 ghost use Rattle.ac_outside.specs.Outside.{NeverFall, Rose};
 ghost use Rattle.ac_load_rules.specs.Accepting.{IsShelf};
 ghost use Rattle.ac_load.specs.Loading.{shelf_of};
-ghost use Rattle.acute_files.specs.Files.{files_seen, files_read, IsTextOf};
+ghost use Rattle.acute_files.specs.Files.{reading, IsTextOf, name_in};
 ghost use Rattle.acute_files.specs.ProgramTexts.{IsShelfBy, HasBadLine, ReadsFail};
 
 use crate::shelf::{TextsFault, read_shelf};
@@ -31,28 +31,20 @@ pub fn read_program<F: Files>(
     program: &str,
     list: Option<&str>,
 ) -> Result<ProgramTexts, TextsFault>
-    ensures shelf { IfOk result (λ t. IsShelfBy (files_read F.told
-        (files_seen F.contents F.read_faults F.write_faults files.old)
-        (files_seen F.contents F.read_faults F.write_faults files.new))
-        (option_map (λ s. s.now) list.entry) (shelf_of t.shelf)) }
-    ensures program { IfOk result (λ t. IsTextOf (files_read F.told
-        (files_seen F.contents F.read_faults F.write_faults files.old)
-        (files_seen F.contents F.read_faults F.write_faults files.new) program.now) t.program.0) }
+    ensures shelf { IfOk result (λ t. IsShelfBy (reading F.Files files.old files.new)
+        (name_in list.entry) (shelf_of t.shelf)) }
+    ensures program { IfOk result (λ t. IsTextOf (reading F.Files files.old files.new program.now)
+        t.program.0) }
     ensures few { IfOk result (λ t. length t.shelf.0 ≤ most_shelf_entries) }
     ensures shelved { IfOk result (λ t. IsShelf (shelf_of t.shelf)) }
-    ensures line { (n : ℕ) → IsErrOf result (TextsFault.Line n) → HasBadLine (files_read F.told
-        (files_seen F.contents F.read_faults F.write_faults files.old)
-        (files_seen F.contents F.read_faults F.write_faults files.new))
-        (option_map (λ s. s.now) list.entry) n }
-    ensures failed { IsErrOf result TextsFault.Failed → ReadsFail (files_read F.told
-        (files_seen F.contents F.read_faults F.write_faults files.old)
-        (files_seen F.contents F.read_faults F.write_faults files.new))
-        program.now (option_map (λ s. s.now) list.entry) }
+    ensures line { (n : ℕ) → IsErrOf result (TextsFault.Line n) →
+        HasBadLine (reading F.Files files.old files.new) (name_in list.entry) n }
+    ensures failed { IsErrOf result TextsFault.Failed →
+        ReadsFail (reading F.Files files.old files.new) program.now (name_in list.entry) }
     ensures same { IsTrue F.told → F.contents files.new ≡ F.contents files.old }
     ensures later { NeverFall (F.read_faults files.old) (F.read_faults files.new) }
     ensures later_writes { NeverFall (F.write_faults files.old) (F.write_faults files.new) }
-    ensures only { option_map (λ s. s.now) list.entry ≡ None →
-        F.reads program.now files.old files.new }
+    ensures only { name_in list.entry ≡ None → F.reads program.now files.old files.new }
 {
     match read_shelf(alloc, files, list) {
         Ok(shelf) => read_beside(alloc, files, program, shelf),
@@ -68,9 +60,8 @@ fn read_beside<F: Files>(
     shelf: Shelf,
 ) -> Result<ProgramTexts, TextsFault>
     ensures shelf { IfOk result (λ t. t.shelf ≡ shelf) }
-    ensures program { IfOk result (λ t. IsTextOf (files_read F.told
-        (files_seen F.contents F.read_faults F.write_faults files.old)
-        (files_seen F.contents F.read_faults F.write_faults files.new) program.now) t.program.0) }
+    ensures program { IfOk result (λ t. IsTextOf (reading F.Files files.old files.new program.now)
+        t.program.0) }
     ensures no_line { (n : ℕ) → IsErrOf result (TextsFault.Line n) → ⊥ }
     ensures failed { IsErrOf result TextsFault.Failed →
         Rose (F.read_faults files.old program.now) (F.read_faults files.new program.now) }

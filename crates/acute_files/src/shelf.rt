@@ -1,11 +1,11 @@
 // The texts of a shelf.
-ghost use Rattle.std.specs.Prelude.{◌≡◌, ◌≤◌, ℕ, None, Some, IsTrue, IfOk, IsErrOf, length, map, option_map};
+ghost use Rattle.std.specs.Prelude.{◌≡◌, ◌≤◌, ℕ, None, Some, IsTrue, IfOk, IsErrOf, length, map};
 ghost use Rattle.ac_types.specs.Limits.{most_shelf_entries};
 ghost use Rattle.ac_outside.specs.Outside.{NeverFall, Rose};
 ghost use Rattle.acute_files.specs.ShelfLists.{Lists, BadLine, listed_of, shelf_answer};
 ghost use Rattle.ac_load_rules.specs.Accepting.{IsShelf};
 ghost use Rattle.ac_load.specs.Loading.{shelf_of, shelved};
-ghost use Rattle.acute_files.specs.Files.{files_seen, files_read, IsTextOf};
+ghost use Rattle.acute_files.specs.Files.{reading, IsTextOf, name_in};
 ghost use Rattle.acute_files.specs.ProgramTexts.{AreListed, IsShelfBy, HasBadLine};
 ghost use Rattle.acute_files.specs.inner.Failing.{ShelfFails, LinesGive, LinesFail, EntriesFail};
 
@@ -33,24 +33,18 @@ pub fn read_shelf<F: Files>(
     files: &mut F,
     list: Option<&str>,
 ) -> Result<Shelf, TextsFault>
-    ensures shelf { IfOk result (λ shelf. IsShelfBy (files_read F.told
-        (files_seen F.contents F.read_faults F.write_faults files.old)
-        (files_seen F.contents F.read_faults F.write_faults files.new))
-        (option_map (λ s. s.now) list.entry) (shelf_of shelf)) }
+    ensures shelf { IfOk result (λ shelf. IsShelfBy (reading F.Files files.old files.new)
+        (name_in list.entry) (shelf_of shelf)) }
     ensures few { IfOk result (λ shelf. length shelf.0 ≤ most_shelf_entries) }
     ensures shelved { IfOk result (λ shelf. IsShelf (shelf_of shelf)) }
-    ensures line { (n : ℕ) → IsErrOf result (TextsFault.Line n) → HasBadLine (files_read F.told
-        (files_seen F.contents F.read_faults F.write_faults files.old)
-        (files_seen F.contents F.read_faults F.write_faults files.new))
-        (option_map (λ s. s.now) list.entry) n }
-    ensures failed { IsErrOf result TextsFault.Failed → ShelfFails (files_read F.told
-        (files_seen F.contents F.read_faults F.write_faults files.old)
-        (files_seen F.contents F.read_faults F.write_faults files.new))
-        (option_map (λ s. s.now) list.entry) }
+    ensures line { (n : ℕ) → IsErrOf result (TextsFault.Line n) →
+        HasBadLine (reading F.Files files.old files.new) (name_in list.entry) n }
+    ensures failed { IsErrOf result TextsFault.Failed →
+        ShelfFails (reading F.Files files.old files.new) (name_in list.entry) }
     ensures same { IsTrue F.told → F.contents files.new ≡ F.contents files.old }
     ensures later { NeverFall (F.read_faults files.old) (F.read_faults files.new) }
     ensures later_writes { NeverFall (F.write_faults files.old) (F.write_faults files.new) }
-    ensures only { option_map (λ s. s.now) list.entry ≡ None → files.new ≡ files.old }
+    ensures only { name_in list.entry ≡ None → files.new ≡ files.old }
 {
     match list {
         None => Ok(Shelf::empty(alloc)),
@@ -60,18 +54,14 @@ pub fn read_shelf<F: Files>(
 
 // The texts of the shelf whose list is in that file.
 fn read_listed<F: Files>(alloc: Global, files: &mut F, list: &str) -> Result<Shelf, TextsFault>
-    ensures shelf { IfOk result (λ shelf. IsShelfBy (files_read F.told
-        (files_seen F.contents F.read_faults F.write_faults files.old)
-        (files_seen F.contents F.read_faults F.write_faults files.new))
+    ensures shelf { IfOk result (λ shelf. IsShelfBy (reading F.Files files.old files.new)
         (Some list.now) (shelf_of shelf)) }
     ensures few { IfOk result (λ shelf. length shelf.0 ≤ most_shelf_entries) }
     ensures shelved { IfOk result (λ shelf. IsShelf (shelf_of shelf)) }
-    ensures line { (n : ℕ) → IsErrOf result (TextsFault.Line n) → HasBadLine (files_read F.told
-        (files_seen F.contents F.read_faults F.write_faults files.old)
-        (files_seen F.contents F.read_faults F.write_faults files.new)) (Some list.now) n }
-    ensures failed { IsErrOf result TextsFault.Failed → ShelfFails (files_read F.told
-        (files_seen F.contents F.read_faults F.write_faults files.old)
-        (files_seen F.contents F.read_faults F.write_faults files.new)) (Some list.now) }
+    ensures line { (n : ℕ) → IsErrOf result (TextsFault.Line n) →
+        HasBadLine (reading F.Files files.old files.new) (Some list.now) n }
+    ensures failed { IsErrOf result TextsFault.Failed →
+        ShelfFails (reading F.Files files.old files.new) (Some list.now) }
     ensures same { IsTrue F.told → F.contents files.new ≡ F.contents files.old }
     ensures later { NeverFall (F.read_faults files.old) (F.read_faults files.new) }
     ensures later_writes { NeverFall (F.write_faults files.old) (F.write_faults files.new) }
@@ -85,16 +75,14 @@ fn read_listed<F: Files>(alloc: Global, files: &mut F, list: &str) -> Result<She
 
 // The texts that a list names.
 fn read_lines<F: Files>(alloc: Global, files: &mut F, text: &[u8]) -> Result<Shelf, TextsFault>
-    ensures shelf { IfOk result (λ shelf. LinesGive (files_read F.told
-        (files_seen F.contents F.read_faults F.write_faults files.old)
-        (files_seen F.contents F.read_faults F.write_faults files.new)) text.now (shelf_of shelf)) }
+    ensures shelf { IfOk result (λ shelf. LinesGive (reading F.Files files.old files.new)
+        text.now (shelf_of shelf)) }
     ensures few { IfOk result (λ shelf. length shelf.0 ≤ most_shelf_entries) }
     ensures shelved { IfOk result (λ shelf. IsShelf (shelf_of shelf)) }
     ensures line { (n : ℕ) → IsErrOf result (TextsFault.Line n) →
         shelf_answer text.now ≡ BadLine n }
-    ensures failed { IsErrOf result TextsFault.Failed → LinesFail (files_read F.told
-        (files_seen F.contents F.read_faults F.write_faults files.old)
-        (files_seen F.contents F.read_faults F.write_faults files.new)) text.now }
+    ensures failed { IsErrOf result TextsFault.Failed →
+        LinesFail (reading F.Files files.old files.new) text.now }
     ensures same { IsTrue F.told → F.contents files.new ≡ F.contents files.old }
     ensures later { NeverFall (F.read_faults files.old) (F.read_faults files.new) }
     ensures later_writes { NeverFall (F.write_faults files.old) (F.write_faults files.new) }
@@ -116,14 +104,11 @@ fn read_entries<F: Files>(
     files: &mut F,
     lines: &[ShelfLine],
 ) -> Result<Shelf, ReadFault>
-    ensures shelf { IfOk result (λ shelf. AreListed (files_read F.told
-        (files_seen F.contents F.read_faults F.write_faults files.old)
-        (files_seen F.contents F.read_faults F.write_faults files.new))
+    ensures shelf { IfOk result (λ shelf. AreListed (reading F.Files files.old files.new)
         (map listed_of lines.now) (shelf_of shelf)) }
     ensures len { IfOk result (λ shelf. length shelf.0 ≡ length lines.now) }
-    ensures failed { IsErrOf result ReadFault.Failed → EntriesFail (files_read F.told
-        (files_seen F.contents F.read_faults F.write_faults files.old)
-        (files_seen F.contents F.read_faults F.write_faults files.new)) (map listed_of lines.now) }
+    ensures failed { IsErrOf result ReadFault.Failed →
+        EntriesFail (reading F.Files files.old files.new) (map listed_of lines.now) }
     ensures same { IsTrue F.told → F.contents files.new ≡ F.contents files.old }
     ensures later { NeverFall (F.read_faults files.old) (F.read_faults files.new) }
     ensures later_writes { NeverFall (F.write_faults files.old) (F.write_faults files.new) }
@@ -148,10 +133,8 @@ fn read_entry<F: Files>(
     line: &ShelfLine,
 ) -> Result<ShelfEntry, ReadFault>
     ensures uri { IfOk result (λ entry. (shelved entry).uri ≡ (listed_of line.now).uri) }
-    ensures text { IfOk result (λ entry. IsTextOf (files_read F.told
-        (files_seen F.contents F.read_faults F.write_faults files.old)
-        (files_seen F.contents F.read_faults F.write_faults files.new) (listed_of line.now).file)
-        (shelved entry).text) }
+    ensures text { IfOk result (λ entry. IsTextOf (reading F.Files files.old files.new
+        (listed_of line.now).file) (shelved entry).text) }
     ensures failed { IsErrOf result ReadFault.Failed →
         Rose (F.read_faults files.old (listed_of line.now).file)
         (F.read_faults files.new (listed_of line.now).file) }

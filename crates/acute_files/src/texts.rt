@@ -1,10 +1,10 @@
 // The texts of several files, and of a shelf beside them.
-ghost use Rattle.std.specs.Prelude.{◌≡◌, ◌≤◌, ℕ, None, IsTrue, IfOk, IsErrOf, length, map, option_map};
+ghost use Rattle.std.specs.Prelude.{◌≡◌, ◌≤◌, ℕ, None, IsTrue, IfOk, IsErrOf, length};
 ghost use Rattle.ac_types.specs.Limits.{most_shelf_entries};
 ghost use Rattle.ac_outside.specs.Outside.{NeverFall};
 ghost use Rattle.ac_load_rules.specs.Accepting.{IsShelf};
 ghost use Rattle.ac_load.specs.Loading.{shelf_of};
-ghost use Rattle.acute_files.specs.Files.{files_seen, files_read};
+ghost use Rattle.acute_files.specs.Files.{reading, name_in, names_in};
 ghost use Rattle.acute_files.specs.ManyTexts.{AreTexts, ReadInTurn, TextsFail};
 ghost use Rattle.acute_files.specs.ProgramTexts.{IsShelfBy, HasBadLine};
 ghost use Rattle.acute_files.specs.inner.Failing.{OneFails};
@@ -33,27 +33,19 @@ pub fn read_texts<F: Files>(
     names: &[&str],
     list: Option<&str>,
 ) -> Result<ManyTexts, TextsFault>
-    ensures shelf { IfOk result (λ t. IsShelfBy (files_read F.told
-        (files_seen F.contents F.read_faults F.write_faults files.old)
-        (files_seen F.contents F.read_faults F.write_faults files.new))
-        (option_map (λ s. s.now) list.entry) (shelf_of t.shelf)) }
-    ensures texts { IfOk result (λ t. AreTexts (files_read F.told
-        (files_seen F.contents F.read_faults F.write_faults files.old)
-        (files_seen F.contents F.read_faults F.write_faults files.new))
-        (map (λ s. s.now) names.now) t.texts) }
+    ensures shelf { IfOk result (λ t. IsShelfBy (reading F.Files files.old files.new)
+        (name_in list.entry) (shelf_of t.shelf)) }
+    ensures texts { IfOk result (λ t. AreTexts (reading F.Files files.old files.new)
+        (names_in names.now) t.texts) }
     ensures few { IfOk result (λ t. length t.shelf.0 ≤ most_shelf_entries) }
     ensures shelved { IfOk result (λ t. IsShelf (shelf_of t.shelf)) }
-    ensures line { (n : ℕ) → IsErrOf result (TextsFault.Line n) → HasBadLine (files_read F.told
-        (files_seen F.contents F.read_faults F.write_faults files.old)
-        (files_seen F.contents F.read_faults F.write_faults files.new))
-        (option_map (λ s. s.now) list.entry) n }
-    ensures failed { IsErrOf result TextsFault.Failed → TextsFail (files_read F.told
-        (files_seen F.contents F.read_faults F.write_faults files.old)
-        (files_seen F.contents F.read_faults F.write_faults files.new))
-        (map (λ s. s.now) names.now) (option_map (λ s. s.now) list.entry) }
+    ensures line { (n : ℕ) → IsErrOf result (TextsFault.Line n) →
+        HasBadLine (reading F.Files files.old files.new) (name_in list.entry) n }
+    ensures failed { IsErrOf result TextsFault.Failed →
+        TextsFail (reading F.Files files.old files.new) (names_in names.now) (name_in list.entry) }
     ensures same { IsTrue F.told → F.contents files.new ≡ F.contents files.old }
-    ensures only { option_map (λ s. s.now) list.entry ≡ None →
-        ReadInTurn F.reads (map (λ s. s.now) names.now) files.old files.new }
+    ensures only { name_in list.entry ≡ None →
+        ReadInTurn F.reads (names_in names.now) files.old files.new }
 {
     match read_shelf(alloc, files, list) {
         Ok(shelf) => read_beside_shelf(alloc, files, names, shelf),
@@ -69,18 +61,14 @@ fn read_beside_shelf<F: Files>(
     shelf: Shelf,
 ) -> Result<ManyTexts, TextsFault>
     ensures shelf { IfOk result (λ t. t.shelf ≡ shelf) }
-    ensures texts { IfOk result (λ t. AreTexts (files_read F.told
-        (files_seen F.contents F.read_faults F.write_faults files.old)
-        (files_seen F.contents F.read_faults F.write_faults files.new))
-        (map (λ s. s.now) names.now) t.texts) }
+    ensures texts { IfOk result (λ t. AreTexts (reading F.Files files.old files.new)
+        (names_in names.now) t.texts) }
     ensures no_line { (n : ℕ) → IsErrOf result (TextsFault.Line n) → ⊥ }
-    ensures failed { IsErrOf result TextsFault.Failed → OneFails (files_read F.told
-        (files_seen F.contents F.read_faults F.write_faults files.old)
-        (files_seen F.contents F.read_faults F.write_faults files.new))
-        (map (λ s. s.now) names.now) }
+    ensures failed { IsErrOf result TextsFault.Failed →
+        OneFails (reading F.Files files.old files.new) (names_in names.now) }
     ensures same { IsTrue F.told → F.contents files.new ≡ F.contents files.old }
     ensures later { NeverFall (F.read_faults files.old) (F.read_faults files.new) }
-    ensures only { ReadInTurn F.reads (map (λ s. s.now) names.now) files.old files.new }
+    ensures only { ReadInTurn F.reads (names_in names.now) files.old files.new }
 {
     match read_each(alloc, files, names) {
         Ok(texts) => Ok(ManyTexts { shelf, texts }),
@@ -95,17 +83,13 @@ fn read_each<F: Files>(
     files: &mut F,
     names: &[&str],
 ) -> Result<Many<Text>, ReadFault>
-    ensures texts { IfOk result (λ texts. AreTexts (files_read F.told
-        (files_seen F.contents F.read_faults F.write_faults files.old)
-        (files_seen F.contents F.read_faults F.write_faults files.new))
-        (map (λ s. s.now) names.now) texts) }
-    ensures failed { IsErrOf result ReadFault.Failed → OneFails (files_read F.told
-        (files_seen F.contents F.read_faults F.write_faults files.old)
-        (files_seen F.contents F.read_faults F.write_faults files.new))
-        (map (λ s. s.now) names.now) }
+    ensures texts { IfOk result (λ texts. AreTexts (reading F.Files files.old files.new)
+        (names_in names.now) texts) }
+    ensures failed { IsErrOf result ReadFault.Failed →
+        OneFails (reading F.Files files.old files.new) (names_in names.now) }
     ensures same { IsTrue F.told → F.contents files.new ≡ F.contents files.old }
     ensures later { NeverFall (F.read_faults files.old) (F.read_faults files.new) }
-    ensures only { ReadInTurn F.reads (map (λ s. s.now) names.now) files.old files.new }
+    ensures only { ReadInTurn F.reads (names_in names.now) files.old files.new }
 {
     let mut texts = Many::new(alloc);
     for i in 0..names.len() {

@@ -4,7 +4,7 @@ use Rattle.ac_outside.specs.Outside.{Contents, Rose, or_empty}
 use Rattle.acute_words.specs.Commands.{ChannelName, standard, file}
 use Rattle.ac_run.specs.Sessions.{Streams, streams}
 use Rattle.acute_top.specs.Channels.{of_channel, of_console}
-use Rattle.acute_files.specs.Files.{FilesSeen, Reading, files_seen, files_read}
+use Rattle.acute_files.specs.Files.{FilesSeen, Reading, files_read, seen}
 use Rattle.acute_top.specs.Streams.{Feeding, Writing, feeding, writing}
 use Rattle.acute_top.specs.Traits.{FilesOf, SourceOf, SinkOf}
 
@@ -28,14 +28,6 @@ pub record Call (F I O E : Type 0) : Type 0 where
 
 abbrev pub call : {F I O E : Type 0} → F → I → O → E → Call F I O E
 call files input output errors = record { files = files; input = input; output = output; errors = errors }
-
--- what files have and count
-abbrev pub seen : {F : Type 0} → FilesOf F → F → FilesSeen
-seen f files = files_seen f.contents f.read_faults f.write_faults files
-
--- files as they are read, before a call and after it
-abbrev pub reading : {F : Type 0} → FilesOf F → F → F → List ℕ → Reading
-reading f old new = files_read f.told (seen f old) (seen f new)
 
 module _ {F I O E : Type 0} (f : FilesOf F) (i : SourceOf I) (o : SinkOf O) (e : SinkOf E) where
   -- what is handed from the start of a call on, when files were so, streams as the first of these has them, and all is now as in the second

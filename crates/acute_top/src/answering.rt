@@ -1,11 +1,11 @@
 // The commands that print what they find.
-ghost use Rattle.std.specs.Prelude.{◌≡◌, None, IsTrue, map, option_map};
+ghost use Rattle.std.specs.Prelude.{◌≡◌, None, IsTrue};
 ghost use Rattle.ac_types.specs.Types.{Bytes};
-ghost use Rattle.acute_files.specs.Files.{Reading};
+ghost use Rattle.acute_files.specs.Files.{Reading, name_in, names_in, reading};
 ghost use Rattle.acute_files.specs.ManyTexts.{ReadInTurn};
 ghost use Rattle.acute_words.specs.Commands.{check, files_of, make};
 ghost use Rattle.acute_top.specs.Streams.{writing};
-ghost use Rattle.acute_top.specs.Handed.{reading};
+ghost use Rattle.acute_files.specs.Files.{reading};
 ghost use Rattle.acute_top.specs.Endings.{AnswerEnded};
 ghost use Rattle.acute_top.specs.inner.Asked.{showing};
 
@@ -54,12 +54,12 @@ pub fn check_files<R: Threads + Sync, F: Files, O: Sink, E: Sink, G: Gate + Sync
     errors: &mut E,
     gate: &G,
 ) -> Status
-    ensures ends { AnswerEnded (check (map (λ s. s.now) names.now)
-        (option_map (λ s. s.now) list.entry)) (reading F.Files files.old files.new)
+    ensures ends { AnswerEnded (check (names_in names.now)
+        (name_in list.entry)) (reading F.Files files.old files.new)
         (writing O.Sink output.old output.new) (writing E.Sink errors.old errors.new) result }
     ensures same { IsTrue F.told → F.contents files.new ≡ F.contents files.old }
-    ensures only { option_map (λ s. s.now) list.entry ≡ None →
-        ReadInTurn F.reads (map (λ s. s.now) names.now) files.old files.new }
+    ensures only { name_in list.entry ≡ None →
+        ReadInTurn F.reads (names_in names.now) files.old files.new }
 {
     match read_texts(alloc, files, names, list) {
         Ok(texts) => {

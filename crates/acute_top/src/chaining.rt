@@ -1,12 +1,12 @@
 // Chains of programs.
-ghost use Rattle.std.specs.Prelude.{◌≡◌, ◌<◌, ◌≤◌, ◌^◌, None, IsTrue, length, map, option_map};
+ghost use Rattle.std.specs.Prelude.{◌≡◌, ◌<◌, ◌≤◌, ◌^◌, None, IsTrue, length};
 ghost use Rattle.ac_types.specs.Limits.{most_shelf_entries, most_chained};
 ghost use Rattle.ac_load_rules.specs.Accepting.{IsShelf};
 ghost use Rattle.ac_load.specs.Loading.{shelf_of};
 ghost use Rattle.acute_files.specs.ManyTexts.{ReadInTurn};
 ghost use Rattle.ac_chain.specs.ChainTexts.{texts_of};
 ghost use Rattle.acute_top.specs.Streams.{writing};
-ghost use Rattle.acute_top.specs.Handed.{reading};
+ghost use Rattle.acute_files.specs.Files.{reading, name_in, names_in};
 ghost use Rattle.acute_top.specs.ChainEndings.{ChainEnded};
 ghost use Rattle.acute_top.specs.inner.ChainDelivered.{ChainDelivered};
 
@@ -31,12 +31,12 @@ pub fn chain_files<F: Files, O: Sink, E: Sink>(
     errors: &mut E,
 ) -> Status
     requires { length programs.now ≤ most_chained }
-    ensures ends { ChainEnded (map (λ s. s.now) programs.now) (option_map (λ s. s.now) list.entry)
+    ensures ends { ChainEnded (names_in programs.now) (name_in list.entry)
         steps (reading F.Files files.old files.new)
         (writing O.Sink output.old output.new) (writing E.Sink errors.old errors.new) result }
     ensures same { IsTrue F.told → F.contents files.new ≡ F.contents files.old }
-    ensures only { option_map (λ s. s.now) list.entry ≡ None →
-        ReadInTurn F.reads (map (λ s. s.now) programs.now) files.old files.new }
+    ensures only { name_in list.entry ≡ None →
+        ReadInTurn F.reads (names_in programs.now) files.old files.new }
 {
     match read_texts(alloc, files, programs, list) {
         Ok(texts) => chain_texts(alloc, &texts.texts, &texts.shelf, steps, output, errors),

@@ -6,10 +6,10 @@ ghost use Rattle.ac_terms.specs.Read.{environment_of, expr_of};
 ghost use Rattle.ac_meaning.specs.Loads.{IsLoaded};
 ghost use Rattle.ac_load_rules.specs.Accepting.{IsShelf};
 ghost use Rattle.ac_load.specs.Loading.{shelf_of};
-ghost use Rattle.acute_files.specs.Files.{FilesSeen};
+ghost use Rattle.acute_files.specs.Files.{FilesSeen, seen};
 ghost use Rattle.acute_words.specs.Commands.{are_one, channel_of, files_of};
 ghost use Rattle.acute_top.specs.Channels.{KeptBut, NoFile, NotStandard};
-ghost use Rattle.acute_top.specs.Handed.{call, seen, handed, handed_since};
+ghost use Rattle.acute_top.specs.Handed.{call, handed, handed_since};
 ghost use Rattle.acute_top.specs.inner.RunCommands.{from_of, to_of, HasRun, HasRunText, HasRunLoaded, HasRunBegun, HoldsSince};
 ghost use Rattle.acute_top.specs.inner.Runs.{Prepared, MakesFile};
 

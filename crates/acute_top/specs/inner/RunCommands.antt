@@ -7,14 +7,14 @@ use Rattle.ac_rules.specs.declared.loaded.Loaded.{Loaded}
 use Rattle.ac_meaning.specs.Loads.{IsLoaded}
 use Rattle.ac_load_rules.specs.Accepting.{Shelved}
 use Rattle.ac_load.specs.Loading.{Loads}
-use Rattle.acute_files.specs.Files.{FilesSeen, IsTextOf, Since}
+use Rattle.acute_files.specs.Files.{FilesSeen, IsTextOf, Since, seen}
 use Rattle.acute_files.specs.ProgramTexts.{IsShelfBy}
 use Rattle.ac_run.specs.Sessions.{Session}
 use Rattle.ac_run.specs.Course.{begun}
 use Rattle.acute_words.specs.Commands.{ChannelName, channel_of, files_of}
 use Rattle.acute_words.specs.declared.command.Run.{Run}
 use Rattle.acute_answers.specs.declared.status.Status.{Status}
-use Rattle.acute_top.specs.Handed.{Handed, Call, seen, handed_since}
+use Rattle.acute_top.specs.Handed.{Handed, Call, handed_since}
 use Rattle.acute_top.specs.RunEndings.{RunEnded}
 use Rattle.acute_top.specs.Traits.{FilesOf, SourceOf, SinkOf}
 

@@ -1,11 +1,11 @@
 use Rattle.std.proofs.Common.{◌≡◌, Err, ap, sym}
 use Rattle.ac_load.specs.Loading.{shelf_of}
-use Rattle.acute_files.specs.Files.{files_seen}
+use Rattle.acute_files.specs.Files.{files_seen, names_in}
 use Rattle.acute_files.specs.ManyTexts.{of_text}
 use Rattle.acute_files.specs.declared.shelf.TextsFault.{TextsFault}
 use Rattle.acute_files.specs.declared.shelf.TextsFault.TheVariants.{Failed}
 use Rattle.acute_files.proofs.Wider.{at_once, to_end, wide_shelf, same_shelf, map_ok}
-use Rattle.acute_files.proofs.Turns.{named, wide_texts, wide_one, shelf_fails_too, turn_none}
+use Rattle.acute_files.proofs.Turns.{wide_texts, wide_one, shelf_fails_too, turn_none}
 use Rattle.acute_files.proofs.texts.read_texts.Goals as goal
 
 pub returns-in-Ok-clause-shelf : goal.returns-in-Ok-clause-shelf
@@ -18,7 +18,7 @@ pub returns-in-Ok-clause-texts : goal.returns-in-Ok-clause-texts
 returns-in-Ok-clause-texts g c =
     let seen = files_seen g.F.Files.contents g.F.Files.read_faults g.F.Files.write_faults in
     let w = to_end g.F.Files.told (seen c.args.files.now) (seen c.read_shelf.new.files) (seen c.read_beside_shelf.new.files) c.in-Ok.ensures.same c.in-Ok.ensures.later in
-    map_ok c.read_beside_shelf.result _ _ (λ t are. wide_texts w (named c.args.names.now) t.texts are) c.read_beside_shelf.ensures.texts
+    map_ok c.read_beside_shelf.result _ _ (λ t are. wide_texts w (names_in c.args.names.now) t.texts are) c.read_beside_shelf.ensures.texts
 
 pub returns-in-Ok-clause-failed : goal.returns-in-Ok-clause-failed
 returns-in-Ok-clause-failed g c = λ e.
@@ -37,4 +37,4 @@ pub returns-in-Ok-clause-only : goal.returns-in-Ok-clause-only
 returns-in-Ok-clause-only g c = λ none. rw (sym (c.in-Ok.ensures.only none)) c.read_beside_shelf.ensures.only
 
 pub returns-in-Err-clause-only : goal.returns-in-Err-clause-only
-returns-in-Err-clause-only g c = λ none. rw (c.in-Err.ensures.only none) (turn_none g.F.Files.reads g.F.Files.reads_none (named c.args.names.now) c.args.files.now)
+returns-in-Err-clause-only g c = λ none. rw (c.in-Err.ensures.only none) (turn_none g.F.Files.reads g.F.Files.reads_none (names_in c.args.names.now) c.args.files.now)
