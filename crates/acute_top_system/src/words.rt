@@ -1,5 +1,11 @@
 // The words of the process.
 
+ghost use Rattle.std.specs.Prelude.{◌≡◌, IfOk, option_map};
+ghost use Rattle.acute_words.specs.Commands.{command_of};
+ghost use Rattle.acute_top.specs.Endings.{texts};
+ghost use Rattle.acute_top.specs.Requests.{channel_read};
+ghost use Rattle.acute_top_system.specs.Received.{file_received};
+
 use ac_types::Memory;
 use acute_words::{Channel, Command, read_words};
 use std::alloc::Global;
@@ -27,7 +33,10 @@ pub fn words_given(alloc: Global, rt: &HostRuntime) -> Result<Vec<String>, Memor
 }
 
 /// The file that a run receives from, which is opened by its first receive.
-pub fn received_from<'a>(alloc: Global, words: &'a [String]) -> Result<Option<&'a str>, Memory> {
+pub fn received_from<'a>(alloc: Global, words: &'a [String]) -> Result<Option<&'a str>, Memory>
+    ensures { IfOk result (λ o. option_map (λ s. s.now) o ≡
+        option_map file_received (channel_read (command_of (texts words.now)))) }
+{
     let channel = match read_words(alloc, words)? {
         Some(Command::Run(run)) => run.input,
         _ => None,
