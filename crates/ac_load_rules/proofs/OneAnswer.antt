@@ -71,7 +71,7 @@ module _ (digest : Bytes → Bytes) where
   -- the first part that is refused is one
   pub record SamePart (k n : ℕ) (c d : Cause) : Type 0 where
     pub part : k ≡ n
-    pub refusal_cause : SameRefusal c d
+    pub cause : SameRefusal c d
 
   abbrev RefusedModule : Environment → Shelved → Cause → Type 0
   RefusedModule E s c = IsRefused digest IsModule E (Shelf s.uri) s.text c

@@ -40,6 +40,6 @@ through_an_import = refl
 
 -- the receives of a run, of which the second finds the end
 pub receives_alike :
-    iter (step 0) 30 (At (bare Main receives_twice) (fresh [] (0 ∷ 0 ∷ 0 ∷ 2 ∷ 104 ∷ 105 ∷ []) false)) ≡
+    iter (step 0) 30 (At (bare_term Main receives_twice) (fresh [] (0 ∷ 0 ∷ 0 ∷ 2 ∷ 104 ∷ 105 ∷ []) false)) ≡
     Over (Returned WUnit (record (printed_by (codes "a" ∷ codes "hi" ∷ codes "." ∷ []) 0) { receives = has_printed (codes "a" ∷ []) ∷ has_printed (codes "a" ∷ codes "hi" ∷ []) ∷ [] }))
 receives_alike = refl

@@ -25,7 +25,7 @@ is_measured p = p.height ≡ tree_height (tree_of p.tree)
 -- this expression, with its height, and what was left
 pub record IsMadeTree (e : Tree) (signs : List sign.Sign) (made : Parsed) (rest : List sign.Sign) : Type 0 where
   pub tree : tree_of made.tree ≡ e
-  pub tree_height : is_measured made
+  pub height : is_measured made
   pub left : rest ≡ signs
 
 -- this expression is made in front of these signs, unless memory runs out

@@ -8,13 +8,13 @@ use Rattle.acute_words.specs.Form.{Text, is_fit, look_of, named, plain, option_v
 
 -- to both the word is an option
 pub record IsNamed (w n : Text) (v : Option Text) : Type 0 where
-  pub look_of : look_of w ≡ named n v
+  pub look : look_of w ≡ named n v
   pub ends : bytes_eq w (45 ∷ 45 ∷ []) ≡ false
   pub long : long_of w ≡ Some (n, v)
 
 -- to both the word is a plain one
 pub record IsPlain (w : Text) : Type 0 where
-  pub look_of : look_of w ≡ plain
+  pub look : look_of w ≡ plain
   pub ends : bytes_eq w (45 ∷ 45 ∷ []) ≡ false
   pub long : long_of w ≡ None
   pub short : short_of w ≡ None

@@ -44,7 +44,7 @@ ReadsMade R make signs result = ReadsTreeOr (Nothing R) (Made R make) signs resu
 -- what goes on with an expression, with its height, and no more signs are left
 pub record Continued (P : List Sign → List Sign → Type 0) (Height : Type 0) (signs rest : List sign.Sign) : Type 0 where
   pub tree : P (read_signs signs) (read_signs rest)
-  pub tree_height : Height
+  pub height : Height
   pub within : length rest ≤ length signs
 
 -- an expression goes on so, or it can't
