@@ -12,7 +12,7 @@ none. Blocks of code don't count, words of code within a sentence do. A link cou
 import os, re, sys
 
 TOP = os.path.dirname(os.path.dirname(os.path.abspath(__file__)))
-DOCUMENTS = ["README.md"] + [f"docs/{name}.md" for name in ("LANGUAGE", "FAULTS", "THEOREM", "TRANSPORT")]
+DOCUMENTS = ["README.md"] + [f"docs/{name}.md" for name in ("TUTORIAL", "LANGUAGE", "LIBRARY", "FAULTS", "THEOREM", "TRANSPORT")]
 MOST_IN_SENTENCE, MOST_IN_CELL, MOST_IN_README = 30, 25, 1500
 
 ITEM = re.compile(r"\s*([-*+]|\d+[.)])\s+")

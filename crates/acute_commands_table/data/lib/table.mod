@@ -15,8 +15,9 @@
    most 32 leaves. The list of the pages may have any length. Each leaf and each page has beside it its
    length and a bound: none of its keys is greater, and each key after it is. What gets longer than 32 is
    cut into halves. What gets empty goes; nothing is put together again.
-   A `get` walks over the pages, one page and one leaf, and a `put` makes that way anew. For n random
-   keys that is some 30 + n / 1000 applications; for n keys in their order, at most 90 + n / 250.
+   A `get` walks over the pages, one page and one leaf, and a `put` makes that way anew. With n keys put
+   in and none removed, a `get` makes at most 70 + n / 256 applications and a `put` at most 102 + n / 256;
+   with keys by chance both make some 30 + n / 1000.
 
    A program asks for it so. Programs that exchange tables write these lines alike:
      import Table : sig
