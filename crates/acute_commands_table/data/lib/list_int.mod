@@ -16,8 +16,7 @@
      to_strings f all        what `f` gives for each item, a list of strings
      range low high          the numbers from `low` to `high`, both among them; none if low is above high
 
-   Functions are called from the left. `sort` of n items makes some n * (3 + log2 n) applications, and each
-   other function at most a few for each item.
+   Functions are called from the left. `sort` merges, so n items take some n * log2 n applications.
 
    A program asks for it so, with those lines of the signature that it wants:
      import List_int : sig val sort : int list -> int list end version 1.* by "std:list_int" *)

@@ -15,8 +15,7 @@
      each f all              calls `f` for each item
      to_ints f all           what `f` gives for each item, a list of ints
 
-   Functions are called from the left. `sort` of n items makes some n * (3 + log2 n) applications, and each
-   other function at most a few for each item.
+   Functions are called from the left. `sort` merges, so n items take some n * log2 n applications.
 
    A program asks for it so, with those lines of the signature that it wants:
      import List_string : sig val sort : string list -> string list end version 1.* by "std:list_string" *)

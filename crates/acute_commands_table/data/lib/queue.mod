@@ -7,8 +7,8 @@
      items q    its strings, the head first
 
    It is two lists, the front as it is and the back reversed, with how many strings they have together.
-   An `add` takes two applications. A `take` takes one, and one more for each string that is turned round,
-   which happens to each string once at most if each queue is used once.
+   A `take` of an empty front turns the back round. If each queue is used once, that happens to each
+   string once at most.
 
    A program asks for it so. Programs that exchange queues write these lines alike:
      import Queue : sig

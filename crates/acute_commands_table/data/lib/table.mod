@@ -13,8 +13,8 @@
    A type can't speak of itself here, so there is no tree of any height. The table is a list of at most
    three levels: the items by their keys, cut into leaves of at most 32, which are cut into pages of at
    most 32 leaves. The list of the pages may have any length. Each leaf and each page has beside it its
-   length and a bound: none of its keys is greater, and each key after it is. What gets longer than 32 is
-   cut into halves. What gets empty goes; nothing is put together again.
+   length and a bound: none of its keys is greater, and all keys after it are. What gets longer than 32
+   is cut into halves. What gets empty goes; nothing is put together again.
    A `get` walks over the pages, one page and one leaf, and a `put` makes that way anew. With n keys put
    in and none removed, a `get` makes at most 70 + n / 256 applications and a `put` at most 102 + n / 256;
    with keys by chance both make some 30 + n / 1000.
