@@ -1,0 +1,15 @@
+pub mod Inside
+pub mod FineParts
+pub mod Copying
+pub mod Numbers
+pub mod Unpacked
+pub mod NoParts
+pub mod WhatIsRead
+pub mod DataTypes
+pub mod DataStrings
+pub mod DataAgain
+pub mod ComesBack
+pub mod NextMarshal
+pub mod NoneBegins
+mod CopyExamples
+pub mod OneCopy

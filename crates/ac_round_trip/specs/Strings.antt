@@ -1,0 +1,52 @@
+-- The string that marshal gives of a value, and what it brings where it is read.
+use Rattle.std.specs.Prelude.{◌≡◌, ◌⊎◌, ℕ, false, [], codes}
+use Rattle.ac_types.specs.Types.{Bytes, Typ, has_function, mentions}
+use Rattle.ac_terms.specs.Terms.{Home, Main, Expr, Str, Marshal, Unmarshal, Evaluated, Value, VStr}
+use Rattle.ac_terms.specs.Defs.{Environment}
+use Rattle.ac_rules.specs.Views.{Mode, Coloured, view}
+use Rattle.ac_rules.specs.Plain.{packed}
+use Rattle.ac_rules.specs.Coherent.{IsCoherent}
+use Rattle.ac_rules.specs.RoundTrip.{IsPackable}
+use Rattle.ac_rules.specs.Growth.{Grows}
+use Rattle.ac_meaning.specs.Worlds.{Made, Read, World, with_crossing}
+use Rattle.ac_meaning.specs.Acts.{Turns, Returned, At, Over, Leads}
+use Rattle.ac_meaning.specs.Reduction.{step}
+use Rattle.ac_meaning.specs.BareTerms.{bare_value}
+use Rattle.ac_meaning.specs.Typed.{ValueTyped}
+use Rattle.ac_meaning.specs.Packing.{marshal_step, Arrival, Unfit, Brings, arrival, unmarshal_failure_exn, resolve_failure_exn}
+use Rattle.ac_round_trip.specs.Copies.{Copied}
+
+-- s is the string that marshal by this mark gives of v, a value of home c that is of type T there and within the bounds of its spelling
+pub record IsString (mode : Mode) (z : World) (c : Home) (T : Typ) (v : Value) (mark s : Bytes) : Type 0 where
+  pub coherent : IsCoherent z.environment
+  pub typed : ValueTyped mode z.environment v c (view mode z.environment c T)
+  pub packable : IsPackable z.environment T (packed z.environment c v T)
+  pub gives : marshal_step z c T (VStr mark) v ≡ Turns (with_crossing (Made s) z) (Str s)
+
+-- the definitions have grown, and what is brought to home d is a copy of v in each mode, which is without its brackets what is brought without brackets; or the string is refused as full or for want of a link
+abbrev pub BringsCopy : (E : Environment) (c : Home) (v : Value) (d : Home) (T : Typ) → Arrival → Type 0
+BringsCopy E c v d T (Unfit x) = (x ≡ unmarshal_failure_exn (codes "full")) ⊎ ((name : Bytes) × (x ≡ resolve_failure_exn name))
+BringsCopy E c v d T (Brings F copy w) = Grows E F × (f : ℕ → ℕ) × ((mode : Mode) → Copied mode E F f c v d T (copy mode) × (bare_value d (copy mode) ≡ w))
+
+-- a type without functions and abstract types
+pub record IsData (T : Typ) : Type 0 where
+  pub no_function : has_function T ≡ false
+  pub no_name : mentions T ≡ []
+
+-- the string brings v again to home d, and no definition: without brackets v itself, and in each mode v but for the types that empty lists and missing options carry
+pub record BringsAgain (y : World) (d : Home) (T : Typ) (s : Bytes) (c : Home) (v : Value) : Type 0 where
+  pub again : Mode → Value
+  pub brings : arrival y d T s ≡ Brings y.environment again (bare_value c v)
+  pub same : (mode : Mode) → bare_value d (again mode) ≡ bare_value c v
+
+-- `unmarshal (marshal MARK v : T) as T`
+abbrev pub there_and_back : Typ → Bytes → Value → Expr
+there_and_back T mark v = Unmarshal T (Marshal T (Str mark) (Evaluated T v))
+
+-- in the world z the string was given, and then read
+abbrev pub given_and_read : World → Bytes → World
+given_and_read z s = with_crossing (Read s) (with_crossing (Made s) z)
+
+-- in the main program it gives v again: in Coloured mode v itself, in Plain mode v but for those types
+abbrev pub ComesBackThere : (mode : Mode) (N : ℕ) (z : World) (T : Typ) (v : Value) (mark s : Bytes) → Type 0
+ComesBackThere mode N z T v mark s = (w : Value) × (bare_value Main w ≡ bare_value Main v) × (mode ≡ Coloured → w ≡ v) × Leads (step mode N) (At (there_and_back T mark v) z) (Over (Returned w (given_and_read z s)))
