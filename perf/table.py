@@ -4,8 +4,8 @@
 usage: perf/table.py [--program FILE] [--keys N] [--gigabytes N]
 N keys (10,000), decimal numbers by chance, are put into a table of std:table, and then each is asked for; the same of a list
 of pairs, whose put looks for the key first. FILE is the program, or what ./acute runs. A row has applications and seconds of a
-processor for all puts and for all gets, of which those that make the keys are taken away, and the memory in use at the most.
-A run ends where it wants more than N GB (8); a list of 10,000 keys wants 7.
+processor for all puts and for all gets, without what else a run does, and the memory in use at the most. The list takes
+its keys in ten runs, since a run keeps all values. A run ends where it wants more than N GB (6).
 """
 import tempfile
 
@@ -74,10 +74,10 @@ let rec found (at : int * int * int * Table.t) : int =
       found (n - 1, next x, (match Table.get (Str.of_int x) t with None -> k | Some _ -> k + 1 end), t)
   end in
 """
-KEYS = "IO.print_int (keys (COUNT, 1))"
-PUTS = "let t : Table.t = filled (COUNT, 1, Table.empty) in IO.print_int COUNT"
-MADE = "let t : Table.t = made (COUNT, 1, Table.empty) in IO.print_int COUNT"
-GETS = "IO.print_int (found (COUNT, 1, 0, made (COUNT, 1, Table.empty)))"
+# Keys that are put into what has others, and keys that are asked for; and what both begin with.
+PUTS = "let t : Table.t = filled (COUNT, keys (FROM, 1), made (FROM, 1, Table.empty)) in IO.print_int COUNT"
+GETS = "IO.print_int (found (COUNT, keys (FROM, 1), 0, made (ALL, 1, Table.empty)))"
+BEGUN = "let t : Table.t = made (FROM, keys (0, 1), Table.empty) in IO.print_int COUNT"
 
 
 def least_budget(run, high):
@@ -90,30 +90,33 @@ def least_budget(run, high):
 
 
 def main():
-    words = calls.words_of(__doc__, [("keys", 10000), ("gigabytes", 8)])
+    words = calls.words_of(__doc__, [("keys", 10000), ("gigabytes", 6)])
     count, limit = words.keys, calls.limits(3600, words.gigabytes)
 
-    def ended(text, push, end, steps=MOST):
-        """Runs a program within a budget."""
-        content = text + (WALKS.replace("PUSH", push) + end).replace("COUNT", str(count))
+    def ended(text, push, end, start, size, steps=MOST):
+        """Runs a program on so many keys from one on within a budget."""
+        content = text + WALKS.replace("PUSH", push) + end
+        for word, number in (("COUNT", size), ("FROM", start), ("ALL", count)):
+            content = content.replace(word, str(number))
         with tempfile.TemporaryDirectory() as folder:
             calls.save(folder, "walks.ac", content)
             return calls.call([words.program, "run", f"{folder}/walks.ac", "--shelf", SHELF, "--steps", str(steps)], calls.TOP, limit)
 
     print(calls.head(["what", "applications of a put, of a get", "all puts, all gets", "memory"]))
-    for name, text, push in ("a table", TABLE, "put"), ("a list", LIST, "push"):
-        runs = [ended(text, push, end) for end in (KEYS, PUTS, MADE, GETS)]
-        for run in runs:
-            if run.status:
-                raise SystemExit(f"{name}: {calls.told(run)}")
-        assert runs[3].output == str(count).encode()
-        keys, puts, made, gets = (it.seconds for it in runs)
+    for name, text, push, size in ("a table", TABLE, "put", count), ("a list", LIST, "push", count // 10):
+        seconds, memory = [0, 0], 0
+        for start in range(0, count, size):
+            for number, end, begun in (0, PUTS, start), (1, GETS, count):
+                run, less = ended(text, push, end, start, size), ended(text, push, BEGUN, begun, size)
+                if run.status or run.output != less.output:
+                    raise SystemExit(f"{name}: {calls.told(run)}")
+                seconds[number] += run.seconds - less.seconds
+                memory = max(memory, run.megabytes)
         each = f"{count / 2:.0f}, {count / 2:.0f}"
         if text == TABLE:
-            least = [least_budget(lambda steps: ended(text, push, end, steps), 1000 * count) for end in (PUTS, GETS)]
+            least = [least_budget(lambda steps: ended(text, push, end, 0, size, steps), 1000 * count) for end in (PUTS, GETS)]
             each = f"{least[0] / count - 2:.0f}, {(least[1] - least[0]) / count - 2:.0f}"
-        memory = max(it.megabytes for it in runs)
-        print(calls.row([name, each, f"{puts - keys:.2f} s, {gets - made - keys:.2f} s", f"{memory:.0f} MB"]))
+        print(calls.row([name, each, f"{seconds[0]:.2f} s, {seconds[1]:.2f} s", f"{memory:.0f} MB"]))
 
 
 main()
