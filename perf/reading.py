@@ -1,10 +1,10 @@
 #!/usr/bin/env python3
-"""Compares docs/READING.md with the definitions that the contract of `acute` uses.
+"""Compares docs/READING.md with the definitions that the contract of `acute` and the law `native_provenance` use.
 
 usage: perf/reading.py [--list]
-It follows names from the contract in crates/acute_top/src/top.rt through the files of specs/. It prints the files that READING
-lists and that the contract doesn't use, those that it uses and that READING lacks, and of rows as `FILE`: `NAME`, .. the
-names that aren't used. The status is 1 where there are any. With --list it prints each file that is used, how many of its
+It follows names from the contract in crates/acute_top/src/top.rt and from the law in laws.rt beside it through the files of
+specs/. It prints the files that READING lists and that they don't use, those that they use and that READING lacks, and of
+rows as `FILE`: `NAME`, .. the names that aren't used. The status is 1 where there are any. With --list it prints each file that is used, how many of its
 definitions are, and the names of the others.
 
 A definition counts as using each name in it that its file has or takes from another file, be it only a field of that name.
@@ -77,17 +77,21 @@ class Specs:
 
 
 class Contract:
-    """The definitions that the contract of `acute` uses, by file."""
+    """The definitions that the contract of `acute` and the law use, by file."""
 
     def __init__(self):
         self.files, self.used, self.pending = {}, {}, []
-        text = text_of("crates", "acute_top", "src", "top.rt")
-        words = words_of(re.search(r"pub fn acute.*?\n\{\n", text, re.S)[0])
+        self.begin("top.rt", r"pub fn acute.*?\n\{\n")
+        self.begin("laws.rt", r"pub fn native_provenance.*?\n\{\}\n")
+        while self.pending:
+            self.follow(*self.pending.pop())
+
+    def begin(self, source, call):
+        text = text_of("crates", "acute_top", "src", source)
+        words = words_of(re.search(call, text, re.S)[0])
         for file, names, _, _ in filter(None, map(taken, text.split("\n"))):
             for name in set(names or []) & words:
                 self.need(file, name)
-        while self.pending:
-            self.follow(*self.pending.pop())
 
     def specs(self, file):
         """Returns a file of definitions, or None for one of the kit or of declarations."""

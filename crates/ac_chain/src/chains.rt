@@ -8,8 +8,8 @@ ghost use Rattle.ac_load_rules.specs.Accepting.{IsShelf};
 ghost use Rattle.ac_load.specs.Loading.{shelf_of};
 ghost use Rattle.ac_colours.specs.Chains.{Programs};
 ghost use Rattle.ac_chain.specs.ChainTexts.{texts_of, programs_of, LoadAs};
-ghost use Rattle.ac_chain.specs.Endings.{HasRun, IsChainFault, IsBeforeRuns, AreAllNative, HasProvenance};
-ghost use Rattle.ac_chain.specs.inner.Running.{AreLoaded, AllRun, AllStopped, IsRunFault, last_sent, printed};
+ghost use Rattle.ac_chain.specs.Endings.{printed, HasRun, IsChainFault, IsBeforeRuns, AreAllNative, HasProvenance};
+ghost use Rattle.ac_chain.specs.inner.Running.{AreLoaded, AllRun, AllStopped, IsRunFault, last_sent};
 
 use crate::chained::{ChainFault, ChainPart, Chained};
 use crate::clash::first_program_clash;

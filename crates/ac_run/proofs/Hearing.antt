@@ -16,7 +16,7 @@ use Rattle.ac_machine_engine.specs.Seen.{MachineSeen, standing}
 use Rattle.ac_meaning.specs.ReadExn.{exn_of}
 use Rattle.ac_meaning.specs.Worlds.{end_of_file_exn, bad_frame}
 use Rattle.ac_run.specs.Sessions.{Streams}
-use Rattle.ac_run.specs.inner.Inboxes.{MayCome, IsLeft, Heard, Comes}
+use Rattle.ac_run.specs.inner.Inboxes.{MayCome, IsLeft, NoneLeft, Heard, Comes}
 use Rattle.ac_run.specs.inner.Turns.{Served, HasGotFrame, Received}
 use Rattle.ac_run.specs.declared.end.RunEnd.{RunEnd}
 use Rattle.ac_run.specs.declared.end.RunEnd.TheVariants as end
@@ -35,6 +35,12 @@ pub still_comes : (inbox : Inbox) (told : Bool) (left now rest : Bytes) → (IsT
 still_comes Open told left now rest same comes = λ t. sym (same t) ∙ comes t
 still_comes Broken told left now rest same comes = λ t. sym (same t) ∙ comes t
 still_comes Closed told left now rest same comes = tt
+
+-- where the end has come and nothing is read, nothing is left still
+pub none_still : (told : Bool) (inbox : Inbox) (left now : Bytes) → (IsTrue told → now ≡ left) → NoneLeft told inbox left → NoneLeft told inbox now
+none_still told Open left now same none = tt
+none_still told Broken left now same none = tt
+none_still told Closed left now same none = λ t. same t ∙ none t
 
 -- what comes before this, where this frame has come, no frame, or the end
 before_frame : (told : Bool) (left now rest s : Bytes) → length s ≤ longest_frame → (IsTrue told → next_frame left ≡ Whole s now) → (IsTrue told → now ≡ rest) → (before : Bytes) × (IsTrue told → left ≡ before) × (next_frame before ≡ Whole s rest)

@@ -52,9 +52,9 @@ left_of (Raised x z) = z.input
 left_of (Spent z) = z.input
 left_of Stuck = []
 
--- no frame comes from what the reduction has left: there is nothing, or bytes that are no frame, behind which this is left of them
+-- what the reduction has left begins with bytes that are no frame, and behind those that say so this is left of it
 abbrev pub NoFrame : Bytes → Bytes → Type 0
-NoFrame input left = (input ≡ []) ⊎ ((n : ℕ) × (got : ℕ) × (next_frame input ≡ Bad n got) × (left ≡ drop got input))
+NoFrame input left = (n : ℕ) × (got : ℕ) × (next_frame input ≡ Bad n got) × (left ≡ drop got input)
 
 -- a session's journal has these crossings, if it keeps one
 abbrev pub HasNoted : Session → List Crossing → Type 0
@@ -93,7 +93,7 @@ IsEnd end.ReadFault o s = WaitsForFrame s
 IsEnd end.WriteFault o s = Unit {0}
 IsEnd end.Memory o s = Unit {0}
 
--- behind an end without a fault a world has left of its input what the reduction has left, or no frame came any more
+-- behind an end without a fault a world has left of its input what the reduction has left, or that is no frame, and of it what is behind the bytes that say so
 abbrev pub HasLeft : {A : Type 0} → RunEnd → Outcome A → Bytes → Type 0
 HasLeft end.Finished o left = (left ≡ left_of o) ⊎ NoFrame (left_of o) left
 HasLeft (end.Uncaught e) o left = (left ≡ left_of o) ⊎ NoFrame (left_of o) left

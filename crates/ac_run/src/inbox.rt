@@ -1,7 +1,7 @@
 // What a session reads.
 ghost use Rattle.std.specs.Prelude.{◌≡◌, ◌≤◌, IsTrue};
 ghost use Rattle.ac_outside.specs.Outside.{Rose};
-ghost use Rattle.ac_run.specs.inner.Inboxes.{Comes, Heard};
+ghost use Rattle.ac_run.specs.inner.Inboxes.{Comes, Heard, NoneLeft};
 
 use ac_outside::{FrameGot, Frames, World};
 use ac_types::Text;
@@ -45,6 +45,8 @@ impl Inbox {
             Rose (W.Source.read_faults world.old) (W.Source.read_faults world.new) }
         ensures later { W.Source.read_faults world.old ≤ W.Source.read_faults world.new }
         ensures later_writes { W.write_faults world.old ≤ W.write_faults world.new }
+        ensures empty { NoneLeft W.Source.told self.old (W.Source.left world.old) →
+            NoneLeft W.Source.told self.new (W.Source.left world.new) }
         // Once it is closed it stays so, and nothing is read.
         ensures closed { self.old ≡ Inbox.Closed → self.new ≡ Inbox.Closed }
         ensures idle { self.old ≡ Inbox.Closed → world.new ≡ world.old }

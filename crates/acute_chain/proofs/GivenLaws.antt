@@ -21,7 +21,8 @@ use Rattle.acute_answers.specs.Answers.{ShownAnswer, answer_of, printing, tellin
 use Rattle.acute_chain.specs.Chaining.{refused_program, clashing, program_line, clash_line, lines_behind}
 use Rattle.acute_chain.specs.declared.chaining.Halt.{Halt}
 use Rattle.acute_chain.specs.declared.chaining.Halt.TheVariants as halt
-use Rattle.acute_chain.specs.inner.Given.{GivesRest, GivesPart, GivesChain, AnswersFault, TellsLine}
+use Rattle.acute_chain.specs.Given.{GivesRest, GivesPart, GivesChain}
+use Rattle.acute_chain.specs.inner.Telling.{AnswersFault, TellsLine}
 use Rattle.acute_chain.proofs.ModesAlike.{chains_in_each}
 use Rattle.acute_chain.proofs.PartLines.{lines_are}
 

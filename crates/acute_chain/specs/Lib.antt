@@ -1,2 +1,3 @@
 pub mod Chaining
+pub mod Given
 pub mod inner

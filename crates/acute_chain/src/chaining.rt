@@ -5,8 +5,9 @@ ghost use Rattle.ac_load_rules.specs.Accepting.{IsShelf};
 ghost use Rattle.ac_load.specs.Loading.{shelf_of};
 ghost use Rattle.ac_chain.specs.ChainTexts.{texts_of};
 ghost use Rattle.ac_chain.specs.StringLines.{chain_lines};
-ghost use Rattle.ac_chain.specs.inner.Running.{printed};
-ghost use Rattle.acute_chain.specs.inner.Given.{AnswersFault, GivesChain, TellsLine};
+ghost use Rattle.ac_chain.specs.Endings.{printed};
+ghost use Rattle.acute_chain.specs.Given.{GivesChain};
+ghost use Rattle.acute_chain.specs.inner.Telling.{AnswersFault, TellsLine};
 
 use crate::line::{clash_line, program_line};
 use ac_chain::{ChainFault, Chained, chain, lines};

@@ -19,8 +19,3 @@ module _ (files : Bytes → Reading) where
     of_shelf_list : {list : Bytes} → ReadRose (files list) → TextsFail names (Some list)
     of_shelf_text : {list : Bytes} (before after : List Listed) (x : Listed) → ListSays files list (Lists (before ++ x ∷ after)) → ReadRose (files x.file) → TextsFail names (Some list)
     of_text : {list : Option Bytes} (shelf : List Shelved) (before after : List Bytes) (name : Bytes) → IsShelfBy files list shelf → names ≡ before ++ name ∷ after → ReadRose (files name) → TextsFail names list
-
--- between two moments the files of these names were read, one after another, and no others
-abbrev pub ReadInTurn : {Files : Type 0} → (Bytes → Files → Files → Type 0) → List Bytes → Files → Files → Type 0
-ReadInTurn {Files} reads [] a b = b ≡ a
-ReadInTurn {Files} reads (name ∷ names) a c = (b : Files) × (reads name a b × ReadInTurn reads names b c)

@@ -1,3 +1,4 @@
 pub mod Behind
 pub mod Failing
 pub mod Fronts
+pub mod ShelfReads

@@ -1,11 +1,12 @@
 // The texts of a program and of its shelf.
-ghost use Rattle.std.specs.Prelude.{◌≡◌, ◌≤◌, ℕ, None, IsTrue, IfOk, IsErrOf, length};
+ghost use Rattle.std.specs.Prelude.{◌≡◌, ◌≤◌, [], ◌∷◌, ℕ, IsTrue, IfOk, IsErrOf, length};
 ghost use Rattle.ac_types.specs.Limits.{most_shelf_entries};
 ghost use Rattle.ac_outside.specs.Outside.{NeverFall, Rose};
 ghost use Rattle.ac_load_rules.specs.Accepting.{IsShelf};
 ghost use Rattle.ac_load.specs.Loading.{shelf_of};
 ghost use Rattle.acute_files.specs.Files.{reading, IsTextOf, name_in};
 ghost use Rattle.acute_files.specs.ProgramTexts.{IsShelfBy, HasBadLine, ReadsFail};
+ghost use Rattle.acute_files.specs.ReadOrder.{TextsRead};
 
 use crate::shelf::{TextsFault, read_shelf};
 use crate::text::{ReadFault, read_text};
@@ -44,7 +45,7 @@ pub fn read_program<F: Files>(
     ensures same { IsTrue F.told → F.contents files.new ≡ F.contents files.old }
     ensures later { NeverFall (F.read_faults files.old) (F.read_faults files.new) }
     ensures later_writes { NeverFall (F.write_faults files.old) (F.write_faults files.new) }
-    ensures only { name_in list.entry ≡ None → F.reads program.now files.old files.new }
+    ensures only { TextsRead F.Files (program.now ∷ []) files.old files.new (name_in list.entry) }
 {
     match read_shelf(alloc, files, list) {
         Ok(shelf) => read_beside(alloc, files, program, shelf),

@@ -1,5 +1,5 @@
 // The texts of a shelf.
-ghost use Rattle.std.specs.Prelude.{◌≡◌, ◌≤◌, ℕ, None, Some, IsTrue, IfOk, IsErrOf, length, map};
+ghost use Rattle.std.specs.Prelude.{◌≡◌, ◌≤◌, ℕ, Some, IsTrue, IfOk, IsErrOf, MatchResult, length, map};
 ghost use Rattle.ac_types.specs.Limits.{most_shelf_entries};
 ghost use Rattle.ac_outside.specs.Outside.{NeverFall, Rose};
 ghost use Rattle.acute_files.specs.ShelfLists.{Lists, BadLine, listed_of, shelf_answer};
@@ -7,7 +7,9 @@ ghost use Rattle.ac_load_rules.specs.Accepting.{IsShelf};
 ghost use Rattle.ac_load.specs.Loading.{shelf_of, shelved};
 ghost use Rattle.acute_files.specs.Files.{reading, IsTextOf, name_in};
 ghost use Rattle.acute_files.specs.ProgramTexts.{AreListed, IsShelfBy, HasBadLine};
+ghost use Rattle.acute_files.specs.ReadOrder.{ReadInTurn, files_listed};
 ghost use Rattle.acute_files.specs.inner.Failing.{ShelfFails, LinesGive, LinesFail, EntriesFail};
+ghost use Rattle.acute_files.specs.inner.ShelfReads.{LinesRead, LinesTried, ListRead, ListTried, ShelfRead, ShelfTried};
 
 use crate::list::{ShelfFault, ShelfLine, shelf_list};
 use crate::text::{ReadFault, read_text};
@@ -44,7 +46,9 @@ pub fn read_shelf<F: Files>(
     ensures same { IsTrue F.told → F.contents files.new ≡ F.contents files.old }
     ensures later { NeverFall (F.read_faults files.old) (F.read_faults files.new) }
     ensures later_writes { NeverFall (F.write_faults files.old) (F.write_faults files.new) }
-    ensures only { name_in list.entry ≡ None → files.new ≡ files.old }
+    ensures only { MatchResult result
+        (λ _. ShelfRead F.Files (name_in list.entry) files.old files.new)
+        (λ _. ShelfTried F.Files (name_in list.entry) files.old files.new) }
 {
     match list {
         None => Ok(Shelf::empty(alloc)),
@@ -65,6 +69,8 @@ fn read_listed<F: Files>(alloc: Global, files: &mut F, list: &str) -> Result<She
     ensures same { IsTrue F.told → F.contents files.new ≡ F.contents files.old }
     ensures later { NeverFall (F.read_faults files.old) (F.read_faults files.new) }
     ensures later_writes { NeverFall (F.write_faults files.old) (F.write_faults files.new) }
+    ensures only { MatchResult result (λ _. ListRead F.Files list.now files.old files.new)
+        (λ _. ListTried F.Files list.now files.old files.new) }
 {
     match read_text(alloc, files, list) {
         Ok(text) => read_lines(alloc, files, text.as_slice()),
@@ -86,6 +92,8 @@ fn read_lines<F: Files>(alloc: Global, files: &mut F, text: &[u8]) -> Result<She
     ensures same { IsTrue F.told → F.contents files.new ≡ F.contents files.old }
     ensures later { NeverFall (F.read_faults files.old) (F.read_faults files.new) }
     ensures later_writes { NeverFall (F.write_faults files.old) (F.write_faults files.new) }
+    ensures only { MatchResult result (λ _. LinesRead F.Files text.now files.old files.new)
+        (λ _. LinesTried F.Files text.now files.old files.new) }
 {
     match shelf_list(alloc, text) {
         Ok(lines) => match read_entries(alloc, files, lines.as_slice()) {
@@ -112,6 +120,7 @@ fn read_entries<F: Files>(
     ensures same { IsTrue F.told → F.contents files.new ≡ F.contents files.old }
     ensures later { NeverFall (F.read_faults files.old) (F.read_faults files.new) }
     ensures later_writes { NeverFall (F.write_faults files.old) (F.write_faults files.new) }
+    ensures only { ReadInTurn F.reads (files_listed (map listed_of lines.now)) files.old files.new }
 {
     let mut entries = Many::new(alloc);
     for line in lines {
@@ -141,6 +150,7 @@ fn read_entry<F: Files>(
     ensures same { IsTrue F.told → F.contents files.new ≡ F.contents files.old }
     ensures later { NeverFall (F.read_faults files.old) (F.read_faults files.new) }
     ensures later_writes { NeverFall (F.write_faults files.old) (F.write_faults files.new) }
+    ensures only { F.reads (listed_of line.now).file files.old files.new }
 {
     match read_text(alloc, files, line.file.as_str()) {
         Ok(text) => match line.uri.copy(alloc) {

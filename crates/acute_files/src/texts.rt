@@ -1,12 +1,13 @@
 // The texts of several files, and of a shelf beside them.
-ghost use Rattle.std.specs.Prelude.{◌≡◌, ◌≤◌, ℕ, None, IsTrue, IfOk, IsErrOf, length};
+ghost use Rattle.std.specs.Prelude.{◌≡◌, ◌≤◌, ℕ, IsTrue, IfOk, IsErrOf, length};
 ghost use Rattle.ac_types.specs.Limits.{most_shelf_entries};
 ghost use Rattle.ac_outside.specs.Outside.{NeverFall};
 ghost use Rattle.ac_load_rules.specs.Accepting.{IsShelf};
 ghost use Rattle.ac_load.specs.Loading.{shelf_of};
 ghost use Rattle.acute_files.specs.Files.{reading, name_in, names_in};
-ghost use Rattle.acute_files.specs.ManyTexts.{AreTexts, ReadInTurn, TextsFail};
+ghost use Rattle.acute_files.specs.ManyTexts.{AreTexts, TextsFail};
 ghost use Rattle.acute_files.specs.ProgramTexts.{IsShelfBy, HasBadLine};
+ghost use Rattle.acute_files.specs.ReadOrder.{ReadInTurn, TextsRead};
 ghost use Rattle.acute_files.specs.inner.Failing.{OneFails};
 
 use crate::shelf::{TextsFault, read_shelf};
@@ -44,8 +45,8 @@ pub fn read_texts<F: Files>(
     ensures failed { IsErrOf result TextsFault.Failed →
         TextsFail (reading F.Files files.old files.new) (names_in names.now) (name_in list.entry) }
     ensures same { IsTrue F.told → F.contents files.new ≡ F.contents files.old }
-    ensures only { name_in list.entry ≡ None →
-        ReadInTurn F.reads (names_in names.now) files.old files.new }
+    ensures only { TextsRead F.Files (names_in names.now) files.old files.new
+        (name_in list.entry) }
 {
     match read_shelf(alloc, files, list) {
         Ok(shelf) => read_beside_shelf(alloc, files, names, shelf),

@@ -17,7 +17,7 @@ use Rattle.acute_answers.specs.declared.status.Status.{Status}
 use Rattle.acute_answers.specs.declared.status.TheConstants.Status.{FINISHED, OUT_OF_MEMORY, WRITE_FAULT}
 use Rattle.acute_answers.specs.Answers.{ShownAnswer}
 use Rattle.acute_chain.specs.Chaining.{Chains, refused_program, clashing, ran, lines_behind}
-use Rattle.acute_chain.specs.inner.Given.{GivesRest, GivesPart}
+use Rattle.acute_chain.specs.Given.{GivesRest, GivesPart}
 use Rattle.acute_top.specs.Streams.{Writing, write_line, memory_line}
 use Rattle.acute_top.specs.Saying.{Said, SaidIfAny}
 use Rattle.acute_top.specs.ChainEndings.{ChainEnded, has_chained, bad_chain_list, unread_chain, unprinted_chain, no_memory_to_chain, no_memory_in_chain}

@@ -3,7 +3,6 @@ use Rattle.std.proofs.Common.{◌≡◌, ◌⊎◌, inl, inr, ℕ, Bool, true, I
 use Rattle.std.proofs.lemmas.List.{append-nil}
 use Rattle.ac_types.specs.Types.{Bytes}
 use Rattle.acute_words.specs.Commands.{ChannelName, ProgramFiles, Request, run, names, code, make, check, chain}
-use Rattle.acute_files.proofs.Turns.{turn_none}
 use Rattle.acute_files.specs.ProgramTexts.{HasBadLine, ReadsFail}
 use Rattle.acute_files.specs.declared.shelf.TextsFault.{TextsFault}
 use Rattle.acute_files.specs.declared.shelf.TextsFault.TheVariants as fault
@@ -16,7 +15,7 @@ use Rattle.acute_top.specs.Streams.{Writing, AllWritten, memory_line, words_line
 use Rattle.acute_top.specs.Saying.{Said, SaidIfAny}
 use Rattle.acute_top.specs.Handed.{Handed, is_told, before_run, after_run, behind_run, IsMade, Untouched}
 use Rattle.acute_top.specs.RunEndings.{HasRead, GivesStatus, InputLeft, RunEnded, has_run, bad_list, unread_file, no_memory_yet, no_memory_left}
-use Rattle.acute_top.specs.Requests.{files_loaded, Touches}
+use Rattle.acute_top.specs.Stages.{AtTexts}
 use Rattle.acute_top.specs.ChainEndings.{no_memory_to_chain}
 use Rattle.acute_top.specs.Endings.{CallEnded, NoCommand, refused_words, no_memory_for_words, no_memory_to_find}
 use Rattle.acute_top.specs.inner.Delivered.{SaysUnread}
@@ -37,14 +36,14 @@ pub words_refused : (o : Handed) → Still o.output → (end : Status) → Said 
 words_refused o still end s = refused_words (still_whole o.output still) s
 
 -- want of memory while the words were read
-pub end_at_words : (request : Option Request) (o : Handed) → Still o.output → ((to : Option ChannelName) → Untouched to o) → IsTrue o.idle → (end : Status) → Said o.errors memory_line OUT_OF_MEMORY end → CallEnded request o end
-end_at_words None o still same idle end s = no_memory_for_words (still_whole o.output still) s
-end_at_words (Some (run prog steps from to)) o still same idle end s = no_memory_yet (still_whole o.output still) (same to) idle s
-end_at_words (Some (names prog)) o still same idle end s = no_memory_to_find (still_whole o.output still) s
-end_at_words (Some (code prog)) o still same idle end s = no_memory_to_find (still_whole o.output still) s
-end_at_words (Some (make seed modules runs)) o still same idle end s = no_memory_to_find (still_whole o.output still) s
-end_at_words (Some (check files list)) o still same idle end s = no_memory_to_find (still_whole o.output still) s
-end_at_words (Some (chain programs list steps)) o still same idle end s = no_memory_to_chain (still_whole o.output still) s
+pub end_at_words : (request : Option Request) (o : Handed) → Still o.output → ((to : Option ChannelName) → Untouched to o) → o.stage ≡ AtTexts → (end : Status) → Said o.errors memory_line OUT_OF_MEMORY end → CallEnded request o end
+end_at_words None o still same at end s = no_memory_for_words (still_whole o.output still) s
+end_at_words (Some (run prog steps from to)) o still same at end s = no_memory_yet (still_whole o.output still) (same to) at s
+end_at_words (Some (names prog)) o still same at end s = no_memory_to_find (still_whole o.output still) s
+end_at_words (Some (code prog)) o still same at end s = no_memory_to_find (still_whole o.output still) s
+end_at_words (Some (make seed modules runs)) o still same at end s = no_memory_to_find (still_whole o.output still) s
+end_at_words (Some (check files list)) o still same at end s = no_memory_to_find (still_whole o.output still) s
+end_at_words (Some (chain programs list steps)) o still same at end s = no_memory_to_chain (still_whole o.output still) s
 
 -- all that was to be written was, so some of it was and then none
 behind_all : (told : Bool) (writes : List Write) (old new : Streams) → (IsTrue told → new ≡ with_writes writes old) → StopsBehind told writes old new
@@ -58,17 +57,12 @@ module _ (prog : ProgramFiles) (steps : ℕ) (from to : Option ChannelName) (o :
   end_told r a mid g runs whole left made c rest is end (inr s) = no_memory_left r a mid g runs made (inr (behind_all (is_told from to o) a.writes (before_run to o) (after_run to o mid) whole)) s
 
   -- want of memory before anything was written on output
-  pub end_early : Still o.output → Untouched to o → IsTrue o.idle → (end : Status) → Said o.errors memory_line OUT_OF_MEMORY end → RunEnded prog steps from to o end
-  end_early still same idle end s = no_memory_yet (still_whole o.output still) same idle s
+  pub end_early : Still o.output → Untouched to o → o.stage ≡ AtTexts → (end : Status) → Said o.errors memory_line OUT_OF_MEMORY end → RunEnded prog steps from to o end
+  end_early still same at end s = no_memory_yet (still_whole o.output still) same at s
 
   -- the texts weren't read
-  pub end_unread : Still o.output → Untouched to o → IsTrue o.idle → (f : TextsFault) → ((n : ℕ) → f ≡ fault.Line n → HasBadLine o.files prog.shelf n) → (f ≡ fault.Failed → ReadsFail o.files prog.file prog.shelf) → (end : Status) → SaysUnread f o.errors end → RunEnded prog steps from to o end
-  end_unread still same idle (fault.Line n) bad failed end (inl s) = bad_list n (bad n refl) (still_whole o.output still) same idle s
-  end_unread still same idle (fault.Line n) bad failed end (inr s) = end_early still same idle end s
-  end_unread still same idle fault.Failed bad failed end s = unread_file (failed refl) (still_whole o.output still) same idle s
-  end_unread still same idle fault.Memory bad failed end s = end_early still same idle end s
-
--- where nothing is touched
-pub touches_none : {Files : Type 0} (reads : Bytes → Files → Files → Type 0) (none : (name : Bytes) (a : Files) → reads name a a) (request : Option Request) (a : Files) → Touches reads request a a
-touches_none reads none None a = refl
-touches_none reads none (Some r) a = λ list apart. turn_none reads none (files_loaded r) a
+  pub end_unread : Still o.output → Untouched to o → o.stage ≡ AtTexts → (f : TextsFault) → ((n : ℕ) → f ≡ fault.Line n → HasBadLine o.files prog.shelf n) → (f ≡ fault.Failed → ReadsFail o.files prog.file prog.shelf) → (end : Status) → SaysUnread f o.errors end → RunEnded prog steps from to o end
+  end_unread still same at (fault.Line n) bad failed end (inl s) = bad_list n (bad n refl) (still_whole o.output still) same at s
+  end_unread still same at (fault.Line n) bad failed end (inr s) = end_early still same at end s
+  end_unread still same at fault.Failed bad failed end s = unread_file (failed refl) (still_whole o.output still) same at s
+  end_unread still same at fault.Memory bad failed end s = end_early still same at end s

@@ -10,5 +10,6 @@ pub mod PlaceLaws
 pub mod RefusedLaws
 pub mod RunLaws
 pub mod SaidLaws
+pub mod StageLaws
 pub mod TakenLaws
 pub mod WordLaws

@@ -23,6 +23,7 @@ use Rattle.acute_top.specs.Channels.{of_channel, of_console, GetsInput}
 use Rattle.ac_load_rules.specs.Accepting.{Shelved}
 use Rattle.acute_files.specs.Files.{FilesSeen, IsTextOf, Since, files_read}
 use Rattle.acute_files.specs.ProgramTexts.{IsShelfBy}
+use Rattle.acute_top.specs.Stages.{Stage}
 use Rattle.acute_top.specs.Streams.{Feeding, Writing, AllWritten, writing}
 use Rattle.acute_top.specs.Handed.{Handed, is_told, input_of, IsMade, Untouched, MadeAtMost, MakingFailed}
 use Rattle.acute_top.specs.Saying.{Said, said, failed, no_memory}
@@ -178,23 +179,23 @@ abbrev pub read_all : (prog : ProgramFiles) (steps : ℕ) (from to : Option Chan
 read_all prog steps from to o shelf is_shelf text is_text = record { shelf = shelf; is_shelf = is_shelf; text = text; is_text = is_text; input = input_of from o; is_input = gets_all from (is_told from to o) o }
 
 -- what is handed, by what files had and have
-abbrev of_files : Bool → FilesSeen → FilesSeen → Feeding → Bool → Writing → Writing → Handed
-of_files told start now input idle output errors = record {
+abbrev of_files : Bool → FilesSeen → FilesSeen → Feeding → Stage → Writing → Writing → Handed
+of_files told start now input stage output errors = record {
   files = files_read told start now;
   made = λ name. record { told = told; old = or_empty (start.contents name); new = or_empty (now.contents name); before = start.write_faults name; after = now.write_faults name };
   was = start.contents;
   is = now.contents;
   input = input;
-  idle = idle;
+  stage = stage;
   output = output;
   errors = errors;
 }
 
 -- files that are as they were
-pub untouched_by : (told : Bool) (start now : FilesSeen) (input : Feeding) (idle : Bool) (output errors : Writing) (to : Option ChannelName) → (IsTrue told → now.contents ≡ start.contents) → Untouched to (of_files told start now input idle output errors)
-untouched_by told start now input idle output errors None same = tt
-untouched_by told start now input idle output errors (Some standard) same = tt
-untouched_by told start now input idle output errors (Some (file name)) same = λ t. ap (λ (k : Contents). k name) (same t)
+pub untouched_by : (told : Bool) (start now : FilesSeen) (input : Feeding) (stage : Stage) (output errors : Writing) (to : Option ChannelName) → (IsTrue told → now.contents ≡ start.contents) → Untouched to (of_files told start now input stage output errors)
+untouched_by told start now input stage output errors None same = tt
+untouched_by told start now input stage output errors (Some standard) same = tt
+untouched_by told start now input stage output errors (Some (file name)) same = λ t. ap (λ (k : Contents). k name) (same t)
 
 -- files in front of a run
 pub prepared : (told : Bool) (start old now : FilesSeen) (to : Option ChannelName) → Since told start old → MakesFile to told put.Done old now → Prepared told to start now
@@ -212,10 +213,10 @@ prepared told start old now (Some (file n)) since m = record {
 }
 
 -- a file that has been made empty, and is there still
-pub made_still : (told : Bool) (start old now : FilesSeen) (input : Feeding) (idle : Bool) (output errors : Writing) (to : Option ChannelName) → Prepared told to start old → (IsTrue told → IsTrue (is_there to old.contents) → IsTrue (is_there to now.contents)) → IsMade to (of_files told start now input idle output errors)
-made_still told start old now input idle output errors None p still = tt
-made_still told start old now input idle output errors (Some standard) p still = tt
-made_still told start old now input idle output errors (Some (file name)) p still = λ t. still t (ap is_some (p.emptied t))
+pub made_still : (told : Bool) (start old now : FilesSeen) (input : Feeding) (stage : Stage) (output errors : Writing) (to : Option ChannelName) → Prepared told to start old → (IsTrue told → IsTrue (is_there to old.contents) → IsTrue (is_there to now.contents)) → IsMade to (of_files told start now input stage output errors)
+made_still told start old now input stage output errors None p still = tt
+made_still told start old now input stage output errors (Some standard) p still = tt
+made_still told start old now input stage output errors (Some (file name)) p still = λ t. still t (ap is_some (p.emptied t))
 
 -- where a file isn't made
 made_or_not : (start old now : FilesSeen) (name : Text) → old.contents ≡ start.contents → (now.contents name ≡ old.contents name) ⊎ (now.contents name ≡ Some []) → (now.contents name ≡ start.contents name) ⊎ (now.contents name ≡ Some [])
@@ -227,18 +228,18 @@ at_most told start old now name put.Done undone since m t = absurd (undone refl)
 at_most told start old now name put.Failed undone since m t = made_or_not start old now name (since.same t) (m t)
 at_most told start old now name put.Memory undone since m t = made_or_not start old now name (since.same t) (m t)
 
-pub made_at_most : (told : Bool) (start old now : FilesSeen) (input : Feeding) (idle : Bool) (output errors : Writing) (to : Option ChannelName) (p : Put) → (p ≡ put.Done → ⊥) → Since told start old → MakesFile to told p old now → MadeAtMost to (of_files told start now input idle output errors)
-made_at_most told start old now input idle output errors None p undone since m = tt
-made_at_most told start old now input idle output errors (Some standard) p undone since m = tt
-made_at_most told start old now input idle output errors (Some (file name)) p undone since m = at_most told start old now name p undone since m.0
+pub made_at_most : (told : Bool) (start old now : FilesSeen) (input : Feeding) (stage : Stage) (output errors : Writing) (to : Option ChannelName) (p : Put) → (p ≡ put.Done → ⊥) → Since told start old → MakesFile to told p old now → MadeAtMost to (of_files told start now input stage output errors)
+made_at_most told start old now input stage output errors None p undone since m = tt
+made_at_most told start old now input stage output errors (Some standard) p undone since m = tt
+made_at_most told start old now input stage output errors (Some (file name)) p undone since m = at_most told start old now name p undone since m.0
 
 failed≢done : put.Failed ≡ put.Done → ⊥
 failed≢done is = absurd cc
 
-pub making_failed : (told : Bool) (start old now : FilesSeen) (input : Feeding) (idle : Bool) (output errors : Writing) (to : Option ChannelName) → Since told start old → MakesFile to told put.Failed old now → MakingFailed to (of_files told start now input idle output errors)
-making_failed told start old now input idle output errors None since m = absurd (failed≢done m.0)
-making_failed told start old now input idle output errors (Some standard) since m = absurd (failed≢done m.0)
-making_failed told start old now input idle output errors (Some (file name)) since m = rose_earlier (start.write_faults name) (old.write_faults name) (now.write_faults name) (since.writes name) (m.1.1.0 refl)
+pub making_failed : (told : Bool) (start old now : FilesSeen) (input : Feeding) (stage : Stage) (output errors : Writing) (to : Option ChannelName) → Since told start old → MakesFile to told put.Failed old now → MakingFailed to (of_files told start now input stage output errors)
+making_failed told start old now input stage output errors None since m = absurd (failed≢done m.0)
+making_failed told start old now input stage output errors (Some standard) since m = absurd (failed≢done m.0)
+making_failed told start old now input stage output errors (Some (file name)) since m = rose_earlier (start.write_faults name) (old.write_faults name) (now.write_faults name) (since.writes name) (m.1.1.0 refl)
 
 -- the other files have what they had before the file of the channel was made
 pub making_keeps : (to : Option ChannelName) (told : Bool) (p : Put) (old now : FilesSeen) → MakesFile to told p old now → IsTrue told → (name : Text) → (to ≡ Some (file name) → ⊥) → {last : Option Bytes} → last ≡ now.contents name → last ≡ old.contents name

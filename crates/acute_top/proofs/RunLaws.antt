@@ -32,6 +32,7 @@ use Rattle.acute_words.specs.Form.{Text}
 use Rattle.ac_outside.specs.Outside.{Rose}
 use Rattle.acute_top.specs.Channels.{of_channel, of_console}
 use Rattle.acute_top.specs.Streams.{AllWritten, read_line, write_line, memory_line}
+use Rattle.acute_top.specs.Stages.{AtFile}
 use Rattle.acute_top.specs.Handed.{Handed, is_told, input_of, InputFailed, OutputFailed, MakingFailed, IsMade, MadeAtMost, before_run, after_run, behind_run}
 use Rattle.acute_answers.specs.Lines.{uncaught_line, spent_line}
 use Rattle.acute_answers.specs.Meaning.{CommandAnswer, run_answer, Means, finished, uncaught, spent}
@@ -170,11 +171,11 @@ module _ (prog : ProgramFiles) (steps : ℕ) (from to : Option ChannelName) (o :
   meaning_all : (a : CommandAnswer) × (GivesStatus prog steps from to o (read_all prog steps from to o shelf is_shelf text is_text) a × (a.runs ≡ true))
   meaning_all = meant_by prog steps from to o loaded (read_all prog steps from to o shelf is_shelf text is_text) accepted typed
 
-  pub unmade_in : MakingFailed to o → AllWritten o.output [] → MadeAtMost to o → IsTrue o.idle → (end : Status) → Said o.errors write_line WRITE_FAULT end → RunEnded prog steps from to o end
-  unmade_in rose none most idle end s = unmade_file (read_all prog steps from to o shelf is_shelf text is_text) meaning_all.0 meaning_all.1.0 meaning_all.1.1 rose none most idle s
+  pub unmade_in : MakingFailed to o → AllWritten o.output [] → MadeAtMost to o → o.stage ≡ AtFile → (end : Status) → Said o.errors write_line WRITE_FAULT end → RunEnded prog steps from to o end
+  unmade_in rose none most at end s = unmade_file (read_all prog steps from to o shelf is_shelf text is_text) meaning_all.0 meaning_all.1.0 meaning_all.1.1 rose none most at s
 
-  pub lost_making : AllWritten o.output [] → MadeAtMost to o → IsTrue o.idle → (end : Status) → Said o.errors memory_line OUT_OF_MEMORY end → RunEnded prog steps from to o end
-  lost_making none most idle end s = no_memory_making (read_all prog steps from to o shelf is_shelf text is_text) meaning_all.0 meaning_all.1.0 meaning_all.1.1 none most idle s
+  pub lost_making : AllWritten o.output [] → MadeAtMost to o → o.stage ≡ AtFile → (end : Status) → Said o.errors memory_line OUT_OF_MEMORY end → RunEnded prog steps from to o end
+  lost_making none most at end s = no_memory_making (read_all prog steps from to o shelf is_shelf text is_text) meaning_all.0 meaning_all.1.0 meaning_all.1.1 none most at s
 
 -- a session has run, from what was read and made in front of it
 pub record Setting (prog : ProgramFiles) (steps : ℕ) (from to : Option ChannelName) (o : Handed) (mid : Bytes) (s t : Session) (e : RunEnd) : Type 0 where

@@ -5,17 +5,18 @@ use Rattle.acute_words.specs.Commands.{ChannelName, standard, file}
 use Rattle.ac_run.specs.Sessions.{Streams, streams}
 use Rattle.acute_top.specs.Channels.{of_channel, of_console}
 use Rattle.acute_files.specs.Files.{FilesSeen, Reading, files_read, seen}
+use Rattle.acute_top.specs.Stages.{Stage}
 use Rattle.acute_top.specs.Streams.{Feeding, Writing, feeding, writing}
 use Rattle.acute_top.specs.Traits.{FilesOf, SourceOf, SinkOf}
 
--- the files as they are read and as they are written, what each has before and after, the streams, and whether input is known to be as it was
+-- the files as they are read and as they are written, what each has before and after, the streams, and how far the call has come
 pub record Handed : Type 0 where
   pub files : List ℕ → Reading
   pub made : List ℕ → Writing
   pub was : Contents
   pub is : Contents
   pub input : Feeding
-  pub idle : Bool
+  pub stage : Stage
   pub output : Writing
   pub errors : Writing
 
@@ -31,21 +32,21 @@ call files input output errors = record { files = files; input = input; output =
 
 module _ {F I O E : Type 0} (f : FilesOf F) (i : SourceOf I) (o : SinkOf O) (e : SinkOf E) where
   -- what is handed from the start of a call on, when files were so, streams as the first of these has them, and all is now as in the second
-  abbrev pub handed_since : FilesSeen → Call F I O E → Call F I O E → Bool → Handed
-  handed_since start old new idle = record {
+  abbrev pub handed_since : FilesSeen → Call F I O E → Call F I O E → Stage → Handed
+  handed_since start old new stage = record {
     files = files_read f.told start (seen f new.files);
     made = λ name. record { told = f.told; old = or_empty (start.contents name); new = or_empty (f.contents new.files name); before = start.write_faults name; after = f.write_faults new.files name };
     was = start.contents;
     is = f.contents new.files;
     input = feeding i old.input new.input;
-    idle = idle;
+    stage = stage;
     output = writing o old.output new.output;
     errors = writing e old.errors new.errors;
   }
 
   -- what a call is handed, before it and after it
-  abbrev pub handed : Call F I O E → Call F I O E → Bool → Handed
-  handed old new idle = handed_since (seen f old.files) old new idle
+  abbrev pub handed : Call F I O E → Call F I O E → Stage → Handed
+  handed old new stage = handed_since (seen f old.files) old new stage
 
 -- whether all is told of what a run with these channels reads from and writes to
 abbrev pub is_told : Option ChannelName → Option ChannelName → Handed → Bool

@@ -6,6 +6,7 @@ pub mod Handed
 pub mod Requests
 pub mod RunEndings
 pub mod Saying
+pub mod Stages
 pub mod Streams
 pub mod Traits
 pub mod inner

@@ -1,10 +1,9 @@
 -- The files and channels that a request names.
-use Rattle.std.specs.Prelude.{◌≡◌, List, [], ◌∷◌, Option, Some, None}
+use Rattle.std.specs.Prelude.{List, [], ◌∷◌, Option, Some, None}
 use Rattle.ac_types.specs.Types.{Bytes}
 use Rattle.acute_words.specs.Commands.{ChannelName, Request, run, names, code, make, check, chain}
 use Rattle.acute_files.specs.Files.{Reading}
-use Rattle.acute_files.specs.ManyTexts.{TextsFail, ReadInTurn}
-use Rattle.acute_top.specs.Channels.{NoFile}
+use Rattle.acute_files.specs.ManyTexts.{TextsFail}
 
 -- the files whose texts are loaded, in their order
 abbrev pub files_loaded : Request → List Bytes
@@ -39,13 +38,3 @@ abbrev pub channel_written : Option Request → Option ChannelName
 channel_written None = None
 channel_written (Some (run p steps from to)) = to
 channel_written (Some r) = None
-
--- no channel of a request is a file
-abbrev pub NoFiles : Request → Type 0
-NoFiles (run p steps from to) = NoFile from × NoFile to
-NoFiles r = Unit {0}
-
--- where the words are refused no file is touched; and by a request without a shelf, no channel of which is a file, the files that it loads, one after another, and no others
-abbrev pub Touches : {Files : Type 0} → (Bytes → Files → Files → Type 0) → Option Request → Files → Files → Type 0
-Touches reads None a b = b ≡ a
-Touches reads (Some r) a b = list_named r ≡ None → NoFiles r → ReadInTurn reads (files_loaded r) a b

@@ -1,11 +1,10 @@
 // The commands that print what they find.
-ghost use Rattle.std.specs.Prelude.{◌≡◌, None, IsTrue};
+ghost use Rattle.std.specs.Prelude.{◌≡◌, [], ◌∷◌, IsTrue};
 ghost use Rattle.ac_types.specs.Types.{Bytes};
 ghost use Rattle.acute_files.specs.Files.{Reading, name_in, names_in, reading};
-ghost use Rattle.acute_files.specs.ManyTexts.{ReadInTurn};
+ghost use Rattle.acute_files.specs.ReadOrder.{TextsRead};
 ghost use Rattle.acute_words.specs.Commands.{check, files_of, make};
 ghost use Rattle.acute_top.specs.Streams.{writing};
-ghost use Rattle.acute_files.specs.Files.{reading};
 ghost use Rattle.acute_top.specs.Endings.{AnswerEnded};
 ghost use Rattle.acute_top.specs.inner.Asked.{showing};
 
@@ -31,8 +30,8 @@ pub fn show_file<F: Files, O: Sink, E: Sink>(
         (reading F.Files files.old files.new) (writing O.Sink output.old output.new)
         (writing E.Sink errors.old errors.new) result }
     ensures same { IsTrue F.told → F.contents files.new ≡ F.contents files.old }
-    ensures only { (files_of program.entry).shelf ≡ None →
-        F.reads (files_of program.entry).file files.old files.new }
+    ensures only { TextsRead F.Files ((files_of program.entry).file ∷ []) files.old files.new
+        (files_of program.entry).shelf }
 {
     match read_program(alloc, files, program.file, program.shelf) {
         Ok(texts) => {
@@ -58,8 +57,8 @@ pub fn check_files<R: Threads + Sync, F: Files, O: Sink, E: Sink, G: Gate + Sync
         (name_in list.entry)) (reading F.Files files.old files.new)
         (writing O.Sink output.old output.new) (writing E.Sink errors.old errors.new) result }
     ensures same { IsTrue F.told → F.contents files.new ≡ F.contents files.old }
-    ensures only { name_in list.entry ≡ None →
-        ReadInTurn F.reads (names_in names.now) files.old files.new }
+    ensures only { TextsRead F.Files (names_in names.now) files.old files.new
+        (name_in list.entry) }
 {
     match read_texts(alloc, files, names, list) {
         Ok(texts) => {

@@ -1,9 +1,9 @@
 // Chains of programs.
-ghost use Rattle.std.specs.Prelude.{◌≡◌, ◌<◌, ◌≤◌, ◌^◌, None, IsTrue, length};
+ghost use Rattle.std.specs.Prelude.{◌≡◌, ◌<◌, ◌≤◌, ◌^◌, IsTrue, length};
 ghost use Rattle.ac_types.specs.Limits.{most_shelf_entries, most_chained};
 ghost use Rattle.ac_load_rules.specs.Accepting.{IsShelf};
 ghost use Rattle.ac_load.specs.Loading.{shelf_of};
-ghost use Rattle.acute_files.specs.ManyTexts.{ReadInTurn};
+ghost use Rattle.acute_files.specs.ReadOrder.{TextsRead};
 ghost use Rattle.ac_chain.specs.ChainTexts.{texts_of};
 ghost use Rattle.acute_top.specs.Streams.{writing};
 ghost use Rattle.acute_files.specs.Files.{reading, name_in, names_in};
@@ -35,8 +35,8 @@ pub fn chain_files<F: Files, O: Sink, E: Sink>(
         steps (reading F.Files files.old files.new)
         (writing O.Sink output.old output.new) (writing E.Sink errors.old errors.new) result }
     ensures same { IsTrue F.told → F.contents files.new ≡ F.contents files.old }
-    ensures only { name_in list.entry ≡ None →
-        ReadInTurn F.reads (names_in programs.now) files.old files.new }
+    ensures only { TextsRead F.Files (names_in programs.now) files.old files.new
+        (name_in list.entry) }
 {
     match read_texts(alloc, files, programs, list) {
         Ok(texts) => chain_texts(alloc, &texts.texts, &texts.shelf, steps, output, errors),

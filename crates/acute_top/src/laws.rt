@@ -1,5 +1,5 @@
 // What follows from the contract of the top call.
-ghost use Rattle.std.specs.Prelude.{◌≡◌, ◌≤◌, ◌⊎◌, ◌↔◌, List, ℕ, length, Bool, Option, IsTrue, None, Some, is_some, codes};
+ghost use Rattle.std.specs.Prelude.{◌≡◌, ◌≤◌, ◌⊎◌, ◌↔◌, List, [], ◌++◌, ℕ, length, Bool, Option, IsTrue, None, Some, is_some, codes};
 ghost use Rattle.ac_types.specs.Limits.{most_shelf_entries};
 ghost use Rattle.ac_types.specs.Types.{Bytes, Typ};
 ghost use Rattle.ac_terms.specs.Terms.{Expr, PValue};
@@ -8,7 +8,7 @@ ghost use Rattle.ac_terms.specs.Bounds.{Spells};
 ghost use Rattle.ac_rules.specs.Packets.{PacketCause, Accepts, RefusesPacket};
 ghost use Rattle.ac_meaning.specs.Packing.{Lands, Sinks, landing, of_cause, unmarshal_failure_exn};
 ghost use Rattle.ac_outside.specs.Outside.{Rose};
-ghost use Rattle.ac_rules.specs.Views.{Mode};
+ghost use Rattle.ac_rules.specs.Views.{Mode, Coloured};
 ghost use Rattle.acute_words.specs.Commands.{ChannelName, ProgramFiles, Request, run, check, chain};
 ghost use Rattle.ac_load_rules.specs.Accepting.{Shelved, IsShelf};
 ghost use Rattle.ac_load.specs.Loading.{Loads};
@@ -16,7 +16,11 @@ ghost use Rattle.acute_files.specs.Files.{Reading, IsTextOf};
 ghost use Rattle.acute_files.specs.ManyTexts.{TextsFail};
 ghost use Rattle.acute_files.specs.ProgramTexts.{IsShelfBy, HasBadLine, ReadsFail};
 ghost use Rattle.acute_answers.specs.declared.status.Status.{Status};
-ghost use Rattle.acute_answers.specs.declared.status.TheConstants.Status.{REFUSED, OUT_OF_MEMORY, SHELF_REFUSED};
+ghost use Rattle.ac_chain.specs.ChainTexts.{texts_of};
+ghost use Rattle.ac_chain.specs.ChainMeaning.{Runs, console_of};
+ghost use Rattle.ac_chain.specs.Endings.{NoneIsForeign, Provenance};
+ghost use Rattle.acute_chain.specs.Chaining.{lines_behind};
+ghost use Rattle.acute_answers.specs.declared.status.TheConstants.Status.{FINISHED, REFUSED, OUT_OF_MEMORY, SHELF_REFUSED};
 ghost use Rattle.acute_answers.specs.Answers.{ShownAnswer};
 ghost use Rattle.acute_answers.specs.Meaning.{CommandAnswer, Means};
 ghost use Rattle.acute_top.specs.Streams.{AllWritten};
@@ -122,4 +126,16 @@ pub fn bad_line_refused()
         ((name : Bytes) → IsTrue (o.files name).told) → (IsUnreadable o.files r → ⊥) →
         (Rose o.errors.before o.errors.after → ⊥) → (status ≡ OUT_OF_MEMORY → ⊥) →
         (n : ℕ) → HasBadLine o.files (list_named r) n → status ≡ SHELF_REFUSED }
+{}
+
+/// Where a chain has run and all its lines say `native`, each value of an abstract type that a
+/// string brought was handed out by its module before: in runs of the chain's programs that have
+/// these ends, what stands inside each seal that unmarshal writes, at a type without functions, was
+/// sealed before by code of a definition of that name.
+pub fn native_provenance()
+    ensures { (programs : List Bytes) (list : Option Bytes) (steps : ℕ) (files : Bytes → Reading)
+        (told : Bool) (a : ShownAnswer) → (c : ChainsFiles files programs list steps told a) →
+        a.status ≡ FINISHED → (r : Runs Coloured (texts_of c.texts) c.shelf steps told) ×
+        (a.printed ≡ console_of r.ends ++ lines_behind 1 [] r.ends) ×
+        (NoneIsForeign [] r.ends → Provenance steps told r.programs r.ends) }
 {}

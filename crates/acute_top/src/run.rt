@@ -1,5 +1,5 @@
 // The command that runs the program of a file.
-ghost use Rattle.std.specs.Prelude.{◌≡◌, ◌≤◌, Bool, None, false, IsTrue, length, option_map};
+ghost use Rattle.std.specs.Prelude.{◌≡◌, ◌≤◌, Some, false, IsTrue, length, option_map};
 ghost use Rattle.ac_types.specs.Limits.{most_shelf_entries};
 ghost use Rattle.ac_types.specs.ReadTypes.{typ_of};
 ghost use Rattle.ac_terms.specs.Read.{environment_of, expr_of};
@@ -7,10 +7,11 @@ ghost use Rattle.ac_meaning.specs.Loads.{IsLoaded};
 ghost use Rattle.ac_load_rules.specs.Accepting.{IsShelf};
 ghost use Rattle.ac_load.specs.Loading.{shelf_of};
 ghost use Rattle.acute_files.specs.Files.{FilesSeen, seen};
-ghost use Rattle.acute_words.specs.Commands.{are_one, channel_of, files_of};
+ghost use Rattle.acute_words.specs.Commands.{are_one, channel_of};
 ghost use Rattle.acute_top.specs.Channels.{KeptBut, NoFile, NotStandard};
 ghost use Rattle.acute_top.specs.Handed.{call, handed, handed_since};
-ghost use Rattle.acute_top.specs.inner.RunCommands.{from_of, to_of, HasRun, HasRunText, HasRunLoaded, HasRunBegun, HoldsSince};
+ghost use Rattle.acute_top.specs.Stages.{Stage, InRun, Touches, ReadsFile};
+ghost use Rattle.acute_top.specs.inner.RunCommands.{asked, from_of, to_of, HasRun, HasRunText, HasRunLoaded, HasRunBegun, HoldsSince};
 ghost use Rattle.acute_top.specs.inner.Runs.{Prepared, MakesFile};
 
 use crate::saying::{no_memory, refuse, say, tell_spent, tell_uncaught, tell_unread};
@@ -34,16 +35,13 @@ pub fn run_file<F: Files, I: Source, O: Sink, E: Sink>(
     errors: &mut E,
 ) -> Status
     requires { are_one (from_of run) (to_of run) ≡ false }
-    ensures ends { (idle : Bool) × (IsTrue idle → input.new ≡ input.old) ×
+    ensures ends { (stage : Stage) ×
+        Touches F.Files (Some (asked run.entry)) stage files.old files.new input.old input.new ×
         HasRun run.entry (handed F.Files I.Source O.Sink E.Sink
         (call files.old input.old output.old errors.old)
-        (call files.new input.new output.new errors.new) idle) result }
+        (call files.new input.new output.new errors.new) stage) result }
     ensures kept { IsTrue F.told →
         KeptBut (to_of run.entry) (F.contents files.old) (F.contents files.new) }
-    ensures idle { NotStandard (from_of run.entry) → input.new ≡ input.old }
-    ensures only { NoFile (from_of run.entry) → NoFile (to_of run.entry) →
-        (files_of run.entry.program).shelf ≡ None →
-        F.reads (files_of run.entry.program).file files.old files.new }
 {
     match read_program(alloc, files, run.program.file, run.program.shelf) {
         Ok(texts) => run_texts(alloc, texts, run, files, input, output, errors),
@@ -64,15 +62,12 @@ fn run_texts<F: Files, I: Source, O: Sink, E: Sink>(
     requires apart { are_one (from_of run) (to_of run) ≡ false }
     requires few { length texts.shelf.0 ≤ most_shelf_entries }
     requires shelved { IsShelf (shelf_of texts.shelf) }
-    ensures ends { HoldsSince F.Files I.Source O.Sink E.Sink
+    ensures ends { HoldsSince F.Files I.Source O.Sink E.Sink (from_of run.entry) (to_of run.entry)
         (call files.old input.old output.old errors.old)
         (call files.new input.new output.new errors.new)
         (λ o. HasRunText run.entry (shelf_of texts.shelf) texts.program.0 o result) }
     ensures kept { IsTrue F.told →
         KeptBut (to_of run.entry) (F.contents files.old) (F.contents files.new) }
-    ensures idle { NotStandard (from_of run.entry) → input.new ≡ input.old }
-    ensures only { NoFile (from_of run.entry) → NoFile (to_of run.entry) →
-        files.new ≡ files.old }
 {
     match load(alloc, texts.program.as_slice(), &texts.shelf) {
         Ok(loaded) => run_program(alloc, loaded, run, files, input, output, errors),
@@ -93,15 +88,12 @@ fn run_program<F: Files, I: Source, O: Sink, E: Sink>(
     requires apart { are_one (from_of run) (to_of run) ≡ false }
     requires loaded { IsLoaded (environment_of loaded.env) (expr_of loaded.main)
         (typ_of loaded.ty) }
-    ensures ends { HoldsSince F.Files I.Source O.Sink E.Sink
+    ensures ends { HoldsSince F.Files I.Source O.Sink E.Sink (from_of run.entry) (to_of run.entry)
         (call files.old input.old output.old errors.old)
         (call files.new input.new output.new errors.new)
         (λ o. HasRunLoaded run.entry loaded o result) }
     ensures kept { IsTrue F.told →
         KeptBut (to_of run.entry) (F.contents files.old) (F.contents files.new) }
-    ensures idle { NotStandard (from_of run.entry) → input.new ≡ input.old }
-    ensures only { NoFile (from_of run.entry) → NoFile (to_of run.entry) →
-        files.new ≡ files.old }
 {
     match Session::new(alloc, loaded, run.steps, run.output.is_some()) {
         Ok(mut session) => {
@@ -124,15 +116,12 @@ fn make_and_run<F: Files, I: Source, O: Sink, E: Sink>(
     errors: &mut E,
 ) -> Status
     requires apart { are_one (from_of run) (to_of run) ≡ false }
-    ensures ends { HoldsSince F.Files I.Source O.Sink E.Sink
+    ensures ends { HoldsSince F.Files I.Source O.Sink E.Sink (from_of run.entry) (to_of run.entry)
         (call files.old input.old output.old errors.old)
         (call files.new input.new output.new errors.new)
         (λ o. HasRunBegun run.entry session.old o result) }
     ensures kept { IsTrue F.told →
         KeptBut (to_of run.entry) (F.contents files.old) (F.contents files.new) }
-    ensures idle { NotStandard (from_of run.entry) → input.new ≡ input.old }
-    ensures only { NoFile (from_of run.entry) → NoFile (to_of run.entry) →
-        files.new ≡ files.old }
 {
     match make_channel(run.output, files) {
         Put::Done => run_session(alloc, session, run, files, input, output, errors),
@@ -168,12 +157,14 @@ fn run_session<F: Files, I: Source, O: Sink, E: Sink>(
         Prepared F.told (to_of run.entry) start (seen F.Files files.old) →
         HasRunBegun run.entry session.old (handed_since F.Files I.Source O.Sink E.Sink start
         (call files.old input.old output.old errors.old)
-        (call files.new input.new output.new errors.new) false) result }
+        (call files.new input.new output.new errors.new) InRun) result }
     ensures kept { IsTrue F.told →
         KeptBut (to_of run.entry) (F.contents files.old) (F.contents files.new) }
     ensures idle { NotStandard (from_of run.entry) → input.new ≡ input.old }
     ensures only { NoFile (from_of run.entry) → NoFile (to_of run.entry) →
         files.new ≡ files.old }
+    ensures reads { NoFile (to_of run.entry) →
+        ReadsFile F.Files (from_of run.entry) files.old files.new }
 {
     let (from, to) = (run.input, run.output);
     match run_among(alloc, session, from, to, files, input, output, errors) {

@@ -1,9 +1,10 @@
 // The top call: what the words ask for, from files and input to output.
-ghost use Rattle.std.specs.Prelude.{◌≡◌, Bool, Some, IsTrue};
+ghost use Rattle.std.specs.Prelude.{Some, IsTrue};
 ghost use Rattle.acute_words.specs.Commands.{command_of, request_of};
-ghost use Rattle.acute_top.specs.Channels.{KeptBut, NotStandard};
+ghost use Rattle.acute_top.specs.Channels.{KeptBut};
 ghost use Rattle.acute_top.specs.Handed.{call, handed};
-ghost use Rattle.acute_top.specs.Requests.{Touches, channel_read, channel_written};
+ghost use Rattle.acute_top.specs.Requests.{channel_written};
+ghost use Rattle.acute_top.specs.Stages.{Stage, Touches};
 ghost use Rattle.acute_top.specs.Endings.{texts, CallEnded};
 ghost use Rattle.acute_top.specs.inner.Apart.{IsApart, HasFewPrograms};
 
@@ -29,21 +30,16 @@ pub fn acute<R: Threads + Sync, F: Files, I: Source, O: Sink, E: Sink, G: Gate +
     errors: &mut E,
     gate: &G,
 ) -> Status
-    // How the call ends: a row for each way. Those without a run ask that input is idle, which it
-    // is only where it is as it was.
-    ensures ends { (idle : Bool) × (IsTrue idle → input.new ≡ input.old) ×
+    // How the call ends, a row for each way; and which files it has read, in which order, and
+    // whether it has read from input, by how far it came.
+    ensures ends { (stage : Stage) ×
+        Touches F.Files (command_of (texts words.now)) stage files.old files.new input.old input.new ×
         CallEnded (command_of (texts words.now)) (handed F.Files I.Source O.Sink E.Sink
         (call files.old input.old output.old errors.old)
-        (call files.new input.new output.new errors.new) idle) result }
+        (call files.new input.new output.new errors.new) stage) result }
     // No file is created or changed but that of the channel to which the run sends.
     ensures kept { IsTrue F.told → KeptBut (channel_written (command_of (texts words.now)))
         (F.contents files.old) (F.contents files.new) }
-    // Nothing is read from input but by a run that has it as its channel.
-    ensures idle { NotStandard (channel_read (command_of (texts words.now))) →
-        input.new ≡ input.old }
-    // Where the words are refused no file is touched; where no shelf is given and no channel is a
-    // file, only those whose texts are loaded are, one after another.
-    ensures touched { Touches F.reads (command_of (texts words.now)) files.old files.new }
 {
     match read_words(alloc, words) {
         Ok(Some(command)) => obey(rt, alloc, command, files, input, output, errors, gate),
@@ -65,15 +61,14 @@ fn obey<R: Threads + Sync, F: Files, I: Source, O: Sink, E: Sink, G: Gate + Sync
 ) -> Status
     requires apart { IsApart (request_of command) }
     requires short { HasFewPrograms (request_of command) }
-    ensures ends { (idle : Bool) × (IsTrue idle → input.new ≡ input.old) ×
+    ensures ends { (stage : Stage) ×
+        Touches F.Files (Some (request_of command.entry)) stage files.old files.new
+        input.old input.new ×
         CallEnded (Some (request_of command.entry)) (handed F.Files I.Source O.Sink E.Sink
         (call files.old input.old output.old errors.old)
-        (call files.new input.new output.new errors.new) idle) result }
+        (call files.new input.new output.new errors.new) stage) result }
     ensures kept { IsTrue F.told → KeptBut (channel_written (Some (request_of command.entry)))
         (F.contents files.old) (F.contents files.new) }
-    ensures idle { NotStandard (channel_read (Some (request_of command.entry))) →
-        input.new ≡ input.old }
-    ensures touched { Touches F.reads (Some (request_of command.entry)) files.old files.new }
 {
     match command {
         Command::Run(run) => run_file(alloc, run, files, input, output, errors),

@@ -8,7 +8,8 @@ ghost use Rattle.acute_top.specs.inner.Told.{tells, left_in, stream_left, sent_i
 ghost use Rattle.acute_top.specs.Channels.{of_channel, KeptBut, NoFile, NotStandard};
 ghost use Rattle.acute_top.specs.inner.Counts.{count_of_both};
 ghost use Rattle.acute_top.specs.Handed.{call};
-ghost use Rattle.acute_top.specs.inner.Runs.{RanAmong, WritesRose, ReadsRose, RanIn, ErrorsApart, is_there};
+ghost use Rattle.acute_top.specs.Stages.{ReadsFile};
+ghost use Rattle.acute_top.specs.inner.Runs.{RanAmong, WritesRose, ReadsRose, RanIn, ErrorsApart, is_there, IsPlaceIn, ReadsSince};
 
 use crate::no_files::NoFiles;
 use crate::no_input::NoInput;
@@ -19,7 +20,7 @@ use std::alloc::Global;
 use std::marker::{Brand, PhantomData};
 
 // What stays the same in a run, for the proof alone: a call at `Brand` picks it.
-trait Fixed {
+trait Fixed<F> {
     // The names of the references.
     ghost files: { ℕ };
 
@@ -32,7 +33,9 @@ trait Fixed {
     ghost from: { Option ChannelName };
 
     ghost to: { Option ChannelName };
-    // What the files had, and how often a write had failed.
+    // The files at first, what they had, and how often a write had failed.
+    ghost start: { Option F };
+
     ghost contents: { Contents };
 
     ghost console_faults: { ℕ };
@@ -40,7 +43,7 @@ trait Fixed {
     ghost channel_faults: { ℕ };
 }
 
-impl Fixed for Brand {
+impl<F> Fixed<F> for Brand {
     ghost files = { 0 };
 
     ghost input = { 0 };
@@ -53,6 +56,8 @@ impl Fixed for Brand {
 
     ghost to = { None };
 
+    ghost start = { None };
+
     ghost contents = { λ _. None };
 
     ghost console_faults = { 0 };
@@ -62,7 +67,7 @@ impl Fixed for Brand {
 
 // A world over files and streams, which keeps its place in the file of its input.
 #[derive(Drop)]
-struct Joined<'a, F: Files, I: Source, C: Sink, S: Sink, K: Fixed> {
+struct Joined<'a, F: Files, I: Source, C: Sink, S: Sink, K: Fixed<F>> {
     files: &'a mut F,
     input: &'a mut I,
     console: &'a mut C,
@@ -81,12 +86,14 @@ struct Joined<'a, F: Files, I: Source, C: Sink, S: Sink, K: Fixed> {
     ghost kept: { IsTrue F.told → KeptBut K.to K.contents (F.contents files.now) },
     ghost there: { IsTrue F.told → IsTrue (is_there K.to K.contents) →
         IsTrue (is_there K.to (F.contents files.now)) },
+    ghost within: { NoFile K.to → IsTrue F.told → IsPlaceIn K.from K.contents place },
+    ghost reads: { NoFile K.to → ReadsSince F.Files K.start K.from K.contents files.now },
     ghost console_later: { K.console_faults ≤ C.faults console.now },
     ghost channel_later: { K.channel_faults ≤ of_channel K.to 0 (S.faults stream.now)
         (F.write_faults files.now) },
 }
 
-impl<F: Files, I: Source, C: Sink, S: Sink, K: Fixed> Source for Joined<'_, F, I, C, S, K> {
+impl<F: Files, I: Source, C: Sink, S: Sink, K: Fixed<F>> Source for Joined<'_, F, I, C, S, K> {
     ghost use Rattle.std.proofs.Common.{refl, ◌∙◌, arith};
 
     ghost told = { tells K.from K.to F.told I.told C.told S.told };
@@ -130,7 +137,7 @@ impl<F: Files, I: Source, C: Sink, S: Sink, K: Fixed> Source for Joined<'_, F, I
     ) };
 }
 
-impl<F: Files, I: Source, C: Sink, S: Sink, K: Fixed> World for Joined<'_, F, I, C, S, K> {
+impl<F: Files, I: Source, C: Sink, S: Sink, K: Fixed<F>> World for Joined<'_, F, I, C, S, K> {
     ghost console = { λ s. C.written s.console.now };
 
     ghost channel = { λ s. sent_in K.to (F.contents s.files.now) (S.written s.stream.now) };
@@ -192,6 +199,8 @@ pub fn run_among<F: Files, I: Source, O: Sink, E: Sink>(
     ensures idle { NotStandard (option_map channel_of from.entry) → input.new ≡ input.old }
     ensures only { NoFile (option_map channel_of from.entry) →
         NoFile (option_map channel_of to.entry) → files.new ≡ files.old }
+    ensures reads { NoFile (option_map channel_of to.entry) →
+        ReadsFile F.Files (option_map channel_of from.entry) files.old files.new }
 {
     if is_file(from) || is_file(to) {
         run_with(alloc, session, from, to, files, input, output, errors)
@@ -240,6 +249,8 @@ fn run_with<F: Files, I: Source, O: Sink, E: Sink>(
         IsTrue (is_there (option_map channel_of to.entry) (F.contents files.old)) →
         IsTrue (is_there (option_map channel_of to.entry) (F.contents files.new)) }
     ensures idle { NotStandard (option_map channel_of from.entry) → input.new ≡ input.old }
+    ensures reads { NoFile (option_map channel_of to.entry) →
+        ReadsFile F.Files (option_map channel_of from.entry) files.old files.new }
 {
     if is_standard(from) {
         run_between(alloc, session, from, to, files, input, output, errors)
@@ -307,6 +318,8 @@ fn run_between<F: Files, I: Source, O: Sink, E: Sink>(
     ensures there { IsTrue F.told →
         IsTrue (is_there (option_map channel_of to.entry) (F.contents files.old)) →
         IsTrue (is_there (option_map channel_of to.entry) (F.contents files.new)) }
+    ensures reads { NoFile (option_map channel_of to.entry) →
+        ReadsFile F.Files (option_map channel_of from.entry) files.old files.new }
 {
     let mut none = SureSink::new(alloc);
     match to {
@@ -370,6 +383,8 @@ fn run_on<F: Files, I: Source, C: Sink, S: Sink>(
     ensures there { IsTrue F.told →
         IsTrue (is_there (option_map channel_of to.entry) (F.contents files.old)) →
         IsTrue (is_there (option_map channel_of to.entry) (F.contents files.new)) }
+    ensures reads { NoFile (option_map channel_of to.entry) →
+        ReadsFile F.Files (option_map channel_of from.entry) files.old files.new }
 {
     let mut end = RunEnd::Memory;
     // the references that it gives back are for the proof alone
@@ -380,7 +395,7 @@ fn run_on<F: Files, I: Source, C: Sink, S: Sink>(
 // Runs it over references of these names, and gives them back. The end is written to a place of its
 // own: in one tuple with them, what it owns would hide what becomes of them.
 #[tactic(auto, using(crate::proofs::LeftLaws::same_left))]
-fn run_at<'a, F: Files, I: Source, C: Sink, S: Sink, K: Fixed>(
+fn run_at<'a, F: Files, I: Source, C: Sink, S: Sink, K: Fixed<F>>(
     session: &mut Session,
     from: Option<Channel<'a>>,
     to: Option<Channel<'a>>,
@@ -397,6 +412,7 @@ fn run_at<'a, F: Files, I: Source, C: Sink, S: Sink, K: Fixed>(
     requires same_from { option_map channel_of from ≡ K.from }
     requires same_to { option_map channel_of to ≡ K.to }
     requires apart { are_one K.from K.to ≡ false }
+    requires start { K.start ≡ Some files.now }
     requires contents { F.contents files.now ≡ K.contents }
     requires console_faults { C.faults console.now ≡ K.console_faults }
     requires channel_faults { of_channel K.to 0 (S.faults stream.now) (F.write_faults files.now)
@@ -421,6 +437,7 @@ fn run_at<'a, F: Files, I: Source, C: Sink, S: Sink, K: Fixed>(
     ensures kept { IsTrue F.told → KeptBut K.to K.contents (F.contents result.0.now) }
     ensures there { IsTrue F.told → IsTrue (is_there K.to K.contents) →
         IsTrue (is_there K.to (F.contents result.0.now)) }
+    ensures reads { NoFile K.to → ReadsSince F.Files K.start K.from K.contents result.0.now }
     ensures same_files { result.0.ghost_name ≡ files.entry.ghost_name }
     ensures same_input { result.1.ghost_name ≡ input.entry.ghost_name }
     ensures same_console { result.2.ghost_name ≡ console.entry.ghost_name }

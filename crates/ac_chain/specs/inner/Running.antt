@@ -24,7 +24,6 @@ use Rattle.ac_chain.specs.declared.chained.ChainFault.{ChainFault}
 use Rattle.ac_chain.specs.declared.chained.ChainFault.TheVariants as fault
 use Rattle.ac_chain.specs.ChainTexts.{RejectsFirst}
 use Rattle.ac_chain.specs.ChainMeaning.{RunsOn, RunInTurn, IsChainPart, AreParts, console_of}
-use Rattle.ac_chain.specs.Endings.{Printed}
 use Rattle.ac_chain.specs.Natives.{made_by}
 use Rattle.ac_chain.specs.inner.Made.{Strings, Has, NativeBy, MadeBy}
 
@@ -119,7 +118,3 @@ module _ (mode : Mode) (N : ℕ) (told : Bool) (ps : Programs) where
 abbrev pub last_sent : Bytes → List ChainPart → Bytes
 last_sent before [] = before
 last_sent before (part ∷ parts) = last_sent part.sent.0 parts
-
--- a console, by what it has and counts
-abbrev pub printed : {Sink : Type 0} → Bool → (Sink → Bytes) → (Sink → ℕ) → Sink → Sink → Printed
-printed told bytes faults old new = record { told = told; old = bytes old; new = bytes new; before = faults old; after = faults new }

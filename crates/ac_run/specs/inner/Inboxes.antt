@@ -19,6 +19,12 @@ IsLeft told Open rest input = input ≡ rest
 IsLeft told Broken rest input = (n : ℕ) × (got : ℕ) × (next_frame input ≡ Bad n got) × (IsTrue told → rest ≡ drop got input)
 IsLeft told Closed rest input = input ≡ []
 
+-- where the end has come, nothing is left, if that is told
+abbrev pub NoneLeft : Bool → Inbox → Bytes → Type 0
+NoneLeft told Open left = Unit {0}
+NoneLeft told Broken left = Unit {0}
+NoneLeft told Closed left = IsTrue told → left ≡ []
+
 -- what has come is what stands first in this input
 abbrev pub Heard : Bool → Incoming → Inbox → Bytes → Bytes → Type 0
 Heard told (incoming.Frame s) inbox rest input = (left : Bytes) × (next_frame input ≡ Whole s.0 left) × IsLeft told inbox rest left

@@ -1,5 +1,5 @@
 -- How the run of a command ends, whatever was done in front of it.
-use Rattle.std.specs.Prelude.{◌≡◌, Bool, IsTrue, List, Option, option_map, is_some}
+use Rattle.std.specs.Prelude.{◌≡◌, List, Option, option_map, is_some}
 use Rattle.ac_types.specs.Types.{Bytes}
 use Rattle.ac_types.specs.ReadTypes.{typ_of}
 use Rattle.ac_terms.specs.Read.{environment_of, expr_of}
@@ -11,9 +11,12 @@ use Rattle.acute_files.specs.Files.{FilesSeen, IsTextOf, Since, seen}
 use Rattle.acute_files.specs.ProgramTexts.{IsShelfBy}
 use Rattle.ac_run.specs.Sessions.{Session}
 use Rattle.ac_run.specs.Course.{begun}
-use Rattle.acute_words.specs.Commands.{ChannelName, channel_of, files_of}
+use Rattle.acute_words.specs.Commands as commands
+use Rattle.acute_words.specs.Commands.{ChannelName, Request, channel_of, files_of}
 use Rattle.acute_words.specs.declared.command.Run.{Run}
 use Rattle.acute_answers.specs.declared.status.Status.{Status}
+use Rattle.acute_top.specs.Channels.{NoFile, NotStandard}
+use Rattle.acute_top.specs.Stages.{Stage, AtTexts, AtFile, InRun, ReadsChannel}
 use Rattle.acute_top.specs.Handed.{Handed, Call, handed_since}
 use Rattle.acute_top.specs.RunEndings.{RunEnded}
 use Rattle.acute_top.specs.Traits.{FilesOf, SourceOf, SinkOf}
@@ -25,6 +28,10 @@ from_of run = option_map channel_of run.input
 -- and that to which it sends
 abbrev pub to_of : Run → Option ChannelName
 to_of run = option_map channel_of run.output
+
+-- what it asks for
+abbrev pub asked : Run → Request
+asked run = commands.run (files_of run.program) run.steps (from_of run) (to_of run)
 
 -- the run of a command ends so
 abbrev pub HasRun : Run → Handed → Status → Type 0
@@ -42,6 +49,12 @@ HasRunLoaded run loaded o end = (shelf : List Shelved) → IsShelfBy o.files (fi
 abbrev pub HasRunBegun : Run → Session → Handed → Status → Type 0
 HasRunBegun run s o end = (loaded : Loaded) → IsLoaded (environment_of loaded.env) (expr_of loaded.main) (typ_of loaded.ty) → s ≡ begun loaded run.steps (is_some (to_of run)) s.machine → HasRunLoaded run loaded o end
 
--- this holds of what is handed since a call began in which files haven't changed up to here; input is as it was where it is known to be
-abbrev pub HoldsSince : {F I O E : Type 0} → FilesOf F → SourceOf I → SinkOf O → SinkOf E → Call F I O E → Call F I O E → (Handed → Type 0) → Type 0
-HoldsSince f i o e old new holds = (idle : Bool) × (IsTrue idle → new.input ≡ old.input) × ((start : FilesSeen) → Since f.told start (seen f old.files) → holds (handed_since f i o e start old new idle))
+-- what a run has done with files and input by a stage, from where its texts have been read
+abbrev pub TouchesBehind : {F I : Type 0} → FilesOf F → Option ChannelName → Option ChannelName → Stage → F → F → I → I → Type 0
+TouchesBehind f from to AtTexts a b old new = (new ≡ old) × (b ≡ a)
+TouchesBehind f from to AtFile a b old new = (new ≡ old) × (NoFile to → b ≡ a)
+TouchesBehind f from to InRun a b old new = (NotStandard from → new ≡ old) × (NoFile to → ReadsChannel f from a b)
+
+-- this holds of what is handed since a call began in which files haven't changed up to here, and a run with these channels has done so much with files and input
+abbrev pub HoldsSince : {F I O E : Type 0} → FilesOf F → SourceOf I → SinkOf O → SinkOf E → Option ChannelName → Option ChannelName → Call F I O E → Call F I O E → (Handed → Type 0) → Type 0
+HoldsSince f i o e from to old new holds = (stage : Stage) × TouchesBehind f from to stage old.files new.files old.input new.input × ((start : FilesSeen) → Since f.told start (seen f old.files) → holds (handed_since f i o e start old new stage))

@@ -1,9 +1,10 @@
 -- A run in its world, and the files in front of it.
-use Rattle.std.specs.Prelude.{◌≡◌, ◌⊎◌, Bool, true, IsTrue, [], Option, Some, None, is_some}
+use Rattle.std.specs.Prelude.{◌≡◌, ◌⊎◌, ◌<◌, ◌≤◌, ◌^◌, ℕ, Bool, true, IsTrue, [], length, Option, Some, None, is_some}
 use Rattle.ac_types.specs.Types.{Bytes}
-use Rattle.ac_outside.specs.Outside.{Contents, NeverFall, Created, OthersSame, Rose}
+use Rattle.ac_outside.specs.Outside.{Contents, NeverFall, Created, OthersSame, Rose, or_empty}
 use Rattle.ac_outside.specs.declared.traits.Put.{Put}
 use Rattle.ac_outside.specs.declared.traits.Put.TheVariants as put
+use Rattle.acute_words.specs.Form.{Text}
 use Rattle.acute_words.specs.Commands.{ChannelName, standard, file}
 use Rattle.ac_rules.specs.Views.{Mode}
 use Rattle.ac_terms.specs.Terms.{Value}
@@ -80,3 +81,11 @@ MakesFile (Some (file name)) told p old new =
     × ((IsTrue told → OthersSame name old.contents new.contents)
     × ((p ≡ put.Failed → Rose (old.write_faults name) (new.write_faults name))
     × (NeverFall old.read_faults new.read_faults × NeverFall old.write_faults new.write_faults)))
+
+-- a place is within the bytes that the channel's file had
+abbrev pub IsPlaceIn : Option ChannelName → Contents → ℕ → Type 0
+IsPlaceIn from was place = place ≤ of_channel from place place (λ name. length (or_empty (was name)))
+
+-- since these files, if they are known, the channel's file alone was read, which had these bytes
+abbrev pub ReadsSince : {F : Type 0} → FilesOf F → Option F → Option ChannelName → Contents → F → Type 0
+ReadsSince {F} f start from was now = (a : F) (name : Text) → start ≡ Some a → from ≡ Some (file name) → IsTrue f.told → length (or_empty (was name)) < 2 ^ 63 → ∥ f.reads name a now ∥₁

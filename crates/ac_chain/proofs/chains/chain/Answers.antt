@@ -4,11 +4,12 @@ use Rattle.ac_types.specs.declared.text.Text.{Text}
 use Rattle.ac_terms.specs.Read.{bytes_of, environment_of, expr_of}
 use Rattle.ac_terms.specs.Terms.{Expr}
 use Rattle.ac_terms.specs.Defs.{Environment}
-use Rattle.ac_load.specs.Loading.{shelf_of}
+use Rattle.ac_load.specs.Loading.{shelved, shelf_of}
 use Rattle.ac_rules.specs.declared.loaded.Loaded.{Loaded}
 use Rattle.ac_chain.specs.Clashes.{first_program_clash}
 use Rattle.ac_chain.specs.ChainTexts.{texts_of, programs_of, LoadAs}
-use Rattle.ac_chain.specs.inner.Running.{AreFew, printed}
+use Rattle.ac_chain.specs.Endings.{printed}
+use Rattle.ac_chain.specs.inner.Running.{AreFew}
 use Rattle.ac_chain.proofs.LoadLaws.{as_many, are_few}
 use Rattle.ac_chain.proofs.ProvenanceLaws.{all_provenance}
 use Rattle.ac_chain.proofs.Endings.{clash_fault, all_have_run, all_faults}
@@ -31,7 +32,9 @@ returns-in-Ok-None-clause-ran g c =
 
 pub returns-in-Ok-None-clause-provenance : goal.returns-in-Ok-None-clause-provenance
 returns-in-Ok-None-clause-provenance g c =
-    all_provenance (texts_of c.args.programs.now) (shelf_of c.args.shelf.now) c.args.steps g.C.Sink.told c.in_ok-loaded.loaded _ _ (subst (λ (ts : List Text). LoadAs (texts_of ts) (shelf_of c.args.shelf.now) (programs_of c.in_ok-loaded.loaded)) c.as_slice.ensures c.in_ok-loaded.ensures.load) c.in_ok-loaded.ensures.loaded (sym (rw c.in-Ok-None.field-0-is at c.in-Ok-None.ensures ∙ ap (λ l. first_program_clash 0 (programs_of l)) c.as_slice-2.ensures)) c.run_all.result c.run_all.ensures.ran
+    let shelf = c.args.shelf.now in
+    let same = length-map shelf.0 shelved in
+    all_provenance (texts_of c.args.programs.now) (shelf_of shelf) c.args.steps g.C.Sink.told c.requires.shelved (omega (arith, same, c.requires.few)) c.in_ok-loaded.loaded _ _ (subst (λ (ts : List Text). LoadAs (texts_of ts) (shelf_of shelf) (programs_of c.in_ok-loaded.loaded)) c.as_slice.ensures c.in_ok-loaded.ensures.load) (sym (rw c.in-Ok-None.field-0-is at c.in-Ok-None.ensures ∙ ap (λ l. first_program_clash 0 (programs_of l)) c.as_slice-2.ensures)) c.run_all.result c.run_all.ensures.ran
 
 pub returns-in-Ok-None-clause-fault : goal.returns-in-Ok-None-clause-fault
 returns-in-Ok-None-clause-fault g c =

@@ -3,7 +3,7 @@ use Rattle.std.proofs.lemmas.List.{length-map}
 use Rattle.ac_load.specs.Loading.{shelved, shelf_of}
 use Rattle.ac_load.specs.declared.shelf.Shelf.{Shelf}
 use Rattle.ac_chain.specs.ChainTexts.{texts_of}
-use Rattle.ac_chain.specs.inner.Running.{printed}
+use Rattle.ac_chain.specs.Endings.{printed}
 use Rattle.acute_answers.specs.declared.status.TheConstants.Status.{FINISHED}
 use Rattle.acute_answers.specs.Answers.{printing}
 use Rattle.acute_chain.proofs.GivenLaws.{has_run, has_run_alone, answered}

@@ -1,10 +1,11 @@
-use Rattle.std.proofs.Common.{◌≡◌, Err, ap}
+use Rattle.std.proofs.Common.{◌≡◌, [], ◌∷◌, Err, refl, ap}
 use Rattle.ac_load.specs.Loading.{shelf_of}
 use Rattle.acute_files.specs.Files.{files_seen}
 use Rattle.acute_files.specs.ProgramTexts.{of_program}
 use Rattle.acute_files.specs.declared.shelf.TextsFault.{TextsFault}
 use Rattle.acute_files.specs.declared.shelf.TextsFault.TheVariants.{Failed}
 use Rattle.acute_files.proofs.Wider.{at_once, to_end, wide_shelf, wide_rose, same_shelf, shelf_fails, map_ok}
+use Rattle.acute_files.proofs.Turns.{shelf_then, shelf_tried}
 use Rattle.acute_files.proofs.program.read_program.Goals as goal
 
 pub returns-in-Ok-clause-shelf : goal.returns-in-Ok-clause-shelf
@@ -24,3 +25,9 @@ pub returns-in-Err-clause-failed : goal.returns-in-Err-clause-failed
 returns-in-Err-clause-failed g c = λ e.
     let is : c.in-Err.fault ≡ Failed = cc in
     shelf_fails _ _ (c.in-Err.ensures.failed (ap (λ (f : TextsFault). Err f) is))
+
+pub returns-in-Ok-clause-only : goal.returns-in-Ok-clause-only
+returns-in-Ok-clause-only g c = shelf_then g.F.Files (c.args.program.now ∷ []) _ _ _ _ c.in-Ok.ensures.only (_, (c.read_beside.ensures.only, refl))
+
+pub returns-in-Err-clause-only : goal.returns-in-Err-clause-only
+returns-in-Err-clause-only g c = shelf_tried g.F.Files (c.args.program.now ∷ []) _ _ _ c.in-Err.ensures.only

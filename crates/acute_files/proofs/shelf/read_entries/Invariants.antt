@@ -4,6 +4,7 @@ use Rattle.acute_files.specs.ShelfLists.{listed_of}
 use Rattle.ac_load.specs.Loading.{shelved}
 use Rattle.acute_files.specs.Files.{files_seen, files_read}
 use Rattle.acute_files.specs.ProgramTexts.{AreListed}
+use Rattle.acute_files.specs.ReadOrder.{ReadInTurn, files_listed}
 use Rattle.acute_files.proofs.shelf.read_entries.Given as goal
 
 abbrev pub invariant-loop-line : goal.invariant-loop-line
@@ -13,4 +14,5 @@ invariant-loop-line g l = record {
   later_writes : NeverFall (g.F.Files.write_faults l.fn.files) (g.F.Files.write_faults l.files);
   listed : AreListed (files_read g.F.Files.told (files_seen g.F.Files.contents g.F.Files.read_faults g.F.Files.write_faults l.fn.files) (files_seen g.F.Files.contents g.F.Files.read_faults g.F.Files.write_faults l.files)) (map listed_of (take l.line-index l.lines)) (map shelved l.entries);
   counted : length l.entries ≡ l.line-index;
+  only : ReadInTurn g.F.Files.reads (files_listed (map listed_of (take l.line-index l.lines))) l.fn.files l.files;
 }

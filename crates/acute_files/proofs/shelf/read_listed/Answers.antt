@@ -1,11 +1,13 @@
-use Rattle.std.proofs.Common.{◌∙◌, Err, ap}
+use Rattle.std.proofs.Common.{◌∙◌, Err, inl, ap}
+use Rattle.std.proofs.lemmas.Result.{MatchResult-weaker}
 use Rattle.ac_load.specs.Loading.{shelf_of}
-use Rattle.acute_files.specs.Files.{files_seen, files_read, IsTextOf}
+use Rattle.acute_files.specs.Files.{files_seen, files_read, reading, IsTextOf}
 use Rattle.acute_files.specs.ProgramTexts.{bad_line}
 use Rattle.acute_files.specs.inner.Failing.{of_the_list}
 use Rattle.acute_files.specs.declared.text.ReadFault.{ReadFault}
 use Rattle.acute_files.proofs.Pieces.{within_limit}
 use Rattle.acute_files.proofs.Wider.{to_end, wide_give, wide_lines, lines_listed, lines_fail, map_ok}
+use Rattle.acute_files.proofs.Turns.{list_read, list_tried}
 use Rattle.acute_files.proofs.shelf.read_listed.Goals as goal
 
 pub returns-in-Ok-clause-shelf : goal.returns-in-Ok-clause-shelf
@@ -32,3 +34,15 @@ returns-in-Ok-clause-failed g c = λ e.
 
 pub returns-in-Err-Failed-clause-failed : goal.returns-in-Err-Failed-clause-failed
 returns-in-Err-Failed-clause-failed g c = λ e. of_the_list (c.in-Err-Failed.ensures.cause (ap (λ (f : ReadFault). Err f) c.in-Err-Failed.field-0-is))
+
+pub returns-in-Ok-clause-only : goal.returns-in-Ok-clause-only
+returns-in-Ok-clause-only g c =
+    let text : IsTextOf (reading g.F.Files c.args.files.now c.read_lines.new.files c.args.list.now) c.as_slice.result.now =
+    λ told. let x = within_limit _ _ (c.in-Ok.ensures.text told) in (x.0, x.1, c.as_slice.ensures ∙ x.2) in
+    MatchResult-weaker c.read_lines.result c.read_lines.ensures.only (λ _ lines. list_read g.F.Files _ _ _ _ _ text c.in-Ok.ensures.only lines) (λ _ lines. list_tried g.F.Files _ _ _ _ _ text c.in-Ok.ensures.only lines)
+
+pub returns-in-Err-Failed-clause-only : goal.returns-in-Err-Failed-clause-only
+returns-in-Err-Failed-clause-only g c = inl c.in-Err-Failed.ensures.only
+
+pub returns-in-Err-Memory-clause-only : goal.returns-in-Err-Memory-clause-only
+returns-in-Err-Memory-clause-only g c = inl c.in-Err-Memory.ensures.only

@@ -4,7 +4,8 @@ use Rattle.std.proofs.lemmas.List.{take_all}
 use Rattle.ac_types.specs.Types.{Bytes}
 use Rattle.ac_types.specs.declared.text.Text.{Text}
 use Rattle.acute_files.specs.Files.{files_seen, files_read, IsTextOf, names_in}
-use Rattle.acute_files.specs.ManyTexts.{AreTexts, ReadInTurn}
+use Rattle.acute_files.specs.ManyTexts.{AreTexts}
+use Rattle.acute_files.specs.ReadOrder.{ReadInTurn}
 use Rattle.acute_files.specs.declared.text.ReadFault.{ReadFault}
 use Rattle.acute_files.specs.declared.text.ReadFault.TheVariants.{Failed}
 use Rattle.acute_files.proofs.Pieces.{within_limit}

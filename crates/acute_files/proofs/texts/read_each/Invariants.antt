@@ -1,7 +1,8 @@
 use Rattle.std.proofs.Common.{◌≡◌, IsTrue, take}
 use Rattle.ac_outside.specs.Outside.{NeverFall}
 use Rattle.acute_files.specs.Files.{files_seen, files_read, names_in}
-use Rattle.acute_files.specs.ManyTexts.{AreTexts, ReadInTurn}
+use Rattle.acute_files.specs.ManyTexts.{AreTexts}
+use Rattle.acute_files.specs.ReadOrder.{ReadInTurn}
 use Rattle.acute_files.proofs.texts.read_each.Given as goal
 
 abbrev pub invariant-loop-i : goal.invariant-loop-i

@@ -1,11 +1,11 @@
-use Rattle.std.proofs.Common.{◌≡◌, Err, ap, sym}
+use Rattle.std.proofs.Common.{◌≡◌, Err, ap}
 use Rattle.ac_load.specs.Loading.{shelf_of}
 use Rattle.acute_files.specs.Files.{files_seen, names_in}
 use Rattle.acute_files.specs.ManyTexts.{of_text}
 use Rattle.acute_files.specs.declared.shelf.TextsFault.{TextsFault}
 use Rattle.acute_files.specs.declared.shelf.TextsFault.TheVariants.{Failed}
 use Rattle.acute_files.proofs.Wider.{at_once, to_end, wide_shelf, same_shelf, map_ok}
-use Rattle.acute_files.proofs.Turns.{wide_texts, wide_one, shelf_fails_too, turn_none}
+use Rattle.acute_files.proofs.Turns.{wide_texts, wide_one, shelf_fails_too, shelf_then, shelf_tried}
 use Rattle.acute_files.proofs.texts.read_texts.Goals as goal
 
 pub returns-in-Ok-clause-shelf : goal.returns-in-Ok-clause-shelf
@@ -34,7 +34,7 @@ returns-in-Err-clause-failed g c = λ e.
     shelf_fails_too _ _ (c.in-Err.ensures.failed (ap (λ (f : TextsFault). Err f) is))
 
 pub returns-in-Ok-clause-only : goal.returns-in-Ok-clause-only
-returns-in-Ok-clause-only g c = λ none. rw (sym (c.in-Ok.ensures.only none)) c.read_beside_shelf.ensures.only
+returns-in-Ok-clause-only g c = shelf_then g.F.Files (names_in c.args.names.now) _ _ _ _ c.in-Ok.ensures.only c.read_beside_shelf.ensures.only
 
 pub returns-in-Err-clause-only : goal.returns-in-Err-clause-only
-returns-in-Err-clause-only g c = λ none. rw (c.in-Err.ensures.only none) (turn_none g.F.Files.reads g.F.Files.reads_none (names_in c.args.names.now) c.args.files.now)
+returns-in-Err-clause-only g c = shelf_tried g.F.Files (names_in c.args.names.now) _ _ _ c.in-Err.ensures.only

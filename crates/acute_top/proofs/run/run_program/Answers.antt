@@ -1,6 +1,7 @@
-use Rattle.std.proofs.Common.{◌≡◌, ◌∙◌, refl, ap, Bool, true, Option, Some, None, is_some, option_map}
+use Rattle.std.proofs.Common.{◌≡◌, ◌∙◌, refl, ap, Bool, Option, Some, None, is_some, option_map}
 use Rattle.ac_run.specs.Course.{begun}
 use Rattle.acute_words.specs.Commands.{channel_of}
+use Rattle.acute_top.specs.Stages.{AtTexts}
 use Rattle.acute_top.proofs.EndingLaws.{end_early}
 use Rattle.acute_top.proofs.PlaceLaws.{untouched_by}
 use Rattle.acute_top.proofs.run.run_program.Goals as goal
@@ -27,4 +28,4 @@ returns-in-Ok-clause-ends g c =
     )
 
 pub returns-in-Err-clause-ends : goal.returns-in-Err-clause-ends
-returns-in-Err-clause-ends g c = (true, (λ t. refl), λ start since shelf is_shelf text is_text accepted. end_early _ _ _ _ _ (record { same = refl }) (untouched_by _ _ _ _ _ _ _ _ since.same) refl _ c.no_memory.ensures)
+returns-in-Err-clause-ends g c = (AtTexts, (refl, refl), λ start since shelf is_shelf text is_text accepted. end_early _ _ _ _ _ (record { same = refl }) (untouched_by _ _ _ _ _ _ _ _ since.same) refl _ c.no_memory.ensures)

@@ -1,9 +1,10 @@
-use Rattle.std.proofs.Common.{true, refl, subst}
+use Rattle.std.proofs.Common.{refl, subst}
 use Rattle.ac_types.specs.Types.{Bytes}
 use Rattle.ac_types.specs.ReadTypes.{typ_of}
 use Rattle.ac_terms.specs.Read.{environment_of, expr_of}
 use Rattle.ac_load.specs.Loading.{Loads, Rejects, shelf_of}
 use Rattle.ac_load.specs.Kinds.{Says}
+use Rattle.acute_top.specs.Stages.{AtTexts}
 use Rattle.acute_top.proofs.RefusedLaws.{end_refusal}
 use Rattle.acute_top.proofs.PlaceLaws.{untouched_by}
 use Rattle.acute_top.proofs.run.run_texts.Goals as goal
@@ -25,7 +26,7 @@ returns-clause-ends g c =
     let r = c.in-Err.refusal in
     let shelf = shelf_of c.args.texts.shelf in
     let refused = subst (λ (text : Bytes). Says r.kind (Rejects text shelf r.part r.kind)) c.as_slice.ensures c.in-Err.ensures.refused in
-    (true, (λ t. refl), λ start since is_shelf is_text. end_refusal _ _ _ _ _ shelf is_shelf c.args.texts.program.0 is_text (record { same = refl }) (untouched_by _ _ _ _ _ _ _ _ since.same) refl r.part r.kind refused _ c.refuse.ensures)
+    (AtTexts, (refl, refl), λ start since is_shelf is_text. end_refusal _ _ _ _ _ shelf is_shelf c.args.texts.program.0 is_text (record { same = refl }) (untouched_by _ _ _ _ _ _ _ _ since.same) refl r.part r.kind refused _ c.refuse.ensures)
 
 pub returns-clause-kept : goal.returns-clause-kept
 returns-clause-kept g c = λ told name h. refl

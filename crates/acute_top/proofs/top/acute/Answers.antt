@@ -1,8 +1,10 @@
-use Rattle.std.proofs.Common.{true, sym, refl}
+use Rattle.std.proofs.Common.{sym, refl}
 use Rattle.acute_top.specs.Endings.{texts}
-use Rattle.acute_top.proofs.EndingLaws.{words_refused, end_at_words, touches_none}
+use Rattle.acute_top.specs.Stages.{AtTexts}
+use Rattle.acute_top.proofs.EndingLaws.{words_refused, end_at_words}
 use Rattle.acute_top.proofs.FewFiles.{words_short}
 use Rattle.acute_top.proofs.PlaceLaws.{untouched_by}
+use Rattle.acute_top.proofs.StageLaws.{no_texts}
 use Rattle.acute_top.proofs.WordLaws.{words_apart}
 use Rattle.acute_top.proofs.top.acute.Goals as goal
 
@@ -19,7 +21,7 @@ obey-requires-clause-short g c κs within =
 pub returns-in-Ok-None-clause-ends : goal.returns-in-Ok-None-clause-ends
 returns-in-Ok-None-clause-ends g c =
     let none = rw c.in-Ok-None.field-0-is at c.in-Ok-None.ensures in
-    rw (sym none) (true, (λ t. refl), words_refused _ (record { same = refl }) _ c.refuse_words.ensures)
+    rw (sym none) (AtTexts, (refl, refl), words_refused _ (record { same = refl }) _ c.refuse_words.ensures)
 
 pub returns-in-Ok-Some-clause-ends : goal.returns-in-Ok-Some-clause-ends
 returns-in-Ok-Some-clause-ends g c =
@@ -27,7 +29,7 @@ returns-in-Ok-Some-clause-ends g c =
     rw (sym some) c.obey.ensures.ends
 
 pub returns-in-Err-clause-ends : goal.returns-in-Err-clause-ends
-returns-in-Err-clause-ends g c = (true, (λ t. refl), end_at_words _ _ (record { same = refl }) (λ to. untouched_by _ _ _ _ _ _ _ to (λ t. refl)) refl _ c.no_memory.ensures)
+returns-in-Err-clause-ends g c = (AtTexts, (refl, no_texts g.F.Files _ _), end_at_words _ _ (record { same = refl }) (λ to. untouched_by _ _ _ _ _ _ _ to (λ t. refl)) refl _ c.no_memory.ensures)
 
 pub returns-in-Ok-None-clause-kept : goal.returns-in-Ok-None-clause-kept
 returns-in-Ok-None-clause-kept g c = λ told name h. refl
@@ -39,16 +41,3 @@ returns-in-Ok-Some-clause-kept g c =
 
 pub returns-in-Err-clause-kept : goal.returns-in-Err-clause-kept
 returns-in-Err-clause-kept g c = λ told name h. refl
-
-pub returns-in-Ok-None-clause-touched : goal.returns-in-Ok-None-clause-touched
-returns-in-Ok-None-clause-touched g c =
-    let none = rw c.in-Ok-None.field-0-is at c.in-Ok-None.ensures in
-    rw (sym none) refl
-
-pub returns-in-Ok-Some-clause-touched : goal.returns-in-Ok-Some-clause-touched
-returns-in-Ok-Some-clause-touched g c =
-    let some = rw c.in-Ok-Some.field-0-is at c.in-Ok-Some.ensures in
-    rw (sym some) c.obey.ensures.touched
-
-pub returns-in-Err-clause-touched : goal.returns-in-Err-clause-touched
-returns-in-Err-clause-touched g c = touches_none g.F.Files.reads g.F.Files.reads_none _ _

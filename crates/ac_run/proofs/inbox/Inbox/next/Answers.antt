@@ -1,7 +1,7 @@
 use Rattle.std.proofs.Common.{sym, subst, IsTrue}
 use Rattle.ac_outside.specs.FrameReaders.{Reader, Follows, Receives}
 use Rattle.ac_outside.specs.declared.frames.FrameGot.TheVariants as got
-use Rattle.ac_run.specs.inner.Inboxes.{Comes, Heard}
+use Rattle.ac_run.specs.inner.Inboxes.{Comes, Heard, NoneLeft}
 use Rattle.ac_run.specs.declared.inbox.Inbox.{Inbox}
 use Rattle.ac_run.specs.declared.inbox.Inbox.TheVariants.{Broken}
 use Rattle.ac_run.specs.declared.inbox.Incoming.TheVariants as incoming
@@ -31,3 +31,18 @@ returns-in-Failed-clause-heard g c =
 pub returns-clause-heard : goal.returns-clause-heard
 returns-clause-heard g c =
     subst (λ (b : Inbox). Comes g.W.Source.told b (g.W.Source.left c.args.world.now) b (g.W.Source.left c.next.new.source) (Heard g.W.Source.told incoming.Memory b)) (sym c.in-Open.is) (hears_nothing g.W.Source.told (g.W.Source.left c.args.world.now) (g.W.Source.left c.next.new.source) _ (λ rest input. tt))
+
+pub returns-in-Frame-clause-empty : goal.returns-in-Frame-clause-empty
+returns-in-Frame-clause-empty g c = λ none. subst (λ (b : Inbox). NoneLeft g.W.Source.told b (g.W.Source.left c.next.new.source)) (sym c.in-Open.is) tt
+
+pub returns-in-End-clause-empty : goal.returns-in-End-clause-empty
+returns-in-End-clause-empty g c = λ none told. (subst (λ (r : Reader). Receives got.End r (g.W.Source.left c.args.world.now) c.next.new.self (g.W.Source.left c.next.new.source)) c.new.ensures (c.in-End.ensures.bytes told)).1
+
+pub returns-in-Bad-clause-empty : goal.returns-in-Bad-clause-empty
+returns-in-Bad-clause-empty g c = λ none. tt
+
+pub returns-in-Failed-clause-empty : goal.returns-in-Failed-clause-empty
+returns-in-Failed-clause-empty g c = λ none. subst (λ (b : Inbox). NoneLeft g.W.Source.told b (g.W.Source.left c.next.new.source)) (sym c.in-Open.is) tt
+
+pub returns-clause-empty : goal.returns-clause-empty
+returns-clause-empty g c = λ none. subst (λ (b : Inbox). NoneLeft g.W.Source.told b (g.W.Source.left c.next.new.source)) (sym c.in-Open.is) tt

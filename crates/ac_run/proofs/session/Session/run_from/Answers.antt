@@ -31,7 +31,7 @@ returns-clause-ends g c = λ none.
     c.twice-end.result.0 c.twice-end.ensures.is c.drive-end.ensures.ends)
 
 pub returns-clause-left : goal.returns-clause-left
-returns-clause-left g c = λ none.
+returns-clause-left g c = λ none empty.
     let old = streams (g.W.World.console c.args.world.now) (g.W.World.channel c.args.world.now) in
     let new = streams (g.W.World.console c.drive-end.new.world) (g.W.World.channel c.drive-end.new.world) in
     let before : Session = record { program = c.self.inside.program; steps = c.self.inside.steps; sends = c.self.inside.sends; machine = c.self.inside.machine; end = c.self.inside.end; keeps = c.self.inside.journal.keeps; journal = c.self.inside.journal.crossings } in
@@ -41,4 +41,4 @@ returns-clause-left g c = λ none.
     (left_done before g.W.Source.told c.self.inside.table c.args.inbox (g.W.Source.left c.args.world.now) old
     c.self.inside.journal ready.1 ready.0
     after (environment_of c.drive-end.new.env) (table_code c.drive-end.new.table) c.drive-end.new.inbox (g.W.Source.left c.drive-end.new.world) new c.drive-end.new.journal c.drive-end.result refl refl refl refl
-    c.twice-end.result.0 c.twice-end.ensures.is c.drive-end.ensures.ends)
+    c.twice-end.result.0 c.twice-end.ensures.is (c.drive-end.ensures.empty empty) c.drive-end.ensures.ends)
