@@ -1,4 +1,4 @@
--- A packed value of a type without functions and abstract types, rebuilt, is packed as itself again; and what was packed in the main program is rebuilt there as it was.
+-- A packed value of a type without functions and abstract types is rebuilt, and then packed as itself again. What was packed in the main program is rebuilt there as it was.
 use Rattle.std.proofs.Common.{◌≡◌, refl, sym, ap, ap₂, ◌∙◌, subst, ℕ, zero, suc, true, false, List, [], ◌∷◌, length}
 use Rattle.std.specs.List.{list_all}
 use Rattle.std.specs.Option.{option_map_or}

@@ -37,7 +37,7 @@ module _ (mode : Mode) (E F : Environment) (f : ℕ → ℕ) where
       -- a function is the same lambda, in a bracket of its home
       lambda : {c d : Home} {A T U : Typ} {e e' : Expr} → HomeHasNamesake E F f c → TermCopied c e e' → Copied c (VLam A e) d (TFun T U) (VProxy (home_by f c) T U (VLam A e'))
       recursive : {c d : Home} {A B T U : Typ} {e e' : Expr} → HomeHasNamesake E F f c → TermCopied c e e' → Copied c (VRec A B e) d (TFun T U) (VProxy (home_by f c) T U (VRec A B e'))
-      -- of a value in a bracket or a seal that inside is copied, from its home
+      -- a bracket or a seal is taken off, and what is inside is copied from its own home
       in_bracket : {b c d : Home} {A B T : Typ} {v w : Value} → Copied b v d T w → Copied c (VProxy b A B v) d T w
       in_seal : {b c d : Home} {n t : Bytes} {T : Typ} {v w : Value} → Copied b v d T w → Copied c (VSeal b n t v) d T w
       -- at an abstract type the copy is that at the representation, in a seal of the type's home where d doesn't open the type

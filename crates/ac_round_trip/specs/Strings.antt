@@ -23,7 +23,7 @@ pub record IsString (mode : Mode) (z : World) (c : Home) (T : Typ) (v : Value) (
   pub packable : IsPackable z.environment T (packed z.environment c v T)
   pub gives : marshal_step z c T (VStr mark) v ≡ Turns (with_crossing (Made s) z) (Str s)
 
--- the definitions have grown, and what is brought to home d is a copy of v in each mode, which is without its brackets what is brought without brackets; or the string is refused as full or for want of a link
+-- the definitions have grown, and in each mode a copy of v is brought to home d. Without its brackets it is what is brought without brackets. Or the string is refused as full or for want of a link
 abbrev pub BringsCopy : (E : Environment) (c : Home) (v : Value) (d : Home) (T : Typ) → Arrival → Type 0
 BringsCopy E c v d T (Unfit x) = (x ≡ unmarshal_failure_exn (codes "full")) ⊎ ((name : Bytes) × (x ≡ resolve_failure_exn name))
 BringsCopy E c v d T (Brings F copy w) = Grows E F × (f : ℕ → ℕ) × ((mode : Mode) → Copied mode E F f c v d T (copy mode) × (bare_value d (copy mode) ≡ w))
@@ -33,7 +33,7 @@ pub record IsData (T : Typ) : Type 0 where
   pub no_function : has_function T ≡ false
   pub no_name : mentions T ≡ []
 
--- the string brings v again to home d, and no definition: without brackets v itself, and in each mode v but for the types that empty lists and missing options carry
+-- the string brings v again to home d, and no definition. Without brackets it is v itself; in each mode it is v but for the types that empty lists and missing options carry
 pub record BringsAgain (y : World) (d : Home) (T : Typ) (s : Bytes) (c : Home) (v : Value) : Type 0 where
   pub again : Mode → Value
   pub brings : arrival y d T s ≡ Brings y.environment again (bare_value c v)

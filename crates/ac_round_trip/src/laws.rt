@@ -30,8 +30,9 @@ ghost use Rattle.ac_round_trip.specs.Copies.{HasNamesake, Copied};
 ghost use Rattle.ac_round_trip.specs.Strings.{IsString, BringsCopy, IsData, BringsAgain, there_and_back, given_and_read, ComesBackThere};
 ghost use Rattle.ac_round_trip.specs.Beginnings.{NoneBegins};
 
-/// What a typed program marshals, in any state of its run in either mode, is a value of its type,
-/// and within the bounds; and the same string is given of it without brackets.
+/// Let a typed program be within the bounds of its spelling. What it marshals, in any state of its
+/// run in either mode, is a value of its type within the bounds. Without brackets marshal gives the
+/// same string.
 pub fn marshals_a_value()
     ensures runs { (E : Environment) (e : Expr) (T : Typ) → IsTypedProgram E e T →
         IsTrue (fits_term false e) → (mode : Mode) (input : Bytes) (sends : Bool) (N : ℕ) (t : Expr)
@@ -44,10 +45,11 @@ pub fn marshals_a_value()
         Turns (with_crossing (Made s) z) (BStr s) }
 {}
 
-/// What is read is what was marshalled: there and over all definitions that have come since, in
-/// any home and in each mode, a string brings a copy of the value of which marshal gave it, or is
-/// refused as full or for want of a link. A copy speaks of definitions of the same names and texts.
-/// Of a type without functions it is without brackets the value itself.
+/// What is read is what was marshalled, there and over all definitions that have come since. In any
+/// home and in each mode a string brings a copy of the value of which marshal gave it. Else it is
+/// refused as full or for want of a link. A copy speaks of definitions of the same names. Where two
+/// of one name have texts, these are the same. Of a type without functions it is without brackets
+/// the value itself.
 pub fn copy_is_read()
     ensures copied { (mode : Mode) (z : World) (c : Home) (T : Typ) (v : Value) (mark s : Bytes) →
         IsString mode z c T v mark s → (y : World) → Grows z.environment y.environment →
@@ -68,9 +70,10 @@ pub fn one_copy()
         Copied mode E F f c v d T w → Copied mode E F f c v d T x → w ≡ x }
 {}
 
-/// `unmarshal (marshal MARK v : T) as T` gives v again, for each type T without functions and
-/// abstract types. The string brings v to every home of every program, and no definition; and v
-/// marshalled there at any mark is that string again.
+/// Let T be a type without functions and abstract types. Where marshal gives a string,
+/// `unmarshal (marshal MARK v : T) as T` gives v again. In Plain mode the types that empty lists
+/// and missing options carry may differ. To every home of every program the string brings v, but
+/// for those types, and no definition. Marshalled there at any mark, v is that string again.
 pub fn data_comes_back()
     ensures anywhere { (mode : Mode) (z : World) (c : Home) (T : Typ) (v : Value)
         (mark s : Bytes) → IsString mode z c T v mark s → IsData T → (y : World) →
@@ -92,8 +95,8 @@ pub fn data_comes_back()
 {}
 
 /// No spelling of a type, a pattern, a term, a packed value or a definition is a proper prefix of
-/// another of its kind, whatever follows: in a packet with types in full, or under one table of
-/// types. Nor is a canonical text of another.
+/// another of its kind, whatever follows. Their types are spelled in full. Nor is a canonical text
+/// of another.
 pub fn none_begins()
     ensures types { (own : Bool) → NoneBegins (fits_type own) type_bytes }
     ensures patterns { NoneBegins fits_pattern pattern_bytes }
@@ -105,7 +108,7 @@ pub fn none_begins()
         a ++ r ≡ b ++ s → (a ≡ b) × (r ≡ s) }
 {}
 
-/// Likewise where each type is spelled by its number in one table.
+/// Likewise where each type is spelled by its number in one table, for what nests 500 deep at most.
 pub fn none_begins_by_table()
     ensures patterns { (table : List Typ) → length table < 2 ^ 32 → NoneBegins
         (λ p. fits_pattern p && nat_le (pattern_nesting p) deepest_nesting &&
