@@ -1,6 +1,6 @@
 -- No spelling of a type, a pattern, a term, a packed value or a definition begins another of its kind.
 use Rattle.std.proofs.Common.{◌≡◌, refl, sym, ap, ◌∙◌, subst, ℕ, ◌<◌, ◌≤◌, ◌^◌, Bool, true, false, ◌&&◌, List, [], ◌∷◌, ◌++◌, length, Some}
-use Rattle.std.specs.Prelude.{max, nat_le, unwrap_or}
+use Rattle.std.specs.Prelude.{max, nat_le, unwrap_or, slice_get, option_and_then, option_map}
 use Rattle.std.specs.List.{list_all}
 use Rattle.std.proofs.lemmas.List.{append_cancel_right}
 use native.Mathlib.Omega.{arith}
@@ -16,15 +16,17 @@ use Rattle.ac_terms.specs.Nesting.{pattern_nesting, nesting, value_nesting}
 use Rattle.ac_terms.specs.Parts.{pattern_types, part_types, sig_types, term_parts, value_parts, def_parts}
 use Rattle.ac_terms.specs.Spelling.{two_written, type_bytes, pattern_bytes, term_bytes, value_bytes, def_bytes, module_bytes, import_bytes, text_of_import, typed_bytes}
 use Rattle.ac_terms.specs.SpelledBy as by
-use Rattle.ac_terms.specs.Bounds.{fits_type, fits_pattern, fits_term, fits_value, fits_typed, fits_def, is_module_or_import, def_nesting, nests_little}
-use Rattle.ac_terms.specs.Tables.{is_among, numbered}
+use Rattle.ac_terms.specs.Bounds.{fits_type, fits_pattern, fits_term, fits_value, fits_typed, fits_def, is_four, is_module_or_import, def_nesting, nests_little}
+use Rattle.ac_terms.specs.Tables.{is_among, number_in, numbered}
+use Rattle.ac_terms.specs.TableReading.{read_number}
 use Rattle.ac_terms.specs.PacketReading.{ReadsPart, one, pair, tagged, nothing, read_two, read_word, read_name, read_list, read_constraint, read_type, read_pattern, read_term, read_value, read_def, read_sig, read_typed}
 use Rattle.ac_terms.proofs.AllLaws.{all_true}
-use Rattle.ac_terms.proofs.TestLaws.{le_true, le_is}
+use Rattle.ac_terms.proofs.TestLaws.{le_true, le_is, lt_is}
+use Rattle.ac_terms.proofs.TableLaws.{number_there, number_below}
 use Rattle.ac_terms.proofs.BoundsLaws.{import_bounds}
 use Rattle.ac_terms.proofs.PartTypes.{module_types}
 use Rattle.ac_terms.proofs.RenumberedLaws.{same_term, same_value}
-use Rattle.ac_terms.proofs.Back.{Back, back_one, back_word, back_name, back_list, back_two_bytes, none_begins}
+use Rattle.ac_terms.proofs.Back.{Back, back_one, back_word, back_name, back_list, back_two_bytes, back_four_bytes, none_begins}
 use Rattle.ac_terms.proofs.TypeBack.{back_type}
 use Rattle.ac_terms.proofs.TermBack.{any, back_any, back_pattern, back_term, back_value, count_two}
 use Rattle.ac_terms.proofs.DefBackBy as generic
@@ -150,6 +152,17 @@ texts E F i j a b r s x y p q e =
 
 -- under one table of types
 module _ (table : List Typ) (few : length table < 2 ^ 32) where
+  number_back : (T : Typ) → is_among table T ≡ true → Back (read_number table) (numbered table T) T
+  number_back T h =
+      let n : ℕ = number_in table T in
+      let low : is_four n ≡ true = lt_is n (2 ^ 32) (omega (arith, number_below table T h, few)) in
+      record {
+        reads = λ r. ap (option_and_then (λ (p : ℕ × Bytes). option_map (λ U. (U, p.1)) (slice_get table p.0))) ((back_four_bytes n low).reads r) ∙ ap (option_map (λ U. (U, r))) (number_there table T h);
+      }
+
+  pub tabled_types : NoneBegins (is_among table) (numbered table)
+  tabled_types T U r s h k e = none_begins (read_number table) (number_back T h) (number_back U k) r s e
+
   abbrev pattern_passes : Pattern → Bool
   pattern_passes p = fits_pattern p && nat_le (pattern_nesting p) deepest_nesting && list_all (is_among table) (pattern_types p)
 

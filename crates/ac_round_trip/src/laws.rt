@@ -108,8 +108,11 @@ pub fn none_begins()
         a ++ r ≡ b ++ s → (a ≡ b) × (r ≡ s) }
 {}
 
-/// Likewise where each type is spelled by its number in one table, for what nests 500 deep at most.
+/// Likewise where each type is spelled by its number in one table: for the table's types, and for
+/// what nests 500 deep at most.
 pub fn none_begins_by_table()
+    ensures types { (table : List Typ) → length table < 2 ^ 32 →
+        NoneBegins (is_among table) (numbered table) }
     ensures patterns { (table : List Typ) → length table < 2 ^ 32 → NoneBegins
         (λ p. fits_pattern p && nat_le (pattern_nesting p) deepest_nesting &&
         list_all (is_among table) (pattern_types p)) (by.pattern_bytes (numbered table)) }
