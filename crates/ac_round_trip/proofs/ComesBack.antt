@@ -4,12 +4,11 @@ use Rattle.std.specs.Prelude.{is_some}
 use Rattle.ac_types.specs.Types.{Bytes, Typ}
 use Rattle.ac_terms.specs.Terms.{Home, Main, Str, Unmarshal, Evaluated, PValue, Value, VStr}
 use Rattle.ac_terms.specs.Defs.{Environment}
-use Rattle.ac_rules.specs.Views.{Mode, Plain, Coloured, view, opened_at_home}
+use Rattle.ac_rules.specs.Views.{Mode, Plain, Coloured, view}
 use Rattle.ac_rules.specs.Typing.{is_home}
 use Rattle.ac_rules.specs.Plain.{packed}
 use Rattle.ac_rules.specs.Needed.{mark_at}
 use Rattle.ac_rules.specs.Coherent.{IsCoherent}
-use Rattle.ac_rules.proofs.BareLaws.{closed}
 use Rattle.ac_meaning.specs.Worlds.{World, Made, with_crossing}
 use Rattle.ac_meaning.specs.Acts.{Turns, part, Returned, At, Over, after, iter, Leads}
 use Rattle.ac_meaning.specs.BareTerms.{BStr, BUnmarshal, BVal, WStr, bare_term, bare_value, unpacked}
@@ -28,6 +27,7 @@ use Rattle.ac_round_trip.proofs.Unpacked.{unpacked_packed}
 use Rattle.ac_round_trip.proofs.DataTypes.{data_known}
 use Rattle.ac_round_trip.proofs.DataStrings.{lands_anywhere, holds_there, made_there}
 use Rattle.ac_round_trip.proofs.DataAgain.{packed_again, main_again}
+use Rattle.ac_round_trip.proofs.DataCopies.{data_view, data_copied}
 
 -- without brackets the same string is given
 pub bare_gives : (mode : Mode) (z : World) (c : Home) (T : Typ) (v : Value) (mark s : Bytes) → IsString mode z c T v mark s → bare_marshal_step z T (WStr mark) (bare_value c v) ≡ Turns (with_crossing (Made s) z) (BStr s)
@@ -49,11 +49,15 @@ module _ (mode : Mode) (z : World) (c : Home) (T : Typ) (v : Value) (mark s : By
     lands_so : landing F T s ≡ Lands F w
     lands_so = lands_anywhere z.environment h.coherent mark T w s is_data h.packable (made_of h) F coherent
 
-    pub comes_back : BringsAgain y d T s c v
+    is_typed : ValueTyped mode z.environment v c T
+    is_typed = subst (ValueTyped mode z.environment v c) (data_view mode z.environment c T is_data.no_name) h.typed
+
+    pub comes_back : BringsAgain z.environment c v y d T s
     comes_back = record {
       again = λ now. rebuilt now F d T w;
       brings = ap (brought d T) lands_so ∙ ap (Brings F (λ now. rebuilt now F d T w)) loses_nothing;
       same = λ now. rebuilt_bare now F w d T ∙ loses_nothing;
+      is_copy = λ now. data_copied mode now z.environment F (λ j. j) c d v T is_data is_typed;
     }
 
     -- what comes back is packed there into the same string
@@ -69,7 +73,7 @@ module _ (mode : Mode) (z : World) (c : Home) (T : Typ) (v : Value) (mark s : By
       pub bare_string : bare_marshal_step y T (WStr other) (bare_value c v) ≡ Turns (with_crossing (Made s) y) (BStr s)
       bare_string = ap (λ x. bare_packs y (packing y T other x)) bare_same ∙ ap (bare_packs y) packs_again
 
-      module _ (home : is_home F d ≡ true) (b : BringsAgain y d T s c v) (now : Mode) where
+      module _ (home : is_home F d ≡ true) (b : BringsAgain z.environment c v y d T s) (now : Mode) where
         typed : ValueTyped now F (b.again now) d (view now F d T)
         typed = arrives.typed now y d T s F b.again (bare_value c v) coherent home (data_known F T is_data.no_name) b.brings
 
@@ -87,11 +91,11 @@ module _ (z : World) (T : Typ) (v : Value) (mark s : Bytes) where
   -- in the main program it is literally the value, where no home opens a name that isn't its own
   literal : (mode : Mode) (h : IsString mode z Main T v mark s) (is_data : IsData T) → mode ≡ Coloured → (comes_back mode z Main T v mark s h is_data given_world h.coherent Main).again mode ≡ v
   unfolding comes_back
-  literal Coloured h is_data e = main_again z.environment v T is_data (subst (ValueTyped Coloured z.environment v Main) (closed (opened_at_home z.environment Main) T is_data.no_name) h.typed)
+  literal Coloured h is_data e = main_again z.environment v T is_data (subst (ValueTyped Coloured z.environment v Main) (data_view Coloured z.environment Main T is_data.no_name) h.typed)
   literal Plain h is_data e = absurd cc
 
   module _ (mode : Mode) (h : IsString mode z Main T v mark s) (is_data : IsData T) (N : ℕ) where
-    abbrev b : BringsAgain given_world Main T s Main v
+    abbrev b : BringsAgain z.environment Main v given_world Main T s
     b = comes_back mode z Main T v mark s h is_data given_world h.coherent Main
 
     marshals : step mode N (At (there_and_back T mark v) z) ≡ At (Unmarshal T (Str s)) given_world
@@ -104,7 +108,7 @@ module _ (z : World) (T : Typ) (v : Value) (mark s : Bytes) where
     leads = (3, ap (iter (step mode N) 2) marshals ∙ ap (iter (step mode N) 1) reads)
 
     pub leads_back : ComesBackThere mode N z T v mark s
-    leads_back = (b.again mode, b.same mode, literal mode h is_data, leads)
+    leads_back = (b.again mode, b.is_copy mode, b.same mode, literal mode h is_data, leads)
 
     bare_marshals : lean.step N (At (bare_term Main (there_and_back T mark v)) z) ≡ At (BUnmarshal T (BStr s)) given_world
     bare_marshals = ap (λ a. after N z (part (BUnmarshal T) (bare_unmarshal_step z Main T) a)) (bare_gives mode z Main T v mark s h)

@@ -16,16 +16,7 @@ use Rattle.ac_meaning.specs.BarePacking.{bare_packed, bare_all_packed}
 use Rattle.ac_meaning.specs.Rebuilding.{parts_of, item_of, sealed, rebuilt, all_rebuilt, list_rebuilt}
 use Rattle.ac_meaning.specs.Typed.{ValueTyped, ValuesTyped}
 use Rattle.ac_round_trip.specs.Strings.{IsData}
-use Rattle.ac_round_trip.proofs.DataTypes.{AreData, of_parts, of_first, of_item, of_content, no_data_function, data_head}
-
--- the first and the other ones of some types
-abbrev first_of_all : Typs → Typ
-first_of_all (typ T Ts) = T
-first_of_all no_types = TUnit
-
-abbrev rest_of_all : Typs → Typs
-rest_of_all (typ T Ts) = Ts
-rest_of_all no_types = no_types
+use Rattle.ac_round_trip.proofs.DataTypes.{AreData, of_parts, of_first, of_item, of_content, no_data_function, data_head, first_of_all, rest_of_all}
 
 module _ (F : Environment) where
   -- packed again, without brackets

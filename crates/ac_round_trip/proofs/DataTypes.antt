@@ -16,6 +16,15 @@ use Rattle.ac_rules.proofs.KnownTypes.{rounds_still}
 use Rattle.ac_round_trip.specs.Strings.{IsData}
 use Rattle.ac_round_trip.proofs.NoParts.{or_left, or_right, nil_both}
 
+-- the first and the other ones of some types
+abbrev pub first_of_all : Typs → Typ
+first_of_all (typ T Ts) = T
+first_of_all no_types = TUnit
+
+abbrev pub rest_of_all : Typs → Typs
+rest_of_all (typ T Ts) = Ts
+rest_of_all no_types = no_types
+
 pub record AreData (Ts : Typs) : Type 0 where
   pub no_function : have_function Ts ≡ false
   pub no_name : mentions_of_all Ts ≡ []

@@ -8,6 +8,7 @@ pub mod WhatIsRead
 pub mod DataTypes
 pub mod DataStrings
 pub mod DataAgain
+pub mod DataCopies
 pub mod ComesBack
 pub mod NextMarshal
 pub mod NoneBegins

@@ -33,11 +33,12 @@ pub record IsData (T : Typ) : Type 0 where
   pub no_function : has_function T ≡ false
   pub no_name : mentions T ≡ []
 
--- the string brings v again to home d, and no definition. Without brackets it is v itself; in each mode it is v but for the types that empty lists and missing options carry
-pub record BringsAgain (y : World) (d : Home) (T : Typ) (s : Bytes) (c : Home) (v : Value) : Type 0 where
+-- the string brings v, a value of home c over E, again to home d, and no definition. Without brackets it is v itself; in each mode it is v but for the types that empty lists and missing options carry
+pub record BringsAgain (E : Environment) (c : Home) (v : Value) (y : World) (d : Home) (T : Typ) (s : Bytes) : Type 0 where
   pub again : Mode → Value
   pub brings : arrival y d T s ≡ Brings y.environment again (bare_value c v)
   pub same : (mode : Mode) → bare_value d (again mode) ≡ bare_value c v
+  pub is_copy : (mode : Mode) → Copied mode E y.environment (λ j. j) c v d T (again mode)
 
 -- `unmarshal (marshal MARK v : T) as T`
 abbrev pub there_and_back : Typ → Bytes → Value → Expr
@@ -47,6 +48,6 @@ there_and_back T mark v = Unmarshal T (Marshal T (Str mark) (Evaluated T v))
 abbrev pub given_and_read : World → Bytes → World
 given_and_read z s = with_crossing (Read s) (with_crossing (Made s) z)
 
--- in the main program it gives v again: in Coloured mode v itself, in Plain mode v but for those types
+-- in the main program it gives v again: in Coloured mode v itself, in Plain mode a copy, which is v but for those types
 abbrev pub ComesBackThere : (mode : Mode) (N : ℕ) (z : World) (T : Typ) (v : Value) (mark s : Bytes) → Type 0
-ComesBackThere mode N z T v mark s = (w : Value) × (bare_value Main w ≡ bare_value Main v) × (mode ≡ Coloured → w ≡ v) × Leads (step mode N) (At (there_and_back T mark v) z) (Over (Returned w (given_and_read z s)))
+ComesBackThere mode N z T v mark s = (w : Value) × Copied mode z.environment z.environment (λ j. j) Main v Main T w × (bare_value Main w ≡ bare_value Main v) × (mode ≡ Coloured → w ≡ v) × Leads (step mode N) (At (there_and_back T mark v) z) (Over (Returned w (given_and_read z s)))

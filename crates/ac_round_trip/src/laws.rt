@@ -77,7 +77,7 @@ pub fn one_copy()
 pub fn data_comes_back()
     ensures anywhere { (mode : Mode) (z : World) (c : Home) (T : Typ) (v : Value)
         (mark s : Bytes) → IsString mode z c T v mark s → IsData T → (y : World) →
-        IsCoherent y.environment → (d : Home) → BringsAgain y d T s c v }
+        IsCoherent y.environment → (d : Home) → BringsAgain z.environment c v y d T s }
     ensures there { (mode : Mode) (z : World) (T : Typ) (v : Value) (mark s : Bytes) →
         IsString mode z Main T v mark s → IsData T → (N : ℕ) →
         ComesBackThere mode N z T v mark s × Leads (lean.step N)
@@ -86,7 +86,7 @@ pub fn data_comes_back()
     ensures same_string { (mode : Mode) (z : World) (c : Home) (T : Typ) (v : Value)
         (mark s : Bytes) → IsString mode z c T v mark s → IsData T → (y : World) →
         IsCoherent y.environment → (d : Home) → IsTrue (is_home y.environment d) →
-        (b : BringsAgain y d T s c v) (other : Bytes) →
+        (b : BringsAgain z.environment c v y d T s) (other : Bytes) →
         IsTrue (is_some (mark_at y.environment other)) → ((now : Mode) →
         marshal_step y d T (VStr other) (b.again now) ≡
         Turns (with_crossing (Made s) y) (Str s)) ×
