@@ -15,6 +15,7 @@ use Rattle.ac_rules.specs.Plain.{packed}
 use Rattle.ac_rules.specs.Needed.{mark_at, needed_by, roots_of, place_in, packet_for}
 use Rattle.ac_rules.specs.Packets.{PacketCause, placed_number, places, value_there, cause}
 use Rattle.ac_rules.specs.Faults.{AString, marshalled}
+use Rattle.ac_rules.specs.Coherent.{IsCoherent}
 use Rattle.ac_rules.specs.RoundTrip.{IsPackable, IsExcused}
 use Rattle.ac_rules.specs.Growth.{Grows}
 use Rattle.ac_rules.proofs.Rules.{map_some, then_some}
@@ -30,7 +31,7 @@ use Rattle.ac_meaning.specs.BareTerms.{BareValue, bare_value, unpacked}
 use Rattle.ac_meaning.specs.Packing.{Packing, CannotPack, Packs, packing, packs, Landing, Sinks, Lands, admitted, received, landing, Brings, brought, arrival}
 use Rattle.ac_meaning.specs.Rebuilding.{rebuilt}
 use Rattle.ac_meaning.specs.ReadBack.{IsReadBack}
-use Rattle.ac_meaning.proofs.Admitted.{grows}
+use Rattle.ac_meaning.proofs.Admitted.{grows, rebuilt_alike}
 use Rattle.ac_meaning.proofs.ReadBack.{a_string, read_back_later}
 use Rattle.ac_meaning.proofs.RebuiltBare.{rebuilt_bare}
 use Rattle.ac_round_trip.specs.Copies.{HasNamesake, Copied}
@@ -41,10 +42,10 @@ use Rattle.ac_round_trip.proofs.Numbers.{number, all_placed}
 use Rattle.ac_round_trip.proofs.Unpacked.{unpacked_packed}
 use Rattle.ac_round_trip.proofs.NoParts.{no_numbers, no_parts}
 
--- a packed value with its string, and later definitions
-module _ (E F : Environment) (later : Grows E F) (mark : Bytes) (T : Typ) (v : PValue) (s : Bytes) (packable : IsPackable E T v) (made : marshalled E mark T v ≡ AString s) where
+-- a packed value with its string, and other definitions
+module _ (E F : Environment) (before : IsCoherent E) (after : IsCoherent F) (mark : Bytes) (T : Typ) (v : PValue) (s : Bytes) (packable : IsPackable E T v) (made : marshalled E mark T v ≡ AString s) where
   found : (m : ℕ) × (mark_at E mark ≡ Some m) × Spells s (packet_for E m T v) × IsExcused (cause sha256 E (packet_for E m T v) T)
-  found = marshal_round_trip E mark T v s later.extends.before packable made
+  found = marshal_round_trip E mark T v s before packable made
 
   abbrev p : Packet
   p = packet_for E found.0 T v
@@ -61,9 +62,9 @@ module _ (E F : Environment) (later : Grows E F) (mark : Bytes) (T : Typ) (v : P
       let a : (places sha256 F p.defs).0 ≡ G = cc in
       let b : value_there sha256 F p ≡ u = cc in
       subst₂ Landed a b (record {
-        number_of = number E later.extends.before found.0 T v packable F later.after found.2.fits e;
+        number_of = number E before found.0 T v packable F after found.2.fits e;
         is_value = value_twice (place_in (needed_by E found.0 (roots_of E T v))) (placed_number (places sha256 F p.defs).1) v;
-        fine = all_placed E later.extends.before found.0 T v packable F later.after found.2.fits e;
+        fine = all_placed E before found.0 T v packable F after found.2.fits e;
       })
 
   pub landed : (G : Environment) (u : PValue) → landing F T s ≡ Lands G u → Landed G u
@@ -82,7 +83,7 @@ pub made_of : {mode : Mode} {z : World} {c : Home} {T : Typ} {v : Value} {mark s
 unfolding packing
 made_of {z = z} {c = c} {T = T} {v = v} {mark = mark} {s = s} h = a_string (marshalled z.environment mark T (packed z.environment c v T)) s (packing_of h)
 
-module _ (from : Mode) (z : World) (c : Home) (T : Typ) (v : Value) (mark s : Bytes) (h : IsString from z c T v mark s) (y : World) (later : Grows z.environment y.environment) (d : Home) where
+module _ (from : Mode) (z : World) (c : Home) (T : Typ) (v : Value) (mark s : Bytes) (h : IsString from z c T v mark s) (y : World) (d : Home) where
   abbrev E : Environment
   E = z.environment
 
@@ -90,13 +91,13 @@ module _ (from : Mode) (z : World) (c : Home) (T : Typ) (v : Value) (mark s : By
   w = packed E c v T
 
   -- what lands, and from there what is brought
-  lands_so : (G : Environment) (u : PValue) → landing y.environment T s ≡ Lands G u → Landed E y.environment later mark T w s h.packable (made_of h) G u
-  lands_so G u q = landed E y.environment later mark T w s h.packable (made_of h) G u q
+  lands_so : (after : IsCoherent y.environment) (G : Environment) (u : PValue) → landing y.environment T s ≡ Lands G u → Landed E y.environment h.coherent after mark T w s h.packable (made_of h) G u
+  lands_so after G u q = landed E y.environment h.coherent after mark T w s h.packable (made_of h) G u q
 
-  brings : (l : Landing) → landing y.environment T s ≡ l → BringsCopy E c v d T (brought d T l)
-  brings (Sinks x) q = subst IsReadBack q (read_back_later E y.environment later mark T w s h.packable (made_of h))
-  brings (Lands G u) q =
-      let l = lands_so G u q in
+  brings : Grows E y.environment → (l : Landing) → landing y.environment T s ≡ l → BringsCopy E c v d T (brought d T l)
+  brings later (Sinks x) q = subst IsReadBack q (read_back_later E y.environment later mark T w s h.packable (made_of h))
+  brings later (Lands G u) q =
+      let l = lands_so later.after G u q in
       let g : Grows E G = grows_on E y.environment G later (grows y.environment T s G u later.after q) in (
         g,
         l.number_of,
@@ -107,13 +108,16 @@ module _ (from : Mode) (z : World) (c : Home) (T : Typ) (v : Value) (mark s : By
         ),
       )
 
-  pub brings_copy : BringsCopy E c v d T (arrival y d T s)
-  brings_copy = brings (landing y.environment T s) refl
+  brings_there : Grows E y.environment → BringsCopy E c v d T (arrival y d T s)
+  brings_there later = brings later (landing y.environment T s) refl
 
--- of a type without functions it is without brackets the value itself
-pub first_order : (from : Mode) (z : World) (c : Home) (T : Typ) (v : Value) (mark s : Bytes) → IsString from z c T v mark s → has_function (bare z.environment T) ≡ false → (y : World) → Grows z.environment y.environment →
-    (d : Home) (F : Environment) (copy : Mode → Value) (w : BareValue) → arrival y d T s ≡ Brings F copy w → w ≡ bare_value c v
-first_order from z c T v mark s h flat y later d F copy w q = by (landing y.environment T s) refl q
+pub brings_copy : (from : Mode) (z : World) (c : Home) (T : Typ) (v : Value) (mark s : Bytes) → IsString from z c T v mark s → (y : World) → Grows z.environment y.environment → (d : Home) → BringsCopy z.environment c v d T (arrival y d T s)
+brings_copy from z c T v mark s h y later d = brings_there from z c T v mark s h y d later
+
+-- of a type without functions it is without brackets the value itself, in every program
+pub first_order : (from : Mode) (z : World) (c : Home) (T : Typ) (v : Value) (mark s : Bytes) → IsString from z c T v mark s → has_function (bare z.environment T) ≡ false → (y : World) → IsCoherent y.environment →
+    (d : Home) (F : Environment) (copy : Mode → Value) (w : BareValue) → arrival y d T s ≡ Brings F copy w → (w ≡ bare_value c v) × ((now : Mode) → bare_value d (copy now) ≡ bare_value c v)
+first_order from z c T v mark s h flat y coherent d F copy w q = (same_there, λ now. rebuilt_alike now y d T s F copy w q ∙ same_there)
   where
     same : (u : PValue) (g : ℕ → ℕ) → u ≡ value_renumbered g (packed z.environment c v T) → unpacked u ≡ bare_value c v
     same u g e =
@@ -124,8 +128,11 @@ first_order from z c T v mark s h flat y later d F copy w q = by (landing y.envi
     by (Sinks o) p r = absurd cc
     by (Lands G u) p r =
         let e : unpacked u ≡ w = cc in
-        let l = lands_so from z c T v mark s h y later d G u p in
+        let l = lands_so from z c T v mark s h y d coherent G u p in
         sym e ∙ same u l.number_of l.is_value
+
+    same_there : w ≡ bare_value c v
+    same_there = by (landing y.environment T s) refl q
 
 -- a definition's namesake among later definitions has its text
 pub one_text : (E F : Environment) → Grows E F → (f : ℕ → ℕ) (j : ℕ) (a b : Bytes) → HasNamesake E F f j → text_of_entry E j ≡ Some a → text_of_entry F (f j) ≡ Some b → a ≡ b

@@ -49,7 +49,7 @@ pub fn marshals_a_value()
 /// home and in each mode a string brings a copy of the value of which marshal gave it. Else it is
 /// refused as full or for want of a link. A copy speaks of definitions of the same names. Where two
 /// of one name have texts, these are the same. Of a type without functions it is without brackets
-/// the value itself.
+/// the value itself, in every program that accepts it.
 pub fn copy_is_read()
     ensures copied { (mode : Mode) (z : World) (c : Home) (T : Typ) (v : Value) (mark s : Bytes) →
         IsString mode z c T v mark s → (y : World) → Grows z.environment y.environment →
@@ -58,9 +58,10 @@ pub fn copy_is_read()
         HasNamesake E F f j → text_of_entry E j ≡ Some a → text_of_entry F (f j) ≡ Some b → a ≡ b }
     ensures first_order { (mode : Mode) (z : World) (c : Home) (T : Typ) (v : Value)
         (mark s : Bytes) → IsString mode z c T v mark s →
-        has_function (bare z.environment T) ≡ false → (y : World) →
-        Grows z.environment y.environment → (d : Home) (F : Environment) (copy : Mode → Value)
-        (w : BareValue) → arrival y d T s ≡ Brings F copy w → w ≡ bare_value c v }
+        has_function (bare z.environment T) ≡ false → (y : World) → IsCoherent y.environment →
+        (d : Home) (F : Environment) (copy : Mode → Value) (w : BareValue) →
+        arrival y d T s ≡ Brings F copy w → (w ≡ bare_value c v) ×
+        ((now : Mode) → bare_value d (copy now) ≡ bare_value c v) }
 {}
 
 /// In a home and at a type a value has at most one copy, for the numbers that definitions have
