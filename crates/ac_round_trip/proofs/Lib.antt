@@ -11,6 +11,7 @@ pub mod DataAgain
 pub mod DataCopies
 pub mod ComesBack
 pub mod NextMarshal
+pub mod Later
 pub mod NoneBegins
 mod CopyExamples
 pub mod OneCopy

@@ -47,13 +47,18 @@ pub fn marshals_a_value()
 
 /// What is read is what was marshalled, there and over all definitions that have come since. In any
 /// home and in each mode a string brings a copy of the value of which marshal gave it. Else it is
-/// refused as full or for want of a link. A copy speaks of definitions of the same names. Where two
-/// of one name have texts, these are the same. Of a type without functions it is without brackets
-/// the value itself, in every program that accepts it.
+/// refused as full or for want of a link. In a typed program's run each later state has such
+/// definitions. A copy speaks of definitions of the same names. Where two of one name have texts,
+/// these are the same. Of a type without functions it is without brackets the value itself, in
+/// every program that accepts it.
 pub fn copy_is_read()
     ensures copied { (mode : Mode) (z : World) (c : Home) (T : Typ) (v : Value) (mark s : Bytes) →
         IsString mode z c T v mark s → (y : World) → Grows z.environment y.environment →
         (d : Home) → BringsCopy z.environment c v d T (arrival y d T s) }
+    ensures later { (E : Environment) (e : Expr) (T : Typ) → IsTypedProgram E e T → (mode : Mode)
+        (input : Bytes) (sends : Bool) (N : ℕ) (t : Expr) (z : World) →
+        Leads (step mode N) (At e (fresh E input sends)) (At t z) → (u : Expr) (y : World) →
+        Leads (step mode N) (At t z) (At u y) → Grows z.environment y.environment }
     ensures one_text { (E F : Environment) → Grows E F → (f : ℕ → ℕ) (j : ℕ) (a b : Bytes) →
         HasNamesake E F f j → text_of_entry E j ≡ Some a → text_of_entry F (f j) ≡ Some b → a ≡ b }
     ensures first_order { (mode : Mode) (z : World) (c : Home) (T : Typ) (v : Value)
