@@ -35,24 +35,27 @@ use Rattle.ac_meaning.proofs.Admitted.{grows, rebuilt_alike}
 use Rattle.ac_meaning.proofs.ReadBack.{a_string, read_back_later}
 use Rattle.ac_meaning.proofs.RebuiltBare.{rebuilt_bare}
 use Rattle.ac_round_trip.specs.Copies.{HasNamesake, Copied}
-use Rattle.ac_round_trip.specs.Strings.{IsString, BringsCopy}
+use Rattle.ac_round_trip.specs.Strings.{IsString, number_over, BringsCopy}
 use Rattle.ac_round_trip.proofs.FineParts.{AllFine}
 use Rattle.ac_round_trip.proofs.Copying.{is_copied}
-use Rattle.ac_round_trip.proofs.Numbers.{number, all_placed}
+use Rattle.ac_round_trip.proofs.Numbers.{all_placed}
 use Rattle.ac_round_trip.proofs.Unpacked.{unpacked_packed}
 use Rattle.ac_round_trip.proofs.NoParts.{no_numbers, no_parts}
 
 -- a packed value with its string, and other definitions
 module _ (E F : Environment) (before : IsCoherent E) (after : IsCoherent F) (mark : Bytes) (T : Typ) (v : PValue) (s : Bytes) (packable : IsPackable E T v) (made : marshalled E mark T v ≡ AString s) where
-  found : (m : ℕ) × (mark_at E mark ≡ Some m) × Spells s (packet_for E m T v) × IsExcused (cause sha256 E (packet_for E m T v) T)
+  pub found : (m : ℕ) × (mark_at E mark ≡ Some m) × Spells s (packet_for E m T v) × IsExcused (cause sha256 E (packet_for E m T v) T)
   found = marshal_round_trip E mark T v s before packable made
 
-  abbrev p : Packet
+  abbrev pub p : Packet
   p = packet_for E found.0 T v
+
+  abbrev pub number_of : ℕ → ℕ
+  number_of j = placed_number (places sha256 F p.defs).1 (place_in (needed_by E found.0 (roots_of E T v)) j)
 
   -- the value over the definitions then
   pub record Landed (G : Environment) (u : PValue) : Type 0 where
-    pub number_of : ℕ → ℕ
+    pub is_there : G ≡ (places sha256 F p.defs).0
     pub is_value : u ≡ value_renumbered number_of v
     pub fine : AllFine E G number_of (value_parts v)
 
@@ -62,7 +65,7 @@ module _ (E F : Environment) (before : IsCoherent E) (after : IsCoherent F) (mar
       let a : (places sha256 F p.defs).0 ≡ G = cc in
       let b : value_there sha256 F p ≡ u = cc in
       subst₂ Landed a b (record {
-        number_of = number E before found.0 T v packable F after found.2.fits e;
+        is_there = refl;
         is_value = value_twice (place_in (needed_by E found.0 (roots_of E T v))) (placed_number (places sha256 F p.defs).1) v;
         fine = all_placed E before found.0 T v packable F after found.2.fits e;
       })
@@ -90,29 +93,36 @@ module _ (from : Mode) (z : World) (c : Home) (T : Typ) (v : Value) (mark s : By
   abbrev w : PValue
   w = packed E c v T
 
+  abbrev mark_number : Grows E y.environment → ℕ
+  mark_number later = (found E y.environment h.coherent later.after mark T w s h.packable (made_of h)).0
+
   -- what lands, and from there what is brought
   lands_so : (after : IsCoherent y.environment) (G : Environment) (u : PValue) → landing y.environment T s ≡ Lands G u → Landed E y.environment h.coherent after mark T w s h.packable (made_of h) G u
   lands_so after G u q = landed E y.environment h.coherent after mark T w s h.packable (made_of h) G u q
 
-  brings : Grows E y.environment → (l : Landing) → landing y.environment T s ≡ l → BringsCopy E c v d T (brought d T l)
+  brings : (later : Grows E y.environment) (l : Landing) → landing y.environment T s ≡ l → BringsCopy E (mark_number later) c T v y.environment d (brought d T l)
   brings later (Sinks x) q = subst IsReadBack q (read_back_later E y.environment later mark T w s h.packable (made_of h))
   brings later (Lands G u) q =
       let l = lands_so later.after G u q in
       let g : Grows E G = grows_on E y.environment G later (grows y.environment T s G u later.after q) in (
         g,
-        l.number_of,
+        l.is_there,
         λ mode. (
-          subst (λ x. Copied mode E G l.number_of c v d T (rebuilt mode G d T x)) (sym l.is_value)
-              (is_copied from mode E G g.extends l.number_of v c d T (view from E c T) h.packable.type_known h.typed h.packable.value_holds h.packable.value_fits l.fine),
+          subst (λ x. Copied mode E G (number_over E (mark_number later) c T v y.environment) c v d T (rebuilt mode G d T x)) (sym l.is_value)
+              (is_copied from mode E G g.extends (number_over E (mark_number later) c T v y.environment) v c d T (view from E c T) h.packable.type_known h.typed h.packable.value_holds h.packable.value_fits l.fine),
           rebuilt_bare mode G u d T,
         ),
       )
 
-  brings_there : Grows E y.environment → BringsCopy E c v d T (arrival y d T s)
+  brings_there : (later : Grows E y.environment) → BringsCopy E (mark_number later) c T v y.environment d (arrival y d T s)
   brings_there later = brings later (landing y.environment T s) refl
 
-pub brings_copy : (from : Mode) (z : World) (c : Home) (T : Typ) (v : Value) (mark s : Bytes) → IsString from z c T v mark s → (y : World) → Grows z.environment y.environment → (d : Home) → BringsCopy z.environment c v d T (arrival y d T s)
-brings_copy from z c T v mark s h y later d = brings_there from z c T v mark s h y d later
+pub brings_copy : (from : Mode) (z : World) (c : Home) (T : Typ) (v : Value) (mark s : Bytes) → IsString from z c T v mark s → (y : World) → Grows z.environment y.environment →
+    (m : ℕ) × (mark_at z.environment mark ≡ Some m) × ((d : Home) → BringsCopy z.environment m c T v y.environment d (arrival y d T s))
+brings_copy from z c T v mark s h y later = (mark_found.0, mark_found.1, λ d. brings_there from z c T v mark s h y d later)
+  where
+    mark_found : (m : ℕ) × (mark_at z.environment mark ≡ Some m) × Spells s (packet_for z.environment m T (packed z.environment c v T)) × IsExcused (cause sha256 z.environment (packet_for z.environment m T (packed z.environment c v T)) T)
+    mark_found = found z.environment y.environment h.coherent later.after mark T (packed z.environment c v T) s h.packable (made_of h)
 
 -- of a type without functions it is without brackets the value itself, in every program
 pub first_order : (from : Mode) (z : World) (c : Home) (T : Typ) (v : Value) (mark s : Bytes) → IsString from z c T v mark s → has_function (bare z.environment T) ≡ false → (y : World) → IsCoherent y.environment →
@@ -129,7 +139,7 @@ first_order from z c T v mark s h flat y coherent d F copy w q = (same_there, λ
     by (Lands G u) p r =
         let e : unpacked u ≡ w = cc in
         let l = lands_so from z c T v mark s h y d coherent G u p in
-        sym e ∙ same u l.number_of l.is_value
+        sym e ∙ same u (number_of z.environment y.environment h.coherent coherent mark T (packed z.environment c v T) s h.packable (made_of h)) l.is_value
 
     same_there : w ≡ bare_value c v
     same_there = by (landing y.environment T s) refl q

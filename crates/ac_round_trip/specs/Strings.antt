@@ -1,10 +1,13 @@
 -- The string that marshal gives of a value, and what it brings where it is read.
 use Rattle.std.specs.Prelude.{◌≡◌, ◌⊎◌, ℕ, false, [], codes}
+use Rattle.sha2.specs.Sha256.{sha256}
 use Rattle.ac_types.specs.Types.{Bytes, Typ, has_function, mentions}
 use Rattle.ac_terms.specs.Terms.{Home, Main, Expr, Str, Marshal, Unmarshal, Evaluated, Value, VStr}
-use Rattle.ac_terms.specs.Defs.{Environment}
+use Rattle.ac_terms.specs.Defs.{Environment, Packet}
 use Rattle.ac_rules.specs.Views.{Mode, Coloured, view}
 use Rattle.ac_rules.specs.Plain.{packed}
+use Rattle.ac_rules.specs.Needed.{needed_by, roots_of, place_in, packet_for}
+use Rattle.ac_rules.specs.Packets.{placed_number, places}
 use Rattle.ac_rules.specs.Coherent.{IsCoherent}
 use Rattle.ac_rules.specs.RoundTrip.{IsPackable}
 use Rattle.ac_rules.specs.Growth.{Grows}
@@ -23,10 +26,21 @@ pub record IsString (mode : Mode) (z : World) (c : Home) (T : Typ) (v : Value) (
   pub packable : IsPackable z.environment T (packed z.environment c v T)
   pub gives : marshal_step z c T (VStr mark) v ≡ Turns (with_crossing (Made s) z) (Str s)
 
--- the definitions have grown, and in each mode a copy of v is brought to home d. Without its brackets it is what is brought without brackets. Or the string is refused as full or for want of a link
-abbrev pub BringsCopy : (E : Environment) (c : Home) (v : Value) (d : Home) (T : Typ) → Arrival → Type 0
-BringsCopy E c v d T (Unfit x) = (x ≡ unmarshal_failure_exn (codes "full")) ⊎ ((name : Bytes) × (x ≡ resolve_failure_exn name))
-BringsCopy E c v d T (Brings F copy w) = Grows E F × (f : ℕ → ℕ) × ((mode : Mode) → Copied mode E F f c v d T (copy mode) × (bare_value d (copy mode) ≡ w))
+-- of a value of home c at type T, marshalled over E by the mark of number m
+module _ (E : Environment) (m : ℕ) (c : Home) (T : Typ) (v : Value) where
+  -- the packet that its string spells
+  abbrev pub packet_of_value : Packet
+  packet_of_value = packet_for E m T (packed E c v T)
+
+  -- the number of definition j of E where that packet has been placed over F
+  abbrev pub number_over : Environment → ℕ → ℕ
+  number_over F j = placed_number (places sha256 F packet_of_value.defs).1 (place_in (needed_by E m (roots_of E T (packed E c v T))) j)
+
+  -- over F the packet's definitions are placed, and in each mode a copy of v is brought to home d. Without its brackets it is what is brought without brackets. Or the string is refused as full or for want of a link
+  abbrev pub BringsCopy : (F : Environment) (d : Home) → Arrival → Type 0
+  BringsCopy F d (Unfit x) = (x ≡ unmarshal_failure_exn (codes "full")) ⊎ ((name : Bytes) × (x ≡ resolve_failure_exn name))
+  BringsCopy F d (Brings G copy w) =
+      Grows E G × (G ≡ (places sha256 F packet_of_value.defs).0) × ((mode : Mode) → Copied mode E G (number_over F) c v d T (copy mode) × (bare_value d (copy mode) ≡ w))
 
 -- a type without functions and abstract types
 pub record IsData (T : Typ) : Type 0 where

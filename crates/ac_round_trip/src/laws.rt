@@ -54,7 +54,8 @@ pub fn marshals_a_value()
 pub fn copy_is_read()
     ensures copied { (mode : Mode) (z : World) (c : Home) (T : Typ) (v : Value) (mark s : Bytes) →
         IsString mode z c T v mark s → (y : World) → Grows z.environment y.environment →
-        (d : Home) → BringsCopy z.environment c v d T (arrival y d T s) }
+        (m : ℕ) × (mark_at z.environment mark ≡ Some m) × ((d : Home) →
+        BringsCopy z.environment m c T v y.environment d (arrival y d T s)) }
     ensures later { (E : Environment) (e : Expr) (T : Typ) → IsTypedProgram E e T → (mode : Mode)
         (input : Bytes) (sends : Bool) (N : ℕ) (t : Expr) (z : World) →
         Leads (step mode N) (At e (fresh E input sends)) (At t z) → (u : Expr) (y : World) →
