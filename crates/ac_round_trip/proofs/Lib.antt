@@ -4,6 +4,7 @@ pub mod Copying
 pub mod Numbers
 pub mod Unpacked
 pub mod NoParts
+pub mod Refused
 pub mod WhatIsRead
 pub mod DataTypes
 pub mod DataStrings

@@ -25,20 +25,21 @@ use Rattle.ac_rules.proofs.Placing.{entry_text_old}
 use Rattle.ac_rules.proofs.Composed.{value_twice}
 use Rattle.ac_rules.proofs.Growth.{grows_on}
 use Rattle.ac_rules.proofs.RoundTrip.{marshal_round_trip}
-use Rattle.ac_meaning.specs.Worlds.{World, Made, with_crossing}
+use Rattle.ac_meaning.specs.Worlds.{Exception, World, Made, with_crossing}
 use Rattle.ac_meaning.specs.Acts.{Turns}
 use Rattle.ac_meaning.specs.BareTerms.{BareValue, bare_value, unpacked}
 use Rattle.ac_meaning.specs.Packing.{Packing, CannotPack, Packs, packing, packs, Landing, Sinks, Lands, admitted, received, landing, Brings, brought, arrival}
 use Rattle.ac_meaning.specs.Rebuilding.{rebuilt}
 use Rattle.ac_meaning.specs.ReadBack.{IsReadBack}
 use Rattle.ac_meaning.proofs.Admitted.{grows, rebuilt_alike}
-use Rattle.ac_meaning.proofs.ReadBack.{a_string, read_back_later}
+use Rattle.ac_meaning.proofs.ReadBack.{a_string}
 use Rattle.ac_meaning.proofs.RebuiltBare.{rebuilt_bare}
 use Rattle.ac_round_trip.specs.Copies.{HasNamesake, Copied}
 use Rattle.ac_round_trip.specs.Strings.{IsString, number_over, BringsCopy}
 use Rattle.ac_round_trip.proofs.FineParts.{AllFine}
 use Rattle.ac_round_trip.proofs.Copying.{is_copied}
 use Rattle.ac_round_trip.proofs.Numbers.{all_placed}
+use Rattle.ac_round_trip.proofs.Refused.{refused}
 use Rattle.ac_round_trip.proofs.Unpacked.{unpacked_packed}
 use Rattle.ac_round_trip.proofs.NoParts.{no_numbers, no_parts}
 
@@ -69,6 +70,10 @@ module _ (E F : Environment) (before : IsCoherent E) (after : IsCoherent F) (mar
         is_value = value_twice (place_in (needed_by E found.0 (roots_of E T v))) (placed_number (places sha256 F p.defs).1) v;
         fine = all_placed E before found.0 T v packable F after found.2.fits e;
       })
+
+  pub sinks : (x : Exception) → landing F T s ≡ Sinks x → admitted F p (cause sha256 F p T) ≡ Sinks x
+  unfolding landing
+  sinks x q = sym (ap (received F T) (spelled_is_read s p found.2)) ∙ q
 
   pub landed : (G : Environment) (u : PValue) → landing F T s ≡ Lands G u → Landed G u
   unfolding landing
@@ -101,7 +106,7 @@ module _ (from : Mode) (z : World) (c : Home) (T : Typ) (v : Value) (mark s : By
   lands_so after G u q = landed E y.environment h.coherent after mark T w s h.packable (made_of h) G u q
 
   brings : (later : Grows E y.environment) (l : Landing) → landing y.environment T s ≡ l → BringsCopy E (mark_number later) c T v y.environment d (brought d T l)
-  brings later (Sinks x) q = subst IsReadBack q (read_back_later E y.environment later mark T w s h.packable (made_of h))
+  brings later (Sinks x) q = refused E y.environment later (mark_number later) T w h.packable x (sinks E y.environment h.coherent later.after mark T w s h.packable (made_of h) x q)
   brings later (Lands G u) q =
       let l = lands_so later.after G u q in
       let g : Grows E G = grows_on E y.environment G later (grows y.environment T s G u later.after q) in (

@@ -1,17 +1,19 @@
 -- The string that marshal gives of a value, and what it brings where it is read.
-use Rattle.std.specs.Prelude.{◌≡◌, ◌⊎◌, ℕ, false, [], codes}
+use Rattle.std.specs.Prelude.{◌≡◌, ◌⊎◌, ℕ, ◌<◌, false, [], length, Some, None, codes, slice_get}
 use Rattle.sha2.specs.Sha256.{sha256}
+use Rattle.ac_types.specs.Limits.{most_entries}
 use Rattle.ac_types.specs.Types.{Bytes, Typ, has_function, mentions}
 use Rattle.ac_terms.specs.Terms.{Home, Main, Expr, Str, Marshal, Unmarshal, Evaluated, Value, VStr}
-use Rattle.ac_terms.specs.Defs.{Environment, Packet}
+use Rattle.ac_terms.specs.Defs.{Environment, Import, AnImport, Packet}
 use Rattle.ac_rules.specs.Views.{Mode, Coloured, view}
 use Rattle.ac_rules.specs.Plain.{packed}
+use Rattle.ac_rules.specs.Links.{linked, InPacket}
 use Rattle.ac_rules.specs.Needed.{needed_by, roots_of, place_in, packet_for}
 use Rattle.ac_rules.specs.Packets.{placed_number, places}
 use Rattle.ac_rules.specs.Coherent.{IsCoherent}
 use Rattle.ac_rules.specs.RoundTrip.{IsPackable}
 use Rattle.ac_rules.specs.Growth.{Grows}
-use Rattle.ac_meaning.specs.Worlds.{Made, Read, World, with_crossing}
+use Rattle.ac_meaning.specs.Worlds.{Exception, Made, Read, World, with_crossing}
 use Rattle.ac_meaning.specs.Acts.{Turns, Returned, At, Over, Leads}
 use Rattle.ac_meaning.specs.Reduction.{step}
 use Rattle.ac_meaning.specs.BareTerms.{bare_value}
@@ -36,9 +38,15 @@ module _ (E : Environment) (m : ℕ) (c : Home) (T : Typ) (v : Value) where
   abbrev pub number_over : Environment → ℕ → ℕ
   number_over F j = placed_number (places sha256 F packet_of_value.defs).1 (place_in (needed_by E m (roots_of E T (packed E c v T))) j)
 
-  -- over F the packet's definitions are placed, and in each mode a copy of v is brought to home d. Without its brackets it is what is brought without brackets. Or the string is refused as full or for want of a link
+  -- why the string is refused over F: there is no room for the packet's definitions, or an import among them has no link
+  abbrev pub IsRefused : (F : Environment) → Exception → Type 0
+  IsRefused F x =
+      ((most_entries < length (places sha256 F packet_of_value.defs).0) × (x ≡ unmarshal_failure_exn (codes "full"))) ⊎
+      ((k : ℕ) × (i : Import) × (slice_get packet_of_value.defs k ≡ Some (AnImport i)) × (linked F i InPacket ≡ None) × (x ≡ resolve_failure_exn i.name))
+
+  -- over F the packet's definitions are placed, and in each mode a copy of v is brought to home d. Without its brackets it is what is brought without brackets. Or the string is refused so
   abbrev pub BringsCopy : (F : Environment) (d : Home) → Arrival → Type 0
-  BringsCopy F d (Unfit x) = (x ≡ unmarshal_failure_exn (codes "full")) ⊎ ((name : Bytes) × (x ≡ resolve_failure_exn name))
+  BringsCopy F d (Unfit x) = IsRefused F x
   BringsCopy F d (Brings G copy w) =
       Grows E G × (G ≡ (places sha256 F packet_of_value.defs).0) × ((mode : Mode) → Copied mode E G (number_over F) c v d T (copy mode) × (bare_value d (copy mode) ≡ w))
 

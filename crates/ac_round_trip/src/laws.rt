@@ -46,11 +46,11 @@ pub fn marshals_a_value()
 {}
 
 /// What is read is what was marshalled, there and over all definitions that have come since. In any
-/// home and in each mode a string brings a copy of the value of which marshal gave it. Else it is
-/// refused as full or for want of a link. In a typed program's run each later state has such
-/// definitions. A copy speaks of definitions of the same names. Where two of one name have texts,
-/// these are the same. Of a type without functions it is without brackets the value itself, in
-/// every program that accepts it.
+/// home and in each mode a string brings a copy of the value of which marshal gave it. Else there
+/// is no room for its definitions, or an import among them has no link, and the exception says
+/// which. In a typed program's run each later state has such definitions. A copy speaks of
+/// definitions of the same names. Where two of one name have texts, these are the same. Of a type
+/// without functions it is without brackets the value itself, in every program that accepts it.
 pub fn copy_is_read()
     ensures copied { (mode : Mode) (z : World) (c : Home) (T : Typ) (v : Value) (mark s : Bytes) →
         IsString mode z c T v mark s → (y : World) → Grows z.environment y.environment →
