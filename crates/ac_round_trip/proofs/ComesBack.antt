@@ -21,7 +21,7 @@ use Rattle.ac_meaning.specs.Typed.{ValueTyped}
 use Rattle.ac_meaning.proofs.Admitted.{arrives}
 use Rattle.ac_meaning.proofs.PackedAlike.{packed_alike}
 use Rattle.ac_meaning.proofs.RebuiltBare.{rebuilt_bare}
-use Rattle.ac_round_trip.specs.Strings.{IsString, IsData, BringsAgain, there_and_back, given_and_read, ComesBackThere}
+use Rattle.ac_round_trip.specs.Strings.{IsString, IsData, BringsAgain, there_and_back, given_and_read, ComesBackIn, BareComesBackIn, ComesBackThere}
 use Rattle.ac_round_trip.proofs.WhatIsRead.{packing_of, made_of}
 use Rattle.ac_round_trip.proofs.Unpacked.{unpacked_packed}
 use Rattle.ac_round_trip.proofs.DataTypes.{data_known}
@@ -82,6 +82,26 @@ module _ (mode : Mode) (z : World) (c : Home) (T : Typ) (v : Value) (mark s : By
 
         pub same_string : marshal_step y d T (VStr other) (b.again now) ≡ Turns (with_crossing (Made s) y) (Str s)
         same_string = ap (λ x. packs y (packing y T other x)) packed_same ∙ ap (packs y) packs_again
+
+-- what `unmarshal (marshal MARK v : T) as T` becomes in a home
+module _ (mode : Mode) (z : World) (c : Home) (T : Typ) (v : Value) (mark s : Bytes) (h : IsString mode z c T v mark s) (is_data : IsData T) where
+  abbrev back : BringsAgain z.environment c v (with_crossing (Made s) z) c T s
+  back = comes_back mode z c T v mark s h is_data (with_crossing (Made s) z) h.coherent c
+
+  pub comes_back_in : ComesBackIn mode z c T v mark s
+  comes_back_in = (
+    back.again mode,
+    back.is_copy mode,
+    back.same mode,
+    ap (part (Unmarshal T) (unmarshal_step mode z c T)) h.gives,
+    ap (brings mode (given_and_read z s) T) back.brings,
+  )
+
+  pub bare_comes_back_in : BareComesBackIn z c T v mark s
+  bare_comes_back_in = (
+    ap (part (BUnmarshal T) (bare_unmarshal_step z c T)) (bare_gives mode z c T v mark s h),
+    ap (bare_brings (given_and_read z s) T) back.brings,
+  )
 
 -- the steps of `unmarshal (marshal MARK v : T) as T` in the main program
 module _ (z : World) (T : Typ) (v : Value) (mark s : Bytes) where

@@ -15,8 +15,9 @@ use Rattle.ac_rules.specs.RoundTrip.{IsPackable}
 use Rattle.ac_rules.specs.Growth.{Grows}
 use Rattle.ac_meaning.specs.Worlds.{Exception, Made, Read, World, with_crossing}
 use Rattle.ac_meaning.specs.Acts.{Turns, Returned, At, Over, Leads}
-use Rattle.ac_meaning.specs.Reduction.{step}
-use Rattle.ac_meaning.specs.BareTerms.{bare_value}
+use Rattle.ac_meaning.specs.Reduction.{look, step}
+use Rattle.ac_meaning.specs.BareReduction as lean
+use Rattle.ac_meaning.specs.BareTerms.{BStr, BUnmarshal, BVal, bare_term, bare_value}
 use Rattle.ac_meaning.specs.Typed.{ValueTyped}
 use Rattle.ac_meaning.specs.Packing.{marshal_step, Arrival, Unfit, Brings, arrival, unmarshal_failure_exn, resolve_failure_exn}
 use Rattle.ac_round_trip.specs.Copies.{Copied}
@@ -69,6 +70,19 @@ there_and_back T mark v = Unmarshal T (Marshal T (Str mark) (Evaluated T v))
 -- in the world z the string was given, and then read
 abbrev pub given_and_read : World → Bytes → World
 given_and_read z s = with_crossing (Read s) (with_crossing (Made s) z)
+
+-- in home c it becomes the unmarshal of the string, and this becomes a copy, which is v but for those types
+abbrev pub ComesBackIn : (mode : Mode) (z : World) (c : Home) (T : Typ) (v : Value) (mark s : Bytes) → Type 0
+ComesBackIn mode z c T v mark s =
+    (w : Value) × Copied mode z.environment z.environment (λ j. j) c v c T w × (bare_value c w ≡ bare_value c v) ×
+    (look mode z c (there_and_back T mark v) ≡ Turns (with_crossing (Made s) z) (Unmarshal T (Str s))) ×
+    (look mode (with_crossing (Made s) z) c (Unmarshal T (Str s)) ≡ Turns (given_and_read z s) (Evaluated T w))
+
+-- likewise without brackets, where it becomes v
+abbrev pub BareComesBackIn : (z : World) (c : Home) (T : Typ) (v : Value) (mark s : Bytes) → Type 0
+BareComesBackIn z c T v mark s =
+    (lean.look z c (bare_term c (there_and_back T mark v)) ≡ Turns (with_crossing (Made s) z) (BUnmarshal T (BStr s))) ×
+    (lean.look (with_crossing (Made s) z) c (BUnmarshal T (BStr s)) ≡ Turns (given_and_read z s) (BVal T (bare_value c v)))
 
 -- in the main program it gives v again: in Coloured mode v itself, in Plain mode a copy, which is v but for those types
 abbrev pub ComesBackThere : (mode : Mode) (N : ℕ) (z : World) (T : Typ) (v : Value) (mark s : Bytes) → Type 0

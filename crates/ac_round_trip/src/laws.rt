@@ -27,7 +27,7 @@ ghost use Rattle.ac_meaning.specs.Packing.{Brings, arrival, marshal_step, bare_m
 ghost use Rattle.ac_meaning.specs.ReadBack.{Marshals};
 ghost use Rattle.ac_meaning.specs.Laws.{IsTypedProgram};
 ghost use Rattle.ac_round_trip.specs.Copies.{HasNamesake, Copied};
-ghost use Rattle.ac_round_trip.specs.Strings.{IsString, BringsCopy, IsData, BringsAgain, there_and_back, given_and_read, ComesBackThere};
+ghost use Rattle.ac_round_trip.specs.Strings.{IsString, BringsCopy, IsData, BringsAgain, there_and_back, given_and_read, ComesBackIn, BareComesBackIn, ComesBackThere};
 ghost use Rattle.ac_round_trip.specs.Beginnings.{NoneBegins};
 
 /// Let a typed program be within the bounds of its spelling. What it marshals, in any state of its
@@ -77,14 +77,18 @@ pub fn one_copy()
         Copied mode E F f c v d T w → Copied mode E F f c v d T x → w ≡ x }
 {}
 
-/// Let T be a type without functions and abstract types. Where marshal gives a string,
-/// `unmarshal (marshal MARK v : T) as T` gives v again. In Plain mode the types that empty lists
-/// and missing options carry may differ. To every home of every program the string brings v, but
-/// for those types, and no definition. Marshalled there at any mark, v is that string again.
+/// Let T be a type without functions and abstract types. Where marshal gives a string, `unmarshal
+/// (marshal MARK v : T) as T` gives v again, in each home. In Plain mode, or in a module, the types
+/// that empty lists and missing options carry may differ. To every home of every program the string
+/// brings v, but for those types, and no definition. Marshalled there at any mark, v is that string
+/// again.
 pub fn data_comes_back()
     ensures anywhere { (mode : Mode) (z : World) (c : Home) (T : Typ) (v : Value)
         (mark s : Bytes) → IsString mode z c T v mark s → IsData T → (y : World) →
         IsCoherent y.environment → (d : Home) → BringsAgain z.environment c v y d T s }
+    ensures in_each_home { (mode : Mode) (z : World) (c : Home) (T : Typ) (v : Value)
+        (mark s : Bytes) → IsString mode z c T v mark s → IsData T →
+        ComesBackIn mode z c T v mark s × BareComesBackIn z c T v mark s }
     ensures there { (mode : Mode) (z : World) (T : Typ) (v : Value) (mark s : Bytes) →
         IsString mode z Main T v mark s → IsData T → (N : ℕ) →
         ComesBackThere mode N z T v mark s × Leads (lean.step N)
