@@ -40,14 +40,14 @@ module _ (E : Environment) (m : ℕ) (c : Home) (T : Typ) (v : Value) where
   number_over F j = placed_number (places sha256 F packet_of_value.defs).1 (place_in (needed_by E m (roots_of E T (packed E c v T))) j)
 
   -- why the string is refused over F: there is no room for the packet's definitions, or an import among them has no link
-  abbrev pub IsRefused : (F : Environment) → Exception → Type 0
-  IsRefused F x =
+  abbrev pub HasReason : (F : Environment) → Exception → Type 0
+  HasReason F x =
       ((most_entries < length (places sha256 F packet_of_value.defs).0) × (x ≡ unmarshal_failure_exn (codes "full"))) ⊎
       ((k : ℕ) × (i : Import) × (slice_get packet_of_value.defs k ≡ Some (AnImport i)) × (linked F i InPacket ≡ None) × (x ≡ resolve_failure_exn i.name))
 
   -- over F the packet's definitions are placed, and in each mode a copy of v is brought to home d. Without its brackets it is what is brought without brackets. Or the string is refused so
   abbrev pub BringsCopy : (F : Environment) (d : Home) → Arrival → Type 0
-  BringsCopy F d (Unfit x) = IsRefused F x
+  BringsCopy F d (Unfit x) = HasReason F x
   BringsCopy F d (Brings G copy w) =
       Grows E G × (G ≡ (places sha256 F packet_of_value.defs).0) × ((mode : Mode) → Copied mode E G (number_over F) c v d T (copy mode) × (bare_value d (copy mode) ≡ w))
 

@@ -120,7 +120,7 @@ pub fn none_begins()
 {}
 
 /// Likewise where each type is spelled by its number in one table: for the table's types, and for
-/// what nests 500 deep at most.
+/// what nests no deeper than a packet may.
 pub fn none_begins_by_table()
     ensures types { (table : List Typ) → length table < 2 ^ 32 →
         NoneBegins (is_among table) (numbered table) }
