@@ -1,5 +1,5 @@
 -- Laws of lists that share their tails.
-use Rattle.std.proofs.Common.{◌≡◌, ◌⊎◌, inl, inr, ℕ, zero, suc, ◌<◌, ◌≤◌, ◌+◌, List, [], ◌∷◌, ◌++◌, Some, None, slice_get, length, get_or, take, refl, sym, ap, arith, length-append, subst, ◌-◌, ◌∙◌}
+use Rattle.std.proofs.Common.{◌≡◌, ◌⊎◌, inl, inr, ℕ, zero, suc, ◌<◌, ◌≤◌, ◌+◌, List, [], ◌∷◌, ◌++◌, Some, None, slice_get, slice_set, length, get_or, take, refl, sym, ap, arith, length-append, subst, ◌-◌, ◌∙◌}
 use Rattle.ac_values.specs.declared.chain.Cell.{Cell}
 use Rattle.ac_values.proofs.BuiltLaws.{built-push, length-built, built-keeps, built-at, built-take}
 use Rattle.ac_values.specs.Building.{built}
@@ -75,10 +75,67 @@ slice_get_take (x ∷ xs) (suc n) (suc k) c e = slice_get_take xs n k c e
 pub earlier_take : {T : Type 0} (cs : List (Cell T)) (n : ℕ) → AreEarlier cs → AreEarlier (take n cs)
 earlier_take cs n o k c e = o k c (slice_get_take cs n k c e)
 
-pub ruleset push_laws = (lists_push, length_lists, earlier_push, length_pushed)
+taken : {A : Type 0} (xs : List A) (n : ℕ) → n ≤ length xs → length (take n xs) ≡ n
+taken [] zero h = refl
+taken [] (suc n) h = absurd (omega arith)
+taken (x ∷ xs) zero h = refl
+taken (x ∷ xs) (suc n) h = ap suc (taken xs n (omega arith))
 
-pub ruleset top_laws = (list_zero, none_past, cell_at, length_lists)
+pub counted : {T : Type 0} (cs : List (Cell T)) (n : ℕ) → n ≤ length cs → length (lists (take n cs)) ≡ n + 1
+counted cs n h = let l = length_lists (take n cs) in let m = taken cs n h in omega (arith, l, m)
 
-pub ruleset len_laws = (list_zero, length_lists)
+pub item_of_taken : {A : Type 0} (xs : List A) (n k : ℕ) → k < n → slice_get (take n xs) k ≡ slice_get xs k
+item_of_taken [] zero k h = absurd (omega arith)
+item_of_taken [] (suc n) k h = refl
+item_of_taken (x ∷ xs) zero k h = absurd (omega arith)
+item_of_taken (x ∷ xs) (suc n) zero h = refl
+item_of_taken (x ∷ xs) (suc n) (suc k) h = item_of_taken xs n k (omega arith)
 
-pub ruleset truncate_laws = (lists_take, earlier_take)
+take_again : {A : Type 0} (xs : List A) (m n : ℕ) → m ≤ n → take m (take n xs) ≡ take m xs
+take_again [] zero zero h = refl
+take_again [] zero (suc n) h = refl
+take_again [] (suc m) zero h = absurd (omega arith)
+take_again [] (suc m) (suc n) h = refl
+take_again (x ∷ xs) zero zero h = refl
+take_again (x ∷ xs) zero (suc n) h = refl
+take_again (x ∷ xs) (suc m) zero h = absurd (omega arith)
+take_again (x ∷ xs) (suc m) (suc n) h = ap (λ l. x ∷ l) (take_again xs m n (omega arith))
+
+take_all : {A : Type 0} (xs : List A) (n : ℕ) → length xs ≤ n → take n xs ≡ xs
+take_all [] zero h = refl
+take_all [] (suc n) h = refl
+take_all (x ∷ xs) zero h = absurd (omega arith)
+take_all (x ∷ xs) (suc n) h = ap (λ l. x ∷ l) (take_all xs n (omega arith))
+
+-- fewer lists are those of fewer cells
+pub fewer : {T : Type 0} (cs : List (Cell T)) (n k : ℕ) → 0 < k → k - 1 < n → lists (take (k - 1) cs) ≡ take k (lists (take n cs))
+fewer cs n k h l = ap lists (sym (take_again cs (k - 1) n (omega arith))) ∙ lists_take (take n cs) k h
+
+pub no_fewer : {T : Type 0} (cs : List (Cell T)) (n k : ℕ) → n ≤ length cs → n ≤ k - 1 → 0 < k → lists (take n cs) ≡ take k (lists (take n cs))
+no_fewer cs n k m h l = sym (take_all (lists (take n cs)) k (let e = counted cs n m in omega (arith, e)))
+
+-- a cell behind all of them, and one in the place of another
+push_next : {T : Type 0} (cs : List T) (c : T) → take (suc (length cs)) (cs ++ c ∷ []) ≡ take (length cs) cs ++ c ∷ []
+push_next [] c = refl
+push_next (x ∷ xs) c = ap (λ l. x ∷ l) (push_next xs c)
+
+set_next : {T : Type 0} (cs : List T) (n : ℕ) (c : T) → n < length cs → take (suc n) (slice_set cs n c) ≡ take n cs ++ c ∷ []
+set_next [] n c h = absurd (omega arith)
+set_next (x ∷ xs) zero c h = refl
+set_next (x ∷ xs) (suc n) c h = ap (λ l. x ∷ l) (set_next xs n c (omega arith))
+
+pub take_set : {T : Type 0} (cs : List T) (n : ℕ) (c : T) → n < length cs → take (n + 1) (slice_set cs n c) ≡ take n cs ++ c ∷ []
+take_set cs n c h = let e : n + 1 ≡ suc n = omega arith in ap (λ k. take k (slice_set cs n c)) e ∙ set_next cs n c h
+
+pub take_pushed : {T : Type 0} (cs ds : List T) (n : ℕ) (c : T) → ds ≡ cs ++ c ∷ [] → n ≡ length cs → take (n + 1) ds ≡ take n cs ++ c ∷ []
+take_pushed cs ds n c d e = let f : n + 1 ≡ suc (length cs) = omega (arith, e) in ap (λ l. take (n + 1) l) d ∙ ap (λ k. take k (cs ++ c ∷ [])) f ∙ push_next cs c ∙ ap (λ k. take k cs ++ c ∷ []) (sym e)
+
+pub ruleset write_laws = (take_set, take_pushed)
+
+pub ruleset push_laws = (lists_push, length_lists, earlier_push, length_pushed, counted)
+
+pub ruleset top_laws = (list_zero, none_past, cell_at, length_lists, counted, item_of_taken)
+
+pub ruleset len_laws = (list_zero, length_lists, counted)
+
+pub ruleset truncate_laws = (fewer, no_fewer, earlier_take, lists_take)

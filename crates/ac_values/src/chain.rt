@@ -1,6 +1,6 @@
 // Lists that share their tails: stacks, frames and handlers.
 
-ghost use Rattle.std.specs.Prelude.{◌≡◌, ◌++◌, ◌∷◌, [], ◌<◌, length, get_or, take, slice_get, OnOk, OnErr, IfOk, MatchOption};
+ghost use Rattle.std.specs.Prelude.{◌≡◌, ◌++◌, ◌∷◌, [], ◌+◌, ◌<◌, ◌≤◌, length, get_or, take, slice_get, OnOk, OnErr, IfOk, MatchOption};
 ghost use Rattle.std.specs.Option.{option_copied};
 
 use ac_types::Memory;
@@ -14,19 +14,21 @@ struct Cell<T> {
     below: usize,
 }
 
-/// Lists that share their tails, each with a number. List 0 is empty.
+/// Lists that share their tails, each with a number. List 0 is empty, and cells past the count are
+/// to be written over.
 pub struct SharedLists<T> {
     cells: Vec<Cell<T>>,
+    count: usize,
 }
 
 impl<T: Drop> Drop for SharedLists<T> {
     fn drop(self) {
-        let SharedLists { cells: _ } = self;
+        let SharedLists { cells: _, count: _ } = self;
     }
 }
 
 impl<T> Model for SharedLists<T> {
-    ghost use Rattle.std.specs.Prelude.{List};
+    ghost use Rattle.std.specs.Prelude.{List, length, take, ◌≤◌};
     ghost use Rattle.std.specs.Coded.{coded_list};
 
     ghost Value = { List (List T) };
@@ -35,9 +37,10 @@ impl<T> Model for SharedLists<T> {
 
     ghost use Rattle.ac_values.specs.inner.Chains.{lists, AreEarlier};
 
-    ghost view = { λ c. lists c.cells.items };
+    ghost view = { λ c. lists (take c.count c.cells.items) };
 
-    ghost invariant = { λ c. AreEarlier c.cells.items };
+    ghost invariant = { λ c. (c.count ≤ length c.cells.items) ×
+        AreEarlier (take c.count c.cells.items) };
 }
 
 impl<T: Copy> SharedLists<T> {
@@ -48,6 +51,7 @@ impl<T: Copy> SharedLists<T> {
     {
         SharedLists {
             cells: Vec::new(alloc),
+            count: 0,
         }
     }
 
@@ -57,20 +61,25 @@ impl<T: Copy> SharedLists<T> {
         ensures count { result ≡ length self.now }
         ensures first { get_or self.now 0 [] ≡ [] }
     {
-        let cells = &self.cells;
-        cells.len() + 1
+        let cells = self.cells.len();
+        prove!(self.count <= cells);
+        self.count + 1
     }
 
     /// Gives back all lists but the first so many.
+    #[inline(always)]
     #[tactic(auto, using(crate::proofs::ChainLaws::truncate_laws))]
     pub fn truncate(&mut self, count: usize)
         requires { 0 < count }
         ensures { self.new ≡ take count self.old }
     {
-        self.cells.truncate(count - 1);
+        if count - 1 < self.count {
+            self.count = count - 1;
+        }
     }
 
     /// One more list: an item on an older one.
+    #[inline(always)]
     #[tactic(auto, using(crate::proofs::ChainLaws::push_laws))]
     pub fn push(&mut self, item: T, below: usize) -> Result<usize, Memory>
         requires { below < length self.old }
@@ -78,11 +87,13 @@ impl<T: Copy> SharedLists<T> {
         ensures number { IfOk result (λ n. n ≡ length self.old) }
         ensures err { OnErr result (self.new ≡ self.old) }
     {
-        self.cells.push(Cell { item, below })?;
-        Ok(self.cells.len())
+        write(&mut self.cells, self.count, Cell { item, below })?;
+        self.count += 1;
+        Ok(self.count)
     }
 
     /// The newest item of a list, and the number of the rest.
+    #[inline(always)]
     #[tactic(auto, using(crate::proofs::ChainLaws::top_laws))]
     pub fn top(&self, number: usize) -> Option<(T, usize)>
         requires { number < length self.now }
@@ -104,4 +115,40 @@ fn cell_of<T>(cells: &Vec<Cell<T>>, i: usize) -> Option<&Cell<T>>
     ensures { option_copied result ≡ slice_get cells.now.items i }
 {
     cells.get(i)
+}
+
+// So many cells are made at once.
+const MORE: usize = 1024;
+
+// Makes room for more cells.
+#[cold]
+#[inline(never)]
+fn grow<T: Copy>(cells: &mut Vec<Cell<T>>, cell: Cell<T>) -> Result<(), Memory>
+    ensures ok { OnOk result (take (length cells.old.items) cells.new.items ≡ cells.old.items) }
+    ensures more { OnOk result (length cells.old.items < length cells.new.items) }
+    ensures err { OnErr result (cells.new.items ≡ cells.old.items) }
+{
+    let count = cells.len();
+    if count > usize::MAX - MORE {
+        return Err(Memory);
+    }
+    cells.resize(count + MORE, cell)?;
+    Ok(())
+}
+
+// Writes a cell behind the first so many.
+#[inline(always)]
+#[tactic(auto, using(crate::proofs::ChainLaws::write_laws))]
+fn write<T: Copy>(cells: &mut Vec<Cell<T>>, count: usize, cell: Cell<T>) -> Result<(), Memory>
+    requires { count ≤ length cells.old.items }
+    ensures ok { OnOk result (take (count + 1) cells.new.items ≡ take count cells.old.items ++
+        cell ∷ []) }
+    ensures within { OnOk result (count < length cells.new.items) }
+    ensures err { OnErr result (cells.new.items ≡ cells.old.items) }
+{
+    if count >= cells.len() {
+        grow(cells, cell)?;
+    }
+    cells[count] = cell;
+    Ok(())
 }

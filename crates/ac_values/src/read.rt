@@ -35,6 +35,7 @@ pub fn int_in(store: &Store, v: Value) -> Option<i64>
 }
 
 /// Entry i of a list of values.
+#[inline(always)]
 pub fn entry(store: &Store, list: Value, i: usize) -> Option<Value>
     ensures { MatchOption result (entry i (stands_as store.now list.0) ≡ None)
         (λ v. (v.0 < length store.now) × (entry i (stands_as store.now list.0) ≡ Some

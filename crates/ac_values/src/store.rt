@@ -53,6 +53,7 @@ impl Store {
 
     /// One more node, whose parts have smaller numbers; its number. Nothing changes where memory
     /// ran out.
+    #[inline(always)]
     pub fn push(&mut self, node: Node) -> Result<Value, Memory>
         requires { Below (length self.old) node }
         ensures ok { OnOk result (self.new ≡ self.old ++ node ∷ []) }
