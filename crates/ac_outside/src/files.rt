@@ -157,6 +157,8 @@ impl Files for MemoryFiles {
 
     ghost reads_on = { λ _ _ _ _ h k. (k.0 ∙ h.0, k.1 ∙ h.1) };
 
+    ghost writes = { λ _ a b. b.reads ≡ a.reads };
+
     /// `Failed` comes exactly for the writes that are to fail, which change nothing.
     fn create(&mut self, name: &str) -> Put
         ensures bytes { Created result (file_contents self.old.files name.now)
@@ -169,7 +171,7 @@ impl Files for MemoryFiles {
         ensures fails { (result ≡ Put.Failed) ↔ Contains self.old.writes.fail self.old.writes.made }
         ensures made { self.new.writes.made ≡ risen self.old.writes.made }
         ensures planned { self.new.writes.fail ≡ self.old.writes.fail }
-        ensures reads { self.new.reads ≡ self.old.reads }
+        ensures writes { self.new.reads ≡ self.old.reads }
         ensures unchanged { result ≡ Put.Failed → self.new.files ≡ self.old.files }
     {
         if self.writes.next_fails() {
@@ -194,7 +196,7 @@ impl Files for MemoryFiles {
         ensures fails { (result ≡ Put.Failed) ↔ Contains self.old.writes.fail self.old.writes.made }
         ensures made { self.new.writes.made ≡ risen self.old.writes.made }
         ensures planned { self.new.writes.fail ≡ self.old.writes.fail }
-        ensures reads { self.new.reads ≡ self.old.reads }
+        ensures writes { self.new.reads ≡ self.old.reads }
         ensures unchanged { result ≡ Put.Failed → self.new.files ≡ self.old.files }
     {
         if self.writes.next_fails() {

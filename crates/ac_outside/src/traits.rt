@@ -153,6 +153,9 @@ pub trait Files {
     ghost reads_on: { (name : List ℕ) (a b c : Self) → reads name a b → reads name b c →
         reads name a c };
 
+    /// What holds of the files before a create or an append of a name and after it.
+    ghost writes: { List ℕ → Self → Self → Type 0 };
+
     /// Makes a file empty.
     fn create(&mut self, name: &str) -> Put
         ensures bytes { IsTrue told → Created result (contents self.old name.now)
@@ -161,7 +164,8 @@ pub trait Files {
         ensures cause { result ≡ Put.Failed →
             Rose (write_faults self.old name.now) (write_faults self.new name.now) }
         ensures later { NeverFall (read_faults self.old) (read_faults self.new) }
-        ensures later_writes { NeverFall (write_faults self.old) (write_faults self.new) };
+        ensures later_writes { NeverFall (write_faults self.old) (write_faults self.new) }
+        ensures writes { writes name.now self.old self.new };
 
     /// Adds bytes at the end of a file, which it makes first where it is missing.
     fn append(&mut self, name: &str, bytes: &[u8]) -> Put
@@ -171,5 +175,6 @@ pub trait Files {
         ensures cause { result ≡ Put.Failed →
             Rose (write_faults self.old name.now) (write_faults self.new name.now) }
         ensures later { NeverFall (read_faults self.old) (read_faults self.new) }
-        ensures later_writes { NeverFall (write_faults self.old) (write_faults self.new) };
+        ensures later_writes { NeverFall (write_faults self.old) (write_faults self.new) }
+        ensures writes { writes name.now self.old self.new };
 }

@@ -91,6 +91,8 @@ impl<'a, R: std::rt::Files<File = File>> Files for RealFiles<'a, R> {
 
     ghost reads_on = { λ _ _ _ _ first second. second ∙ first };
 
+    ghost writes = { λ _ a b. b.0 ≡ a.0 };
+
     fn create(&mut self, name: &str) -> Put {
         let made = self.writers.create(&self.rt, name, &self.readers);
         put(made, &mut self.write_faults)

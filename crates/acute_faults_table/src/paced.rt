@@ -118,6 +118,8 @@ impl Files for PacedFiles {
 
     ghost reads_on = { λ _ _ _ _ _ _. tt };
 
+    ghost writes = { λ _ _ _. ⊤ };
+
     fn create(&mut self, name: &str) -> Put {
         self.files.create(name)
     }

@@ -26,6 +26,8 @@ impl Files for NoFiles {
 
     ghost reads_on = { λ _ _ _ _ _ _. tt };
 
+    ghost writes = { λ _ _ _. ⊤ };
+
     fn create(&mut self, _name: &str) -> Put {
         Put::Failed
     }

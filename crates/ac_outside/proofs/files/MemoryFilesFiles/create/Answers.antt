@@ -15,8 +15,8 @@ returns-then-next_fails-clause-made c = c.count_failed.ensures.made ∙ c.next_f
 pub returns-then-next_fails-clause-planned : goal.returns-then-next_fails-clause-planned
 returns-then-next_fails-clause-planned c = c.count_failed.ensures.fail ∙ c.next_fails.ensures.fail ∙ ap (λ (s : Filed). s.writes.fail) c.self.view_is
 
-pub returns-then-next_fails-clause-reads : goal.returns-then-next_fails-clause-reads
-returns-then-next_fails-clause-reads c = ap (λ (s : Filed). s.reads) c.self.view_is
+pub returns-then-next_fails-clause-writes : goal.returns-then-next_fails-clause-writes
+returns-then-next_fails-clause-writes c = ap (λ (s : Filed). s.reads) c.self.view_is
 
 pub returns-then-next_fails-clause-unchanged : goal.returns-then-next_fails-clause-unchanged
 returns-then-next_fails-clause-unchanged c = λ failed. ap (λ (s : Filed). s.files) c.self.view_is
