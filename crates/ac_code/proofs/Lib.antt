@@ -1,3 +1,4 @@
 pub mod TableLaws
 pub mod CaseLaws
 pub mod ConstantExamples
+pub mod ContextLaws

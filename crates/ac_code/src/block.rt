@@ -1,16 +1,17 @@
 // Blocks of instructions.
 
+use crate::context::Context;
 use crate::instr::Instr;
 use ac_terms::{Home, Term};
-use ac_types::{Many, Ty};
+use ac_types::Many;
 
 /// A block of code.
 pub struct Block {
     pub home: Home,
     /// The lambda that the block was made from.
     pub lambda: Option<Term>,
-    /// The types of the variables around that lambda, the newest first.
-    pub context: Many<Ty>,
+    /// The types of the variables around that lambda.
+    pub context: Context,
     pub instrs: Many<Instr>,
 }
 

@@ -3,9 +3,13 @@
 
 mod block;
 mod cases;
+mod context;
 mod instr;
+mod shared;
 mod table;
 
 pub use block::Block;
+pub use context::{Context, Variables};
 pub use instr::{CodeId, Instr};
+pub use shared::Shared;
 pub use table::CodeTable;

@@ -1,6 +1,5 @@
--- The reading of the forms of terms that have arms, and of scopes.
-use Rattle.std.proofs.Common.{◌≡◌, ◌∙◌, ap, sym, Bor, List, [], ◌∷◌, ◌++◌, map, reverse}
-use Rattle.ac_types.specs.Types.{Typ}
+-- The reading of forms of terms, where their parts are known by equations.
+use Rattle.std.proofs.Common.{◌≡◌, ◌∙◌, ap, sym, List, map}
 use Rattle.ac_types.specs.ReadTypes.{typ_of}
 use Rattle.ac_types.specs.declared.ty.Ty.{Ty}
 use Rattle.ac_terms.specs.declared.term.Term.{Term}
@@ -9,30 +8,7 @@ use Rattle.ac_terms.specs.declared.term.Arm.{Arm}
 use Rattle.ac_terms.specs.Terms.{Lam, Rec, If, Match, Try, arms}
 use Rattle.ac_terms.specs.Read.{expr_of, arm_of}
 use Rattle.ac_terms.proofs.TermForms.{expr_of-Lam, expr_of-Rec, expr_of-If, expr_of-Match, expr_of-Try}
-use Rattle.ac_generate.specs.inner.CodeScopes.{types_of, types_step}
-use Rattle.ac_generate.specs.declared.scope.CodeScope.{CodeScope, out-CodeScope, map-CodeScope, fold_out-CodeScope}
-use Rattle.ac_generate.specs.declared.scope.CodeScope.TheOpen.{CodeScope-F}
-use Rattle.ac_generate.specs.declared.scope.CodeScope.TheVariants as scope
 
-abbrev scope_layer : CodeScope-F CodeScope → List Typ
-scope_layer x = types_step (map-CodeScope CodeScope (List Typ) types_of x)
-
-scope_out : (s : CodeScope) → types_of s ≡ scope_layer (out-CodeScope s)
-unfolding types_of
-scope_out s = fold_out-CodeScope (List Typ) types_step s
-
-pub types_of-Empty : types_of scope.Empty ≡ []
-types_of-Empty = scope_out scope.Empty ∙ ap scope_layer scope.outs-Empty
-
-pub types_of-Variable : (outer : Bor CodeScope) (t : Bor Ty) → types_of (scope.Variable outer t) ≡ typ_of t.now ∷ types_of outer.now
-types_of-Variable outer t = scope_out (scope.Variable outer t) ∙ ap scope_layer (scope.outs-Variable outer t)
-
-pub types_of-Variables : (outer : Bor CodeScope) (ts : Bor (List Ty)) → types_of (scope.Variables outer ts) ≡ reverse (map typ_of ts.now) ++ types_of outer.now
-types_of-Variables outer ts = scope_out (scope.Variables outer ts) ∙ ap scope_layer (scope.outs-Variables outer ts)
-
-pub ruleset scope_forms = (types_of-Empty, types_of-Variable, types_of-Variables)
-
--- the forms, where their parts are known by equations
 pub lam_is : (e : Term) (t : Ty) (b b' : Term) → e ≡ term.Lam t b → b' ≡ b → expr_of e ≡ Lam (typ_of t) (expr_of b')
 lam_is e t b b' is h = ap expr_of is ∙ expr_of-Lam t b ∙ ap (λ x. Lam (typ_of t) (expr_of x)) (sym h)
 

@@ -4,8 +4,6 @@ use Rattle.std.proofs.lemmas.List.{map-append, length-map, append-nil}
 use Rattle.std.proofs.Math.Seq.{take-append_seam}
 use Rattle.std.specs.Prelude.{option_map, option_and_then, slice_get}
 use Rattle.ac_types.specs.Types.{Typ}
-use Rattle.ac_types.specs.ReadTypes.{typ_of}
-use Rattle.ac_types.specs.declared.ty.Ty.{Ty}
 use Rattle.ac_terms.specs.declared.term.Home as code_home
 use Rattle.ac_terms.specs.declared.def.Entry as code_entry
 use Rattle.ac_terms.specs.declared.env.Env as code_env
@@ -16,10 +14,12 @@ use Rattle.ac_terms.specs.Terms.{Home, In, Expr, PValue}
 use Rattle.ac_terms.specs.Defs.{Module, Def, Entry, Environment, module_of, module_at}
 use Rattle.ac_terms.specs.Read.{home_of, def_of_code, entry_of, environment_of}
 use Rattle.ac_code.specs.declared.block.Block as code_block
+use Rattle.ac_code.specs.declared.context.Context.TheVariants as context
 use Rattle.ac_code.specs.declared.instr.CodeId.{CodeId}
 use Rattle.ac_code.specs.Code.{Instr, Block, Code}
 use Rattle.ac_code.specs.Table.{Table, appended, first_blocks, placed, with_fields}
 use Rattle.ac_code.specs.ReadCode.{instr_of, block_of, table_code, block_id}
+use Rattle.ac_code.proofs.ContextLaws.{context_of-Empty}
 use Rattle.ac_generate.specs.inner.Drafts.{Draft, draft_of, wrote, wrote_value}
 use Rattle.ac_generate.specs.Generate.{code, blocks, value_code, value_blocks}
 use Rattle.ac_generate.specs.Generated.{own_block, ending, with_blocks, generated, block_number, value_number, fields_generated, field_numbers, entry_generated, KeepsBlocks}
@@ -60,11 +60,11 @@ entry_code i K o = elim o [
 abbrev pub fresh : ℕ → Draft
 fresh n = record { first = n; instrs = []; blocks = [] }
 
-pub whole_stored : (t0 t1 : Table) (bs all : List code_block.Block) (h : code_home.Home) (types : List Ty) (is xs : List code_instr.Instr) (last : code_instr.Instr) → all ≡ bs ++ record { home = h; lambda = None; context = types; instrs = is } ∷ [] →
-    types ≡ [] → is ≡ xs ++ last ∷ [] → t1 ≡ appended all t0 → table_code t1 ≡ with_blocks (map block_of bs ++ own_block (home_of h) (map instr_of xs ++ instr_of last ∷ []) ∷ []) (table_code t0)
-whole_stored t0 t1 bs all h types is xs last ha ht hi h1 =
-    stored t0 t1 bs all (record { home = h; lambda = None; context = types; instrs = is }) ha h1
-    ∙ ap₂ (λ (ts : List Typ) (l : List Instr). with_blocks (map block_of bs ++ record { home = home_of h; lambda = None; context = ts; instrs = l } ∷ []) (table_code t0)) (ap (map typ_of) ht) (ap (map instr_of) hi ∙ map-append instr_of xs (last ∷ []))
+pub whole_stored : (t0 t1 : Table) (bs all : List code_block.Block) (h : code_home.Home) (is xs : List code_instr.Instr) (last : code_instr.Instr) → all ≡ bs ++ record { home = h; lambda = None; context = context.Empty; instrs = is } ∷ [] →
+    is ≡ xs ++ last ∷ [] → t1 ≡ appended all t0 → table_code t1 ≡ with_blocks (map block_of bs ++ own_block (home_of h) (map instr_of xs ++ instr_of last ∷ []) ∷ []) (table_code t0)
+whole_stored t0 t1 bs all h is xs last ha hi h1 =
+    stored t0 t1 bs all (record { home = h; lambda = None; context = context.Empty; instrs = is }) ha h1
+    ∙ ap₂ (λ (ts : List Typ) (l : List Instr). with_blocks (map block_of bs ++ record { home = home_of h; lambda = None; context = ts; instrs = l } ∷ []) (table_code t0)) context_of-Empty (ap (map instr_of) hi ∙ map-append instr_of xs (last ∷ []))
 
 pub if_ok : {A E : Type 0} {P Q : A → Type 0} (r : Result A E) → ((a : A) → P a → Q a) → IfOk r P → IfOk r Q
 if_ok (Ok a) f h = f a h

@@ -18,11 +18,9 @@ use Rattle.ac_terms.proofs.ReadLaws.{read_parts, expr_out}
 use Rattle.ac_terms.proofs.TermReading.{expr_of-injective}
 use Rattle.ac_terms.specs.Spelling.{term_count, value_count}
 use Rattle.ac_generate.specs.inner.Drafts.{Draft, wrote_value}
-use Rattle.ac_types.proofs.SizeLaws.{typ_of-Fun}
 use Rattle.ac_terms.proofs.TermForms.{expr_of-Lam, expr_of-Rec}
 use Rattle.ac_terms.proofs.ValueForms.{value_forms}
 use Rattle.ac_terms.proofs.TermForms.{term_forms}
-use Rattle.ac_generate.proofs.FormLaws.{scope_forms}
 use Rattle.ac_generate.proofs.DraftLaws as draft
 use Rattle.ac_generate.proofs.JumpLaws.{wrote_no_arms, wrote_more_arms, arm_address, after_arm}
 
@@ -47,10 +45,10 @@ not_lambda h t d nl nr x is = draft.nothing_more d
 pub plain_written : (h : Home) (t : Term) (d : Draft) → ((ty : Ty) (b : Term) → t ≡ term.Lam ty b → ⊥) → ((ty u : Ty) (b : Term) → t ≡ term.Rec ty u b → ⊥) → d ≡ wrote_value (KFun h (expr_of t)) d
 plain_written h t d nl nr = sym (ap (λ e. wrote_value (KFun h e) d) (expr_out t) ∙ not_lambda h t d nl nr (out-Term t) refl)
 
-pub ruleset term_laws = (term_forms, typ_of-Fun, scope_forms, draft.draft_laws, count_terms)
+pub ruleset term_laws = (term_forms, draft.draft_laws, count_terms)
 
 pub ruleset all_laws = (draft.list_laws, common_steps)
 
-pub ruleset arm_laws = (wrote_no_arms, wrote_more_arms, arm_address, after_arm, scope_forms, common_steps)
+pub ruleset arm_laws = (wrote_no_arms, wrote_more_arms, arm_address, after_arm, common_steps)
 
-pub ruleset value_laws = (term_forms, value_forms, typ_of-Fun, scope_forms, draft.value_laws, count_values, common_steps)
+pub ruleset value_laws = (term_forms, value_forms, draft.value_laws, count_values, common_steps)

@@ -6,7 +6,6 @@ use Rattle.ac_code.specs.Code as instr
 use Rattle.ac_generate.specs.inner.Drafts.{Draft, put, put_all}
 use Rattle.ac_generate.specs.Sizes.{unbind}
 use Rattle.ac_terms.proofs.PatternForms.{pattern_forms}
-use Rattle.ac_generate.proofs.FormLaws.{scope_forms}
 
 pub ruleset writer_laws = (append-nil, map-append, map-set, set_past)
 
@@ -17,7 +16,7 @@ pub map_reverse : {A B : Type 0} (f : A → B) (xs : List A) → map f (reverse 
 map_reverse f [] = refl
 map_reverse f (x ∷ xs) = ap (map f) (reverse_cons x xs) ∙ map-append f (reverse xs) (x ∷ []) ∙ ap (λ ys. ys ++ f x ∷ []) (map_reverse f xs) ∙ sym (reverse_cons (f x) (map f xs))
 
-pub ruleset scope_laws = (scope_forms, append-nil, append_assoc, map-append, reverse-append, reverse-reverse, reverse_cons, map_reverse)
+pub ruleset scope_laws = (append-nil, append_assoc, map-append, reverse-append, reverse-reverse, reverse_cons, map_reverse)
 
 pub ruleset pattern_laws = (pattern_forms, append-nil, append_assoc, map-append, common_steps)
 

@@ -24,7 +24,7 @@ pub fn generate_entries(
     ensures { OnOk result (table_code table.new ≡ entries_generated (environment_of env.now) first
         (drop first (environment_of env.now)) (table_code table.old)) }
 {
-    for i in first..env.entries.len() {
+    for i in first..env.len() {
         generate_entry(alloc, env, i as u32, table)?;
     }
     Ok(())

@@ -6,9 +6,8 @@ ghost use Rattle.ac_code.specs.ReadCode.{instr_of, table_code, block_id};
 ghost use Rattle.ac_generate.specs.inner.Drafts.{draft_of};
 ghost use Rattle.ac_generate.specs.Generated.{own_block, ending, with_blocks, generated, block_number, value_generated, value_number, fields_generated, field_numbers, entry_generated, KeepsBlocks};
 
-use crate::scope::CodeScope;
 use crate::writer::Writer;
-use ac_code::{Block, CodeId, CodeTable, Instr};
+use ac_code::{Block, CodeId, CodeTable, Context, Instr};
 use ac_terms::{Def, Env, Field, Home, PVal, Term};
 use ac_types::{Many, Memory};
 use std::alloc::Global;
@@ -32,7 +31,8 @@ pub fn generate(
     ensures err { OnErr result (table.new ≡ table.old) }
 {
     let mut writer = Writer::new(alloc, table.len());
-    writer.term(home, &CodeScope::Empty, term)?;
+    let outside = Context::Empty;
+    writer.term(home, term, &outside)?;
     writer.store(home, ending(home), table)
 }
 
@@ -145,7 +145,7 @@ impl Writer {
         ensures err { OnErr result (table.new ≡ table.old) }
     {
         let Writer {
-            alloc,
+            alloc: _,
             first: _,
             mut finished,
             mut instrs,
@@ -154,7 +154,7 @@ impl Writer {
         finished.push(Block {
             home,
             lambda: None,
-            context: Many::new(alloc),
+            context: Context::Empty,
             instrs: Many::from_vec(instrs),
         })?;
         table.append(finished)?;

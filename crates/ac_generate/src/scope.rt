@@ -1,66 +1,56 @@
 // The variables around a term.
 
-ghost use Rattle.std.specs.Prelude.{◌≡◌, ◌++◌, map, reverse, OnOk, IfOk};
+ghost use Rattle.std.specs.Prelude.{◌≡◌, ◌++◌, ◌∷◌, map, reverse, OnOk, IfOk};
 ghost use Rattle.ac_types.specs.ReadTypes.{typ_of};
 ghost use Rattle.ac_types.specs.Types.{TFun};
 ghost use Rattle.ac_terms.specs.Read.{pattern_of};
 ghost use Rattle.ac_terms.specs.Terms.{patterns};
 ghost use Rattle.ac_terms.specs.Parts.{pattern_types, all_pattern_types};
-ghost use Rattle.ac_generate.specs.inner.CodeScopes.{types_of};
+ghost use Rattle.ac_code.specs.Contexts.{context_of};
 
+use ac_code::Context;
 use ac_terms::Pat;
 use ac_types::{Many, Memory, Ty, both, function_type};
 use std::alloc::Global;
 
-/// The variables around a term, each with its type.
-#[derive(Clone, Copy)]
-pub enum CodeScope<'a> {
-    /// None.
-    Empty,
-    /// One that is newer than the others.
-    Variable(&'a CodeScope<'a>, &'a Ty),
-    /// Some that are newer than the others, of which the last is the newest.
-    Variables(&'a CodeScope<'a>, &'a [Ty]),
+/// The context inside of one variable more.
+pub fn with_one(alloc: Global, scope: &Context, ty: &Ty) -> Result<Context, Memory>
+    ensures { IfOk result (λ c. context_of c ≡ typ_of ty.now ∷ context_of scope.now) }
+{
+    let ty = ty.copy(alloc)?;
+    within(alloc, scope, ty)
 }
 
-/// The types of the variables, the newest first.
-#[tactic(auto, using(crate::proofs::WriterLaws::scope_laws))]
-pub fn context(alloc: Global, scope: &CodeScope) -> Result<Many<Ty>, Memory>
-    ensures { IfOk result (λ c. map typ_of c ≡ types_of scope.now) }
+/// The context inside of a variable for a function of these types.
+pub fn with_function(alloc: Global, scope: &Context, from: &Ty, to: &Ty) -> Result<Context, Memory>
+    ensures { IfOk result (λ c. context_of c ≡ TFun (typ_of from.now) (typ_of to.now) ∷
+        context_of scope.now) }
 {
-    let mut types = Vec::new(alloc);
-    add_types(alloc, scope, &mut types)?;
+    let (from, to) = both(from.copy(alloc), to.copy(alloc))?;
+    let context = within(alloc, scope, function_type(alloc, from, to)?)?;
+    Ok(context)
+}
+
+// The context inside of one variable more, of that type.
+fn within(alloc: Global, scope: &Context, ty: Ty) -> Result<Context, Memory>
+    ensures { IfOk result (λ c. context_of c ≡ typ_of ty ∷ context_of scope.now) }
+{
+    let mut types = Vec::with_capacity(alloc, 1)?;
+    types.push(ty)?;
+    let context = scope.with(alloc, Many::from_vec(types))?;
+    Ok(context)
+}
+
+/// The context inside of more variables, of which the last is the newest.
+#[tactic(auto, using(crate::proofs::WriterLaws::scope_laws))]
+pub fn with_all(alloc: Global, scope: &Context, types: Vec<Ty>) -> Result<Context, Memory>
+    ensures { IfOk result (λ c. context_of c ≡ reverse (map typ_of types.items) ++ context_of
+        scope.now) }
+{
+    let mut types = types;
     types.reverse();
-    Ok(Many::from_vec(types))
-}
-
-// Appends the types of the variables, the oldest first.
-#[tactic(auto, using(crate::proofs::WriterLaws::scope_laws))]
-fn add_types(alloc: Global, scope: &CodeScope, types: &mut Vec<Ty>) -> Result<(), Memory>
-    ensures { OnOk result (map typ_of types.new.items ≡ map typ_of types.old.items ++ reverse
-        (types_of scope.now)) }
-{
-    match scope {
-        CodeScope::Empty => Ok(()),
-        CodeScope::Variable(outer, ty) => {
-            add_types(alloc, outer, types)?;
-            types.push(ty.copy(alloc)?)?;
-            Ok(())
-        }
-        CodeScope::Variables(outer, newer) => {
-            add_types(alloc, outer, types)?;
-            add_copies(alloc, newer, types)
-        }
-    }
-}
-
-fn add_copies(alloc: Global, newer: &[Ty], types: &mut Vec<Ty>) -> Result<(), Memory>
-    ensures { OnOk result (types.new.items ≡ types.old.items ++ newer.now) }
-{
-    for ty in newer {
-        types.push(ty.copy(alloc)?)?;
-    }
-    Ok(())
+    let context = scope.with(alloc, Many::from_vec(types))?;
+    Ok(context)
 }
 
 /// The types of a pattern's variables, from left to right.
@@ -113,12 +103,4 @@ fn add_all_variables(alloc: Global, pats: &[Pat], types: &mut Vec<Ty>) -> Result
         add_variables(alloc, pat, types)?;
     }
     Ok(())
-}
-
-/// The type of the functions from the one type to the other, with copies of both.
-pub fn type_of_functions(alloc: Global, from: &Ty, to: &Ty) -> Result<Ty, Memory>
-    ensures { IfOk result (λ ty. typ_of ty ≡ TFun (typ_of from.now) (typ_of to.now)) }
-{
-    let (from, to) = both(from.copy(alloc), to.copy(alloc))?;
-    function_type(alloc, from, to)
 }

@@ -6,14 +6,13 @@ ghost use Rattle.ac_terms.specs.Terms.{KExn};
 ghost use Rattle.ac_types.specs.ReadTypes.{typ_of};
 ghost use Rattle.ac_terms.specs.Read.{home_of, expr_of, pattern_of, bytes_of};
 ghost use Rattle.ac_code.specs.Code.{PushStr, Ref, Marshal, Unmarshal, Test, Jump, MakeCons, Return};
+ghost use Rattle.ac_code.specs.Contexts.{context_of};
 ghost use Rattle.ac_code.specs.ReadCode.{instr_of, block_of};
 ghost use Rattle.ac_generate.specs.Sizes.{unbind};
 ghost use Rattle.ac_generate.specs.Generate.{lambda_block};
-ghost use Rattle.ac_generate.specs.inner.CodeScopes.{types_of};
 ghost use Rattle.ac_generate.specs.inner.Drafts.{draft_of, address, count, put, put_all, set_at, jumps_at, block_begun, block_ended, wrote_value};
 
-use crate::scope::{CodeScope, context};
-use ac_code::{Block, CodeId, Instr};
+use ac_code::{Block, CodeId, Context, Instr};
 use ac_terms::{Home, Pat, Term};
 use ac_types::{Exn, ExnKind, Many, Memory, Text, Ty, Word};
 use std::alloc::Global;
@@ -193,12 +192,12 @@ impl Writer {
         &mut self,
         before: Vec<Instr>,
         home: Home,
-        scope: &CodeScope,
+        scope: &Context,
         lambda: &Term,
     ) -> Result<CodeId, Memory>
         ensures number { IfOk result (λ id. id.0 ≡ count (draft_of self.old)) }
         ensures ok { OnOk result (draft_of self.new ≡ block_ended (home_of home)
-            (expr_of lambda.now) (types_of scope.now) (map instr_of before.items) (draft_of self.old)) }
+            (expr_of lambda.now) (context_of scope.now) (map instr_of before.items) (draft_of self.old)) }
     {
         let number = self.number()?;
         let written = mem::replace(&mut self.instrs, before);
@@ -234,15 +233,15 @@ fn put_at<T: Drop>(items: &mut Vec<T>, at: usize, item: T)
 fn lambda_block(
     alloc: Global,
     home: Home,
-    scope: &CodeScope,
+    scope: &Context,
     lambda: &Term,
     body: Vec<Instr>,
 ) -> Result<Block, Memory>
     ensures { IfOk result (λ b. block_of b ≡ lambda_block (home_of home) (expr_of lambda.now)
-        (types_of scope.now) (map instr_of body.items)) }
+        (context_of scope.now) (map instr_of body.items)) }
 {
     let instrs = returning(body)?;
-    let context = context(alloc, scope)?;
+    let context = scope.share()?;
     let lambda = lambda.copy(alloc)?;
     Ok(Block {
         home,

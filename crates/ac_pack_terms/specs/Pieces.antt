@@ -11,6 +11,7 @@ use Rattle.ac_terms.specs.Parts.{Portion, OfType, pattern_types, all_pattern_typ
 use Rattle.ac_terms.specs.Renumbered.{renumbered, all_renumbered, arms_renumbered, value_renumbered, values_renumbered}
 use Rattle.ac_check_views.specs.Sites.{typs_of}
 use Rattle.ac_code.specs.Code.{Code}
+use Rattle.ac_code.specs.Contexts.{types_left}
 use Rattle.ac_code.specs.ReadCode.{table_code}
 use Rattle.ac_values.specs.Values.{values, values_at, stands_as}
 use Rattle.ac_values.specs.declared.node.Value.{Value}
@@ -44,7 +45,7 @@ captured_in s None G = []
 captured_in s (Some list) G = environment_values (code_at s) (stands_as s.store.now list.0) G
 
 abbrev pub captured_at : PackContext → Around → BareWritten
-captured_at s a = captured_in s a.held (map typ_of a.context.now)
+captured_at s a = captured_in s a.held (types_left a.context)
 
 -- what comes in the place of a variable
 abbrev pub slot_at : PackContext → code_slot.Slot → Slot BareValue

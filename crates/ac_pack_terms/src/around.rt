@@ -1,8 +1,9 @@
 // The captured values around a term.
 
-ghost use Rattle.std.specs.Prelude.{◌≡◌, ◌+◌, ◌<◌, ◌^◌, suc, map, IfOk};
+ghost use Rattle.std.specs.Prelude.{◌≡◌, ◌+◌, ◌<◌, ◌^◌, suc, IfOk};
 ghost use Rattle.ac_types.specs.Types.{TInt};
 ghost use Rattle.ac_types.specs.ReadTypes.{typ_of};
+ghost use Rattle.ac_code.specs.Contexts.{types_left};
 ghost use Rattle.ac_values.specs.Values.{stands_as};
 ghost use Rattle.ac_meaning.specs.Substitution.{slot, slot_in};
 ghost use Rattle.ac_machine_meaning.specs.Stands.{environment_values};
@@ -11,6 +12,7 @@ ghost use Rattle.ac_pack_terms.specs.inner.Slots.{slot_under, later, newest_type
 
 use crate::piece::{Around, PackContext};
 use crate::shapes::sum;
+use ac_code::Variables;
 use ac_types::{Memory, Ty};
 use ac_values::Value;
 use ac_values::read::newest_and_rest;
@@ -60,7 +62,7 @@ impl<'a> Around<'a> {
 fn held_slot<'a>(
     site: &PackContext<'a>,
     list: Value,
-    context: &'a [Ty],
+    context: Variables<'a>,
     bound: u16,
     j: u16,
 ) -> Slot<'a>
@@ -68,7 +70,7 @@ fn held_slot<'a>(
     requires fits { bound + j < 2 ^ 16 }
     ensures { slot_at site.now result ≡ slot_under bound (slot_in
         (environment_values (code_at site.now) (stands_as site.now.store.now list.0)
-        (map typ_of context.now)) j) }
+        (types_left context.entry)) j) }
 {
     let mut rest = list;
     let mut types = context;
@@ -76,33 +78,33 @@ fn held_slot<'a>(
         match newest_and_rest(site.store, rest) {
             Some((_, older)) => {
                 rest = older;
-                types = later(types);
+                types = later(&types);
             }
             None => return Slot::Free(bound + (j - k)),
         }
     }
     match newest_and_rest(site.store, rest) {
-        Some((newest, _)) => Slot::Bound(newest, newest_type(site, types)),
+        Some((newest, _)) => Slot::Bound(newest, newest_type(site, &types)),
         None => Slot::Free(bound),
     }
 }
 
 /// The types behind the newest.
-pub fn later(types: &[Ty]) -> &[Ty]
-    ensures { map typ_of result.now ≡ later (map typ_of types.now) }
+pub fn later<'a>(types: &Variables<'a>) -> Variables<'a>
+    ensures { types_left result ≡ later (types_left types.now) }
 {
-    match types.split_first() {
-        None => types,
+    match types.next() {
+        None => *types,
         Some((_, rest)) => rest,
     }
 }
 
 /// The type of the newest variable.
-pub fn newest_type<'a>(site: &PackContext<'a>, types: &'a [Ty]) -> &'a Ty
+pub fn newest_type<'a>(site: &PackContext<'a>, types: &Variables<'a>) -> &'a Ty
     requires { typ_of site.now.int.now ≡ TInt }
-    ensures { typ_of result.now ≡ newest_type (map typ_of types.now) }
+    ensures { typ_of result.now ≡ newest_type (types_left types.now) }
 {
-    match types.split_first() {
+    match types.next() {
         None => site.int,
         Some((ty, _)) => ty,
     }

@@ -2,7 +2,7 @@
 
 ghost use Rattle.std.specs.Prelude.{◌≡◌, ◌+◌, get_or, IfOk};
 
-use ac_code::CodeTable;
+use ac_code::{CodeTable, Variables};
 use ac_terms::{Arm, Env, Home, PVal, Pat, Term};
 use ac_types::{Memory, Ty};
 use ac_values::{Store, Value};
@@ -29,8 +29,8 @@ pub struct Around<'a> {
     pub home: Home,
     /// The list of the captured values; there is none around a function of a packed value.
     pub held: Option<Value>,
-    /// Their types, the newest first.
-    pub context: &'a [Ty],
+    /// Their types.
+    pub context: Variables<'a>,
     /// How many variables are bound between the function's outside and the term.
     pub binders: usize,
 }

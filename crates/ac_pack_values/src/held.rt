@@ -17,7 +17,7 @@ ghost use Rattle.ac_pack_terms.specs.inner.Goes.{VisitsValue, VisitsValues};
 use crate::functions::function;
 use crate::lists::{items_in, shared};
 use ac_check_views::{head, list_item, option_item, tuple_parts};
-use ac_code::CodeId;
+use ac_code::{CodeId, Variables};
 use ac_pack_heads::{Stop, deeper};
 use ac_pack_terms::{Around, Piece, Walk};
 use ac_terms::tags;
@@ -164,7 +164,7 @@ fn closure<'a>(
     let around = Around {
         home: block.home,
         held: Some(env),
-        context: block.context.as_slice(),
+        context: Variables::new(&block.context),
         binders: 0,
     };
     function(walk, alloc, lambda, around, ty, d)

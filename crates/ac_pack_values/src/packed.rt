@@ -15,6 +15,7 @@ ghost use Rattle.ac_pack_terms.specs.inner.Goes.{VisitsValue, VisitsValues};
 use crate::functions::function;
 use crate::lists::shared;
 use ac_check_views::{head, list_item, option_item, tuple_parts};
+use ac_code::Variables;
 use ac_pack_heads::{Stop, deeper};
 use ac_pack_terms::{Around, Piece, Walk};
 use ac_terms::{Home, PVal, Term, tags};
@@ -146,7 +147,7 @@ fn packed_function<'a>(
     let around = Around {
         home,
         held: None,
-        context: &[],
+        context: Variables::none(),
         binders: 0,
     };
     function(walk, alloc, lambda, around, ty, d)

@@ -58,10 +58,10 @@ fn captured_types<'a>(
     let mut rest = list;
     let mut types = around.context;
     while let Some((_, older)) = newest_and_rest(site.store, rest) {
-        let ty = type_here(alloc, site.env, around.home, newest_type(site, types))?;
+        let ty = type_here(alloc, site.env, around.home, newest_type(site, &types))?;
         found.push(ty)?;
         rest = older;
-        types = later(types);
+        types = later(&types);
     }
     Ok(found)
 }

@@ -1,5 +1,5 @@
-use Rattle.std.proofs.Common.{◌≡◌, suc, ◌+◌, ◌-◌, ◌∙◌, sym, ap, map, arith}
-use Rattle.ac_types.specs.ReadTypes.{typ_of}
+use Rattle.std.proofs.Common.{◌≡◌, suc, ◌+◌, ◌-◌, ◌∙◌, sym, ap, arith}
+use Rattle.ac_code.specs.Contexts.{types_left}
 use Rattle.ac_meaning.specs.Substitution.{Free}
 use Rattle.ac_pack_terms.specs.Pieces.{code_at}
 use Rattle.ac_pack_terms.specs.inner.Slots.{slot_under}
@@ -15,14 +15,14 @@ returns-in-None c =
 pub loop-k-preserved : goal.loop-k-preserved
 loop-k-preserved c = λ m h.
     let i = c.loop-k.invariant (suc m) (omega arith) in
-    let f = slot_further (code_at c.args.site.now) _ _ _ (map typ_of c.loop-k.types.now) m c.in-Some.ensures.3 in
+    let f = slot_further (code_at c.args.site.now) _ _ _ (types_left c.loop-k.types) m c.in-Some.ensures.3 in
     let t = c.later-types.ensures in
     cc
 
 pub returns-in-Some-newest_and_rest : goal.returns-in-Some-newest_and_rest
 returns-in-Some-newest_and_rest c =
     let i = c.loop-k.invariant 0 (omega arith) in
-    let f = slot_here (code_at c.args.site.now) _ _ _ (map typ_of c.loop-k.types.now) c.in-Some-newest_and_rest.ensures.3 in
+    let f = slot_here (code_at c.args.site.now) _ _ _ (types_left c.loop-k.types) c.in-Some-newest_and_rest.ensures.3 in
     let t = c.newest_type.ensures in
     let r = ap (slot_under c.args.bound) (i ∙ f) in
     cc

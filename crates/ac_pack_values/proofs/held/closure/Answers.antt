@@ -3,7 +3,6 @@ use Rattle.std.specs.Prelude.{slice_get}
 use Rattle.std.proofs.lemmas.Option.{slice_get-map}
 use Rattle.ac_types.specs.Types.{Typ}
 use Rattle.ac_types.specs.ReadTypes.{typ_of}
-use Rattle.ac_types.specs.declared.ty.Ty.{Ty}
 use Rattle.ac_terms.specs.Bounds.{is_wanted}
 use Rattle.ac_terms.specs.Read.{home_of, expr_of}
 use Rattle.ac_rules.specs.Plain.{travelling}
@@ -31,6 +30,6 @@ returns c =
     let found : its ≡ Some (block_of b) = slice_get-map block_of s.table.now.blocks c.args.block.0 ∙ ap (option_map block_of) (sym c.in-Some.ensures) in
     let q : is_wanted l c.args.recursive ≡ true = cc in
     visits_value c.function.result c.args.d _ _ c.args.walk.now c.function.new.walk
-    (ap (λ (G : List Ty). travelling E h (bare_packed_term E (inst 0 (environment_values (code_at s) m (map typ_of G)) (bare_term h l))) T) c.as_slice.ensures
+    (ap (λ (G : List Typ). travelling E h (bare_packed_term E (inst 0 (environment_values (code_at s) m G) (bare_term h l))) T) c.new.ensures
     ∙ its_lambda E its (block_of b) l c.args.recursive (λ (G : List Typ). environment_values (code_at s) m G) T found (ap (option_map expr_of) c.in-Some-lambda.is) q)
     c.function.ensures

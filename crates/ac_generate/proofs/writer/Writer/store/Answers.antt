@@ -6,8 +6,8 @@ use Rattle.ac_generate.proofs.writer.Writer.store.Goals as goal
 pub returns-clause-ok : goal.returns-clause-ok
 unfolding draft_of
 returns-clause-ok c =
-    whole_stored c.args.table.now c.append.new.self c.args.self.finished.items c.push-2.new.self.items c.args.home c.new.result c.from_vec.result c.args.self.instrs.items c.args.last
-    c.in_ok-push-2.ensures.items c.new.ensures (c.from_vec.ensures ∙ c.in_ok-push.ensures.items) c.in_ok-append.ensures.ok
+    whole_stored c.args.table.now c.append.new.self c.args.self.finished.items c.push-2.new.self.items c.args.home c.from_vec.result c.args.self.instrs.items c.args.last
+    c.in_ok-push-2.ensures.items (c.from_vec.ensures ∙ c.in_ok-push.ensures.items) c.in_ok-append.ensures.ok
 
 pub returns-clause-number : goal.returns-clause-number
 unfolding draft_of

@@ -1,0 +1,2 @@
+-- The formers of types that the code adds, by module.
+pub mod shared
