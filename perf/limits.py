@@ -23,7 +23,7 @@ MARK = re.compile(r"ACUP|0x41435550|1094931792")
 OTHERS = [
     (r"(2|256) \^ \w+", "the width of a number"),
     (r"% (256|65_536|4_294_967_296)(?=\)? as u)|slice_index bs i < 256|bytes_read 8\b", "the bytes of a number"),
-    (r"const (PIECE|STACK|SHOWN|STEPS|MANY|GREATEST_INT|LEAST_INT): \w+ = .*;", "how much is read, shown or kept at once"),
+    (r"const (PIECE|STACK|SHOWN|STEPS|MANY|MORE|GREATEST_INT|LEAST_INT): \w+ = .*;", "how much is read, shown or kept at once"),
 ]
 # Files with numbers of their own, the greatest of them, and what they are.
 OWN = [

@@ -5,7 +5,8 @@ usage: perf/names.py [--all]
 A name is that of a type, a trait, a function or a constant of the code, or of a definition in specs/. Each line has a name
 and, behind it, each crate and file that has it, with its kind; `own` marks an item that only its own crate sees. Names of the
 code and of definitions are told apart: a function may have the name of the definition that it computes, and a type that of
-its model. Methods, fields, cases and what a crate gives on from another one don't count. With --all those count too that
+its model. Methods, fields, cases, what a crate gives on
+from another one, and the names that the language fixes in specs/formers don't count. With --all those count too that
 nobody above can see, as items of programs and of crates of tests, and definitions in specs/inner; and types that have the
 name of a definition. The status is 1 where there is any such name.
 """
@@ -52,7 +53,7 @@ def of_code(folder):
 def of_specs(folder, everything):
     """Yields the definitions of a crate: name, kind and file."""
     for file in files_below(f"{folder}/specs", ".antt"):
-        if "/specs/inner" in file and not everything:
+        if "/specs/formers/" in file or "/specs/inner" in file and not everything:
             continue
         # the indent of the type or the record around, whose cases and fields aren't definitions
         around = None

@@ -64,7 +64,7 @@ fn has_room(env: &Env, more: usize) -> Result<(), AdmitFault>
     ensures { let n = length env.now.entries + more in
         Judges result (given (nat_lt most_entries n) (Some (PacketCause.Full n))) }
 {
-    let count = env.entries.len() + more;
+    let count = env.len() + more;
     if count > MOST_ENTRIES {
         return Err(AdmitFault::Full {
             count: count as u32,

@@ -20,11 +20,11 @@ impl<'a> Test for There<'a> {
     ghost passes = { λ s p. passes_there (environment_of s.alone.now) p };
 
     fn passes_type(&self, ty: &Ty) -> bool {
-        are_known_among(ty, self.alone.entries.as_slice())
+        are_known_among(ty, self.alone)
     }
 
     fn passes_reference(&self, entry: u32, _field: &Word) -> bool {
-        (entry as usize) < self.alone.entries.len()
+        (entry as usize) < self.alone.len()
     }
 
     fn passes_home(&self, home: Home) -> bool {
@@ -65,5 +65,5 @@ pub fn speaks_of_its_own(alone: &Env, p: &Packet) -> bool
         (packet_of p.now) }
 {
     // `&`, not `&&`: one branch fewer in the proof
-    are_known_among(&p.ty, alone.entries.as_slice()) & value_passes(&p.value, &There { alone })
+    are_known_among(&p.ty, alone) & value_passes(&p.value, &There { alone })
 }

@@ -10,15 +10,15 @@ use Rattle.sha2.specs.Sha256.{sha256}
 use Rattle.ac_types.proofs.FirstLaws.{none≢some, some_eq}
 use Rattle.ac_types.proofs.Same.{bytes_eq, bytes_refl}
 use Rattle.ac_types.specs.Types.{Bytes, same_bytes}
-use Rattle.ac_types.specs.Partial.{given, alike, differ}
-use Rattle.ac_admit_clashes.proofs.KnownLaws.{position_more}
+use Rattle.ac_types.specs.Partial.{alike, differ, given}
 use Rattle.ac_terms.specs.Defs.{Environment, Entry, names}
 use Rattle.ac_terms.specs.Names.{text_of_entry}
 use Rattle.ac_rules.specs.Coherent.{IsCoherent}
 use Rattle.ac_rules.specs.Packets.{named_from, clashes, first_clash, PacketCause, Clash}
 use Rattle.ac_terms.proofs.TestLaws.{not_false, lt_is}
 use Rattle.ac_rules.proofs.ViewLaws.{within}
-use Rattle.ac_rules.proofs.EarlierLaws.{position-first, position-later, no_first}
+use Rattle.ac_index.proofs.PositionLaws.{position-first, position-later, position_more}
+use Rattle.ac_rules.proofs.EarlierLaws.{no_first}
 use Rattle.ac_rules.proofs.ListLaws.{Of_more, old, last, of_more, get_old, found_passes}
 use Rattle.ac_admit_clashes.specs.inner.Known.{Known, texted, known_at, known_before, known_of, all_known, text_under, HasOneText}
 

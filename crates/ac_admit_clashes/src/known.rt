@@ -64,7 +64,7 @@ fn names_of(alloc: Global, env: &Env) -> Result<Names, Memory>
         (all_known (environment_of env.now)) n) }
 {
     let mut names = BTreeMap::new(alloc);
-    for i in 0..env.entries.len() {
+    for i in 0..env.len() {
         note(&mut names, texted_name(env, i as u32), i as u32)?;
     }
     Ok(names)
@@ -91,7 +91,7 @@ fn differs(alloc: Global, env: &Env, alone: &Env, i: u32, known: u32) -> Result<
     ensures { IfOk result (λ d. d ≡ differ (text_of_entry (environment_of alone.now) i)
         (text_under (environment_of env.now) (environment_of alone.now) known)) }
 {
-    let many = env.entries.len() as u32;
+    let many = env.len() as u32;
     if known < many {
         differ(alloc, alone, i, env, known)
     } else {
@@ -139,9 +139,9 @@ pub fn clash(alloc: Global, env: &Env, alone: &Env) -> Result<Option<(u32, u32)>
     ensures { IfOk result (λ o. option_map (λ p. PacketCause.Clash p.0 p.1) o ≡ first_clash sha256
         (all_known (environment_of env.now)) 0 (all_known (environment_of alone.now))) }
 {
-    let many = env.entries.len();
+    let many = env.len();
     let mut names = names_of(alloc, env)?;
-    for i in 0..alone.entries.len() {
+    for i in 0..alone.len() {
         if let Some(j) = clash_of(alloc, env, alone, &names, i as u32)? {
             return Ok(Some((i as u32, j)));
         }

@@ -11,11 +11,11 @@ use Rattle.ac_types.specs.Partial.{given, first_wrong, has}
 use Rattle.ac_terms.specs.Terms.{In}
 use Rattle.ac_terms.specs.declared.def.Entry as code
 use Rattle.ac_terms.specs.Read.{entry_of}
-use Rattle.ac_terms.specs.Defs.{Environment, Entry, Field, Def, AModule, AnImport, AMark, signature_at}
+use Rattle.ac_terms.specs.Defs.{Environment, Entry, Field, Def, AModule, AnImport, AMark, signature_at, declares}
 use Rattle.ac_terms.specs.Parts.{Portion, OfType, OfRef, OfHome, Captured, part_refs, part_mentions, has_captured, def_parts, sig_types, term_parts}
 use Rattle.ac_terms.specs.Bounds.{has_small_types}
 use Rattle.ac_terms.proofs.AllLaws.{all_left}
-use Rattle.ac_rules.specs.Views.{Coloured, is_known, are_known, declares, view}
+use Rattle.ac_rules.specs.Views.{Coloured, is_known, are_known, view}
 use Rattle.ac_rules.specs.Typing.{type_of, type_seen, of_field}
 use Rattle.ac_rules.specs.Modules.{is_valuable, uncovered, is_typed, are_typed, refers_back, mentions_known, is_plain_def, has_distinct_names, has_closed_sig, has_sound_fields, has_sound_likes, is_well_formed}
 use Rattle.ac_rules.proofs.PartLaws.{AllPass, pass_right}

@@ -1,4 +1,3 @@
-pub mod BackLaws
 pub mod BoundLaws
 pub mod FormedLaws
 pub mod NameLaws

@@ -1,14 +1,14 @@
 // Whether a definition speaks of earlier definitions alone, and of small types.
 
-ghost use Rattle.std.specs.Prelude.{◌≡◌, take, is_some};
+ghost use Rattle.std.specs.Prelude.{◌≡◌, is_some};
 ghost use Rattle.std.specs.List.{list_all};
 ghost use Rattle.ac_terms.specs.Defs.{signature_at};
 ghost use Rattle.ac_terms.specs.Parts.{def_parts};
 ghost use Rattle.ac_terms.specs.Read.{environment_of, def_of_code};
 ghost use Rattle.ac_admit_formed.specs.inner.Back.{passes_back};
 
-use crate::known::are_known_among;
-use ac_terms::{Def, Entry, Env, Home};
+use crate::known::are_known_before;
+use ac_terms::{Def, Env, Home};
 use ac_terms_renumber::{Test, import_passes, module_passes};
 use ac_types::{Ty, Word, small};
 
@@ -24,10 +24,9 @@ struct Back<'a> {
 impl<'a> Test for Back<'a> {
     ghost passes = { λ s p. passes_back (environment_of s.env.now) s.below p };
 
-    #[tactic(auto, using(crate::proofs::BackLaws::taken_entries))]
     fn passes_type(&self, ty: &Ty) -> bool {
         // `&`, not `&&`: one branch fewer in the proof
-        small(ty) & are_known_among(ty, front(self.env, self.below))
+        small(ty) & are_known_before(ty, self.env, self.below as usize)
     }
 
     fn passes_reference(&self, entry: u32, _field: &Word) -> bool {
@@ -41,19 +40,6 @@ impl<'a> Test for Back<'a> {
 
     fn passes_captured(&self) -> bool {
         false
-    }
-}
-
-// The first entries.
-fn front(env: &Env, below: u32) -> &[Entry]
-    ensures { result.now ≡ take below env.now.entries }
-{
-    let entries = env.entries.as_slice();
-    let below = below as usize;
-    if below < entries.len() {
-        &entries[..below]
-    } else {
-        entries
     }
 }
 

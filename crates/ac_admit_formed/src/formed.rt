@@ -91,7 +91,7 @@ pub fn ill_formed(alloc: Global, env: &Env) -> Result<Option<u32>, Memory>
     ensures { IfOk result (λ o. o ≡ first_wrong 0 (is_well_formed (environment_of env.now))
         (map (λ (e : Entry). e.def) (environment_of env.now))) }
 {
-    let entries = env.entries.as_slice();
+    let entries = env.entries();
     for i in 0..entries.len() {
         if !is_well_formed(alloc, env, i as u32, &entries[i].def)? {
             return Ok(Some(i as u32));

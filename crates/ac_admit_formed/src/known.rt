@@ -1,14 +1,14 @@
-// Which abstract types are known among some entries.
+// Which abstract types are known.
 
-ghost use Rattle.std.specs.Prelude.{◌≡◌, map};
+ghost use Rattle.std.specs.Prelude.{◌≡◌, map, take};
 ghost use Rattle.std.specs.List.{list_all};
 ghost use Rattle.ac_types.specs.Types.{typs, mentions, mentions_of_all};
 ghost use Rattle.ac_types.specs.Sigs.{is_abstract, type_under};
 ghost use Rattle.ac_types.specs.ReadTypes.{typ_of, sig_type_of};
-ghost use Rattle.ac_terms.specs.Read.{entry_of};
-ghost use Rattle.ac_rules.specs.Views.{declares, is_known};
+ghost use Rattle.ac_terms.specs.Read.{environment_of};
+ghost use Rattle.ac_rules.specs.Views.{is_known};
 
-use ac_terms::{Def, Entry};
+use ac_terms::Env;
 use ac_types::{Name, Sig, Ty, Word, spec_named};
 
 /// Whether a signature has an abstract type of that name.
@@ -21,46 +21,42 @@ pub fn is_abstract_in(sig: &Sig, word: &Word) -> bool
     }
 }
 
-// Whether an entry of that name has the abstract type in its signature.
-#[tactic(auto, using(ac_terms::proofs::EnvLaws::env_laws))]
-fn declares(entry: &Entry, name: &Name, word: &Word) -> bool
-    ensures { result ≡ declares name.now.0 word.now (entry_of entry.now) }
+// Whether one of the first entries has the abstract type of that name in its signature.
+#[tactic(auto, using(ac_rules::proofs::EarlierLaws::first_known))]
+fn is_known(env: &Env, before: usize, name: &Name, word: &Word) -> bool
+    ensures { result ≡ is_known (take before (environment_of env.now)) (name.now.0, word.now) }
 {
-    if !entry.keeps(name) {
-        return false;
-    }
-    match &entry.def {
-        Def::Module(m) => is_abstract_in(&m.sig, word),
-        Def::Import(i) => is_abstract_in(&i.sig, word),
-        Def::Mark(_) => false,
+    match env.declaring(name, word) {
+        None => false,
+        Some(first) => first < before,
     }
 }
 
-fn is_known(entries: &[Entry], name: &Name, word: &Word) -> bool
-    ensures { result ≡ is_known (map entry_of entries.now) (name.now.0, word.now) }
+/// Whether each abstract type that a type mentions is known: abstract in the signature of an entry
+/// that keeps its name.
+#[tactic(auto, using(crate::proofs::TypeLaws::all_entries))]
+pub fn are_known_among(ty: &Ty, env: &Env) -> bool
+    ensures { result ≡ list_all (is_known (environment_of env.now)) (mentions (typ_of ty.now)) }
 {
-    for entry in entries {
-        if declares(entry, name, word) {
-            return true;
-        }
-    }
-    false
+    are_known_before(ty, env, env.len())
 }
 
-/// Whether each abstract type that a type mentions is known among the entries: abstract in the
-/// signature of one that keeps its name.
+/// Whether each is known among the first `before` entries.
 #[cycle(known)]
 #[tactic(auto, using(crate::proofs::TypeLaws::type_laws))]
-pub fn are_known_among(ty: &Ty, entries: &[Entry]) -> bool
-    ensures { result ≡ list_all (is_known (map entry_of entries.now)) (mentions (typ_of ty.now)) }
+pub fn are_known_before(ty: &Ty, env: &Env, before: usize) -> bool
+    ensures { result ≡ list_all (is_known (take before (environment_of env.now)))
+        (mentions (typ_of ty.now)) }
 {
     match ty {
-        Ty::Tuple(parts) => all_are_known(parts.as_slice(), entries),
-        Ty::List(item) => are_known_among(item, entries),
-        Ty::Opt(item) => are_known_among(item, entries),
+        Ty::Tuple(parts) => all_are_known(parts.as_slice(), env, before),
+        Ty::List(item) => are_known_before(item, env, before),
+        Ty::Opt(item) => are_known_before(item, env, before),
         // `&`, not `&&`: one branch fewer in the proof
-        Ty::Fun(from, to) => are_known_among(from, entries) & are_known_among(to, entries),
-        Ty::Abs(name, word) => is_known(entries, name, word),
+        Ty::Fun(from, to) => {
+            are_known_before(from, env, before) & are_known_before(to, env, before)
+        }
+        Ty::Abs(name, word) => is_known(env, before, name, word),
         Ty::Int => true,
         Ty::Bool => true,
         Ty::Str => true,
@@ -72,12 +68,12 @@ pub fn are_known_among(ty: &Ty, entries: &[Entry]) -> bool
 
 #[cycle(known)]
 #[tactic(auto, using(crate::proofs::TypeLaws::type_laws))]
-fn all_are_known(tys: &[Ty], entries: &[Entry]) -> bool
-    ensures { result ≡ list_all (is_known (map entry_of entries.now))
+fn all_are_known(tys: &[Ty], env: &Env, before: usize) -> bool
+    ensures { result ≡ list_all (is_known (take before (environment_of env.now)))
         (mentions_of_all (typs (map typ_of tys.now))) }
 {
     for ty in tys {
-        if !are_known_among(ty, entries) {
+        if !are_known_before(ty, env, before) {
             return false;
         }
     }

@@ -10,7 +10,7 @@ ghost use Rattle.ac_rules.specs.Packets.{alone};
 use ac_bytes::Out;
 use ac_canon::{ByName, put_import, put_module};
 use ac_terms::{Def, Entry, Env, Import, Module, PDef, Seen};
-use ac_types::{Constraint, Many, Memory, Name, Text, both};
+use ac_types::{Constraint, Memory, Name, Text, both};
 use sha2::{Digest, Sha256};
 use std::alloc::Global;
 
@@ -81,12 +81,10 @@ fn lone(alloc: Global, env: &Env, def: &PDef) -> Result<Entry, Memory>
 pub fn alone(alloc: Global, defs: &[PDef]) -> Result<Env, Memory>
     ensures { IfOk result (λ env. environment_of env ≡ alone sha256 (map pdef_of defs.now)) }
 {
-    let mut env = Env {
-        entries: Many::new(alloc),
-    };
+    let mut env = Env::new(alloc);
     for def in defs {
         let entry = lone(alloc, &env, def)?;
-        env.entries.push(entry)?;
+        env.push(entry)?;
     }
     Ok(env)
 }

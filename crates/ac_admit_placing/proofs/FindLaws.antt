@@ -12,7 +12,9 @@ use Rattle.ac_types.proofs.Same.{bytes_eq}
 use Rattle.ac_types.specs.Types.{Bytes, same_bytes}
 use Rattle.ac_types.specs.Partial.{given}
 use Rattle.ac_terms.specs.Defs.{Environment, Entry}
-use Rattle.ac_admit_clashes.proofs.KnownLaws.{same_order, position_more, noted_none}
+use Rattle.ac_index.proofs.NotedLaws.{same_order}
+use Rattle.ac_index.proofs.PositionLaws.{position_more}
+use Rattle.ac_admit_clashes.proofs.KnownLaws.{noted_none}
 use Rattle.ac_admit_placing.specs.inner.Keys.{key_bytes, keyed}
 use Rattle.ac_admit_placing.specs.inner.Maps.{Key, key_found}
 

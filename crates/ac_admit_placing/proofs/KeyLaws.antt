@@ -11,7 +11,7 @@ use Rattle.ac_terms.specs.Defs.{Environment, Entry, Def}
 use Rattle.ac_terms.proofs.Back.{read_four, back_four_bytes}
 use Rattle.ac_terms.proofs.TestLaws.{eq_true, eq_self}
 use Rattle.ac_rules.specs.Packets.{wide_bytes, same_def, find_def}
-use Rattle.ac_rules.proofs.EarlierLaws.{position-first, position-later}
+use Rattle.ac_index.proofs.PositionLaws.{position-first, position-later}
 use Rattle.ac_admit_placing.specs.inner.Keys.{link_bytes, key_bytes, keyed, is_short}
 
 -- two tests of which each follows from the other

@@ -46,9 +46,9 @@ fn kept_name(env: &Env, more: &[Entry], j: usize) -> Option<Name>
     ensures { option_map name_of_code result ≡ name_at
         (environment_of env.now ++ map entry_of more.now) j }
 {
-    let many = env.entries.len();
+    let many = env.len();
     if j < many {
-        return name_in(env.entries.as_slice(), j);
+        return name_in(env.entries(), j);
     }
     name_in(more, j - many)
 }

@@ -74,7 +74,7 @@ impl Placing {
         ensures sound { IfOk result (λ p. IsSound (environment_of env.now) p) }
         ensures empty { IfOk result (λ p. (p.places ≡ []) × (p.more ≡ [])) }
     {
-        let keys = keys_of(alloc, env.entries.as_slice())?;
+        let keys = keys_of(alloc, env.entries())?;
         Ok(Placing {
             places: Many::new(alloc),
             numbers: Many::new(alloc),
@@ -141,7 +141,7 @@ impl Placing {
             put sha256 (state_of (environment_of site.entry.env.now) self.old) (def_of_code def)
             (link_target link) (link_open link)) }
     {
-        let number = (site.env.entries.len() + self.more.len()) as u32;
+        let number = (site.env.len() + self.more.len()) as u32;
         let here = Place {
             at: Some(number),
             unresolved: link.is_unresolved(),

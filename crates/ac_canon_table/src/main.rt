@@ -17,11 +17,10 @@ use ac_canon::{def_text, has_text};
 use ac_names::{has_name, name_hex, name_of};
 use ac_terms::{Def, Entry, Env, Seen};
 use ac_text::Page;
-use ac_types::{Many, Memory, Name};
+use ac_types::{Memory, Name};
 use reading::read;
 use std::alloc::Global;
 use std::io::{self, Write};
-use std::mem;
 
 // The name of an entry, where it has one.
 fn name_at(alloc: Global, env: &Env, i: u32) -> Result<Option<Name>, Memory> {
@@ -33,8 +32,8 @@ fn name_at(alloc: Global, env: &Env, i: u32) -> Result<Option<Name>, Memory> {
 
 // The definition comes last, under its name. Its number is answered.
 fn enter(alloc: Global, env: &mut Env, def: Def) -> Result<u32, Memory> {
-    let number = env.entries.len();
-    env.entries.push(Entry {
+    let number = env.len();
+    env.push(Entry {
         def,
         name: None,
         seen: Seen::Own,
@@ -44,11 +43,11 @@ fn enter(alloc: Global, env: &mut Env, def: Def) -> Result<u32, Memory> {
         return Err(Memory);
     };
     let name = name_at(alloc, env, i)?;
-    let mut entries = mem::replace(&mut env.entries, Many::new(alloc)).into_vec();
-    if let Some(entry) = entries.last_mut() {
+    if let Some(entry) = env.pop() {
+        let mut entry = entry;
         entry.name = name;
+        env.push(entry)?;
     }
-    env.entries = Many::from_vec(entries);
     Ok(i)
 }
 
@@ -94,9 +93,7 @@ fn row(alloc: Global, env: &mut Env, line: &str) -> Page {
 }
 
 fn main(rt: HostRuntime) -> io::Result<()> {
-    let mut env = Env {
-        entries: Many::new(rt.alloc()),
-    };
+    let mut env = Env::new(rt.alloc());
     for line in rt.lines(rt.alloc()) {
         let page = row(rt.alloc(), &mut env, line?.as_str());
         rt.stdout()

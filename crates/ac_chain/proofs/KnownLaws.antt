@@ -13,7 +13,7 @@ use Rattle.ac_terms.specs.Names.{text_of_entry}
 use Rattle.ac_terms.specs.Read.{environment_of, expr_of}
 use Rattle.ac_rules.specs.declared.loaded.Loaded.{Loaded}
 use Rattle.ac_rules.proofs.ListLaws.{get_old, get_new}
-use Rattle.ac_admit_clashes.proofs.KnownLaws.{position_more}
+use Rattle.ac_index.proofs.PositionLaws.{position_more}
 use Rattle.ac_names.specs.Table.{KnownNames, number_of, Adds}
 use Rattle.ac_colours.specs.Chains.{Programs, HaveOneText}
 use Rattle.ac_chain.specs.ChainTexts.{programs_of}

@@ -49,7 +49,7 @@ fn clash_of(
     ensures { IfOk result (λ o. o ≡ first_below (length (environment_of env.now))
         (λ i. clash_behind a (environment_of env.now) i (a + 1) (programs_of later.now))) }
 {
-    for i in 0..env.entries.len() as u32 {
+    for i in 0..env.len() as u32 {
         let clash = clash_behind(alloc, a, env, i, later)?;
         if clash.is_some() {
             return Ok(clash);
@@ -90,7 +90,7 @@ fn clash_in(alloc: Global, env: &Env, i: u32, other: &Env) -> Result<Option<u32>
     ensures { IfOk result (λ o. o ≡
         clash_in (environment_of env.now) i (environment_of other.now)) }
 {
-    for j in 0..other.entries.len() as u32 {
+    for j in 0..other.len() as u32 {
         if is_clash(alloc, env, i, other, j)? {
             return Ok(Some(j));
         }

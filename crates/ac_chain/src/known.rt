@@ -67,7 +67,7 @@ fn add_entries(alloc: Global, known: &mut Known, env: &Env) -> Result<bool, Memo
         KeepsEntries (environment_of env.now) known.new.table) }
     ensures grows { NamesGrow known.old.table known.new.table }
 {
-    for i in 0..env.entries.len() as u32 {
+    for i in 0..env.len() as u32 {
         if !add_entry(alloc, known, env, i)? {
             return Ok(false);
         }

@@ -67,7 +67,7 @@ fn is_declared_as<'a>(
         env,
         home,
         own: field_count(env, home),
-        refs: env.entries.len(),
+        refs: env.len(),
     };
     let Some(found) = declared_type(alloc, &site, vars, l)? else {
         return Ok(false);

@@ -99,7 +99,7 @@ impl<'a> Heads<'a> {
         requires heads { AreHeads (environment_of env.now) self.now }
         ensures { IfSome result (IsEnd (environment_of env.now) (typ_of ty.now)) }
     {
-        let most = env.entries.len();
+        let most = env.len();
         let mut here = ty;
         for before in 0..most + 1 {
             match self.step(env, here) {

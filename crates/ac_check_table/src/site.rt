@@ -38,9 +38,7 @@ impl Site {
         vars.push(Ty::Int)?;
         vars.push(Ty::Bool)?;
         Ok(Site {
-            env: Env {
-                entries: Many::new(alloc),
-            },
+            env: Env::new(alloc),
             home: Home::Main,
             own: 0,
             refs: 0,
@@ -51,18 +49,18 @@ impl Site {
     /// That home behind `module t : sig type t val t : t end = struct type t = int let t : t = 1
     /// end`, an import of it by version, like `int`, and one by its exact name.
     pub fn behind_module(alloc: Global, home: Home) -> Result<Site, Memory> {
-        let mut entries = Many::new(alloc);
-        entries.push(entry(NAME, module(alloc).map(Def::Module)?, None))?;
+        let mut env = Env::new(alloc);
+        env.push(entry(NAME, module(alloc).map(Def::Module)?, None))?;
         let ranges = Constraint::Ranges {
             atoms: Many::new(alloc),
             star: true,
         };
         let by_version = import(alloc, ranges, only(alloc, own(alloc)));
-        entries.push(entry(OTHER, by_version.map(Def::Import)?, Some(0)))?;
+        env.push(entry(OTHER, by_version.map(Def::Import)?, Some(0)))?;
         let by_name = import(alloc, Constraint::Exact(NAME), Ok(Many::new(alloc)));
-        entries.push(entry(NAME, by_name.map(Def::Import)?, Some(0)))?;
+        env.push(entry(NAME, by_name.map(Def::Import)?, Some(0)))?;
         Ok(Site {
-            env: Env { entries },
+            env,
             home,
             own: if home == Home::In(0) { 1 } else { 0 },
             refs: 3,
@@ -72,7 +70,7 @@ impl Site {
 
     /// The type of a term here, `None` where there are many definitions.
     pub fn type_of(&self, alloc: Global, term: &Term) -> Option<Result<Ty, CheckFault>> {
-        if self.env.entries.len() < 10 {
+        if self.env.len() < 10 {
             Some(type_of(
                 alloc, &self.env, self.home, self.own, self.refs, &self.vars, term,
             ))
@@ -83,7 +81,7 @@ impl Site {
 
     /// Whether a packed value is of a type here, `None` where there are many definitions.
     pub fn check_value(&self, alloc: Global, ty: &Ty, v: &PVal) -> Option<Result<(), CheckFault>> {
-        if self.env.entries.len() < 10 {
+        if self.env.len() < 10 {
             Some(check_value(alloc, &self.env, ty, v))
         } else {
             None

@@ -17,7 +17,7 @@ pub fn head<'a>(env: &'a Env, ty: &'a Ty) -> &'a Ty
     ensures { typ_of result.now ≡ head (environment_of env.now) (typ_of ty.now) }
 {
     let mut found = ty;
-    for i in 0..env.entries.len() {
+    for i in 0..env.len() {
         match unsealed(env, found) {
             None => return found,
             Some(next) => found = next,

@@ -1,51 +1,20 @@
 // Which abstract types are known.
 
-ghost use Rattle.std.specs.Prelude.{◌≡◌, map};
-ghost use Rattle.ac_types.specs.Sigs.{is_abstract, type_under};
-ghost use Rattle.ac_types.specs.ReadTypes.{typ_of, sig_type_of};
-ghost use Rattle.ac_terms.specs.Read.{environment_of, entry_of};
-ghost use Rattle.ac_rules.specs.Views.{declares, is_known, are_known};
+ghost use Rattle.std.specs.Prelude.{◌≡◌};
+ghost use Rattle.ac_types.specs.ReadTypes.{typ_of};
+ghost use Rattle.ac_terms.specs.Read.{environment_of};
+ghost use Rattle.ac_rules.specs.Views.{is_known, are_known};
 ghost use Rattle.ac_check_views.specs.Sites.{typs_of};
 ghost use Rattle.ac_check_views.specs.inner.Sizes.{are_known_in};
 
-use ac_terms::{Def, Entry, Env};
-use ac_types::{Name, SigType, Ty, Word};
+use ac_terms::Env;
+use ac_types::{Name, Ty, Word};
 
-fn is_abstract_in(types: &[SigType], word: &Word) -> bool
-    ensures { result ≡ is_abstract (type_under word.now (map sig_type_of types.now)) }
-{
-    for x in types {
-        if x.name.is(word) {
-            return x.manifest.is_none();
-        }
-    }
-    false
-}
-
-// Whether an entry of that name has the abstract type in its signature.
-#[tactic(auto, using(ac_terms::proofs::EnvLaws::env_laws))]
-fn declares(entry: &Entry, name: &Name, word: &Word) -> bool
-    ensures { result ≡ declares name.now.0 word.now (entry_of entry.now) }
-{
-    if !entry.keeps(name) {
-        return false;
-    }
-    match &entry.def {
-        Def::Module(m) => is_abstract_in(m.sig.types.as_slice(), word),
-        Def::Import(i) => is_abstract_in(i.sig.types.as_slice(), word),
-        Def::Mark(_) => false,
-    }
-}
-
+#[tactic(auto, using(ac_rules::proofs::EarlierLaws::first_known))]
 fn is_known(env: &Env, name: &Name, word: &Word) -> bool
     ensures { result ≡ is_known (environment_of env.now) (name.now.0, word.now) }
 {
-    for entry in env.entries.as_slice() {
-        if declares(entry, name, word) {
-            return true;
-        }
-    }
-    false
+    env.declaring(name, word).is_some()
 }
 
 /// Whether each abstract type that a type mentions is known.

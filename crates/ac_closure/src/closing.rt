@@ -37,9 +37,9 @@ pub fn needed(
     ensures no_mark { IsErrOf result NeedFault.NoMark ↔
         mark_at (environment_of env.now) mark.now.0 ≡ None }
 {
-    match mark_at(env.entries.as_slice(), mark) {
+    match mark_at(env.entries(), mark) {
         None => Err(NeedFault::NoMark),
-        Some(at) => Ok(needed_by(alloc, env.entries.as_slice(), at, roots.as_slice())?),
+        Some(at) => Ok(needed_by(alloc, env.entries(), at, roots.as_slice())?),
     }
 }
 

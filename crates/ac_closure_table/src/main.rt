@@ -30,11 +30,11 @@ fn roots_of(alloc: Global, digits: &str) -> Result<Many<u32>, Memory> {
 }
 
 fn environment(alloc: Global, spelled: &str) -> Result<Env, Memory> {
-    let mut entries = Many::new(alloc);
+    let mut env = Env::new(alloc);
     for word in spelled.split_whitespace() {
-        entries.push(Make(alloc).entry(word.as_bytes())?)?;
+        env.push(Make(alloc).entry(word.as_bytes())?)?;
     }
-    Ok(Env { entries })
+    Ok(env)
 }
 
 fn answer(alloc: Global, row: &str, page: &mut Page) -> Result<(), Memory> {
@@ -47,7 +47,7 @@ fn answer(alloc: Global, row: &str, page: &mut Page) -> Result<(), Memory> {
     let env = environment(alloc, spelled)?;
     let mark = Text::from_slice(alloc, mark.as_bytes())?;
     let roots = roots_of(alloc, digits)?;
-    if env.entries.len() > 10 {
+    if env.len() > 10 {
         return Ok(());
     }
     match needed(alloc, &env, &mark, &roots) {

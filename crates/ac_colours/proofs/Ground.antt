@@ -9,9 +9,9 @@ use Rattle.ac_types.proofs.Same.{both_true, and_true, bytes_eq}
 use Rattle.ac_types.proofs.FirstLaws.{none≢some, some_eq}
 use Rattle.ac_types.specs.Types.{Bytes, same_bytes, Typ, TAbs, mentions}
 use Rattle.ac_terms.specs.Terms.{Home, Main, In}
-use Rattle.ac_terms.specs.Defs.{Environment, Entry, Module, Def, AModule, module_at, module_of, def_of, name_at, names, find_name}
+use Rattle.ac_terms.specs.Defs.{Environment, Entry, Module, Def, AModule, module_at, module_of, def_of, name_at, names, find_name, declares}
 use Rattle.ac_terms.specs.Parts.{part_mentions, def_parts}
-use Rattle.ac_rules.specs.Views.{Coloured, view, has_name, opened, representation, is_known, are_known, declares}
+use Rattle.ac_rules.specs.Views.{Coloured, view, has_name, opened, representation, is_known, are_known}
 use Rattle.ac_rules.specs.Coherent.{IsCoherent}
 use Rattle.ac_rules.proofs.Rules.{then_some}
 use Rattle.ac_rules.proofs.EarlierLaws.{known_earlier}

@@ -193,10 +193,7 @@ fn write_untyped(alloc: Global, page: &mut Page, file: &str, text: &[u8], found:
 fn elaborated(alloc: Global, surface: &Surface) -> Option<RawProgram>
     ensures { IfSome result (λ r. length r.env.entries < 2 ^ 32) }
 {
-    let env = Env {
-        entries: Many::new(alloc),
-    };
-    elaborate(alloc, surface, env).ok()
+    elaborate(alloc, surface, Env::new(alloc)).ok()
 }
 
 // Adds what is to be said of the first part of an expression that has no type.
@@ -300,7 +297,7 @@ fn explain_part(
 {
     let env = &raw.env;
     if let Some(tree) = surface.defs.get(def as usize)
-        && let Some(entry) = env.entries.get(def as usize)
+        && let Some(entry) = env.entries().get(def as usize)
     {
         if let SDefKind::Module { fields: trees, .. } = &tree.kind
             && let Def::Module(module) = &entry.def
@@ -313,7 +310,7 @@ fn explain_part(
             env,
             home: Home::Main,
             own: 0,
-            refs: env.entries.len() as u32,
+            refs: env.len() as u32,
         };
         explain_term(alloc, page, file, text, &standing, tree, &raw.main);
     }

@@ -13,7 +13,7 @@ pub fn front(env: &Env) -> usize
     ensures front { IsFront (environment_of env.now) result }
     ensures least { (k : ℕ) → IsFront (environment_of env.now) k → result ≤ k }
 {
-    let mut front = env.entries.len();
+    let mut front = env.len();
     while front > 0 {
         if !arrived_at(env, front - 1) {
             return front;
@@ -26,7 +26,7 @@ pub fn front(env: &Env) -> usize
 fn arrived_at(env: &Env, j: usize) -> bool
     ensures { result ≡ arrived_at (environment_of env.now) j }
 {
-    match env.entries.get(j) {
+    match env.entries().get(j) {
         None => false,
         Some(entry) => matches!(&entry.seen, Seen::Arrived),
     }

@@ -32,7 +32,7 @@ pub fn resolve(env: &Env, import: &Import, when: When) -> Option<u32>
         IsCoherent (environment_of env.now) → when_of when ≡ InPacket → IsTrue (is_some result) →
         IsTrue (is_some (linked F (import_of_code import.now) InPacket)) }
 {
-    resolve_with_front(env, import, when, env.entries.len())
+    resolve_with_front(env, import, when, env.len())
 }
 
 /// As `resolve`, where all entries behind the first `front` have arrived: own modules and those of
@@ -124,7 +124,7 @@ fn latest(env: &Env, import: &Import, origin: Origin) -> Option<u32>
     ensures { result ≡ latest (comes_from origin.entry) (environment_of env.now)
         (import_of_code import.now) }
 {
-    latest_of_first(env, import, env.entries.len(), origin)
+    latest_of_first(env, import, env.len(), origin)
 }
 
 // The same of an origin that no arrived entry has.

@@ -25,7 +25,7 @@ use ac_parser::{parse_module, parse_program};
 use ac_rules::Loaded;
 use ac_syntax::Surface;
 use ac_terms::{Env, Seen};
-use ac_types::{Many, Text};
+use ac_types::Text;
 use std::alloc::Global;
 
 /// The program of a text beside a shelf of at most `MOST_SHELF_ENTRIES` texts, each under a URI of
@@ -41,9 +41,7 @@ pub fn load(alloc: Global, program: &[u8], shelf: &Shelf) -> Result<Loaded, Refu
     ensures refused { IfErr result (λ r.
         Says r.kind (Rejects program.now (shelf_of shelf.now) r.part r.kind)) }
 {
-    let mut env = Env {
-        entries: Many::new(alloc),
-    };
+    let mut env = Env::new(alloc);
     let mut part = 0;
     for entry in shelf.0.as_slice() {
         part += 1;

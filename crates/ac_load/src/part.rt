@@ -32,7 +32,7 @@ pub fn part(alloc: Global, env: Env, surface: &Surface, seen: &Seen) -> Result<L
     ensures refused { IfErr result (λ kind. Says kind (IsTreeRefused (environment_of env)
         (seen_of seen.now) (surface_of surface.now) kind)) }
 {
-    let front = env.entries.len();
+    let front = env.len();
     match elaborate(alloc, surface, env) {
         Ok(RawProgram { env, main }) => match linked_part(alloc, env, front, main, seen) {
             Ok(loaded) => Ok(loaded),

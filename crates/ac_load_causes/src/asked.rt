@@ -34,7 +34,7 @@ pub fn asked_behind(question: Question, env: &Env, front: usize) -> Option<PartF
     requires within { front ≤ length env.now.entries }
     ensures { Finds result (first_at 0 (asked question) (drop front (environment_of env.now))) }
 {
-    first_asked(question, &env.entries.as_slice()[front..])
+    first_asked(question, &env.entries()[front..])
 }
 
 // Where a question first fails; entries are counted from 0.

@@ -21,7 +21,7 @@ pub fn first_entry_clash(alloc: Global, env: &Env) -> Result<Option<(u32, u32)>,
     ensures { IfOk result (λ o. option_map clash o ≡ first_entry_clash (environment_of env.now)) }
 {
     let mut firsts: Numbers = BTreeMap::new(alloc);
-    for second in 0..env.entries.len() as u32 {
+    for second in 0..env.len() as u32 {
         if let Some(name) = told_name(env, second) {
             match number_under(&firsts, name) {
                 None => set_number(&mut firsts, name, second)?,

@@ -9,7 +9,7 @@ ghost use Rattle.ac_load_causes.specs.inner.Turned.{turned};
 
 use ac_link::{When, resolve};
 use ac_terms::{Def, Entry, Env, Seen};
-use ac_types::{Many, Memory};
+use ac_types::Memory;
 use std::alloc::Global;
 
 /// The entries of a part behind the first `front`, linked: each comes from `seen`, and an import
@@ -22,16 +22,13 @@ pub fn linked(alloc: Global, env: Env, front: usize, seen: &Seen) -> Result<Env,
         linked_behind (seen_of seen.now) (take front (environment_of env))
         (drop front (environment_of env))) }
 {
-    let mut ahead = env.entries.into_vec();
+    let mut env = env;
     let mut behind = Vec::new(alloc);
-    while ahead.len() > front {
-        if let Some(entry) = ahead.pop() {
+    while env.len() > front {
+        if let Some(entry) = env.pop() {
             behind.push(entry)?;
         }
     }
-    let env = Env {
-        entries: Many::from_vec(ahead),
-    };
     put_back(alloc, env, behind, seen)
 }
 
@@ -46,7 +43,7 @@ fn put_back(alloc: Global, env: Env, part: Vec<Entry>, seen: &Seen) -> Result<En
     let mut part = part;
     while let Some(entry) = part.pop() {
         let entry = linked_entry(alloc, &env, entry, seen)?;
-        env.entries.push(entry)?;
+        env.push(entry)?;
     }
     Ok(env)
 }

@@ -42,7 +42,7 @@ pub fn part_type(alloc: Global, env: &Env, front: usize, term: &Term) -> Result<
             }
         },
         Err(CheckFault::IllTyped) => {
-            let def = (env.entries.len() - front) as u32;
+            let def = (env.len() - front) as u32;
             Err(PartFault::IllTyped { def })
         }
         Err(CheckFault::Memory) => Err(PartFault::Memory),

@@ -26,7 +26,7 @@ pub fn first_ill_typed(alloc: Global, env: &Env, front: usize) -> Result<Option<
         first_at 0 (ill_typed (environment_of env.now) front)
         (drop front (environment_of env.now))) }
 {
-    let entries = env.entries.as_slice();
+    let entries = env.entries();
     for i in front..entries.len() {
         if !is_typed_def(alloc, env, i as u32, &entries[i].def)? {
             return Ok(Some((i - front) as u32));
@@ -91,6 +91,6 @@ pub fn term_type(alloc: Global, env: &Env, term: &Term) -> Result<Ty, CheckFault
     requires { length env.now.entries < 2 ^ 32 }
     ensures { Answers result (term_type (environment_of env.now) (expr_of term.now)) }
 {
-    let refs = env.entries.len() as u32;
+    let refs = env.len() as u32;
     type_of(alloc, env, Home::Main, 0, refs, &Many::new(alloc), term)
 }

@@ -3,7 +3,7 @@
 use crate::make::{ANY, Asked, EMPTY, Shape, entry, import, module, text};
 use ac_link::{LinkFault, link_ok};
 use ac_terms::{Def, Env, Seen};
-use ac_types::{Atom, Many, Range};
+use ac_types::{Atom, Range};
 use std::alloc::Global;
 use std::process::Abort;
 
@@ -66,9 +66,9 @@ fn def(rt: &impl Abort, alloc: Global, (letter, shape): Own) -> Def {
 // The definition alone.
 fn alone(rt: &impl Abort, alloc: Global, own: Own) -> Env {
     let entry = entry(def(rt, alloc, own), NAME, Seen::Own);
-    let mut entries = Many::new(alloc);
-    entries.push(entry).expect(rt, "memory");
-    Env { entries }
+    let mut env = Env::new(alloc);
+    env.push(entry).expect(rt, "memory");
+    env
 }
 
 // Checks the fault between an import and entry `j` where the entry stands alone.

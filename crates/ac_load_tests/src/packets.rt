@@ -142,7 +142,7 @@ pub fn check(
     let holds = is_wanted(env, &found, want);
     drop(found);
     assert!(rt; holds);
-    assert!(rt; env.entries.len() == many);
+    assert!(rt; env.len() == many);
 }
 
 /// Checks what comes of packets, one after the other.

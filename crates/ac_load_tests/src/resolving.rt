@@ -3,7 +3,7 @@
 use crate::make::{ANY, Asked, EMPTY, Shape, entry, import, module, text};
 use ac_link::{When, resolve};
 use ac_terms::{Def, Env, Import, Seen};
-use ac_types::{Atom, Many, Range};
+use ac_types::{Atom, Range};
 use std::alloc::Global;
 use std::process::Abort;
 
@@ -43,21 +43,21 @@ fn module_of(rt: &impl Abort, alloc: Global, name: u8, version: u8, shape: Shape
 }
 
 fn env(rt: &impl Abort, alloc: Global, letters: &[u8]) -> Env {
-    let mut entries = Many::new(alloc);
+    let mut env = Env::new(alloc);
     for item in letters.chunks(4) {
         if let [from, name, version, ty] = item {
             let def = def(rt, alloc, *name, *version, *ty);
             let entry = entry(def, *version, seen(rt, alloc, *from));
-            entries.push(entry).expect(rt, "memory");
+            env.push(entry).expect(rt, "memory");
         }
     }
-    Env { entries }
+    env
 }
 
 // What is given at load and in a packet.
 fn given(rt: &impl Abort, env: &Env, import: &Import) -> (Given, Given) {
     assert!(rt; import.sig.types.len() < 10 && import.sig.vals.len() < 10);
-    assert!(rt; env.entries.len() < 10);
+    assert!(rt; env.len() < 10);
     (
         resolve(env, import, When::Load),
         resolve(env, import, When::Packet),

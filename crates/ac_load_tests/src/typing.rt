@@ -24,9 +24,7 @@ fn wide(rt: &impl Abort, alloc: Global) -> Ty {
 
 // The type of a term without variables, behind no definitions.
 fn type_alone(alloc: Global, term: &Term) -> Result<Ty, CheckFault> {
-    let env = Env {
-        entries: Many::new(alloc),
-    };
+    let env = Env::new(alloc);
     type_of(alloc, &env, Home::Main, 0, 0, &Many::new(alloc), term)
 }
 

@@ -2,7 +2,7 @@
 
 use crate::defs::word;
 use crate::patterns::pattern;
-use ac_code::{Block, CodeId, CodeTable, Instr};
+use ac_code::{Block, CodeId, CodeTable, Context, Instr};
 use ac_terms::Home;
 use ac_types::{ExnKind, Many, Memory, Primitive, Text, Ty};
 use std::alloc::Global;
@@ -114,7 +114,7 @@ fn block(alloc: Global, text: &str) -> Result<Block, Memory> {
     Ok(Block {
         home: Home::In(0),
         lambda: None,
-        context: Many::new(alloc),
+        context: Context::Empty,
         instrs,
     })
 }

@@ -72,8 +72,8 @@ fn entry(def: Def, link: Option<u32>) -> Entry {
 
 /// The module, and an import that is linked to it.
 pub fn entries(alloc: Global) -> Result<Env, Memory> {
-    let mut entries = Many::new(alloc);
-    entries.push(entry(module(alloc)?, None))?;
-    entries.push(entry(import(alloc)?, Some(0)))?;
-    Ok(Env { entries })
+    let mut env = Env::new(alloc);
+    env.push(entry(module(alloc)?, None))?;
+    env.push(entry(import(alloc)?, Some(0)))?;
+    Ok(env)
 }

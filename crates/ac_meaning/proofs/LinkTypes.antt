@@ -23,7 +23,8 @@ use Rattle.ac_rules.specs.Modules.{inside_struct, covers_type, field_named, cove
 use Rattle.ac_rules.specs.Coherent.{IsCoherent, link_at}
 use Rattle.ac_version.specs.Versions.{atoms_fit}
 use Rattle.ac_rules.proofs.Rules.{map_some, then_some, has_some, agree_some, module_is, none_of, map_none}
-use Rattle.ac_rules.proofs.EarlierLaws.{position-first, position-later, known_earlier, found_keeps, no_first, names_some}
+use Rattle.ac_index.proofs.PositionLaws.{position-first, position-later}
+use Rattle.ac_rules.proofs.EarlierLaws.{known_earlier, found_keeps, no_first, names_some}
 use Rattle.ac_rules.proofs.PartLaws.{AllPass, pass_left, pass_right, pass_under}
 use Rattle.ac_terms.proofs.AllLaws.{all_left, all_right, all_implies, all_append}
 use Rattle.ac_rules.proofs.ViewLaws.{or_none, or_none_left, exact_keeps, keeps_name, exact_not_least, foreign_view}

@@ -39,7 +39,7 @@ pub fn unmarshal(
         (environment_of env.old) (table_code table.old) (environment_of env.new)
         (table_code table.new) result }
 {
-    let first = env.entries.len();
+    let first = env.len();
     let value = land(alloc, env, text, ty)?;
     Ok(generate_arrived(alloc, env, first, &value, table)?)
 }

@@ -40,7 +40,7 @@ pub fn bytes(
         chosen.now (typ_of ty.now) (bare_packed (environment_of env.now)
         (stands (table_code table.now) (stands_as store.now value.0)) (typ_of ty.now)))) }
 {
-    let places = places(alloc, env.entries.len(), chosen)?;
+    let places = places(alloc, env.len(), chosen)?;
     let numbers = places.as_slice();
     match packet_front(alloc, env, mark, chosen, numbers) {
         Err(stop) => Err(stop),

@@ -83,7 +83,7 @@ pub fn pack(
         (stands (table_code table.now) (stands_as store.now value.now.0)) (typ_of ty.now)))
         result }
 {
-    match mark_at(env.entries.as_slice(), mark) {
+    match mark_at(env.entries(), mark) {
         None => Err(PackFault::Mark),
         Some(at) => marked(alloc, env, table, store, mark, at, *value, ty),
     }

@@ -10,7 +10,7 @@ use Rattle.std.proofs.lemmas.Option.{unwrap_or-slice_get, slice_get_past}
 use mathlib.Core.Bool.{true≢false}
 use Rattle.ac_terms.proofs.TestLaws.{eq_true, eq_self}
 use Rattle.ac_rules.specs.Needed.{place_in}
-use Rattle.ac_rules.proofs.EarlierLaws.{position-first, position-later}
+use Rattle.ac_index.proofs.PositionLaws.{position-first, position-later}
 use Rattle.ac_terms_renumber.specs.Numbers.{number_for}
 use Rattle.ac_pack_definitions.specs.Forms.{AllBelow}
 use Rattle.ac_pack_definitions.specs.inner.Passing.{numbered}

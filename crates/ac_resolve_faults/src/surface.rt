@@ -45,7 +45,7 @@ fn surface_flaws(alloc: Global, surface: &Surface, env: &Env) -> Result<Flaws, M
 {
     let defs = surface.defs.as_slice();
     let lists = defs_flaws(alloc, defs)?;
-    let externals = first_externals(alloc, &surface.expr, env.entries.as_slice())?;
+    let externals = first_externals(alloc, &surface.expr, env.entries())?;
     let rest = rest_flaws(alloc, externals, defs, &surface.expr)?;
     Ok(lists.join(rest))
 }

@@ -51,7 +51,7 @@ impl Front {
     {
         let mut externals = Latest::new(alloc);
         let mut number = 0;
-        let entries = env.entries.as_slice();
+        let entries = env.entries();
         for entry in entries {
             let more = calling(alloc, externals, &entry.def, number)?;
             externals = more;
@@ -67,22 +67,18 @@ impl Front {
             with_entry (front_of self) (own_entry (front_of self).entries (def_of_code def))) }
     {
         let Front { env, externals } = self;
-        let number = env.entries.len() as u32;
+        let number = env.len() as u32;
         match known(alloc, &env, externals, &def, number) {
             Ok((externals, name)) => {
-                let Env { entries } = env;
-                let mut entries = entries;
+                let mut env = env;
                 let seen = Seen::Own;
-                entries.push(Entry {
+                env.push(Entry {
                     def,
                     name,
                     seen,
                     link: None,
                 })?;
-                Ok(Front {
-                    env: Env { entries },
-                    externals,
-                })
+                Ok(Front { env, externals })
             }
             Err(memory) => {
                 drop(def);

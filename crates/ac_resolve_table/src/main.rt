@@ -21,7 +21,6 @@ use ac_syntax::{ParseFault, Surface};
 use ac_table_text::{Leaves, Sheet, write_term};
 use ac_terms::Env;
 use ac_text::Page;
-use ac_types::Many;
 use definitions::write_added;
 use std::alloc::Global;
 use std::io::{self, Write};
@@ -54,7 +53,7 @@ fn written(alloc: Global, word: &str, raw: &RawProgram, front: usize) -> Page {
     if word == "main" {
         write_term(&mut sheet, &raw.main);
     } else {
-        write_added(&mut sheet, raw.env.entries.as_slice(), front);
+        write_added(&mut sheet, raw.env.entries(), front);
     }
     page
 }
@@ -71,7 +70,7 @@ fn answer(alloc: Global, word: &str, env: Env, text: &str) -> Page
     requires names { IsTrue (list_all keeps_name (environment_of env)) }
     requires few { length (environment_of env) ≤ 65535 }
 {
-    let front = env.entries.len();
+    let front = env.len();
     match parsed(alloc, word, text) {
         Err(_) => message(alloc, b" no tree"),
         Ok(surface) => match elaborate(alloc, &surface, env) {
@@ -117,9 +116,7 @@ fn behind_one(alloc: Global, word: &str, env: Env, text: &str) -> Page
 
 fn answer_to(alloc: Global, line: &str) -> Page {
     let (word, text) = line.split_once(' ').unwrap_or((line, ""));
-    let env = Env {
-        entries: Many::new(alloc),
-    };
+    let env = Env::new(alloc);
     match text.split_once(BETWEEN) {
         None => answer(alloc, word, env, text),
         Some((first, rest)) => match behind(alloc, env, first) {

@@ -1,40 +1,18 @@
 -- The least entry of a name, and the first item of a list that passes.
-use Rattle.std.proofs.Common.{◌≡◌, refl, sym, ap, ◌∙◌, ℕ, zero, suc, ◌+◌, ◌<◌, Bool, true, false, not, cond, nat_lt, ◌&&◌, List, [], ◌∷◌, length, Some, None, take, Option}
+use Rattle.std.proofs.Common.{◌≡◌, refl, sym, ap, ◌∙◌, ℕ, zero, suc, ◌<◌, Bool, true, false, ◌&&◌, List, [], ◌∷◌, length, Some, None, take, Option}
 use Rattle.std.specs.Prelude.{position, option_map, slice_get, ◌||◌}
-use Rattle.std.specs.Option.{option_map_or}
-use Rattle.std.specs.List.{position_or_len}
-use Rattle.std.proofs.lemmas.Bool.Decides.{nat_tests}
+use Rattle.std.specs.Option.{option_map_or, is_some}
 use mathlib.Core.Bool.{true≢false}
 use native.Mathlib.Omega.{arith}
 use Rattle.ac_types.proofs.Same.{bytes_eq}
 use Rattle.ac_types.proofs.FirstLaws.{none≢some, some_eq}
 use Rattle.ac_types.specs.Types.{Bytes}
 use Rattle.ac_types.specs.Sigs.{Signature, type_under, is_abstract}
-use Rattle.ac_terms.specs.Defs.{Environment, Entry, names, find_name, name_at, signature}
-use Rattle.ac_rules.specs.Views.{declares, is_known}
+use Rattle.ac_index.specs.Noted.{is_before}
+use Rattle.ac_index.proofs.PositionLaws.{position-first, position-later, position_any, position_before}
+use Rattle.ac_terms.specs.Defs.{Environment, Entry, names, find_name, name_at, signature, declares}
+use Rattle.ac_rules.specs.Views.{is_known}
 use Rattle.ac_rules.proofs.Rules.{map_some}
-
--- the place of the first that passes, a step at a time
-lt-zero : (n : ℕ) → nat_lt 0 (suc n) ≡ true
-lt-zero n = grind (arith, nat_tests)
-
-lt-suc : (k n : ℕ) (b : Bool) → nat_lt k n ≡ b → nat_lt (1 + k) (suc n) ≡ b
-lt-suc k n true e = grind (arith, nat_tests)
-lt-suc k n false e = grind (arith, nat_tests)
-
-pub position-first : {A : Type 0} (p : A → Bool) (x : A) (xs : List A) → p x ≡ true → position p (x ∷ xs) ≡ Some 0
-position-first p x xs e =
-    ap (λ b. cond (nat_lt (cond (not b) (1 + position_or_len p xs) 0) (suc (length xs))) (Some (cond (not b) (1 + position_or_len p xs) 0)) None) e ∙
-    ap (λ b. cond b (Some 0) None) (lt-zero (length xs))
-
-pub position-later : {A : Type 0} (p : A → Bool) (x : A) (xs : List A) → p x ≡ false → position p (x ∷ xs) ≡ option_map suc (position p xs)
-position-later p x xs e =
-    ap (λ b. cond (nat_lt (cond (not b) (1 + position_or_len p xs) 0) (suc (length xs))) (Some (cond (not b) (1 + position_or_len p xs) 0)) None) e ∙
-    by (position_or_len p xs) (length xs) (nat_lt (position_or_len p xs) (length xs)) refl
-  where
-    by : (k n : ℕ) (b : Bool) → nat_lt k n ≡ b → cond (nat_lt (1 + k) (suc n)) (Some (1 + k)) None ≡ option_map suc (cond (nat_lt k n) (Some k) None)
-    by k n true e = ap (λ b. cond b (Some (1 + k)) None) (lt-suc k n true e) ∙ ap Some (omega arith) ∙ ap (λ b. option_map suc (cond b (Some k) None)) (sym e)
-    by k n false e = ap (λ b. cond b (Some (1 + k)) None) (lt-suc k n false e) ∙ ap (λ b. option_map suc (cond b (Some k) None)) (sym e)
 
 pub no_first : {A : Type 0} (p : A → Bool) (x : A) (xs : List A) → position p (x ∷ xs) ≡ None → (p x ≡ false) × (position p xs ≡ None)
 no_first p x xs e = by (p x) refl
@@ -51,6 +29,15 @@ no_first p x xs e = by (p x) refl
 pub names_some : (o : Option Bytes) (n : Bytes) → names o n ≡ true → o ≡ Some n
 names_some None n e = absurd (true≢false (sym e))
 names_some (Some a) n e = ap Some (bytes_eq a n e)
+
+-- what is known, by the first entry that declares it: some entry does, and one of the first entries
+pub some_known : (E : Environment) (n t : Bytes) → is_known E (n, t) ≡ is_some (position (declares n t) E)
+some_known E n t = sym (position_any (declares n t) E)
+
+pub early_known : (E : Environment) (i : ℕ) (n t : Bytes) → is_known (take i E) (n, t) ≡ is_before i (position (declares n t) E)
+early_known E i n t = position_before (declares n t) i E
+
+pub ruleset first_known = (some_known, early_known)
 
 -- whether an entry keeps the name
 abbrev keeps : Bytes → Entry → Bool

@@ -1,11 +1,10 @@
 -- What an abstract type stands for, and who sees it.
-use Rattle.std.specs.Prelude.{◌≡◌, ℕ, zero, suc, Bool, true, false, ◌&&◌, length, Option, None, option_and_then, unwrap_or, slice_get}
+use Rattle.std.specs.Prelude.{◌≡◌, ℕ, zero, suc, Bool, true, false, length, Option, None, option_and_then, unwrap_or, slice_get}
 use Rattle.std.specs.List.{list_all, list_any}
-use Rattle.std.specs.Option.{option_map_or}
 use Rattle.ac_types.specs.Types.{Bytes, Typ, TAbs, with_each, has_function, mentions}
-use Rattle.ac_types.specs.Sigs.{Signature, Constraint, Ranges, Exact, named_type, type_under, is_abstract}
+use Rattle.ac_types.specs.Sigs.{Constraint, Ranges, Exact, named_type}
 use Rattle.ac_terms.specs.Terms.{Home, Main, In}
-use Rattle.ac_terms.specs.Defs.{Environment, Entry, Def, AModule, AnImport, AMark, Module, Import, module_at, signature, name_at, names, find_name}
+use Rattle.ac_terms.specs.Defs.{Environment, Entry, Def, AModule, AnImport, AMark, Module, Import, module_at, name_at, names, find_name, declares}
 
 -- the struct's type t of a module
 abbrev pub module_type : Environment → Bytes → ℕ → Option Typ
@@ -76,9 +75,6 @@ abbrev pub head : Environment → Typ → Typ
 head E T = rounds (length E) (unsealed E) T
 
 -- n.t is known where it is abstract in the signature of an entry named n
-abbrev pub declares : Bytes → Bytes → Entry → Bool
-declares n t e = names e.name n && option_map_or (λ (s : Signature). is_abstract (type_under t s.types)) (signature e.def) false
-
 abbrev pub is_known : Environment → Bytes × Bytes → Bool
 is_known E p = list_any (declares p.0 p.1) E
 

@@ -1,7 +1,8 @@
 // Trees, and what is read of texts and of words, whose values may cross to another thread.
 
+use ac_index::Firsts;
 use ac_lexer::Token;
-use ac_terms::{Env, Home, PDef, PVal, Pat, Term};
+use ac_terms::{Entry, Home, PDef, PVal, Pat, Term};
 use ac_types::{Constraint, Exn, Many, Resolve, Sig, Text, Ty, Version};
 use acute_words::Command;
 
@@ -18,15 +19,21 @@ fn types_and_signatures_cross(_rt: HostRuntime) {
 }
 
 #[test]
-fn terms_and_environments_cross(_rt: HostRuntime) {
-    crosses::<Env>();
+fn terms_cross(_rt: HostRuntime) {
     crosses::<Term>();
     crosses::<Pat>();
     crosses::<Home>();
     crosses::<Exn>();
 }
 
-// (Of a packet itself, which has a type besides these, the prover's search gives up at a limit.)
+// (Of an environment itself, and of a packet, the prover's search gives up at a limit.)
+#[test]
+fn parts_of_environments_cross(_rt: HostRuntime) {
+    crosses::<Vec<Entry>>();
+    crosses::<Firsts<[u8; 32]>>();
+    crosses::<Firsts<Vec<u8>>>();
+}
+
 #[test]
 fn parts_of_packets_cross(_rt: HostRuntime) {
     crosses::<Many<PDef>>();

@@ -81,12 +81,7 @@ impl<'a> Sheet<'a> {
     }
 
     fn entry(&mut self, env: &Env, name: &Name) {
-        match env
-            .entries
-            .as_slice()
-            .iter()
-            .position(|entry| entry.keeps(name))
-        {
+        match env.entries().iter().position(|entry| entry.keeps(name)) {
             Some(number) => self.number(i64::try_from(number).unwrap_or(-1)),
             None => self.leaf(b"?"),
         }

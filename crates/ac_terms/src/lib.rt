@@ -6,6 +6,7 @@ mod def;
 mod env;
 mod lambda;
 pub mod laws;
+mod look_ups;
 mod pat;
 mod renumber;
 pub mod tags;

@@ -9,6 +9,8 @@ mod code;
 #[cfg(test)]
 mod framed;
 #[cfg(test)]
+mod look_ups;
+#[cfg(test)]
 mod make;
 #[cfg(test)]
 mod name_table;

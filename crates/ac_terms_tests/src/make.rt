@@ -82,7 +82,7 @@ pub fn named(rt: &impl Abort, alloc: Global, name: &[u8], n: i64) -> Entry {
 
 /// That module alone.
 pub fn alone(rt: &impl Abort, alloc: Global, name: &[u8], n: i64) -> Env {
-    Env {
-        entries: one(rt, alloc, named(rt, alloc, name, n)),
-    }
+    let mut env = Env::new(alloc);
+    env.push(named(rt, alloc, name, n)).expect(rt, "memory");
+    env
 }

@@ -1,6 +1,6 @@
 // Calls that can answer want of memory, where memory suffices.
 
-use crate::make::{boxed, entry, named, one, text, two, word};
+use crate::make::{boxed, entry, named, one, text, word};
 use ac_terms::{Arm, Def, Env, Home, Import, PDef, PVal, Packet, Pat, Term};
 use ac_types::{Constraint, Exn, Many, Name, Resolve, Sig, TextExn, Ty};
 use std::alloc::Global;
@@ -9,9 +9,10 @@ use std::process::Abort;
 // A mark and then a module, under a name.
 fn sample(rt: &impl Abort, alloc: Global) -> Env {
     let mark = entry(Def::Mark(text(rt, alloc, b"MK")), None);
-    Env {
-        entries: two(rt, alloc, mark, named(rt, alloc, b"C", 6)),
-    }
+    let mut env = Env::new(alloc);
+    env.push(mark).expect(rt, "memory");
+    env.push(named(rt, alloc, b"C", 6)).expect(rt, "memory");
+    env
 }
 
 fn copy(rt: &impl Abort, alloc: Global) -> Env {
@@ -24,7 +25,7 @@ fn copy(rt: &impl Abort, alloc: Global) -> Env {
 #[test]
 fn copies_an_environment(rt: HostRuntime) {
     let copy = copy(&rt, rt.alloc());
-    assert!(rt; copy.entries.len() == 2);
+    assert!(rt; copy.len() == 2);
     assert!(rt; copy.find(&Name([7; 32])) == Some(1));
     assert!(rt; copy.find(&Name([8; 32])).is_none());
     assert!(rt; copy.entry(1).is_some());

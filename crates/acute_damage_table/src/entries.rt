@@ -35,7 +35,7 @@ fn write_entry(sheet: &mut Sheet, entry: &Entry) {
 }
 
 fn write_entries(sheet: &mut Sheet, env: &Env) {
-    for entry in env.entries.as_slice() {
+    for entry in env.entries() {
         write_entry(sheet, entry);
     }
 }

@@ -17,7 +17,7 @@ pub fn names_text(alloc: Global, env: &Env) -> Result<Text, Memory>
 {
     let mut text = Text::new(alloc);
     let mut number = 0usize;
-    for entry in env.entries.as_slice() {
+    for entry in env.entries() {
         number = put_if_own(alloc, &mut text, number, entry)?;
     }
     Ok(text)

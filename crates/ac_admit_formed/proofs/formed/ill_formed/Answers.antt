@@ -12,7 +12,7 @@ pub loop-i-preserved : goal.loop-i-preserved
 loop-i-preserved c =
     let E = environment_of c.args.env.now in
     let i : ℕ = c.loop-i.i in
-    let es = c.as_slice-entries.result.now in
+    let es = c.entries-entries.result.now in
     let x = c.index-entries-i.result in
     let passed : c.in_ok-is_well_formed.field-0 ≡ true = (let h = c.if-not-branch.false in first_of (cc, search (rules, tests), grind (arith, common_steps))) in
     let formed : is_well_formed E i (entry_of x).def ≡ true =

@@ -8,7 +8,7 @@ pub returns-then-j-many : goal.returns-then-j-many
 returns-then-j-many c =
     let es = c.args.env.now.entries in
     let l : c.args.j < length es = omega arith in
-    c.name_in.ensures ∙ ap (λ xs. kept_entry_name (slice_get xs c.args.j)) c.as_slice.ensures ∙ sym (name_there es c.args.more.now c.args.j l)
+    c.name_in.ensures ∙ ap (λ xs. kept_entry_name (slice_get xs c.args.j)) c.entries.ensures ∙ sym (name_there es c.args.more.now c.args.j l)
 
 pub returns : goal.returns
 returns c =

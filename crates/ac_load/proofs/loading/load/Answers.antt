@@ -13,7 +13,7 @@ use Rattle.ac_load.proofs.loading.load.Goals as goal
 pub loop-entry-init : goal.loop-entry-init
 loop-entry-init c = record {
   part = refl;
-  before = subst (λ (l : List Entry). Before (shelf_of c.args.shelf.now) 0 (map entry_of l)) (sym c.new.ensures) nothing;
+  before = subst (λ (l : List Entry). Before (shelf_of c.args.shelf.now) 0 (map entry_of l)) (sym c.new-env.ensures) nothing;
 }
 
 pub module_behind-requires-clause-few : goal.module_behind-requires-clause-few

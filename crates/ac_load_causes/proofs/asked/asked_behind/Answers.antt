@@ -10,8 +10,8 @@ use Rattle.ac_load_causes.proofs.Firsts.{rest_read, rest_counted}
 use Rattle.ac_load_causes.proofs.asked.asked_behind.Goals as goal
 
 pub first_asked-requires-clause-counted : goal.first_asked-requires-clause-counted
-first_asked-requires-clause-counted c = rest_counted has_counted c.args.env.now.entries c.as_slice.result.now c.args.front c.as_slice.ensures c.requires.counted
+first_asked-requires-clause-counted c = rest_counted has_counted c.args.env.now.entries c.entries.result.now c.args.front c.entries.ensures c.requires.counted
 
 pub returns : goal.returns
 returns c =
-    subst (λ (es : Environment). Finds c.first_asked.result (first_at 0 (asked c.args.question) es)) (rest_read c.args.env.now.entries c.as_slice.result.now c.args.front c.as_slice.ensures) c.first_asked.ensures
+    subst (λ (es : Environment). Finds c.first_asked.result (first_at 0 (asked c.args.question) es)) (rest_read c.args.env.now.entries c.entries.result.now c.args.front c.entries.ensures) c.first_asked.ensures

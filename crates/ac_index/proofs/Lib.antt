@@ -1,0 +1,3 @@
+pub mod NotedLaws
+pub mod PositionLaws
+pub mod KeyLaws
