@@ -23,18 +23,18 @@ MARK = re.compile(r"ACUP|0x41435550|1094931792")
 OTHERS = [
     (r"(2|256) \^ \w+", "the width of a number"),
     (r"% (256|65_536|4_294_967_296)(?=\)? as u)|slice_index bs i < 256|bytes_read 8\b", "the bytes of a number"),
-    (r"const (PIECE|STACK|SHOWN|STEPS|MANY|MORE|GREATEST_INT|LEAST_INT): \w+ = .*;", "how much is read, shown or kept at once"),
+    (r"const (PIECE|STACK|SHOWN|STEPS|MANY|MORE|DIGITS|GREATEST_INT|LEAST_INT): \w+ = .*;", "how much is read, shown or kept at once"),
 ]
 # Files with numbers of their own, the greatest of them, and what they are.
 OWN = [
     (r"ac_types/(src/(exceptions|primitives)\.rt|specs/(Exceptions|Primitives)\.antt)", 16, "exceptions and primitives"),
-    (r"acute_answers/src/status\.rt", 11, "statuses"),
+    (r"(acute_answers|lens_top)/src/status\.rt", 11, "statuses"),
     (r"ac_bytes/.*", 256, "the bytes of numbers"),
     (r"ac_syntax/specs/(Expressions|TypeForms)\.antt|ac_parser_(expressions/specs/inner/Levels|patterns/specs/Pieces)\.antt", 9, "the levels of operators"),
     (r"ac_lexer/(src/(quoted|words)\.rt|specs/(Gaps|Spellings)\.antt)|ac_text/.*", 16, "characters and digits"),
     (r"acute_words/(src/values\.rt|specs/WordValues\.antt)", 10, "digits"),
     (r"(acute_answers|acute_top|acute_chain|acute_files|ac_text)/specs/.*", 10, "line feeds"),
-    (r"ac_explain/src/place\.rt", 255, "bytes of characters"),
+    (r"lens_(say/src/excerpt|hints/src/lexical)\.rt", 255, "bytes of characters"),
     (r"ac_make/.*", 1000, "the numbers that are drawn"),
 ]
 

@@ -1,9 +1,9 @@
 #!/usr/bin/env bash
-# Tries ./acute, ./explain and ./try on a table of command lines. usage: perf/scripts.sh [ACUTE AC_EXPLAIN]
-# ACUTE and AC_EXPLAIN are the two programs, built. Without them a stand-in takes their place, which ends as a row says, and
+# Tries ./acute, ./lens, ./explain and ./try on a table of command lines. usage: perf/scripts.sh [ACUTE LENS]
+# ACUTE and LENS are the two programs, built. Without them a stand-in takes their place, which ends as a row says, and
 # the rows `real` are left out. Nothing is proved or compiled: the programs lie in a cache of the table's own, and in place
 # of `rt try` a stand-in runs them as the kit does, in an empty folder and without an environment.
-[ $# = 0 ] || [ $# = 2 ] || { echo "usage: perf/scripts.sh [ACUTE AC_EXPLAIN]" >&2; exit 1; }
+[ $# = 0 ] || [ $# = 2 ] || { echo "usage: perf/scripts.sh [ACUTE LENS]" >&2; exit 1; }
 top=$(cd "$(dirname "${BASH_SOURCE[0]}")/.." && pwd)
 programs=()
 [ $# = 0 ] || programs=("$(realpath "$1")" "$(realpath "$2")")
@@ -40,8 +40,8 @@ lay_programs() {
     local build name
     build=$room/cache/acute/$(sha256sum <<<"$top" | cut -c1-16)
     ln -sf "$1" "$room/programs/acute"
-    ln -sf "$2" "$room/programs/ac_explain"
-    for name in acute ac_explain; do
+    ln -sf "$2" "$room/programs/lens"
+    for name in acute lens; do
         mkdir -p "$build/crates/$name/out"
         ln -sf "$room/programs/$name" "$build/crates/$name/out/$name"
     done
@@ -136,19 +136,18 @@ forms="usage: acute run FILE [--shelf LIST] [--in CH] [--out CH] [--steps N]
        acute check FILE.. [--shelf LIST]
        acute make SEED MODULES [--run]
        acute chain FILE.. [--shelf LIST] [--steps N]
-       acute explain FILE.."
-explained="acute: refused: unbound at 0
-bad.ac:1:1
+       acute explain FILE.. [--shelf LIST]"
+explained="bad.ac:1:1: refused: \`totl\` isn't in scope
 totl
 ^
-totl isn't in scope"
+  acute: refused: unbound at 0"
 unread="No such file or directory"
 disk="standard output can't be written: is the disk full, or was a pipe closed?"
 
 # The scripts are called from another folder, by links.
 mkdir -p "$room/files/sub"
 cd "$room/files" || exit 1
-ln -s "$top/acute" "$top/explain" "$top/try" .
+ln -s "$top/acute" "$top/lens" "$top/explain" "$top/try" .
 ln -s "$top/acute" sub/ac
 echo 'IO.print_string "7\n"' | tee 7 run help 'a b.ac' >seven.ac
 echo 'totl' >bad.ac
@@ -167,7 +166,7 @@ printf 'lib:greet greet_1_0.mod\nlib:lost lost.mod' >lost.list
 printf 'lib:greet greet_1_0.mod\r\n' >cr.list
 printf 'lib:greet  greet_1_0.mod\n' >bad.list
 
-for script in ./acute ./explain ./try "./acute explain" "./try explain"; do
+for script in ./acute ./lens ./explain ./try "./acute lens" "./acute explain" "./try explain"; do
     for word in "" --help -h help --version; do
         tells_forms "$script $word"
     done
@@ -183,8 +182,10 @@ lay_programs "$room/stand-in" "$room/stand-in"
 passes "./acute run run --steps 7 --in=7" "run|run|--steps|7|--in=7"
 passes "./acute check 'a b.ac' '' -x --help" "check|a b.ac||-x|--help"
 passes "./acute run --help" "run|--help"
-passes "./acute explain explain -x --in=7" "explain|-x|--in=7"
-passes "./explain 'a b.ac' run" "a b.ac|run"
+passes "./acute explain explain -x --in=7" "explain|explain|-x|--in=7"
+passes "./explain 'a b.ac' run" "explain|a b.ac|run"
+passes "./lens explain 7 --shelf=whole.list" "explain|7|--shelf=whole.list"
+passes "./acute lens --help" "--help"
 passes "./try run run --steps 7 --in=7" "run|HERE/run|--steps|7|--in=HERE/7"
 passes "./try make 7 20 --run" "make|7|20|--run"
 passes "./try chain 7 run --steps=7 no.ac" "chain|HERE/7|HERE/run|--steps=7|HERE/no.ac"
@@ -194,7 +195,8 @@ passes "./try run -x --in --out=../x -- ''" "run|-x|--in|--out=HERE/../x|--|"
 passes "./try check a:- - --shelf=- =" "check|HERE/a:-|-|--shelf=-|HERE/="
 passes "./try names ../run --shelf no.list" "names|HERE/../run|--shelf|HERE/no.list"
 passes "./try rnu" "rnu"
-passes "./try explain -x --in=7 run" "HERE/-x|HERE/--in=7|HERE/run"
+passes "./try explain -x --in=7 run" "explain|-x|--in=HERE/7|HERE/run"
+passes "./try lens explain 7" "explain|HERE/7"
 
 [ $# = 0 ] || lay_programs "${programs[@]}"
 row "./acute run seven.ac" 0 7
@@ -207,7 +209,7 @@ row "./acute run greet.ac --shelf bad.list" 10 "" "acute: shelf: line 1"
 
 row "./acute run bad.ac" 1 "" "acute: refused: unbound at 0" "./explain bad.ac shows the place"
 row "./acute names --shelf=whole.list bad.ac" 1 "" "acute: refused: unbound at 0" \
-    "./explain bad.ac shows the place, where that isn't in the shelf"
+    "./explain bad.ac --shelf whole.list shows the place"
 row "./acute check bad.ac" 1 "bad.ac: refused: unbound at 0" "" "./explain bad.ac shows the place"
 row "./acute check run bad.ac" 1 "run: accepted"$'\n'"bad.ac: refused: unbound at 0" "" "./explain FILE shows the place"
 row "cd sub; ../acute run ../bad.ac" 1 "" "acute: refused: unbound at 0" "../explain ../bad.ac shows the place"
@@ -225,7 +227,7 @@ row "./acute run receive.ac --in=no --out x" 5 "" "acute: read fault" "no can't 
 row "./acute run greet.ac --shelf no.list" 5 "" "acute: read fault" "no.list can't be read: $unread"
 row "./acute run greet.ac --shelf=lost.list" 5 "" "acute: read fault" "lost.mod can't be read: $unread"
 row "./acute run greet.ac --shelf cr.list" 5 "" "acute: read fault" "\$'greet_1_0.mod\\r' can't be read: $unread"
-row "./explain no.ac" 5 "acute: read fault" "" "no.ac can't be read: $unread"
+row "./explain no.ac" 5 "no.ac: can't be read" "" "no.ac can't be read: $unread"
 
 row "./acute run send.ac --out no/x" 6 "" "acute: write fault" "no/x can't be written: its folder isn't there"
 row "./acute run send.ac --out=sub" 6 "" "acute: write fault" "sub can't be written: it is a folder"

@@ -1,6 +1,6 @@
-# What ./acute, ./explain and ./try share: the forms of the commands, the files that words name, and what is said at a
+# What ./acute, ./lens, ./explain and ./try share: the forms of the commands, the files that words name, and what is said at a
 # terminal behind the program's own line. The script that reads this file sets `top`, the repository's folder, and
-# `explain`, the words that call the program that explains refusals.
+# `explain`, the words that explain files.
 
 print_forms() {
     cat <<'END'
@@ -10,7 +10,7 @@ usage: acute run FILE [--shelf LIST] [--in CH] [--out CH] [--steps N]
        acute check FILE.. [--shelf LIST]
        acute make SEED MODULES [--run]
        acute chain FILE.. [--shelf LIST] [--steps N]
-       acute explain FILE..
+       acute explain FILE.. [--shelf LIST]
 END
 }
 
@@ -32,21 +32,32 @@ CH       a file, or - for standard input or output
 N        how many applications a program may make, 1000000 without the option
 
 ./acute proves and builds the program first, where that isn't done yet.
-./try takes the same words, and runs without proof. ./explain is ./acute explain.
+./try takes the same words, and runs without proof. ./explain is ./acute explain, and ./lens explain too.
+./lens --help tells of the program that helps, which is built beside the first.
 docs/LANGUAGE.md has the rules, docs/FAULTS.md what each answer means.
 END
 }
 
-# Sets `name` to the program that the words call, and `words` to those that it gets. Where they ask for the forms, prints
-# them and ends.
+# Whether some words ask for the forms.
+asks_forms() {
+    case ${1---help} in
+        --help | -h | help | --version) true ;;
+        *) false ;;
+    esac
+}
+
+# Sets `name` to the program that the words call, and `words` to those that it gets. Where they ask for the forms of
+# `acute`, or of `explain`, prints them and ends.
 take_words() {
     name=acute words=("$@")
-    if [ "${1-}" = explain ]; then
-        name=ac_explain words=("${@:2}")
-    fi
-    case ${words[0]---help} in
-        --help | -h | help | --version) print_help; exit ;;
+    case ${1-} in
+        lens) name=lens words=("${@:2}"); return ;;
+        explain) name=lens; shift ;;
     esac
+    if asks_forms "$@"; then
+        print_help
+        exit
+    fi
 }
 
 # Sets files[i] to the file that words[i] names, or to nothing, and kinds[i] to the option that it belongs to, or to FILE.
@@ -55,19 +66,15 @@ find_files() {
     files=() kinds=()
     for word in "${words[@]}"; do
         kind=FILE file=$word
-        if [ $name = acute ]; then
-            case $before in --shelf | --in | --out | --steps) kind=$before ;; esac
-            case $word in --*=*) kind=${word%%=*} file=${word#*=} ;; -*) file= ;; esac
-            case $kind in FILE | --shelf | --in | --out) ;; *) file= ;; esac
-            [ "$file" != - ] || file=
-        fi
+        case $before in --shelf | --in | --out | --steps) kind=$before ;; esac
+        case $word in --*=*) kind=${word%%=*} file=${word#*=} ;; -*) file= ;; esac
+        case $kind in FILE | --shelf | --in | --out) ;; *) file= ;; esac
+        [ "$file" != - ] || file=
         files+=("$file") kinds+=("$kind") before=$word
     done
-    if [ $name = acute ]; then
-        # The first word is the command, and those of `make` are numbers.
-        files[0]=
-        [ "${words[0]}" != make ] || files=()
-    fi
+    # The first word is the command, and those of `make` are numbers.
+    files[0]=
+    [ "${words[0]-}" != make ] || files=()
 }
 
 # Says that a file can't be read or written, and why, where there is a reason.
@@ -138,14 +145,14 @@ tell_unwritten() {
 
 # Says how to see the place of what is refused.
 tell_place() {
-    local i file= where=
+    local i file= shelf=
     for i in "${!files[@]}"; do
         case ${kinds[i]}:${files[i]} in
-            --shelf:*) where=", where that isn't in the shelf" ;;
+            --shelf:?*) shelf=" --shelf $(printf %q "${files[i]}")" ;;
             FILE:?*) file=${file:+FILE} file=${file:-$(printf %q "${files[i]}")} ;;
         esac
     done
-    [ -z "$file" ] || echo "$explain $file shows the place$where"
+    [ -z "$file" ] || echo "$explain $file$shelf shows the place"
 }
 
 # Says at a terminal what there is to say of a status.

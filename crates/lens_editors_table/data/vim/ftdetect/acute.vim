@@ -1,0 +1,1 @@
+autocmd BufRead,BufNewFile *.ac,*.mod setfiletype acute
