@@ -40,7 +40,7 @@ same_bytes : (a : Bytes) → bytes_eq a a ≡ true
 same_bytes a = (bytes_eq-Decides a a).1 refl
 
 -- the file that is read is not the one that is written
-other : (name : Text) (to : Option ChannelName) → are_one (Some (file name)) to ≡ false → to ≡ Some (file name) → ⊥
+pub other : (name : Text) (to : Option ChannelName) → are_one (Some (file name)) to ≡ false → to ≡ Some (file name) → ⊥
 other name to apart is =
     let one : bytes_eq name name ≡ false = rw is at apart in
     true≢false (sym (same_bytes name) ∙ one)

@@ -6,23 +6,14 @@ use Rattle.ac_types.proofs.FirstLaws.{some_eq}
 use Rattle.ac_outside.specs.Outside.{Contents, ReadsFrom, or_empty}
 use Rattle.ac_outside.specs.declared.traits.Got.TheVariants as got
 use Rattle.acute_words.specs.Form.{Text}
-use Rattle.acute_words.specs.Commands.{ChannelName, ProgramFiles, Request, run, standard, file}
+use Rattle.acute_words.specs.Commands.{ChannelName, ProgramFiles, Request, run, file}
 use Rattle.acute_files.specs.ReadOrder.{TextsRead}
 use Rattle.acute_files.proofs.Turns.{texts_none}
 use Rattle.acute_top.specs.Requests.{files_loaded, list_named}
-use Rattle.acute_top.specs.Stages.{Stage, AtTexts, AtFile, InRun, ReadsTexts, ReadsFile, ReadsChannel, Touches}
+use Rattle.acute_top.specs.Stages.{Stage, AtTexts, AtFile, InRun, ReadsTexts, Uses, not_used, then_read, then_written, UsesFiles, Touches}
 use Rattle.acute_top.specs.Traits.{FilesOf}
 use Rattle.acute_top.specs.inner.RunCommands.{TouchesBehind}
-use Rattle.acute_top.specs.inner.Runs.{IsPlaceIn, ReadsSince}
-
--- one file has one name
-abbrev name_of : Text → Option ChannelName → Text
-name_of n None = n
-name_of n (Some standard) = n
-name_of n (Some (file name)) = name
-
-file_eq : {m n : Text} → Some (file m) ≡ Some (file n) → m ≡ n
-file_eq {m} {n} e = ap (name_of m) e
+use Rattle.acute_top.specs.inner.Runs.{IsPlaceIn, UsesSince}
 
 module _ {F : Type 0} (f : FilesOf F) where
   -- where nothing is read
@@ -30,31 +21,31 @@ module _ {F : Type 0} (f : FilesOf F) where
   no_texts None a = refl
   no_texts (Some r) a = texts_none f (files_loaded r) (list_named r) a
 
-  pub no_file_read : (from : Option ChannelName) (a : F) → ReadsFile f from a a
-  no_file_read from a = λ name is told short. ∣ f.reads_none name a ∣₁
-
-  -- the channel is read from where the files are the same
-  pub channel_from : (from : Option ChannelName) (a b c : F) → b ≡ a → ReadsChannel f from b c → ReadsChannel f from a c
-  channel_from from a b c same = subst (λ (x : F). ReadsChannel f from x c) same
+  pub no_use : (from to : Option ChannelName) (a : F) → UsesFiles f from to a a
+  no_use from to a = λ places. ∣ not_used ∣₁
 
   -- a run behind its texts
   pub touches_run : {I : Type 0} (p : ProgramFiles) (steps : ℕ) (from to : Option ChannelName) (stage : Stage) (a b c : F) (old new : I) → ReadsTexts f (Some (run p steps from to)) a b → TouchesBehind f from to stage b c old new → Touches f (Some (run p steps from to)) stage a c old new
   touches_run p steps from to AtTexts a b c old new texts t = (t.0, subst (λ (x : F). ReadsTexts f (Some (run p steps from to)) a x) (sym t.1) texts)
-  touches_run p steps from to AtFile a b c old new texts t = (t.0, λ none. subst (λ (x : F). ReadsTexts f (Some (run p steps from to)) a x) (sym (t.1 none)) texts)
-  touches_run p steps from to InRun a b c old new texts t = (t.0, λ none. (b, (texts, t.1 none)))
+  touches_run p steps from to AtFile a b c old new texts t = (t.0, (b, texts, t.1))
+  touches_run p steps from to InRun a b d old new texts t = let made = t.1 in (t.0, (b, made.0, texts, made.1, made.2))
 
-  -- at the start, at a read of the channel's file, and at the end
-  pub since_start : (start : Option F) (from : Option ChannelName) (was : Contents) (now : F) → start ≡ Some now → ReadsSince f start from was now
-  since_start start from was now at = λ a name is from_is told short. ∣ subst (λ (x : F). f.reads name a x) (some_eq (sym is ∙ at)) (f.reads_none name a) ∣₁
+  -- at the start, at a read and at a write of a channel's file, and at the end
+  pub since_start : (start : Option F) (from to : Option ChannelName) (was : Contents) (now : F) → start ≡ Some now → UsesSince f start from to was now
+  since_start start from to was now at = λ a is places. ∣ subst (λ (x : F). Uses f from to a x) (some_eq (sym is ∙ at)) not_used ∣₁
 
-  pub since_read : (start : Option F) (from : Option ChannelName) (was : Contents) (name : Text) (a b : F) (place : ℕ) → from ≡ Some (file name) → (IsTrue f.told → IsPlaceIn from was place) → ReadsSince f start from was a → (place < 2 ^ 63 → f.reads name a b) → ReadsSince f start from was b
-  since_read start from was name a b place at within since reads = λ s other is from_is told short.
-      let same : name ≡ other = file_eq (sym at ∙ from_is) in
-      let le = subst (λ (x : Option ChannelName). IsPlaceIn x was place) from_is (within told) in
-      ∥∥₁_map (since s other is from_is told short) (λ before. f.reads_on other s a b before (subst (λ (n : Text). f.reads n a b) same (reads (omega (arith, le, short)))))
+  pub since_read : (start : Option F) (from to : Option ChannelName) (was : Contents) (name : Text) (a b : F) (place : ℕ) → from ≡ Some (file name) → (IsTrue f.told → IsPlaceIn from was place) → UsesSince f start from to was a → (place < 2 ^ 63 → f.reads name a b) → UsesSince f start from to was b
+  since_read start from to was name a b place at within since reads = λ s is places.
+      let have = places name at in
+      let le = subst (λ (x : Option ChannelName). IsPlaceIn x was place) at (within have.0) in
+      let short = have.1 in
+      ∥∥₁_map (since s is places) (λ before. then_read name at before (reads (omega (arith, le, short))))
 
-  pub since_all : (from : Option ChannelName) (a b : F) → ReadsSince f (Some a) from (f.contents a) b → ReadsFile f from a b
-  since_all from a b since = λ name is told short. since a name refl is told short
+  pub since_write : (start : Option F) (from to : Option ChannelName) (was : Contents) (name : Text) (a b : F) → to ≡ Some (file name) → UsesSince f start from to was a → f.writes name a b → UsesSince f start from to was b
+  since_write start from to was name a b at since writes = λ s is places. ∥∥₁_map (since s is places) (λ before. then_written name at before writes)
+
+  pub since_all : (from to : Option ChannelName) (a b : F) → UsesSince f (Some a) from to (f.contents a) b → UsesFiles f from to a b
+  since_all from to a b since = since a refl
 
 -- the place at the start, and after a read
 pub place_first : (from : Option ChannelName) (was : Contents) → IsPlaceIn from was 0

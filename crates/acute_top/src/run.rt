@@ -10,7 +10,7 @@ ghost use Rattle.acute_files.specs.Files.{FilesSeen, seen};
 ghost use Rattle.acute_words.specs.Commands.{are_one, channel_of};
 ghost use Rattle.acute_top.specs.Channels.{KeptBut, NoFile, NotStandard};
 ghost use Rattle.acute_top.specs.Handed.{call, handed, handed_since};
-ghost use Rattle.acute_top.specs.Stages.{Stage, InRun, Touches, ReadsFile};
+ghost use Rattle.acute_top.specs.Stages.{Stage, InRun, Touches, Makes, UsesFiles};
 ghost use Rattle.acute_top.specs.inner.RunCommands.{asked, from_of, to_of, HasRun, HasRunText, HasRunLoaded, HasRunBegun, HoldsSince};
 ghost use Rattle.acute_top.specs.inner.Runs.{Prepared, MakesFile};
 
@@ -134,7 +134,7 @@ fn make_and_run<F: Files, I: Source, O: Sink, E: Sink>(
 fn make_channel<F: Files>(to: Option<Channel>, files: &mut F) -> Put
     ensures makes { MakesFile (option_map channel_of to.entry) F.told result
         (seen F.Files files.old) (seen F.Files files.new) }
-    ensures only { NoFile (option_map channel_of to.entry) → files.new ≡ files.old }
+    ensures touches { Makes F.Files (option_map channel_of to.entry) files.old files.new }
 {
     match to {
         Some(Channel::File(name)) => files.create(name),
@@ -163,8 +163,7 @@ fn run_session<F: Files, I: Source, O: Sink, E: Sink>(
     ensures idle { NotStandard (from_of run.entry) → input.new ≡ input.old }
     ensures only { NoFile (from_of run.entry) → NoFile (to_of run.entry) →
         files.new ≡ files.old }
-    ensures reads { NoFile (to_of run.entry) →
-        ReadsFile F.Files (from_of run.entry) files.old files.new }
+    ensures uses { UsesFiles F.Files (from_of run.entry) (to_of run.entry) files.old files.new }
 {
     let (from, to) = (run.input, run.output);
     match run_among(alloc, session, from, to, files, input, output, errors) {

@@ -8,8 +8,8 @@ ghost use Rattle.acute_top.specs.inner.Told.{tells, left_in, stream_left, sent_i
 ghost use Rattle.acute_top.specs.Channels.{of_channel, KeptBut, NoFile, NotStandard};
 ghost use Rattle.acute_top.specs.inner.Counts.{count_of_both};
 ghost use Rattle.acute_top.specs.Handed.{call};
-ghost use Rattle.acute_top.specs.Stages.{ReadsFile};
-ghost use Rattle.acute_top.specs.inner.Runs.{RanAmong, WritesRose, ReadsRose, RanIn, ErrorsApart, is_there, IsPlaceIn, ReadsSince};
+ghost use Rattle.acute_top.specs.Stages.{UsesFiles};
+ghost use Rattle.acute_top.specs.inner.Runs.{RanAmong, WritesRose, ReadsRose, RanIn, ErrorsApart, is_there, IsPlaceIn, UsesSince};
 
 use crate::no_files::NoFiles;
 use crate::no_input::NoInput;
@@ -86,8 +86,8 @@ struct Joined<'a, F: Files, I: Source, C: Sink, S: Sink, K: Fixed<F>> {
     ghost kept: { IsTrue F.told → KeptBut K.to K.contents (F.contents files.now) },
     ghost there: { IsTrue F.told → IsTrue (is_there K.to K.contents) →
         IsTrue (is_there K.to (F.contents files.now)) },
-    ghost within: { NoFile K.to → IsTrue F.told → IsPlaceIn K.from K.contents place },
-    ghost reads: { NoFile K.to → ReadsSince F.Files K.start K.from K.contents files.now },
+    ghost within: { IsTrue F.told → IsPlaceIn K.from K.contents place },
+    ghost uses: { UsesSince F.Files K.start K.from K.to K.contents files.now },
     ghost console_later: { K.console_faults ≤ C.faults console.now },
     ghost channel_later: { K.channel_faults ≤ of_channel K.to 0 (S.faults stream.now)
         (F.write_faults files.now) },
@@ -199,8 +199,8 @@ pub fn run_among<F: Files, I: Source, O: Sink, E: Sink>(
     ensures idle { NotStandard (option_map channel_of from.entry) → input.new ≡ input.old }
     ensures only { NoFile (option_map channel_of from.entry) →
         NoFile (option_map channel_of to.entry) → files.new ≡ files.old }
-    ensures reads { NoFile (option_map channel_of to.entry) →
-        ReadsFile F.Files (option_map channel_of from.entry) files.old files.new }
+    ensures uses { UsesFiles F.Files (option_map channel_of from.entry)
+        (option_map channel_of to.entry) files.old files.new }
 {
     if is_file(from) || is_file(to) {
         run_with(alloc, session, from, to, files, input, output, errors)
@@ -249,8 +249,8 @@ fn run_with<F: Files, I: Source, O: Sink, E: Sink>(
         IsTrue (is_there (option_map channel_of to.entry) (F.contents files.old)) →
         IsTrue (is_there (option_map channel_of to.entry) (F.contents files.new)) }
     ensures idle { NotStandard (option_map channel_of from.entry) → input.new ≡ input.old }
-    ensures reads { NoFile (option_map channel_of to.entry) →
-        ReadsFile F.Files (option_map channel_of from.entry) files.old files.new }
+    ensures uses { UsesFiles F.Files (option_map channel_of from.entry)
+        (option_map channel_of to.entry) files.old files.new }
 {
     if is_standard(from) {
         run_between(alloc, session, from, to, files, input, output, errors)
@@ -318,8 +318,8 @@ fn run_between<F: Files, I: Source, O: Sink, E: Sink>(
     ensures there { IsTrue F.told →
         IsTrue (is_there (option_map channel_of to.entry) (F.contents files.old)) →
         IsTrue (is_there (option_map channel_of to.entry) (F.contents files.new)) }
-    ensures reads { NoFile (option_map channel_of to.entry) →
-        ReadsFile F.Files (option_map channel_of from.entry) files.old files.new }
+    ensures uses { UsesFiles F.Files (option_map channel_of from.entry)
+        (option_map channel_of to.entry) files.old files.new }
 {
     let mut none = SureSink::new(alloc);
     match to {
@@ -383,8 +383,8 @@ fn run_on<F: Files, I: Source, C: Sink, S: Sink>(
     ensures there { IsTrue F.told →
         IsTrue (is_there (option_map channel_of to.entry) (F.contents files.old)) →
         IsTrue (is_there (option_map channel_of to.entry) (F.contents files.new)) }
-    ensures reads { NoFile (option_map channel_of to.entry) →
-        ReadsFile F.Files (option_map channel_of from.entry) files.old files.new }
+    ensures uses { UsesFiles F.Files (option_map channel_of from.entry)
+        (option_map channel_of to.entry) files.old files.new }
 {
     let mut end = RunEnd::Memory;
     // the references that it gives back are for the proof alone
@@ -437,7 +437,7 @@ fn run_at<'a, F: Files, I: Source, C: Sink, S: Sink, K: Fixed<F>>(
     ensures kept { IsTrue F.told → KeptBut K.to K.contents (F.contents result.0.now) }
     ensures there { IsTrue F.told → IsTrue (is_there K.to K.contents) →
         IsTrue (is_there K.to (F.contents result.0.now)) }
-    ensures reads { NoFile K.to → ReadsSince F.Files K.start K.from K.contents result.0.now }
+    ensures uses { UsesSince F.Files K.start K.from K.to K.contents result.0.now }
     ensures same_files { result.0.ghost_name ≡ files.entry.ghost_name }
     ensures same_input { result.1.ghost_name ≡ input.entry.ghost_name }
     ensures same_console { result.2.ghost_name ≡ console.entry.ghost_name }

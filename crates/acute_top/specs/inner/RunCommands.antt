@@ -15,8 +15,8 @@ use Rattle.acute_words.specs.Commands as commands
 use Rattle.acute_words.specs.Commands.{ChannelName, Request, channel_of, files_of}
 use Rattle.acute_words.specs.declared.command.Run.{Run}
 use Rattle.acute_answers.specs.declared.status.Status.{Status}
-use Rattle.acute_top.specs.Channels.{NoFile, NotStandard}
-use Rattle.acute_top.specs.Stages.{Stage, AtTexts, AtFile, InRun, ReadsChannel}
+use Rattle.acute_top.specs.Channels.{NotStandard}
+use Rattle.acute_top.specs.Stages.{Stage, AtTexts, AtFile, InRun, Makes, UsesChannels}
 use Rattle.acute_top.specs.Handed.{Handed, Call, handed_since}
 use Rattle.acute_top.specs.RunEndings.{RunEnded}
 use Rattle.acute_top.specs.Traits.{FilesOf, SourceOf, SinkOf}
@@ -52,8 +52,8 @@ HasRunBegun run s o end = (loaded : Loaded) → IsLoaded (environment_of loaded.
 -- what a run has done with files and input by a stage, from where its texts have been read
 abbrev pub TouchesBehind : {F I : Type 0} → FilesOf F → Option ChannelName → Option ChannelName → Stage → F → F → I → I → Type 0
 TouchesBehind f from to AtTexts a b old new = (new ≡ old) × (b ≡ a)
-TouchesBehind f from to AtFile a b old new = (new ≡ old) × (NoFile to → b ≡ a)
-TouchesBehind f from to InRun a b old new = (NotStandard from → new ≡ old) × (NoFile to → ReadsChannel f from a b)
+TouchesBehind f from to AtFile a b old new = (new ≡ old) × Makes f to a b
+TouchesBehind {F} f from to InRun a c old new = (NotStandard from → new ≡ old) × ((b : F) × Makes f to a b × UsesChannels f from to b c)
 
 -- this holds of what is handed since a call began in which files haven't changed up to here, and a run with these channels has done so much with files and input
 abbrev pub HoldsSince : {F I O E : Type 0} → FilesOf F → SourceOf I → SinkOf O → SinkOf E → Option ChannelName → Option ChannelName → Call F I O E → Call F I O E → (Handed → Type 0) → Type 0

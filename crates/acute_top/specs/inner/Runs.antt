@@ -1,5 +1,5 @@
 -- A run in its world, and the files in front of it.
-use Rattle.std.specs.Prelude.{◌≡◌, ◌⊎◌, ◌<◌, ◌≤◌, ◌^◌, ℕ, Bool, true, IsTrue, [], length, Option, Some, None, is_some}
+use Rattle.std.specs.Prelude.{◌≡◌, ◌⊎◌, ◌≤◌, ℕ, Bool, true, IsTrue, [], length, Option, Some, None, is_some}
 use Rattle.ac_types.specs.Types.{Bytes}
 use Rattle.ac_outside.specs.Outside.{Contents, NeverFall, Created, OthersSame, Rose, or_empty}
 use Rattle.ac_outside.specs.declared.traits.Put.{Put}
@@ -13,6 +13,7 @@ use Rattle.ac_run.specs.Sessions.{Session, Streams, streams, ProgramEnds, HasLef
 use Rattle.ac_run.specs.declared.end.RunEnd.{RunEnd}
 use Rattle.acute_top.specs.Channels.{of_channel, of_console, GetsInput, KeptBut}
 use Rattle.acute_top.specs.Handed.{Call}
+use Rattle.acute_top.specs.Stages.{HasPlaces, Uses}
 use Rattle.acute_top.specs.Traits.{FilesOf, SourceOf, SinkOf}
 use Rattle.acute_top.specs.inner.Told.{tells, left_in, stream_left, sent_in}
 use Rattle.acute_files.specs.Files.{FilesSeen}
@@ -86,6 +87,6 @@ MakesFile (Some (file name)) told p old new =
 abbrev pub IsPlaceIn : Option ChannelName → Contents → ℕ → Type 0
 IsPlaceIn from was place = place ≤ of_channel from place place (λ name. length (or_empty (was name)))
 
--- since these files, if they are known, the channel's file alone was read, which had these bytes
-abbrev pub ReadsSince : {F : Type 0} → FilesOf F → Option F → Option ChannelName → Contents → F → Type 0
-ReadsSince {F} f start from was now = (a : F) (name : Text) → start ≡ Some a → from ≡ Some (file name) → IsTrue f.told → length (or_empty (was name)) < 2 ^ 63 → ∥ f.reads name a now ∥₁
+-- since these files, if they are known, of which what is read had these bytes, the channels' files alone were used
+abbrev pub UsesSince : {F : Type 0} → FilesOf F → Option F → Option ChannelName → Option ChannelName → Contents → F → Type 0
+UsesSince {F} f start from to was now = (a : F) → start ≡ Some a → HasPlaces f.told from was → ∥ Uses f from to a now ∥₁
