@@ -1,3 +1,5 @@
+pub mod Inputs
+pub mod Moments
 pub mod Sessions
 pub mod Course
 pub mod inner

@@ -47,9 +47,11 @@ impl Inbox {
         ensures later_writes { W.write_faults world.old ≤ W.write_faults world.new }
         ensures empty { NoneLeft W.Source.told self.old (W.Source.left world.old) →
             NoneLeft W.Source.told self.new (W.Source.left world.new) }
-        // Once it is closed it stays so, and nothing is read.
+        ensures passes { W.Source.passes world.old world.new }
+        // Once it is closed it stays so, and nothing is read; nor is it once no frame has come.
         ensures closed { self.old ≡ Inbox.Closed → self.new ≡ Inbox.Closed }
         ensures idle { self.old ≡ Inbox.Closed → world.new ≡ world.old }
+        ensures still { self.old ≡ Inbox.Broken → world.new ≡ world.old }
         ensures ended { self.old ≡ Inbox.Closed → result ≡ Incoming.End }
     {
         match self {

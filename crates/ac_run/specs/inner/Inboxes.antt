@@ -1,5 +1,5 @@
 -- What a session has left to read.
-use Rattle.std.specs.Prelude.{◌≡◌, ℕ, Bool, IsTrue, [], drop}
+use Rattle.std.specs.Prelude.{◌≡◌, ℕ, Bool, IsTrue, List, [], ◌∷◌, drop}
 use Rattle.ac_types.specs.Types.{Bytes}
 use Rattle.ac_outside.specs.Frames.{Whole, Bad, AtEnd, next_frame}
 use Rattle.ac_run.specs.declared.inbox.Inbox.{Inbox}
@@ -36,3 +36,9 @@ Heard told incoming.Memory inbox rest input = Unit {0}
 -- whatever comes later, something comes now of which this holds
 abbrev pub Comes : Bool → Inbox → Bytes → Inbox → Bytes → (Bytes → Bytes → Type 0) → Type 0
 Comes told old left new now P = (rest : Bytes) → MayCome new told now rest → (before : Bytes) × MayCome old told left before × ((input : Bytes) → IsLeft told old before input → P rest input)
+
+-- something is read where frames may come, and else nothing
+abbrev pub read_in : {A : Type 0} → Inbox → A → List A
+read_in Open here = here ∷ []
+read_in Broken here = []
+read_in Closed here = []

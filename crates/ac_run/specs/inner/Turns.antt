@@ -13,9 +13,12 @@ use Rattle.ac_machine_engine.specs.Resumes.{resumed, resumed_text, with_raise}
 use Rattle.ac_machine_engine.specs.Seen.{MachineSeen, standing}
 use Rattle.ac_meaning.specs.Writes.{Write, string_of}
 use Rattle.ac_meaning.specs.Worlds.{Exception, World, end_of_file_exn, bad_frame}
-use Rattle.ac_meaning.specs.Acts.{Outcome, Stuck, Over, Leads, writes_of}
+use Rattle.ac_meaning.specs.Acts.{Outcome, Stuck, Over, Leads, writes_of, receives_of}
 use Rattle.ac_machine_proof.specs.Running.{on, machine_step}
 use Rattle.ac_run.specs.Sessions.{Session, environment, Streams, with_writes, StopsIn, StopsBehind, left_of, IsEnd, Leaves}
+use Rattle.std.specs.List.{All}
+use Rattle.ac_run.specs.Inputs.{behind_receives}
+use Rattle.ac_run.specs.Moments.{Moment, AtReceive}
 use Rattle.ac_run.specs.Journals.{read_journal, noted}
 use Rattle.ac_run.specs.inner.Inboxes.{MayCome, IsLeft}
 use Rattle.ac_run.specs.declared.end.RunEnd.{RunEnd}
@@ -83,8 +86,8 @@ LeavesNext told inbox rest end.WriteFault o = Unit {0}
 LeavesNext told inbox rest end.Memory o = Unit {0}
 
 module _ (sends told : Bool) where
-  -- over coherent definitions a run is on its way to this end, where it isn't stuck and all writes are short, and this is what comes; where that is told, the writes since the start were made; what crossed stands in the journal, if it is kept
-  pub record OnItsWay (p : Point) (rest : Bytes) (start : Streams) (o : Outcome (Code × MValue)) : Type 0 where
+  -- over coherent definitions a run is on its way to this end, where it isn't stuck and all writes are short, and this is what comes; where that is told, the writes since the start were made; of the first input the receives so far have taken their frames; what crossed stands in the journal, if it is kept
+  pub record OnItsWay (p : Point) (rest : Bytes) (start : Streams) (first : Bytes) (o : Outcome (Code × MValue)) : Type 0 where
     pub able : p.machine.lost ≡ false
     pub coherent : IsCoherent p.environment
     pub state : MState
@@ -97,21 +100,23 @@ module _ (sends told : Bool) where
     pub input : IsLeft told p.inbox rest world.input
     pub channel : world.has_channel ≡ sends
     pub so_far : IsTrue told → p.streams ≡ with_writes world.writes start
+    pub taken : world.input ≡ behind_receives world.receives first
     pub crossed : read_journal p.journal.crossings ≡ noted p.journal.keeps world.crossings
 
   -- whatever comes, it is on the way to an end
   abbrev pub CanRun : Point → Type 0
-  CanRun p = (rest : Bytes) → MayCome p.inbox told p.left rest → (o : Outcome (Code × MValue)) × (start : Streams) × OnItsWay p rest start o
+  CanRun p = (rest : Bytes) → MayCome p.inbox told p.left rest → (o : Outcome (Code × MValue)) × (start : Streams) × (first : Bytes) × OnItsWay p rest start first o
 
   -- each session with these definitions, this budget, this machine and this journal has ended so, and leaves what it says
   abbrev pub EndsSo : ℕ → Point → Streams → RunEnd → Outcome (Code × MValue) → Type 0
   EndsSo N p start r o = (s : Session) → environment s ≡ p.environment → s.steps ≡ N → s.machine ≡ p.machine → s.keeps ≡ p.journal.keeps → s.journal ≡ p.journal.crossings → IsEnd r o s × Leaves r told o s start p.streams
 
   -- it is on its way, or has ended
-  abbrev pub Turned : ℕ → Point → Bytes → Streams → Outcome (Code × MValue) → Option RunEnd → Type 0
-  Turned N p rest start o None = OnItsWay p rest start o
-  Turned N p rest start o (Some r) = EndsSo N p start r o × LeavesNext told p.inbox rest r o
+  abbrev pub Turned : ℕ → Point → Bytes → Streams → Bytes → Outcome (Code × MValue) → Option RunEnd → Type 0
+  Turned N p rest start first o None = OnItsWay p rest start first o
+  Turned N p rest start first o (Some r) = EndsSo N p start r o × LeavesNext told p.inbox rest r o
 
-  -- whatever comes later, something comes now with which a run that is on its way gets from the first point to the second, or ends there
-  abbrev pub Goes : ℕ → Point → Point → Option RunEnd → Type 0
-  Goes N p q r = (rest : Bytes) → MayCome q.inbox told q.left rest → (before : Bytes) × MayCome p.inbox told p.left before × ((start : Streams) (o : Outcome (Code × MValue)) → OnItsWay p before start o → Turned N q rest start o r)
+  -- whatever comes later, something comes now with which a run that is on its way gets from the first point to the second, or ends there, and stands at a receive at each of these moments
+  abbrev pub Goes : ℕ → Point → Point → Option RunEnd → List Moment → Type 0
+  Goes N p q r moments = (rest : Bytes) → MayCome q.inbox told q.left rest → (before : Bytes) × MayCome p.inbox told p.left before
+      × ((start : Streams) (first : Bytes) (o : Outcome (Code × MValue)) → OnItsWay p before start first o → Turned N q rest start first o r × All (AtReceive told (receives_of o) first start) moments)
