@@ -66,6 +66,10 @@ module _ (told : Bool) (left now : Bytes) where
   pub hears_no_more : Comes told Broken left Broken left (Heard told incoming.Bad Broken)
   hears_no_more rest comes = (rest, comes, λ input is. (is.0, is.1, is.2, is))
 
+  -- some bytes are gone
+  pub hears_failed : (IsTrue told → (taken : Bytes) × (left ≡ taken ++ now)) → Comes told Open left Open now (Heard told incoming.Failed Open)
+  hears_failed lost rest comes = (left, λ t. refl, λ input e t. let l = lost t in (l.0, e ∙ l.1 ∙ ap (λ (more : Bytes). l.0 ++ more) (comes t)))
+
   -- nothing is known of what comes later
   pub hears_nothing : (P : Bytes → Bytes → Type 0) → ((rest input : Bytes) → P rest input) → Comes told Open left Open now P
   hears_nothing P p rest comes = (left, λ t. refl, λ input e. p rest input)

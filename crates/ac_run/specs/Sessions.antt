@@ -16,6 +16,8 @@ use Rattle.ac_meaning.specs.Worlds.{Crossing, Trace, World}
 use Rattle.ac_meaning.specs.ReadExn.{exn_of}
 use Rattle.ac_meaning.specs.Acts.{Outcome, Returned, Raised, Spent, Stuck, writes_of, crossings_of, before_writes_of, receives_of}
 use Rattle.ac_meaning.specs.Reduction.{Ends}
+use Rattle.std.specs.List.{All}
+use Rattle.ac_run.specs.Inputs.{behind_receives}
 use Rattle.ac_run.specs.Journals.{read_journal, noted, BeginsWith}
 use Rattle.ac_run.specs.declared.crossing.Crossing as code
 use Rattle.ac_run.specs.declared.end.RunEnd.{RunEnd}
@@ -93,14 +95,40 @@ IsEnd end.ReadFault o s = WaitsForFrame s
 IsEnd end.WriteFault o s = Unit {0}
 IsEnd end.Memory o s = Unit {0}
 
--- behind an end without a fault a world has left of its input what the reduction has left, or that is no frame, and of it what is behind the bytes that say so
-abbrev pub HasLeft : {A : Type 0} → RunEnd → Outcome A → Bytes → Type 0
-HasLeft end.Finished o left = (left ≡ left_of o) ⊎ NoFrame (left_of o) left
-HasLeft (end.Uncaught e) o left = (left ≡ left_of o) ⊎ NoFrame (left_of o) left
-HasLeft (end.Spent steps) o left = (left ≡ left_of o) ⊎ NoFrame (left_of o) left
-HasLeft end.ReadFault o left = Unit {0}
-HasLeft end.WriteFault o left = Unit {0}
-HasLeft end.Memory o left = Unit {0}
+-- this is left, or what begins so is no frame, and of it what is behind the bytes that say so
+abbrev pub IsAllLeft : Bytes → Bytes → Type 0
+IsAllLeft left stands = (left ≡ stands) ⊎ NoFrame stands left
+
+-- at one of these receives this is left behind some bytes of what stands behind the frames of the receives before it
+pub record LeftAtReceive (all : List Trace) (input left : Bytes) : Type 0 where
+  pub before : List Trace
+  pub receive : Trace
+  pub after : List Trace
+  pub order : all ≡ before ++ receive ∷ after
+  pub taken : Bytes
+  pub is : behind_receives before input ≡ taken ++ left
+
+-- at one of these writes this holds of what stands behind the frames of the receives in front of it; the receives behind it come after that write
+pub record LeftAtWrite (all : List Write) (receives : List Trace) (input : Bytes) (holds : Bytes → Type 0) : Type 0 where
+  pub before : List Write
+  pub write : Write
+  pub after : List Write
+  pub order : all ≡ before ++ write ∷ after
+  pub earlier : List Trace
+  pub later : List Trace
+  pub come_to : receives ≡ earlier ++ later
+  pub in_front : All (λ (t : Trace). BeginsWith t.writes before) earlier
+  pub behind : All (λ (t : Trace). BeginsWith (before ++ write ∷ []) t.writes) later
+  pub is : holds (behind_receives earlier input)
+
+-- of its input a world has left: behind an end without a fault what the reduction has left; after a failed read what is behind the frames of the receives before one, but for some bytes; after a failed write all that is behind the frames of the receives in front of it
+abbrev pub HasLeft : {A : Type 0} → RunEnd → Outcome A → Bytes → Bytes → Type 0
+HasLeft end.Finished o input left = IsAllLeft left (left_of o)
+HasLeft (end.Uncaught e) o input left = IsAllLeft left (left_of o)
+HasLeft (end.Spent steps) o input left = IsAllLeft left (left_of o)
+HasLeft end.ReadFault o input left = LeftAtReceive (receives_of o) input left
+HasLeft end.WriteFault o input left = LeftAtWrite (writes_of o) (receives_of o) input (IsAllLeft left)
+HasLeft end.Memory o input left = Unit {0}
 
 -- console and channel of a world
 pub record Streams : Type 0 where

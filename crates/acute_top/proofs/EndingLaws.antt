@@ -8,6 +8,7 @@ use Rattle.acute_files.specs.declared.shelf.TextsFault.{TextsFault}
 use Rattle.acute_files.specs.declared.shelf.TextsFault.TheVariants as fault
 use Rattle.ac_meaning.specs.Writes.{Write}
 use Rattle.ac_run.specs.Sessions.{Streams, with_writes, StopsBehind}
+use Rattle.ac_run.specs.declared.end.RunEnd.TheVariants as run_end
 use Rattle.acute_answers.specs.declared.status.Status.{Status}
 use Rattle.acute_answers.specs.declared.status.TheConstants.Status.{OUT_OF_MEMORY, WORDS_REFUSED}
 use Rattle.acute_answers.specs.Meaning.{CommandAnswer}
@@ -51,7 +52,7 @@ behind_all told writes old new h = record { before = writes; after = []; order =
 
 module _ (prog : ProgramFiles) (steps : ℕ) (from to : Option ChannelName) (o : Handed) where
   -- what the text means, with its line, or the line of want of memory in its place
-  pub end_told : (r : HasRead prog steps from to o) (a : CommandAnswer) (mid : Bytes) → GivesStatus prog steps from to o r a → a.runs ≡ true → (IsTrue (is_told from to o) → after_run to o mid ≡ with_writes a.writes (before_run to o)) → InputLeft prog steps from to o r → IsMade to o → (c : ℕ) (rest : List ℕ) → a.line ≡ c ∷ rest
+  pub end_told : (r : HasRead prog steps from to o) (a : CommandAnswer) (mid : Bytes) → GivesStatus prog steps from to o r a → a.runs ≡ true → (IsTrue (is_told from to o) → after_run to o mid ≡ with_writes a.writes (before_run to o)) → InputLeft prog steps from to o r run_end.Finished → IsMade to o → (c : ℕ) (rest : List ℕ) → a.line ≡ c ∷ rest
       → (end : Status) → Said (behind_run to o mid) a.line a.status end ⊎ Said (behind_run to o mid) memory_line OUT_OF_MEMORY end → RunEnded prog steps from to o end
   end_told r a mid g runs whole left made c rest is end (inl s) = has_run r a mid g runs whole left made (said_if_any (behind_run to o mid) a.line rest c a.status end is s)
   end_told r a mid g runs whole left made c rest is end (inr s) = no_memory_left r a mid g runs made (inr (behind_all (is_told from to o) a.writes (before_run to o) (after_run to o mid) whole)) s

@@ -19,9 +19,10 @@ same_left (Some (file name)) files input place = refl
 
 -- a run with the input that its world has left
 pub left_with : (from : Option ChannelName) (told : Bool) (s : Session) (before input after : Bytes) (r : RunEnd) → HasInput told before input
-    → (IsTrue told → (mode : Mode) (o : Outcome Value) → ProgramEnds mode s before o → HasLeft r o after) → StreamLeft from told s input r (stream_left from after)
+    → (IsTrue told → (mode : Mode) (o : Outcome Value) → ProgramEnds mode s before o → HasLeft r o before after) → StreamLeft from told s input r (stream_left from after)
 left_with from told s before input after r same left is t mode o ends =
-    subst (HasLeft r o) (sym (ap (λ (f : Option ChannelName). stream_left f after) is)) (left t mode o (subst (λ (i : Bytes). ProgramEnds mode s i o) (sym (same t)) ends))
+    subst (HasLeft r o input) (sym (ap (λ (f : Option ChannelName). stream_left f after) is))
+    (subst (λ (i : Bytes). HasLeft r o i after) (same t) (left t mode o (subst (λ (i : Bytes). ProgramEnds mode s i o) (sym (same t)) ends)))
 
 -- a run without a channel to read from
 pub left_without : (told : Bool) (s : Session) (input after : Bytes) (r : RunEnd) → StreamLeft None told s input r after

@@ -17,7 +17,7 @@ use Rattle.ac_meaning.proofs.Endings.{some_end}
 use Rattle.ac_meaning.proofs.NeverStuck.{never_stuck}
 use Rattle.ac_meaning.proofs.Admitted.{grow, arrives}
 use Rattle.ac_meaning.proofs.ReceiveOrders.{written_in_front}
-use Rattle.ac_run.specs.Sessions.{Session, Streams, left_of, NoFrame, HasLeft, with_writes, StopsBehind, StopsAtReceive, IsEnd, Leaves, RunsTo}
+use Rattle.ac_run.specs.Sessions.{Session, Streams, HasLeft, with_writes, StopsBehind, StopsAtReceive, IsEnd, Leaves, RunsTo}
 use Rattle.ac_run.specs.Course.{begun}
 use Rattle.ac_run.specs.declared.end.RunEnd.{RunEnd}
 use Rattle.ac_run.specs.declared.end.RunEnd.TheVariants as end
@@ -86,13 +86,13 @@ module _ (prog : ProgramFiles) (steps : ℕ) (from to : Option ChannelName) (o :
   ended : (e : RunEnd) → Runs e → IsEnd e last t × Leaves e (is_told from to o) last t (before_run to o) (after_run to o mid)
   ended e runs = let h = some prog steps from to o loaded r accepted typed Coloured in runs.ends Coloured h.0 h.1
 
-  -- behind an end without a fault, what is left of input
+  -- what is left of input
   abbrev pub LeavesSo : RunEnd → Type 0
   LeavesSo e = StreamLeft from (is_told from to o) (begun loaded steps (is_some to) machine) r.input e (stream_left from o.input.new)
 
-  -- in each mode that is what the reduction leaves
-  left_by : (e : RunEnd) → ((p : Outcome Value) → HasLeft e p o.input.new → (o.input.new ≡ left_of p) ⊎ NoFrame (left_of p) o.input.new) → LeavesSo e → InputLeft prog steps from to o r
-  left_by e fine leaves is told mode =
+  -- in each mode
+  left_by : (e f : RunEnd) → ((p : Outcome Value) → HasLeft e p r.input o.input.new → HasLeft f p r.input o.input.new) → LeavesSo e → InputLeft prog steps from to o r f
+  left_by e f fine leaves is told mode =
       let h = some prog steps from to o loaded r accepted typed mode in
       record {
         definitions = environment_of loaded.env;
@@ -101,16 +101,16 @@ module _ (prog : ProgramFiles) (steps : ℕ) (from to : Option ChannelName) (o :
         accepted = accepted;
         last = h.0;
         ends = h.1;
-        leaves = fine h.0 (subst (HasLeft e h.0) (ap (λ (f : Option ChannelName). stream_left f o.input.new) is) (leaves is told mode h.0 h.1));
+        leaves = fine h.0 (subst (HasLeft e h.0 r.input) (ap (λ (f : Option ChannelName). stream_left f o.input.new) is) (leaves is told mode h.0 h.1));
       }
 
-  finished_by : (p : Outcome Value) → GivesStatus prog steps from to o r (given_by steps p) → IsEnd end.Finished p t → (IsTrue (is_told from to o) → after_run to o mid ≡ with_writes (writes_of p) (before_run to o)) → InputLeft prog steps from to o r → AllWritten (behind_run to o mid) [] → RunEnded prog steps from to o FINISHED
+  finished_by : (p : Outcome Value) → GivesStatus prog steps from to o r (given_by steps p) → IsEnd end.Finished p t → (IsTrue (is_told from to o) → after_run to o mid ≡ with_writes (writes_of p) (before_run to o)) → InputLeft prog steps from to o r end.Finished → AllWritten (behind_run to o mid) [] → RunEnded prog steps from to o FINISHED
   finished_by (Returned v z) g is all left still = has_run r (run_answer FINISHED z.writes []) mid g refl all left made (refl, still)
   finished_by (Raised x z) g is all left still = absurd is
   finished_by (Spent z) g is all left still = absurd is
   finished_by Stuck g is all left still = absurd is
 
-  uncaught_by : (exn : Exn) (p : Outcome Value) → GivesStatus prog steps from to o r (given_by steps p) → IsEnd (end.Uncaught exn) p t → (IsTrue (is_told from to o) → after_run to o mid ≡ with_writes (writes_of p) (before_run to o)) → InputLeft prog steps from to o r
+  uncaught_by : (exn : Exn) (p : Outcome Value) → GivesStatus prog steps from to o r (given_by steps p) → IsEnd (end.Uncaught exn) p t → (IsTrue (is_told from to o) → after_run to o mid ≡ with_writes (writes_of p) (before_run to o)) → InputLeft prog steps from to o r end.Finished
       → (status : Status) → Said (behind_run to o mid) (uncaught_line (exn_of exn)) UNCAUGHT status ⊎ Said (behind_run to o mid) memory_line OUT_OF_MEMORY status → RunEnded prog steps from to o status
   uncaught_by exn (Returned v z) g is all left status s = absurd is
   uncaught_by exn (Raised x z) g is all left status s =
@@ -119,7 +119,7 @@ module _ (prog : ProgramFiles) (steps : ℕ) (from to : Option ChannelName) (o :
   uncaught_by exn (Spent z) g is all left status s = absurd is
   uncaught_by exn Stuck g is all left status s = absurd is
 
-  spent_by : (budget : ℕ) (p : Outcome Value) → t.steps ≡ steps → GivesStatus prog steps from to o r (given_by steps p) → IsEnd (end.Spent budget) p t → (IsTrue (is_told from to o) → after_run to o mid ≡ with_writes (writes_of p) (before_run to o)) → InputLeft prog steps from to o r
+  spent_by : (budget : ℕ) (p : Outcome Value) → t.steps ≡ steps → GivesStatus prog steps from to o r (given_by steps p) → IsEnd (end.Spent budget) p t → (IsTrue (is_told from to o) → after_run to o mid ≡ with_writes (writes_of p) (before_run to o)) → InputLeft prog steps from to o r end.Finished
       → (status : Status) → Said (behind_run to o mid) (spent_line budget) SPENT status ⊎ Said (behind_run to o mid) memory_line OUT_OF_MEMORY status → RunEnded prog steps from to o status
   spent_by budget (Returned v z) same g is all left status s = absurd is
   spent_by budget (Raised x z) same g is all left status s = absurd is
@@ -129,13 +129,13 @@ module _ (prog : ProgramFiles) (steps : ℕ) (from to : Option ChannelName) (o :
   spent_by budget Stuck same g is all left status s = absurd is
 
   pub has_finished : Runs end.Finished → LeavesSo end.Finished → AllWritten (behind_run to o mid) [] → RunEnded prog steps from to o FINISHED
-  has_finished runs leaves still = let e = ended end.Finished runs in finished_by last meaning e.0 e.1 (left_by end.Finished (λ p h. h) leaves) still
+  has_finished runs leaves still = let e = ended end.Finished runs in finished_by last meaning e.0 e.1 (left_by end.Finished end.Finished (λ p h. h) leaves) still
 
   pub has_raised : (exn : Exn) → Runs (end.Uncaught exn) → LeavesSo (end.Uncaught exn) → (status : Status) → Said (behind_run to o mid) (uncaught_line (exn_of exn)) UNCAUGHT status ⊎ Said (behind_run to o mid) memory_line OUT_OF_MEMORY status → RunEnded prog steps from to o status
-  has_raised exn runs leaves status s = let e = ended (end.Uncaught exn) runs in uncaught_by exn last meaning e.0 e.1 (left_by (end.Uncaught exn) (λ p h. h) leaves) status s
+  has_raised exn runs leaves status s = let e = ended (end.Uncaught exn) runs in uncaught_by exn last meaning e.0 e.1 (left_by (end.Uncaught exn) end.Finished (λ p h. h) leaves) status s
 
   pub has_spent : (budget : ℕ) → t.steps ≡ steps → Runs (end.Spent budget) → LeavesSo (end.Spent budget) → (status : Status) → Said (behind_run to o mid) (spent_line budget) SPENT status ⊎ Said (behind_run to o mid) memory_line OUT_OF_MEMORY status → RunEnded prog steps from to o status
-  has_spent budget same runs leaves status s = let e = ended (end.Spent budget) runs in spent_by budget last same meaning e.0 e.1 (left_by (end.Spent budget) (λ p h. h) leaves) status s
+  has_spent budget same runs leaves status s = let e = ended (end.Spent budget) runs in spent_by budget last same meaning e.0 e.1 (left_by (end.Spent budget) end.Finished (λ p h. h) leaves) status s
 
   -- what was written in front of a receive stands in front of all
   in_front : EndsSo prog steps from to o loaded r accepted typed Coloured last → StopsAtReceive (is_told from to o) (receives_of last) (before_run to o) (after_run to o mid) → StopsBehind (is_told from to o) (writes_of last) (before_run to o) (after_run to o mid)
@@ -143,8 +143,8 @@ module _ (prog : ProgramFiles) (steps : ℕ) (from to : Option ChannelName) (o :
       let w = written_in_front Coloured (environment_of loaded.env) (expr_of loaded.main) r.input (is_some to) steps last ends s.before s.after s.receive s.order in
       record { before = s.receive.writes; after = w.0; order = w.1; made = s.made }
 
-  pub has_unread : Runs end.ReadFault → InputFailed from o → (status : Status) → Said (behind_run to o mid) read_line READ_FAULT status → RunEnded prog steps from to o status
-  has_unread runs rose status s =
+  pub has_unread : Runs end.ReadFault → LeavesSo end.ReadFault → InputFailed from o → (status : Status) → Said (behind_run to o mid) read_line READ_FAULT status → RunEnded prog steps from to o status
+  has_unread runs leaves rose status s =
       unread_input r _ mid meaning refl made rose (in_front (some prog steps from to o loaded r accepted typed Coloured).1 (ended end.ReadFault runs).1.0)
       (λ mode.
       let h = some prog steps from to o loaded r accepted typed mode in
@@ -156,10 +156,10 @@ module _ (prog : ProgramFiles) (steps : ℕ) (from to : Option ChannelName) (o :
         last = h.0;
         ends = h.1;
         stops = (runs.ends mode h.0 h.1).1.0;
-      }) s
+      }) (left_by end.ReadFault end.ReadFault (λ p h. h) leaves) s
 
-  pub has_failed : Runs end.WriteFault → OutputFailed to o → (status : Status) → Said (behind_run to o mid) write_line WRITE_FAULT status → RunEnded prog steps from to o status
-  has_failed runs rose status s = unwritten r _ mid meaning refl made rose (ended end.WriteFault runs).1.0.stops s
+  pub has_failed : Runs end.WriteFault → LeavesSo end.WriteFault → OutputFailed to o → (status : Status) → Said (behind_run to o mid) write_line WRITE_FAULT status → RunEnded prog steps from to o status
+  has_failed runs leaves rose status s = unwritten r _ mid meaning refl made rose (ended end.WriteFault runs).1.0.stops (left_by end.WriteFault end.WriteFault (λ p h. h) leaves) s
 
   pub has_lost : Runs end.Memory → (status : Status) → Said (behind_run to o mid) memory_line OUT_OF_MEMORY status → RunEnded prog steps from to o status
   has_lost runs status s = no_memory_left r _ mid meaning refl made (ended end.Memory runs).1.0 s
@@ -219,14 +219,14 @@ module _ {prog : ProgramFiles} {steps : ℕ} {from to : Option ChannelName} {o :
   pub unread_in : Setting prog steps from to o mid s t end.ReadFault → (g : Text → ℕ) → ((file : Text) → (o.files file).before ≤ g file)
       → Rose (of_channel from 0 o.input.before g) (of_channel from 0 o.input.after (λ file. (o.files file).after)) → (status : Status) → Said (behind_run to o mid) read_line READ_FAULT status → RunEnded prog steps from to o status
   unread_in x g earlier rose status told =
-      has_unread prog steps from to o x.loaded x.machine t mid (read_in x) x.accepted x.typed x.made (runs_in x)
+      has_unread prog steps from to o x.loaded x.machine t mid (read_in x) x.accepted x.typed x.made (runs_in x) (leaves_in x)
       (input_earlier from o.input.before (λ file. (o.files file).before) g (of_channel from 0 o.input.after (λ file. (o.files file).after)) earlier rose) status told
 
   pub failed_in : Setting prog steps from to o mid s t end.WriteFault → (d : ℕ) (g : Text → ℕ) → d ≤ o.errors.after → ((file : Text) → (o.made file).before ≤ g file)
       → Rose (of_console to o.output.before o.errors.before) (of_console to o.output.after d) ⊎ Rose (of_channel to 0 o.output.before g) (of_channel to 0 o.output.after (λ file. (o.made file).after))
       → (status : Status) → Said (behind_run to o mid) write_line WRITE_FAULT status → RunEnded prog steps from to o status
   failed_in x d g le earlier rose status told =
-      has_failed prog steps from to o x.loaded x.machine t mid (read_in x) x.accepted x.typed x.made (runs_in x)
+      has_failed prog steps from to o x.loaded x.machine t mid (read_in x) x.accepted x.typed x.made (runs_in x) (leaves_in x)
       (output_failed to o.output.before o.errors.before o.output.after d o.errors.after o.output.before (λ file. (o.made file).before) g (of_channel to 0 o.output.after (λ file. (o.made file).after)) le earlier rose) status told
 
   pub lost_in : Setting prog steps from to o mid s t end.Memory → (status : Status) → Said (behind_run to o mid) memory_line OUT_OF_MEMORY status → RunEnded prog steps from to o status

@@ -1,5 +1,5 @@
 -- What a call has done with files and input, stage by stage.
-use Rattle.std.proofs.Common.{◌≡◌, ◌<◌, ◌≤◌, ◌+◌, ◌-◌, ◌^◌, ℕ, List, length, drop, Bool, IsTrue, Option, Some, None, refl, sym, ◌∙◌, ap, subst, arith}
+use Rattle.std.proofs.Common.{◌≡◌, ◌<◌, ◌≤◌, ◌+◌, ◌^◌, ℕ, List, length, IsTrue, Option, Some, None, refl, sym, ◌∙◌, subst, arith}
 use Rattle.std.proofs.lemmas.List.{length-drop}
 use Rattle.std.proofs.Math.Logic.{∥∥₁_map}
 use Rattle.ac_types.proofs.FirstLaws.{some_eq}
@@ -7,7 +7,6 @@ use Rattle.ac_outside.specs.Outside.{Contents, ReadsFrom, or_empty}
 use Rattle.ac_outside.specs.declared.traits.Got.TheVariants as got
 use Rattle.acute_words.specs.Form.{Text}
 use Rattle.acute_words.specs.Commands.{ChannelName, ProgramFiles, Request, run, file}
-use Rattle.acute_files.specs.ReadOrder.{TextsRead}
 use Rattle.acute_files.proofs.Turns.{texts_none}
 use Rattle.acute_top.specs.Requests.{files_loaded, list_named}
 use Rattle.acute_top.specs.Stages.{Stage, AtTexts, AtFile, InRun, ReadsTexts, Uses, not_used, then_read, then_written, UsesFiles, Touches}

@@ -11,7 +11,9 @@ use Rattle.ac_load_rules.specs.Accepting.{Shelved}
 use Rattle.ac_load.specs.Loading.{Loads}
 use Rattle.acute_files.specs.Files.{IsTextOf}
 use Rattle.acute_files.specs.ProgramTexts.{IsShelfBy, HasBadLine, ReadsFail}
-use Rattle.ac_run.specs.Sessions.{Streams, left_of, NoFrame, with_writes, StopsIn, StopsBehind, StopsAtReceive}
+use Rattle.ac_run.specs.Sessions.{Streams, HasLeft, with_writes, StopsIn, StopsBehind, StopsAtReceive}
+use Rattle.ac_run.specs.declared.end.RunEnd.{RunEnd}
+use Rattle.ac_run.specs.declared.end.RunEnd.TheVariants as run_end
 use Rattle.acute_answers.specs.declared.status.Status.{Status}
 use Rattle.acute_answers.specs.declared.status.TheConstants.Status.{OUT_OF_MEMORY, READ_FAULT, WRITE_FAULT, SHELF_REFUSED}
 use Rattle.acute_answers.specs.Meaning.{CommandAnswer, Means}
@@ -31,15 +33,15 @@ pub record StoodAtReceive (mode : Mode) (text : Bytes) (shelf : List Shelved) (s
   pub ends : Ends mode definitions term input sends steps last
   pub stops : StopsAtReceive told (receives_of last) old new
 
--- a text is accepted, and of its input the program has left what the reduction in this mode leaves, or, where that is no frame, what stands behind the bytes that say so
-pub record LeavesInput (mode : Mode) (text : Bytes) (shelf : List Shelved) (steps : ℕ) (input : Bytes) (sends : Bool) (left : Bytes) : Type 0 where
+-- a text is accepted, and of its input the program has left what is left, by the reduction in this mode, where a run ends so
+pub record LeavesInput (mode : Mode) (text : Bytes) (shelf : List Shelved) (steps : ℕ) (input : Bytes) (sends : Bool) (e : RunEnd) (left : Bytes) : Type 0 where
   pub definitions : Environment
   pub term : Expr
   pub ty : Typ
   pub accepted : Loads text shelf definitions term ty
   pub last : Outcome Value
   pub ends : Ends mode definitions term input sends steps last
-  pub leaves : (left ≡ left_of last) ⊎ NoFrame (left_of last) left
+  pub leaves : HasLeft e last input left
 
 module _ (p : ProgramFiles) (steps : ℕ) (from to : Option ChannelName) (o : Handed) where
   -- what there is to read: the shelf, the text, and the input of its run
@@ -55,27 +57,27 @@ module _ (p : ProgramFiles) (steps : ℕ) (from to : Option ChannelName) (o : Ha
   abbrev pub GivesStatus : HasRead → CommandAnswer → Type 0
   GivesStatus r a = (mode : Mode) → Means mode r.text r.shelf steps r.input (is_some to) a
 
-  -- what a program that has run to its end leaves of input, where that is its channel
-  abbrev pub InputLeft : HasRead → Type 0
-  InputLeft r = from ≡ Some standard → IsTrue (is_told from to o) → (mode : Mode) → LeavesInput mode r.text r.shelf steps r.input (is_some to) o.input.new
+  -- what a program whose run ends so leaves of input, where that is its channel
+  abbrev pub InputLeft : HasRead → RunEnd → Type 0
+  InputLeft r e = from ≡ Some standard → IsTrue (is_told from to o) → (mode : Mode) → LeavesInput mode r.text r.shelf steps r.input (is_some to) e o.input.new
 
   -- how the run of a file ends: a row for each way, and one line on errors that goes with it; once a run has begun the file of its channel is there
   pub data RunEnded (end : Status) : Type 0 where
     -- the program is refused, nothing else is written, and nothing is read but texts
     is_refused : (r : HasRead) (a : CommandAnswer) → GivesStatus r a → a.runs ≡ false → AllWritten o.output [] → Untouched to o → o.stage ≡ AtTexts → Said o.errors a.line a.status end → RunEnded end
     -- the program has run to its end, all that it writes stands there, and where input is its channel that has left what the reduction leaves
-    has_run : (r : HasRead) (a : CommandAnswer) (mid : Bytes) → GivesStatus r a → a.runs ≡ true → (IsTrue (is_told from to o) → after_run to o mid ≡ with_writes a.writes (before_run to o)) → InputLeft r → IsMade to o → SaidIfAny (behind_run to o mid) a.line a.status end → RunEnded end
+    has_run : (r : HasRead) (a : CommandAnswer) (mid : Bytes) → GivesStatus r a → a.runs ≡ true → (IsTrue (is_told from to o) → after_run to o mid ≡ with_writes a.writes (before_run to o)) → InputLeft r run_end.Finished → IsMade to o → SaidIfAny (behind_run to o mid) a.line a.status end → RunEnded end
     -- the list of the shelf has a bad line, nothing else is written, and nothing is read but texts
     bad_list : (n : ℕ) → HasBadLine o.files p.shelf n → AllWritten o.output [] → Untouched to o → o.stage ≡ AtTexts → Said o.errors (shelf_line n) SHELF_REFUSED end → RunEnded end
     -- a read of the list, of a file that it names, or of the program's file failed, nothing was written, and nothing read but texts
     unread_file : ReadsFail o.files p.file p.shelf → AllWritten o.output [] → Untouched to o → o.stage ≡ AtTexts → Said o.errors read_line READ_FAULT end → RunEnded end
     -- the file of the channel could not be made, nothing was run, and nothing was read but texts
     unmade_file : (r : HasRead) (a : CommandAnswer) → GivesStatus r a → a.runs ≡ true → MakingFailed to o → AllWritten o.output [] → MadeAtMost to o → o.stage ≡ AtFile → Said o.errors write_line WRITE_FAULT end → RunEnded end
-    -- a read of the channel failed, where the program stood at one of its receives; what was written stands in front of all that it writes
+    -- a read of the channel failed, where the program stood at one of its receives; what was written stands in front of all that it writes, and of input some bytes may be gone behind the frames of the receives before it
     unread_input : (r : HasRead) (a : CommandAnswer) (mid : Bytes) → GivesStatus r a → a.runs ≡ true → IsMade to o → InputFailed from o → StopsBehind (is_told from to o) a.writes (before_run to o) (after_run to o mid)
-        → ((mode : Mode) → StoodAtReceive mode r.text r.shelf steps r.input (is_some to) (is_told from to o) (before_run to o) (after_run to o mid)) → Said (behind_run to o mid) read_line READ_FAULT end → RunEnded end
-    -- a write of the run failed
-    unwritten : (r : HasRead) (a : CommandAnswer) (mid : Bytes) → GivesStatus r a → a.runs ≡ true → IsMade to o → OutputFailed to o → StopsIn (is_told from to o) a.writes (before_run to o) (after_run to o mid) → Said (behind_run to o mid) write_line WRITE_FAULT end → RunEnded end
+        → ((mode : Mode) → StoodAtReceive mode r.text r.shelf steps r.input (is_some to) (is_told from to o) (before_run to o) (after_run to o mid)) → InputLeft r run_end.ReadFault → Said (behind_run to o mid) read_line READ_FAULT end → RunEnded end
+    -- a write of the run failed, and of input the frames of the receives in front of it are gone
+    unwritten : (r : HasRead) (a : CommandAnswer) (mid : Bytes) → GivesStatus r a → a.runs ≡ true → IsMade to o → OutputFailed to o → StopsIn (is_told from to o) a.writes (before_run to o) (after_run to o mid) → InputLeft r run_end.WriteFault → Said (behind_run to o mid) write_line WRITE_FAULT end → RunEnded end
     -- memory ran out in front of the run, with nothing written, and nothing read but texts
     no_memory_yet : AllWritten o.output [] → Untouched to o → o.stage ≡ AtTexts → Said o.errors memory_line OUT_OF_MEMORY end → RunEnded end
     -- or while the file of the channel was made, with nothing read but texts

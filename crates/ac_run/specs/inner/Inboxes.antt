@@ -1,5 +1,5 @@
 -- What a session has left to read.
-use Rattle.std.specs.Prelude.{◌≡◌, ℕ, Bool, IsTrue, List, [], ◌∷◌, drop}
+use Rattle.std.specs.Prelude.{◌≡◌, ℕ, Bool, IsTrue, List, [], ◌∷◌, ◌++◌, drop}
 use Rattle.ac_types.specs.Types.{Bytes}
 use Rattle.ac_outside.specs.Frames.{Whole, Bad, AtEnd, next_frame}
 use Rattle.ac_run.specs.declared.inbox.Inbox.{Inbox}
@@ -25,12 +25,12 @@ NoneLeft told Open left = Unit {0}
 NoneLeft told Broken left = Unit {0}
 NoneLeft told Closed left = IsTrue told → left ≡ []
 
--- what has come is what stands first in this input
+-- what has come is what stands first in this input; where a read failed, some of its bytes are gone
 abbrev pub Heard : Bool → Incoming → Inbox → Bytes → Bytes → Type 0
 Heard told (incoming.Frame s) inbox rest input = (left : Bytes) × (next_frame input ≡ Whole s.0 left) × IsLeft told inbox rest left
 Heard told incoming.End inbox rest input = (next_frame input ≡ AtEnd) × IsLeft told inbox rest input
 Heard told incoming.Bad inbox rest input = (n : ℕ) × (got : ℕ) × (next_frame input ≡ Bad n got) × IsLeft told inbox rest input
-Heard told incoming.Failed inbox rest input = Unit {0}
+Heard told incoming.Failed inbox rest input = IsTrue told → (taken : Bytes) × (input ≡ taken ++ rest)
 Heard told incoming.Memory inbox rest input = Unit {0}
 
 -- whatever comes later, something comes now of which this holds

@@ -12,14 +12,14 @@ use Rattle.ac_machine_engine.specs.Resumes as standing
 use Rattle.ac_machine_engine.specs.Resumes.{resumed, resumed_text, with_raise}
 use Rattle.ac_machine_engine.specs.Seen.{MachineSeen, standing}
 use Rattle.ac_meaning.specs.Writes.{Write, string_of}
-use Rattle.ac_meaning.specs.Worlds.{Exception, World, end_of_file_exn, bad_frame}
+use Rattle.ac_meaning.specs.Worlds.{Exception, Trace, World, end_of_file_exn, bad_frame}
 use Rattle.ac_meaning.specs.Acts.{Outcome, Stuck, Over, Leads, writes_of, receives_of}
 use Rattle.ac_machine_proof.specs.Running.{on, machine_step}
-use Rattle.ac_run.specs.Sessions.{Session, environment, Streams, with_writes, StopsIn, StopsBehind, left_of, IsEnd, Leaves}
+use Rattle.ac_run.specs.Sessions.{Session, environment, Streams, with_writes, StopsIn, StopsBehind, left_of, LeftAtReceive, LeftAtWrite, IsEnd, Leaves}
 use Rattle.std.specs.List.{All}
 use Rattle.ac_run.specs.Inputs.{behind_receives}
 use Rattle.ac_run.specs.Moments.{Moment, AtReceive}
-use Rattle.ac_run.specs.Journals.{read_journal, noted}
+use Rattle.ac_run.specs.Journals.{read_journal, noted, BeginsWith}
 use Rattle.ac_run.specs.inner.Inboxes.{MayCome, IsLeft}
 use Rattle.ac_run.specs.declared.end.RunEnd.{RunEnd}
 use Rattle.ac_run.specs.declared.end.RunEnd.TheVariants as end
@@ -55,7 +55,7 @@ Received told inbox rest input m n None = HasGotFrame told inbox rest input m n 
 Received told inbox rest input m n (Some end.Finished) = ⊥
 Received told inbox rest input m n (Some (end.Uncaught e)) = ⊥
 Received told inbox rest input m n (Some (end.Spent steps)) = ⊥
-Received told inbox rest input m n (Some end.ReadFault) = n ≡ m
+Received told inbox rest input m n (Some end.ReadFault) = (n ≡ m) × (IsTrue told → (taken : Bytes) × (input ≡ taken ++ rest))
 Received told inbox rest input m n (Some end.WriteFault) = ⊥
 Received told inbox rest input m n (Some end.Memory) = Unit {0}
 
@@ -76,14 +76,14 @@ pub record Point : Type 0 where
 abbrev pub point : Environment → Code → MachineSeen → Inbox → Bytes → Streams → Journal → Point
 point E K m inbox left now journal = record { environment = E; code = K; machine = m; inbox = inbox; left = left; streams = now; journal = journal }
 
--- at an end without a fault what comes next is what the reduction has left
-abbrev pub LeavesNext : Bool → Inbox → Bytes → RunEnd → Outcome (Code × MValue) → Type 0
-LeavesNext told inbox rest end.Finished o = IsLeft told inbox rest (left_of o)
-LeavesNext told inbox rest (end.Uncaught e) o = IsLeft told inbox rest (left_of o)
-LeavesNext told inbox rest (end.Spent steps) o = IsLeft told inbox rest (left_of o)
-LeavesNext told inbox rest end.ReadFault o = Unit {0}
-LeavesNext told inbox rest end.WriteFault o = Unit {0}
-LeavesNext told inbox rest end.Memory o = Unit {0}
+-- at an end without a fault what comes next is what the reduction has left; at a fault what is left of the first input at a receive, or at a write
+abbrev pub LeavesNext : Bool → Inbox → Bytes → Bytes → RunEnd → Outcome (Code × MValue) → Type 0
+LeavesNext told inbox rest first end.Finished o = IsLeft told inbox rest (left_of o)
+LeavesNext told inbox rest first (end.Uncaught e) o = IsLeft told inbox rest (left_of o)
+LeavesNext told inbox rest first (end.Spent steps) o = IsLeft told inbox rest (left_of o)
+LeavesNext told inbox rest first end.ReadFault o = IsTrue told → LeftAtReceive (receives_of o) first rest
+LeavesNext told inbox rest first end.WriteFault o = LeftAtWrite (writes_of o) (receives_of o) first (IsLeft told inbox rest)
+LeavesNext told inbox rest first end.Memory o = Unit {0}
 
 module _ (sends told : Bool) where
   -- over coherent definitions a run is on its way to this end, where it isn't stuck and all writes are short, and this is what comes; where that is told, the writes since the start were made; of the first input the receives so far have taken their frames; what crossed stands in the journal, if it is kept
@@ -101,6 +101,7 @@ module _ (sends told : Bool) where
     pub channel : world.has_channel ≡ sends
     pub so_far : IsTrue told → p.streams ≡ with_writes world.writes start
     pub taken : world.input ≡ behind_receives world.receives first
+    pub in_front : All (λ (t : Trace). BeginsWith t.writes world.writes) world.receives
     pub crossed : read_journal p.journal.crossings ≡ noted p.journal.keeps world.crossings
 
   -- whatever comes, it is on the way to an end
@@ -114,7 +115,7 @@ module _ (sends told : Bool) where
   -- it is on its way, or has ended
   abbrev pub Turned : ℕ → Point → Bytes → Streams → Bytes → Outcome (Code × MValue) → Option RunEnd → Type 0
   Turned N p rest start first o None = OnItsWay p rest start first o
-  Turned N p rest start first o (Some r) = EndsSo N p start r o × LeavesNext told p.inbox rest r o
+  Turned N p rest start first o (Some r) = EndsSo N p start r o × LeavesNext told p.inbox rest first r o
 
   -- whatever comes later, something comes now with which a run that is on its way gets from the first point to the second, or ends there, and stands at a receive at each of these moments
   abbrev pub Goes : ℕ → Point → Point → Option RunEnd → List Moment → Type 0

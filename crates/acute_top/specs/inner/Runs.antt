@@ -4,7 +4,6 @@ use Rattle.ac_types.specs.Types.{Bytes}
 use Rattle.ac_outside.specs.Outside.{Contents, NeverFall, Created, OthersSame, Rose, or_empty}
 use Rattle.ac_outside.specs.declared.traits.Put.{Put}
 use Rattle.ac_outside.specs.declared.traits.Put.TheVariants as put
-use Rattle.acute_words.specs.Form.{Text}
 use Rattle.acute_words.specs.Commands.{ChannelName, standard, file}
 use Rattle.ac_rules.specs.Views.{Mode}
 use Rattle.ac_terms.specs.Terms.{Value}
@@ -18,9 +17,9 @@ use Rattle.acute_top.specs.Traits.{FilesOf, SourceOf, SinkOf}
 use Rattle.acute_top.specs.inner.Told.{tells, left_in, stream_left, sent_in}
 use Rattle.acute_files.specs.Files.{FilesSeen}
 
--- behind an end without a fault this is left of the standard stream that is the channel
+-- this is left of the standard stream that is the channel
 abbrev pub StreamLeft : Option ChannelName → Bool → Session → Bytes → RunEnd → Bytes → Type 0
-StreamLeft from told s input r left = from ≡ Some standard → IsTrue told → (mode : Mode) (o : Outcome Value) → ProgramEnds mode s input o → HasLeft r o left
+StreamLeft from told s input r left = from ≡ Some standard → IsTrue told → (mode : Mode) (o : Outcome Value) → ProgramEnds mode s input o → HasLeft r o input left
 
 -- a session has run with some input that a channel may give, which had one thing left before it and another behind it
 pub record RanIn (from : Option ChannelName) (told : Bool) (before after : Bytes) (old new : Streams) (s t : Session) (r : RunEnd) : Type 0 where

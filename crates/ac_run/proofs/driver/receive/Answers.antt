@@ -22,3 +22,7 @@ returns-in-Bad-clause-received g c =
     hears_with g.W.Source.told c.args.inbox.now (g.W.Source.left c.args.world.now) c.next.new.self (g.W.Source.left c.next.new.world) _ _ (λ rest input h.
     gets_bad g.W.Source.told c.args.machine.now c.raise-in-Bad.new.machine c.next.new.self rest input none h.0 h.1 h.2 h.3 c.bad_frame.result c.bad_frame.ensures c.raise-in-Bad.result (λ e is. c.raise-in-Bad.ensures.served e is false none) c.raise-in-Bad.ensures.memory c.raise-in-Bad.ensures.cause)
     c.in-Bad.ensures.heard
+
+pub returns-in-Failed-clause-received : goal.returns-in-Failed-clause-received
+returns-in-Failed-clause-received g c =
+    hears_with g.W.Source.told c.args.inbox.now (g.W.Source.left c.args.world.now) c.next.new.self (g.W.Source.left c.next.new.world) _ _ (λ rest input h. (refl, h)) c.in-Failed.ensures.heard

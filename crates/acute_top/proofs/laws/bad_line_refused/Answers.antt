@@ -42,8 +42,8 @@ module _ (o : Handed) {end : Status} (told : (name : Bytes) → IsTrue (o.files 
   running prog steps from to f bad (bad_list k other x u h s) = said_wholly m o.errors e refl s
   running prog steps from to f bad (unread_file fails x u h s) = absurd (f fails)
   running prog steps from to f bad (unmade_file r b g runs rose x u h s) = absurd (shelf_or_bad o.files told r.is_shelf bad)
-  running prog steps from to f bad (unread_input r b mid g runs made rose stops x s) = absurd (shelf_or_bad o.files told r.is_shelf bad)
-  running prog steps from to f bad (unwritten r b mid g runs made rose x s) = absurd (shelf_or_bad o.files told r.is_shelf bad)
+  running prog steps from to f bad (unread_input r b mid g runs made rose stops x left s) = absurd (shelf_or_bad o.files told r.is_shelf bad)
+  running prog steps from to f bad (unwritten r b mid g runs made rose x left s) = absurd (shelf_or_bad o.files told r.is_shelf bad)
   running prog steps from to f bad (no_memory_yet x u h s) = absurd (m (said_wholly m o.errors e refl s))
   running prog steps from to f bad (no_memory_making r b g runs x u h s) = absurd (shelf_or_bad o.files told r.is_shelf bad)
   running prog steps from to f bad (no_memory_left r b mid g runs made x s) = absurd (shelf_or_bad o.files told r.is_shelf bad)

@@ -1,11 +1,11 @@
 use Rattle.std.proofs.Common.{sym, subst, IsTrue}
-use Rattle.ac_outside.specs.FrameReaders.{Reader, Follows, Receives}
+use Rattle.ac_outside.specs.FrameReaders.{Reader, held, Follows, Receives}
 use Rattle.ac_outside.specs.declared.frames.FrameGot.TheVariants as got
 use Rattle.ac_run.specs.inner.Inboxes.{Comes, Heard, NoneLeft}
 use Rattle.ac_run.specs.declared.inbox.Inbox.{Inbox}
 use Rattle.ac_run.specs.declared.inbox.Inbox.TheVariants.{Broken}
 use Rattle.ac_run.specs.declared.inbox.Incoming.TheVariants as incoming
-use Rattle.ac_run.proofs.Hearing.{hears_frame, hears_bad, hears_nothing}
+use Rattle.ac_run.proofs.Hearing.{hears_frame, hears_bad, hears_failed, hears_nothing}
 use Rattle.ac_run.proofs.inbox.Inbox.next.Goals as goal
 
 pub returns-in-Frame-clause-heard : goal.returns-in-Frame-clause-heard
@@ -26,7 +26,10 @@ returns-in-Bad-clause-heard g c =
 
 pub returns-in-Failed-clause-heard : goal.returns-in-Failed-clause-heard
 returns-in-Failed-clause-heard g c =
-    subst (λ (b : Inbox). Comes g.W.Source.told b (g.W.Source.left c.args.world.now) b (g.W.Source.left c.next.new.source) (Heard g.W.Source.told incoming.Failed b)) (sym c.in-Open.is) (hears_nothing g.W.Source.told (g.W.Source.left c.args.world.now) (g.W.Source.left c.next.new.source) _ (λ rest input. tt))
+    let left = g.W.Source.left c.args.world.now in
+    let now = g.W.Source.left c.next.new.source in
+    let bytes = λ (told : IsTrue g.W.Source.told). subst (λ (r : Reader). Receives got.Failed r left c.next.new.self now) c.new.ensures (c.in-Failed.ensures.bytes told) in
+    subst (λ (b : Inbox). Comes g.W.Source.told b left b now (Heard g.W.Source.told incoming.Failed b)) (sym c.in-Open.is) (hears_failed g.W.Source.told left now (λ told. (held c.next.new.self, bytes told)))
 
 pub returns-clause-heard : goal.returns-clause-heard
 returns-clause-heard g c =

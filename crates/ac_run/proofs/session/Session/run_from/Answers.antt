@@ -41,7 +41,7 @@ returns-clause-left g c = λ none empty.
     let ready = stands_ready (environment_of c.self.inside.program.env) (expr_of c.self.inside.program.main) c.self.inside.steps c.self.inside.table c.self.inside.machine c.self.inside.journal.crossings c.self.inside.end c.in_default.is c.self.invariant in
     let after : Session = record { program = record c.self.inside.program { env = c.drive-end.new.env }; steps = c.self.inside.steps; sends = c.self.inside.sends; machine = c.drive-end.new.machine; end = Some c.twice-end.result.1; keeps = c.drive-end.new.journal.keeps; journal = c.drive-end.new.journal.crossings } in
     let moments = map (λ w. moment (g.W.Source.left w) (streams (g.W.World.console w) (g.W.World.channel w))) c.drive-end.ensures.ends.0 in
-    subst (λ s. (first : Bytes) × MayCome c.args.inbox g.W.Source.told (g.W.Source.left c.args.world.now) first × ((input : Bytes) → IsLeft g.W.Source.told c.args.inbox first input → IsTrue g.W.Source.told → (mode : Mode) (o : Outcome Value) → ProgramEnds mode s input o → HasLeft c.twice-end.result.0 o (g.W.Source.left c.drive-end.new.world))) c.self.view_is
+    subst (λ s. (first : Bytes) × MayCome c.args.inbox g.W.Source.told (g.W.Source.left c.args.world.now) first × ((input : Bytes) → IsLeft g.W.Source.told c.args.inbox first input → IsTrue g.W.Source.told → (mode : Mode) (o : Outcome Value) → ProgramEnds mode s input o → HasLeft c.twice-end.result.0 o input (g.W.Source.left c.drive-end.new.world))) c.self.view_is
     (left_done before g.W.Source.told c.self.inside.table c.args.inbox (g.W.Source.left c.args.world.now) old
     c.self.inside.journal ready.1 ready.0
     after (environment_of c.drive-end.new.env) (table_code c.drive-end.new.table) c.drive-end.new.inbox (g.W.Source.left c.drive-end.new.world) new c.drive-end.new.journal c.drive-end.result refl refl refl refl moments

@@ -1,5 +1,5 @@
 use Rattle.std.proofs.Common.{◌≡◌, ◌∙◌, Option, Some, option_map, ap, sym}
-use Rattle.acute_words.specs.Commands.{ChannelName, channel_of, file}
+use Rattle.acute_words.specs.Commands.{channel_of, file}
 use Rattle.acute_words.specs.declared.command.Channel.{Channel}
 use Rattle.acute_words.specs.declared.command.Channel.TheVariants as channel
 use Rattle.acute_top.proofs.StageLaws.{since_write}
