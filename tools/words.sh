@@ -10,6 +10,7 @@ usage: acute run FILE [--shelf LIST] [--in CH] [--out CH] [--steps N]
        acute check FILE.. [--shelf LIST]
        acute make SEED MODULES [--run]
        acute chain FILE.. [--shelf LIST] [--steps N]
+       acute audit PROGRAM CHANNEL --as TYPE [--shelf LIST]
        acute explain FILE.. [--shelf LIST]
 END
 }
@@ -25,9 +26,11 @@ code     prints the code of a program
 check    says of each program whether it is accepted
 make     prints a generated program, or runs it
 chain    runs programs, each of which receives what the one before it sent
+audit    says of each frame of a file whether a program would take it at a type
 explain  says of each program whether it is accepted, and where and why it isn't
 
 LIST     a file that names the modules of a shelf, as lines URI FILE
+TYPE     a type, as it would stand behind the program's last definition
 CH       a file, or - for standard input or output
 N        how many applications a program may make, 1000000 without the option
 
@@ -66,7 +69,7 @@ find_files() {
     files=() kinds=()
     for word in "${words[@]}"; do
         kind=FILE file=$word
-        case $before in --shelf | --in | --out | --steps) kind=$before ;; esac
+        case $before in --shelf | --in | --out | --steps | --as) kind=$before ;; esac
         case $word in --*=*) kind=${word%%=*} file=${word#*=} ;; -*) file= ;; esac
         case $kind in FILE | --shelf | --in | --out) ;; *) file= ;; esac
         [ "$file" != - ] || file=
@@ -145,14 +148,20 @@ tell_unwritten() {
 
 # Says how to see the place of what is refused.
 tell_place() {
-    local i file= shelf=
+    local i file= shelf= where=
     for i in "${!files[@]}"; do
         case ${kinds[i]}:${files[i]} in
             --shelf:?*) shelf=" --shelf $(printf %q "${files[i]}")" ;;
-            FILE:?*) file=${file:+FILE} file=${file:-$(printf %q "${files[i]}")} ;;
+            FILE:?*)
+                # Of an audit, whose status may speak of frames, the first one is the program.
+                if [ "${words[0]}" != audit ]; then
+                    file=${file:+FILE} file=${file:-$(printf %q "${files[i]}")}
+                elif [ -z "$file" ]; then
+                    file=$(printf %q "${files[i]}") where=", where the program is refused"
+                fi ;;
         esac
     done
-    [ -z "$file" ] || echo "$explain $file$shelf shows the place"
+    [ -z "$file" ] || echo "$explain $file$shelf shows the place$where"
 }
 
 # Says at a terminal what there is to say of a status.

@@ -1,8 +1,8 @@
 -- What a text gives is one thing; only where a place in `syntax` stands two lines may differ.
-use Rattle.std.proofs.Common.{◌≡◌, ◌∙◌, ℕ, Bool, true, false, ◌&&◌, List, [], ◌∷◌, length, refl, sym, ap, ap₂}
+use Rattle.std.proofs.Common.{◌≡◌, ◌∙◌, ℕ, Bool, true, false, ◌&&◌, List, [], ◌∷◌, length, refl, sym, ap, ap₂, subst}
 use Rattle.std.specs.Prelude.{if◌then◌else◌}
 use Rattle.std.specs.List.{list_all}
-use Rattle.ac_types.specs.Types.{Bytes}
+use Rattle.ac_types.specs.Types.{Bytes, Typ}
 use Rattle.ac_types.specs.declared.text.Text.{Text}
 use Rattle.ac_terms.specs.Terms.{Expr}
 use Rattle.ac_terms.specs.Defs.{Environment}
@@ -14,6 +14,12 @@ use Rattle.ac_batch.specs.declared.verdict.Verdict.{Verdict}
 use Rattle.acute_answers.specs.declared.showing.Showing.{Showing}
 use Rattle.acute_answers.specs.declared.status.TheConstants.Status.{FINISHED, REFUSED}
 use Rattle.acute_answers.specs.Answers.{ShownAnswer}
+use Rattle.ac_channels.specs.ChannelFrames.{ChannelFrames}
+use Rattle.ac_audit.specs.TypeTexts.{IsTypeText, RefusesType}
+use Rattle.ac_audit.specs.declared.verdict.AuditVerdict.{AuditVerdict}
+use Rattle.ac_audit.proofs.TypeLaws.{one_text, text_or_refused}
+use Rattle.ac_audit.proofs.VerdictLaws.{one_list}
+use Rattle.acute_answers.specs.Auditing.{AuditsFrames, refused_channel, audited, RefusesAudit, refused_program, refused_type, Audits, not_audited, read_channel, frames_status, frame_lines}
 use Rattle.acute_answers.specs.Checking.{Checks, checked, is_accepted}
 use Rattle.acute_answers.specs.Making.{Makes, RunsMade, ended, stopped, run_lines}
 use Rattle.acute_answers.specs.Showing.{Shows, not_shown, is_shown, shown}
@@ -59,3 +65,32 @@ one_verdicts (t ∷ texts) shelf (v ∷ vs) (w ∷ ws) x y = ap₂ (λ (b c : Bo
 
 pub one_checked : (names : List Bytes) (texts : List Text) (shelf : List Shelved) (a b : ShownAnswer) → Checks names texts shelf a → Checks names texts shelf b → a.status ≡ b.status
 one_checked names texts shelf _ _ (checked vs x) (checked ws y) = ap (λ (b : Bool). if b then FINISHED else REFUSED) (one_verdicts texts shelf vs ws x y)
+
+-- one answer of one channel
+one_of_frames : (E : Environment) (T : Typ) (f : ChannelFrames) (a b : ShownAnswer) → AuditsFrames E T f a → AuditsFrames E T f b → Alike a b
+one_of_frames E T _ _ _ (refused_channel k) (refused_channel _) = (refl, refl)
+one_of_frames E T _ _ _ (audited ss vs x) (audited _ ws y) =
+    let same = one_list E T ss vs ws x y in
+    (ap frames_status same, ap frame_lines same)
+
+one_refused : (text : Bytes) (shelf : List Shelved) (type : Bytes) (a b : ShownAnswer) → RefusesAudit text shelf type a → RefusesAudit text shelf type b → Alike a b
+one_refused text shelf type _ _ (refused_program part kind x) (refused_program n k y) = (refl, refl)
+one_refused text shelf type _ _ (refused_program part kind x) (refused_type E e T k loads y) = (refl, refl)
+one_refused text shelf type _ _ (refused_type E e T k loads y) (refused_program part kind x) = (refl, refl)
+one_refused text shelf type _ _ (refused_type E e T k loads y) (refused_type F f U l others z) = (refl, refl)
+
+not_refused : (text : Bytes) (shelf : List Shelved) (type : Bytes) (a : ShownAnswer) (E : Environment) (e : Expr) (T U : Typ) → RefusesAudit text shelf type a → Loads text shelf E e T → IsTypeText E type U → ⊥
+not_refused text shelf type _ E e T U (refused_program part kind x) loads is = not_rejected x loads
+not_refused text shelf type _ E e T U (refused_type F f V k others y) loads is =
+    let same = one_program others loads in text_or_refused E type U k is (subst (λ (G : Environment). RefusesType G type k) same.0 y)
+
+pub one_audited : (text : Bytes) (shelf : List Shelved) (type : Bytes) (Has : ChannelFrames → Type 0) → ((f g : ChannelFrames) → Has f → Has g → f ≡ g) → (a b : ShownAnswer) → Audits text shelf type Has a → Audits text shelf type Has b → Alike a b
+one_audited text shelf type Has one a b (not_audited x) (not_audited y) = one_refused text shelf type a b x y
+one_audited text shelf type Has one a b (not_audited x) (read_channel E e T U f loads is has says) = absurd (not_refused text shelf type a E e T U x loads is)
+one_audited text shelf type Has one a b (read_channel E e T U f loads is has says) (not_audited y) = absurd (not_refused text shelf type b E e T U y loads is)
+one_audited text shelf type Has one a b (read_channel E e T U f loads is has says) (read_channel F g V W h others are too tells) =
+    let same = (one_program loads others).0 in
+    let frames : f ≡ h = one f h has too in
+    let ty : U ≡ W = one_text F type U W (subst (λ (G : Environment). IsTypeText G type U) same is) are in
+    one_of_frames F W h a b
+    (subst (λ (x : ChannelFrames). AuditsFrames F W x a) frames (subst (λ (V : Typ). AuditsFrames F V f a) ty (subst (λ (G : Environment). AuditsFrames G U f a) same says))) tells

@@ -9,7 +9,7 @@ use Rattle.ac_batch.specs.Verdicts.{AreVerdicts}
 use Rattle.ac_batch.specs.declared.verdict.Verdict.{Verdict}
 use Rattle.acute_answers.specs.declared.status.Status.{Status}
 use Rattle.acute_answers.specs.Answers.{ShownAnswer, printing}
-use Rattle.acute_answers.specs.Checking.{Checks, checked, is_accepted, verdict_line, verdict_lines, verdicts_status}
+use Rattle.acute_answers.specs.Checking.{Checks, checked, verdict_line, verdict_lines, verdicts_status}
 
 -- names behind references
 abbrev pub named : List (Bor Bytes) → List Bytes
@@ -52,14 +52,14 @@ verdict_count [] shelf (v ∷ vs) are = absurd are
 verdict_count (t ∷ texts) shelf [] are = absurd are
 verdict_count (t ∷ texts) shelf (v ∷ vs) are = let rest = verdict_count texts shelf vs are.1 in omega (arith, rest)
 
--- the verdicts from a place on
-all_there : (vs : List Verdict) (i : ℕ) (v : Verdict) → i < length vs → list_all is_accepted (drop i vs) ≡ (is_accepted (get_or vs i v) && list_all is_accepted (drop (suc i) vs))
-all_there [] i v lt = absurd (omega (arith, lt))
-all_there (x ∷ vs) zero v lt = refl
-all_there (x ∷ vs) (suc i) v lt = all_there vs i v (omega (arith, lt))
+-- what is tested of all from a place on
+all_there : {A : Type 0} (test : A → Bool) (vs : List A) (i : ℕ) (v : A) → i < length vs → list_all test (drop i vs) ≡ (test (get_or vs i v) && list_all test (drop (suc i) vs))
+all_there test [] i v lt = absurd (omega (arith, lt))
+all_there test (x ∷ vs) zero v lt = refl
+all_there test (x ∷ vs) (suc i) v lt = all_there test vs i v (omega (arith, lt))
 
-pub all_at : (vs : List Verdict) (i : ℕ) (v : Verdict) (b : Bool) → i < length vs → b ≡ is_accepted (get_or vs i v) → list_all is_accepted (drop i vs) ≡ (b && list_all is_accepted (drop (i + 1) vs))
-all_at vs i v b lt is = let next : i + 1 ≡ suc i = omega arith in rw (next, is) (all_there vs i v lt)
+pub all_at : {A : Type 0} (test : A → Bool) (vs : List A) (i : ℕ) (v : A) (b : Bool) → i < length vs → b ≡ test (get_or vs i v) → list_all test (drop i vs) ≡ (b && list_all test (drop (i + 1) vs))
+all_at test vs i v b lt is = let next : i + 1 ≡ suc i = omega arith in rw (next, is) (all_there test vs i v lt)
 
 -- an answer of these lines and this status is what `check` gives
 pub checks_so : (names : List Bytes) (texts : List Text) (shelf : List Shelved) (vs : List Verdict) → AreVerdicts texts shelf vs → (a : ShownAnswer) (status : Status) (lines : Bytes) → a ≡ printing status lines → status ≡ verdicts_status vs → lines ≡ verdict_lines names vs → Checks names texts shelf a

@@ -1,4 +1,5 @@
 pub mod Answers
+pub mod Auditing
 pub mod Checking
 pub mod Lines
 pub mod Making

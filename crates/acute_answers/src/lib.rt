@@ -2,6 +2,7 @@
 #![tactic(auto)]
 
 mod answer;
+mod auditing;
 mod checking;
 mod line;
 mod making;
@@ -10,6 +11,7 @@ mod showing;
 mod status;
 
 pub use answer::Answer;
+pub use auditing::{Auditor, Unaudited, audit, load_auditor, refused_channel};
 pub use checking::check;
 pub use line::{refusal_line, spent_line, uncaught_line};
 pub use making::make_answer;

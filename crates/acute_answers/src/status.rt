@@ -25,4 +25,6 @@ impl Status {
     pub const CLASH: Status = Status(8);
     /// The list of the shelf has a bad line.
     pub const SHELF_REFUSED: Status = Status(10);
+    /// The channel is refused.
+    pub const CHANNEL_REFUSED: Status = Status(11);
 }

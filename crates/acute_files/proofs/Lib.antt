@@ -1,3 +1,4 @@
+pub mod FileFrontLaws
 pub mod Lines
 pub mod Reached
 pub mod GoodLists

@@ -1,5 +1,5 @@
 -- Files that are read one after another.
-use Rattle.std.proofs.Common.{◌≡◌, ◌<◌, ◌+◌, ℕ, zero, suc, List, [], ◌∷◌, ◌++◌, length, get_or, map, take, drop, Bool, Option, Some, None, inl, inr, refl, sym, ap, subst, arith}
+use Rattle.std.proofs.Common.{◌≡◌, ◌<◌, ◌+◌, ℕ, zero, suc, List, [], ◌∷◌, ◌++◌, length, get_or, map, take, drop, Bool, Option, Some, None, inl, inr, refl, sym, ap, subst, append_assoc, arith}
 use Rattle.std.specs.Borrow.{Bor}
 use Rattle.ac_types.specs.Types.{Bytes}
 use Rattle.ac_types.specs.declared.text.Text.{Text}
@@ -97,6 +97,15 @@ module _ {F : Type 0} (f : FilesOf F) where
   shelf_tried names (Some list) a b (inl alone) = list_alone alone
   shelf_tried names (Some list) a b (inr shelf) =
       with_list shelf.listed shelf.says (turn_append f.reads f.reads_none (list ∷ files_listed shelf.listed) names a b b shelf.turn (turn_none f.reads f.reads_none names b))
+
+  -- behind texts that were read none of these was
+  pub texts_more : (names more : List Bytes) {list : Option Bytes} (a b : F) → TextsRead f names a b list → TextsRead f (names ++ more) a b list
+  texts_more names more a b (without_list turn) = without_list (turn_append f.reads f.reads_none names more a b b turn (turn_none f.reads f.reads_none more b))
+  texts_more names more a b (list_alone alone) = list_alone alone
+  texts_more names more a b (with_list {list = list} xs says turn) =
+      with_list xs says
+      (subst (λ (l : List Bytes). ReadInTurn f.reads (list ∷ l) a b) (append_assoc (files_listed xs) names more)
+      (turn_append f.reads f.reads_none (list ∷ (files_listed xs ++ names)) more a b b turn (turn_none f.reads f.reads_none more b)))
 
 -- what fails of the shelf fails
 pub shelf_fails_too : (files : Bytes → Reading) (names : List Bytes) {list : Option Bytes} → ShelfFails files list → TextsFail files names list

@@ -1,3 +1,4 @@
+pub mod ChannelFiles
 pub mod Files
 pub mod ManyTexts
 pub mod ProgramTexts

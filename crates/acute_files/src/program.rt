@@ -1,12 +1,12 @@
 // The texts of a program and of its shelf.
-ghost use Rattle.std.specs.Prelude.{◌≡◌, ◌≤◌, [], ◌∷◌, ℕ, IsTrue, IfOk, IsErrOf, length};
+ghost use Rattle.std.specs.Prelude.{◌≡◌, ◌≤◌, List, [], ◌∷◌, ℕ, IsTrue, IfOk, OnOk, IsErrOf, length};
 ghost use Rattle.ac_types.specs.Limits.{most_shelf_entries};
 ghost use Rattle.ac_outside.specs.Outside.{NeverFall, Rose};
 ghost use Rattle.ac_load_rules.specs.Accepting.{IsShelf};
 ghost use Rattle.ac_load.specs.Loading.{shelf_of};
 ghost use Rattle.acute_files.specs.Files.{reading, IsTextOf, name_in};
 ghost use Rattle.acute_files.specs.ProgramTexts.{IsShelfBy, HasBadLine, ReadsFail};
-ghost use Rattle.acute_files.specs.ReadOrder.{TextsRead};
+ghost use Rattle.acute_files.specs.ReadOrder.{ReadInTurn, TextsRead};
 
 use crate::shelf::{TextsFault, read_shelf};
 use crate::text::{ReadFault, read_text};
@@ -25,7 +25,8 @@ pub struct ProgramTexts {
 }
 
 /// The texts of a program's file and of the shelf whose list is in a file, where there is one. The
-/// list is read first, then the files that it names, then the program's.
+/// list is read first, then the files that it names, then the program's. What is read behind them
+/// comes behind them.
 pub fn read_program<F: Files>(
     alloc: Global,
     files: &mut F,
@@ -46,6 +47,9 @@ pub fn read_program<F: Files>(
     ensures later { NeverFall (F.read_faults files.old) (F.read_faults files.new) }
     ensures later_writes { NeverFall (F.write_faults files.old) (F.write_faults files.new) }
     ensures only { TextsRead F.Files (program.now ∷ []) files.old files.new (name_in list.entry) }
+    ensures behind { OnOk result ((names : List (List ℕ)) (later : F) →
+        ReadInTurn F.reads names files.new later →
+        TextsRead F.Files (program.now ∷ names) files.old later (name_in list.entry)) }
 {
     match read_shelf(alloc, files, list) {
         Ok(shelf) => read_beside(alloc, files, program, shelf),

@@ -2,7 +2,7 @@
 use Rattle.std.proofs.Common.{◌≡◌, ◌⊎◌, inl, inr, ℕ, Bool, true, IsTrue, List, [], ◌∷◌, Option, Some, None, refl, sym, ◌∙◌}
 use Rattle.std.proofs.lemmas.List.{append-nil}
 use Rattle.ac_types.specs.Types.{Bytes}
-use Rattle.acute_words.specs.Commands.{ChannelName, ProgramFiles, Request, run, names, code, make, check, chain}
+use Rattle.acute_words.specs.Commands.{ChannelName, ProgramFiles, Request, run, names, code, make, check, chain, audit}
 use Rattle.acute_files.specs.ProgramTexts.{HasBadLine, ReadsFail}
 use Rattle.acute_files.specs.declared.shelf.TextsFault.{TextsFault}
 use Rattle.acute_files.specs.declared.shelf.TextsFault.TheVariants as fault
@@ -45,6 +45,7 @@ end_at_words (Some (code prog)) o still same at end s = no_memory_to_find (still
 end_at_words (Some (make seed modules runs)) o still same at end s = no_memory_to_find (still_whole o.output still) s
 end_at_words (Some (check files list)) o still same at end s = no_memory_to_find (still_whole o.output still) s
 end_at_words (Some (chain programs list steps)) o still same at end s = no_memory_to_chain (still_whole o.output still) s
+end_at_words (Some (audit prog channel type)) o still same at end s = no_memory_to_find (still_whole o.output still) s
 
 -- all that was to be written was, so some of it was and then none
 behind_all : (told : Bool) (writes : List Write) (old new : Streams) → (IsTrue told → new ≡ with_writes writes old) → StopsBehind told writes old new

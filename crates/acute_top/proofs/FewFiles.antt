@@ -9,7 +9,7 @@ use Rattle.acute_words.specs.Form.{look_of, option_in, place_of_number, with_nex
 use Rattle.acute_words.specs.Form.{with_values, with_run, with_place, with_place_in, place_after, given_from, is_once, given_once, given_of}
 use Rattle.acute_words.specs.WordValues.{all_in, first_in, is_file}
 use Rattle.acute_words.specs.Commands.{ChannelName, ProgramFiles, Request, run, names, code, are_one, run_with, run_of, names_of, code_of}
-use Rattle.acute_words.specs.Commands.{make_with, make_of, check_with, check_of, chain_with, chain_of, program_of, run_form, program_form, make_form, check_form, chain_form}
+use Rattle.acute_words.specs.Commands.{make_with, make_of, check_with, check_of, chain_with, chain_of, audit_with, audit_of, file_in, program_by, program_of, run_form, program_form, make_form, check_form, chain_form, audit_form}
 use Rattle.acute_words.specs.Commands.{steps_in, channel_in, seed_in, modules_in, shelf_in, files_in, command_of}
 use Rattle.acute_top.specs.inner.Apart.{HasFewPrograms}
 
@@ -203,6 +203,12 @@ a_chain (Some files) None steps h = tt
 a_chain (Some files) (Some s) None h = tt
 a_chain (Some files) (Some s) (Some n) h = h
 
+a_audit : (p : Option ProgramFiles) (channel type : Option Text) → IsShortIf (audit_with p channel type)
+a_audit None channel type = tt
+a_audit (Some p) None type = tt
+a_audit (Some p) (Some c) None = tt
+a_audit (Some p) (Some c) (Some t) = tt
+
 given_run : (g : Option Given) → IsShortIf (option_and_then run_of g)
 given_run None = tt
 given_run (Some g) = a_run (program_of g) (steps_in (first_in (codes "steps") g)) (channel_in (first_in (codes "in") g)) (channel_in (first_in (codes "out") g))
@@ -229,6 +235,10 @@ given_chain (Some g) h =
     a_chain (files_in (all_in (codes "FILE") g)) (shelf_in (first_in (codes "shelf") g)) (steps_in (first_in (codes "steps") g))
     (few_named 16 (all_in (codes "FILE") g) (few_in 16 (codes "FILE") g h))
 
+given_audit : (g : Option Given) → IsShortIf (option_and_then audit_of g)
+given_audit None = tt
+given_audit (Some g) = a_audit (program_by (first_in (codes "PROGRAM") g) (first_in (codes "shelf") g)) (file_in (first_in (codes "CHANNEL") g)) (first_in (codes "as") g)
+
 -- the place of FILE is the only one of `chain`
 few_chained : (ws : List Text) → AreFewIf 16 (given_of chain_form ws)
 few_chained ws = few_given chain_form 16 (omega arith) (omega arith, tt) ws
@@ -241,7 +251,8 @@ all_few (w ∷ ws) =
     (if_so (bytes_eq w (codes "code")) _ _ (given_code (given_of program_form ws))
     (if_so (bytes_eq w (codes "make")) _ _ (given_make (given_of make_form ws))
     (if_so (bytes_eq w (codes "check")) _ _ (given_check (given_of check_form ws))
-    (if_so (bytes_eq w (codes "chain")) _ None (given_chain (given_of chain_form ws) (few_chained ws)) tt)))))
+    (if_so (bytes_eq w (codes "chain")) _ _ (given_chain (given_of chain_form ws) (few_chained ws))
+    (if_so (bytes_eq w (codes "audit")) _ None (given_audit (given_of audit_form ws)) tt))))))
 
 -- a `chain` that words ask for has at most 16 files
 pub words_short : (ws : List Text) (r : Request) → command_of ws ≡ Some r → HasFewPrograms r

@@ -8,6 +8,8 @@ use Rattle.ac_types.specs.declared.text.Text.{Text}
 use Rattle.ac_types.proofs.FirstLaws.{some_eq}
 use Rattle.acute_files.specs.ShelfLists.{Listed, ShelfAnswer, Lists, BadLine, shelf_answer}
 use Rattle.ac_load_rules.specs.Accepting.{Shelved}
+use Rattle.ac_channels.specs.ChannelFrames.{ChannelFrames, channel_frames}
+use Rattle.acute_files.specs.ChannelFiles.{HasFrames}
 use Rattle.acute_files.specs.Files.{Reading, IsTextOf}
 use Rattle.acute_files.specs.ManyTexts.{AreTexts}
 use Rattle.acute_files.specs.ProgramTexts.{AreListed, ListSays, IsShelfBy, no_list, listed, HasBadLine, bad_line}
@@ -17,6 +19,12 @@ one_text file told s t a b =
     let x = a told in
     let y = b told in
     x.2 ∙ ap (take longest_read) (some_eq (sym x.1 ∙ y.1)) ∙ sym y.2
+
+pub one_channel : (file : Reading) → IsTrue file.told → (f g : ChannelFrames) → HasFrames file f → HasFrames file g → f ≡ g
+one_channel file told f g a b =
+    let x = a told in
+    let y = b told in
+    sym x.2 ∙ ap channel_frames (some_eq (sym x.1 ∙ y.1)) ∙ y.2
 
 lists_eq : {xs ys : List Listed} → Lists xs ≡ Lists ys → xs ≡ ys
 lists_eq {xs} {ys} e = ap (λ (a : ShelfAnswer). elim a [ Lists zs ↦ zs | BadLine n ↦ xs ]) e

@@ -1,4 +1,5 @@
 pub mod AnswerLaws
+pub mod AuditLaws
 pub mod ChainedLaws
 pub mod ChannelLaws
 pub mod EndingLaws
@@ -11,5 +12,4 @@ pub mod RefusedLaws
 pub mod RunLaws
 pub mod SaidLaws
 pub mod StageLaws
-pub mod TakenLaws
 pub mod WordLaws

@@ -4,7 +4,7 @@ use Rattle.std.specs.Prelude.{is_some, option_and_then, option_map, if◌then◌
 use Rattle.std.specs.Str.{bytes_eq}
 use Rattle.acute_words.specs.Form.{Text, Given, given_of}
 use Rattle.acute_words.specs.WordValues.{all_in, first_in}
-use Rattle.acute_words.specs.Commands.{ChannelName, ProgramFiles, Request, run, names, code, are_one, run_with, run_of, names_of, code_of, make_with, make_of, check_with, check_of, chain_with, chain_of, program_of, run_form, program_form, make_form, check_form, chain_form, steps_in, channel_in, seed_in, modules_in, shelf_in, files_in, command_of}
+use Rattle.acute_words.specs.Commands.{ChannelName, ProgramFiles, Request, run, names, code, are_one, run_with, run_of, names_of, code_of, make_with, make_of, check_with, check_of, chain_with, chain_of, audit_with, audit_of, file_in, program_by, program_of, run_form, program_form, make_form, check_form, chain_form, audit_form, steps_in, channel_in, seed_in, modules_in, shelf_in, files_in, command_of}
 use Rattle.acute_top.specs.inner.Apart.{IsApart}
 
 abbrev AreApart : Option Request → Type 0
@@ -62,6 +62,12 @@ a_chain (Some files) None steps = tt
 a_chain (Some files) (Some s) None = tt
 a_chain (Some files) (Some s) (Some n) = tt
 
+a_audit : (p : Option ProgramFiles) (channel type : Option Text) → AreApart (audit_with p channel type)
+a_audit None channel type = tt
+a_audit (Some p) None type = tt
+a_audit (Some p) (Some c) None = tt
+a_audit (Some p) (Some c) (Some t) = tt
+
 given_make : (g : Option Given) → AreApart (option_and_then make_of g)
 given_make None = tt
 given_make (Some g) = a_make (is_some (all_in (codes "run") g)) (option_and_then seed_in (first_in (codes "SEED") g)) (option_and_then modules_in (first_in (codes "MODULES") g))
@@ -74,6 +80,10 @@ given_chain : (g : Option Given) → AreApart (option_and_then chain_of g)
 given_chain None = tt
 given_chain (Some g) = a_chain (files_in (all_in (codes "FILE") g)) (shelf_in (first_in (codes "shelf") g)) (steps_in (first_in (codes "steps") g))
 
+given_audit : (g : Option Given) → AreApart (option_and_then audit_of g)
+given_audit None = tt
+given_audit (Some g) = a_audit (program_by (first_in (codes "PROGRAM") g) (first_in (codes "shelf") g)) (file_in (first_in (codes "CHANNEL") g)) (first_in (codes "as") g)
+
 all_apart : (ws : List Text) → AreApart (command_of ws)
 all_apart [] = tt
 all_apart (w ∷ ws) =
@@ -82,7 +92,8 @@ all_apart (w ∷ ws) =
     (if_so (bytes_eq w (codes "code")) _ _ (given_code (given_of program_form ws))
     (if_so (bytes_eq w (codes "make")) _ _ (given_make (given_of make_form ws))
     (if_so (bytes_eq w (codes "check")) _ _ (given_check (given_of check_form ws))
-    (if_so (bytes_eq w (codes "chain")) _ None (given_chain (given_of chain_form ws)) tt)))))
+    (if_so (bytes_eq w (codes "chain")) _ _ (given_chain (given_of chain_form ws))
+    (if_so (bytes_eq w (codes "audit")) _ None (given_audit (given_of audit_form ws)) tt))))))
 
 moved : (o : Option Request) (r : Request) → o ≡ Some r → AreApart o → IsApart r
 moved o r is h = subst AreApart is h

@@ -8,7 +8,7 @@ use Rattle.acute_top.specs.Channels.{NoFile, NotStandard}
 use Rattle.acute_top.specs.Requests.{files_loaded, list_named, channel_read, channel_written}
 use Rattle.acute_top.specs.Traits.{FilesOf}
 
--- a call reads texts; where it is to run a program that is accepted, it makes the file of the channel, and runs the program
+-- a call reads texts, and an audit its channel behind them; where it is to run a program that is accepted, it makes the file of the channel, and runs the program
 pub data Stage : Type 0 where
   AtTexts : Stage
   AtFile : Stage
@@ -19,7 +19,7 @@ abbrev pub HasPlaces : Bool → Option ChannelName → Contents → Type 0
 HasPlaces told from contents = (name : Text) → from ≡ Some (file name) → IsTrue told × (length (or_empty (contents name)) < 2 ^ 63)
 
 module _ {F : Type 0} (f : FilesOf F) where
-  -- between two moments the texts of a request were read, in their order, and no other file was touched
+  -- between two moments the files of a request were read, in their order, and no other file was touched
   abbrev pub ReadsTexts : Option Request → F → F → Type 0
   ReadsTexts None a b = b ≡ a
   ReadsTexts (Some r) a b = TextsRead f (files_loaded r) a b (list_named r)

@@ -4,5 +4,6 @@ pub mod RunCommands
 pub mod Apart
 pub mod ChainDelivered
 pub mod Asked
+pub mod Audited
 pub mod Delivered
 pub mod Told

@@ -2,6 +2,7 @@
 #![tactic(auto)]
 
 mod answering;
+mod auditing;
 mod chaining;
 mod delivery;
 mod laws;

@@ -9,6 +9,7 @@ ghost use Rattle.acute_top.specs.Endings.{texts, CallEnded};
 ghost use Rattle.acute_top.specs.inner.Apart.{IsApart, HasFewPrograms};
 
 use crate::answering::{check_files, make_program, show_file};
+use crate::auditing::audit_file;
 use crate::chaining::chain_files;
 use crate::run::run_file;
 use crate::saying::{no_memory, refuse_words};
@@ -93,5 +94,6 @@ fn obey<R: Threads + Sync, F: Files, I: Source, O: Sink, E: Sink, G: Gate + Sync
                 errors,
             )
         }
+        Command::Audit(audit) => audit_file(rt, alloc, audit, files, output, errors, gate),
     }
 }

@@ -3,7 +3,7 @@ use Rattle.std.proofs.Common.{◌≡◌, refl, codes, Bool, List, Option}
 use Rattle.std.specs.Prelude.{is_some}
 use Rattle.acute_words.specs.Form.{Given, Text}
 use Rattle.acute_words.specs.WordValues.{all_in, first_in}
-use Rattle.acute_words.specs.Commands.{ProgramFiles, chain_by, chain_of, check_by, check_of, make_by, make_of, program_of, run_by, run_of}
+use Rattle.acute_words.specs.Commands.{ProgramFiles, audit_by, audit_of, chain_by, chain_of, check_by, check_of, make_by, make_of, program_by, program_of, run_by, run_of}
 
 pub run_is : (g : Given) (p : Option ProgramFiles) (steps from to : Option Text) → p ≡ program_of g → steps ≡ first_in (codes "steps") g
     → from ≡ first_in (codes "in") g → to ≡ first_in (codes "out") g → run_by p steps from to ≡ run_of g
@@ -20,3 +20,7 @@ check_is g files shelf files_is shelf_is = rw (files_is, shelf_is) refl
 pub chain_is : (g : Given) (files : Option (List Text)) (shelf steps : Option Text) → files ≡ all_in (codes "FILE") g → shelf ≡ first_in (codes "shelf") g
     → steps ≡ first_in (codes "steps") g → chain_by files shelf steps ≡ chain_of g
 chain_is g files shelf steps files_is shelf_is steps_is = rw (files_is, shelf_is, steps_is) refl
+
+pub audit_is : (g : Given) (p : Option ProgramFiles) (file shelf channel type : Option Text) → p ≡ program_by file shelf → file ≡ first_in (codes "PROGRAM") g → shelf ≡ first_in (codes "shelf") g
+    → channel ≡ first_in (codes "CHANNEL") g → type ≡ first_in (codes "as") g → audit_by p channel type ≡ audit_of g
+audit_is g p file shelf channel type p_is file_is shelf_is channel_is type_is = rw (p_is, file_is, shelf_is, channel_is, type_is) refl

@@ -1,7 +1,7 @@
 -- Command lines, and what they ask for.
 use Rattle.std.proofs.Common.{◌≡◌, refl, [], ◌∷◌, Some, None, codes, replicate, true, false}
 use Rattle.acute_words.specs.Form.{Form, Text, given_of, look_of, named, plain, refused}
-use Rattle.acute_words.specs.Commands.{ProgramFiles, chain, check, command_of, code, file, make, names, run, standard}
+use Rattle.acute_words.specs.Commands.{ProgramFiles, audit, chain, check, command_of, code, file, make, names, run, standard}
 
 -- an option, with its value and without; a plain word; words that are refused
 look_option : look_of (codes "--steps=5") ≡ named (codes "steps") (Some (codes "5"))
@@ -171,6 +171,27 @@ chain_empty = refl
 
 chain_shelf_hyphen : command_of (codes "chain" ∷ codes "f" ∷ codes "--shelf" ∷ codes "-" ∷ []) ≡ None
 chain_shelf_hyphen = refl
+
+-- `audit p c --as int`, and `audit --as=t --shelf s p c`
+audit_plain : command_of (codes "audit" ∷ codes "p" ∷ codes "c" ∷ codes "--as" ∷ codes "int" ∷ []) ≡ Some (audit (record { file = codes "p"; shelf = None }) (codes "c") (codes "int"))
+audit_plain = refl
+
+audit_shelf : command_of (codes "audit" ∷ codes "--as=t" ∷ codes "--shelf" ∷ codes "s" ∷ codes "p" ∷ codes "c" ∷ []) ≡ Some (audit (record { file = codes "p"; shelf = Some (codes "s") }) (codes "c") (codes "t"))
+audit_shelf = refl
+
+-- a TYPE that is empty, and none
+audit_empty : command_of (codes "audit" ∷ codes "p" ∷ codes "c" ∷ codes "--as=" ∷ []) ≡ Some (audit (record { file = codes "p"; shelf = None }) (codes "c") [])
+audit_empty = refl
+
+audit_at_none : command_of (codes "audit" ∷ codes "p" ∷ codes "c" ∷ []) ≡ None
+audit_at_none = refl
+
+-- no CHANNEL, and one that is `-`
+audit_alone : command_of (codes "audit" ∷ codes "p" ∷ codes "--as=int" ∷ []) ≡ None
+audit_alone = refl
+
+audit_hyphen : command_of (codes "audit" ∷ codes "p" ∷ codes "-" ∷ codes "--as=int" ∷ []) ≡ None
+audit_hyphen = refl
 
 -- a form with a flag, an option with a value, a place of one word, and a run of at most two words
 abbrev tried : Form

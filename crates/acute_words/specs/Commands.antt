@@ -36,6 +36,8 @@ pub data Request : Type 0 where
   check : List Text → Option Text → Request
   -- to run the programs of files one after the other, each for at most so many steps, with such a shelf; each reads what the one before it sent
   chain : List Text → Option Text → ℕ → Request
+  -- to say of each frame of a channel's file whether the program of a file would take it at the type of a text
+  audit : ProgramFiles → Text → Text → Request
 
 -- the channel that a command names
 abbrev pub channel_of : Channel → ChannelName
@@ -54,6 +56,7 @@ request_of (command.Code p) = code (files_of p)
 request_of (command.Make m) = make m.seed m.modules m.runs
 request_of (command.Check c) = check (map (λ s. s.now) c.files.items) (option_map (λ s. s.now) c.shelf)
 request_of (command.Chain c) = chain (map (λ s. s.now) c.files.items) (option_map (λ s. s.now) c.shelf) c.steps
+request_of (command.Audit a) = audit (files_of a.program) a.channel.now a.ty.now
 
 -- run FILE [--in CH] [--out CH] [--shelf FILE] [--steps N]
 abbrev pub run_form : Form
@@ -90,6 +93,13 @@ check_form = files_form most_checked ((codes "shelf", true) ∷ [])
 -- chain FILE.. [--shelf FILE] [--steps N], of 1 to `most_chained` FILEs
 abbrev pub chain_form : Form
 chain_form = files_form most_chained ((codes "shelf", true) ∷ (codes "steps", true) ∷ [])
+
+-- audit PROGRAM CHANNEL --as TYPE [--shelf FILE]
+abbrev pub audit_form : Form
+audit_form = record {
+  options = (codes "as", true) ∷ (codes "shelf", true) ∷ [];
+  places = record { number = 1; name = codes "PROGRAM"; most = None } ∷ record { number = 2; name = codes "CHANNEL"; most = None } ∷ [];
+}
 
 -- N: a digit and no more than `most_steps_digits`, at most `most_steps`; where it isn't given, `default_steps`
 abbrev pub steps_in : Option Text → Option ℕ
@@ -169,6 +179,20 @@ chain_with files shelf steps = None
 abbrev pub chain_by : Option (List Text) → Option Text → Option Text → Option Request
 chain_by files shelf steps = chain_with (files_in files) (shelf_in shelf) (steps_in steps)
 
+-- a file that has to be given
+abbrev pub file_in : Option Text → Option Text
+file_in None = None
+file_in (Some name) = if is_file name then Some name else None
+
+-- an `audit` of a channel by a program at the type of a text, which may be empty
+abbrev pub audit_with : Option ProgramFiles → Option Text → Option Text → Option Request
+audit_with (Some p) (Some channel) (Some type) = Some (audit p channel type)
+audit_with p channel type = None
+
+-- an `audit` by its program and the texts of its CHANNEL and of its TYPE, which have to be given
+abbrev pub audit_by : Option ProgramFiles → Option Text → Option Text → Option Request
+audit_by p channel type = audit_with p (file_in channel) type
+
 -- the program that was given
 abbrev pub program_of : Given → Option ProgramFiles
 program_of given = program_by (first_in (codes "FILE") given) (first_in (codes "shelf") given)
@@ -192,6 +216,9 @@ check_of given = check_by (all_in (codes "FILE") given) (first_in (codes "shelf"
 abbrev pub chain_of : Given → Option Request
 chain_of given = chain_by (all_in (codes "FILE") given) (first_in (codes "shelf") given) (first_in (codes "steps") given)
 
+abbrev pub audit_of : Given → Option Request
+audit_of given = audit_by (program_by (first_in (codes "PROGRAM") given) (first_in (codes "shelf") given)) (first_in (codes "CHANNEL") given) (first_in (codes "as") given)
+
 -- the words after a command's name, read by the command's form and then by what was given
 abbrev pub words_of : Form → (Given → Option Request) → List Text → Option Request
 words_of form of words = option_and_then of (given_of form words)
@@ -205,6 +232,7 @@ command_by name rest =
     if bytes_eq name (codes "make") then words_of make_form make_of rest else
     if bytes_eq name (codes "check") then words_of check_form check_of rest else
     if bytes_eq name (codes "chain") then words_of chain_form chain_of rest else
+    if bytes_eq name (codes "audit") then words_of audit_form audit_of rest else
     None
 
 -- what the words of a command line ask for, or none where they are refused

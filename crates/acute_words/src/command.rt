@@ -62,6 +62,17 @@ pub struct Chain<'a> {
     pub steps: u64,
 }
 
+/// Loads a program and says of each frame of a channel whether it would take it at a type.
+#[derive(Clone, Copy)]
+pub struct Audit<'a> {
+    /// The program.
+    pub program: Program<'a>,
+    /// The channel's file.
+    pub channel: &'a str,
+    /// The text of the type.
+    pub ty: &'a str,
+}
+
 /// What the words of a command line ask for.
 #[derive(Drop)]
 pub enum Command<'a> {
@@ -77,4 +88,6 @@ pub enum Command<'a> {
     Check(Check<'a>),
     /// To run programs in a chain.
     Chain(Chain<'a>),
+    /// To say which frames of a channel a program would take.
+    Audit(Audit<'a>),
 }

@@ -1,11 +1,11 @@
 // The commands, by the texts of their values.
 
 ghost use Rattle.std.specs.Prelude.{◌≡◌, IfOk, map, option_map};
-ghost use Rattle.acute_words.specs.Commands.{chain_by, check_by, files_of, make_by, program_by, request_of, run_by};
+ghost use Rattle.acute_words.specs.Commands.{audit_by, chain_by, check_by, files_of, make_by, program_by, request_of, run_by};
 
-use crate::command::{Chain, Check, Command, Make, Program, Run};
+use crate::command::{Audit, Chain, Check, Command, Make, Program, Run};
 use crate::values::{
-    are_one, channel_in, files_in, is_file_name, modules_of, number_of, shelf_in, steps_of,
+    are_one, channel_in, file_in, files_in, is_file_name, modules_of, number_of, shelf_in, steps_of,
 };
 use ac_types::Memory;
 use std::alloc::Global;
@@ -112,4 +112,24 @@ pub(crate) fn chain_from<'a>(
             steps,
         }))),
     }
+}
+
+/// An `audit`, by its program and the texts of its CHANNEL and of its TYPE.
+pub(crate) fn audit_from<'a>(
+    program: Option<Program<'a>>,
+    channel: Option<&'a str>,
+    ty: Option<&'a str>,
+) -> Option<Command<'a>>
+    ensures { option_map request_of result
+        ≡ audit_by (option_map files_of program.entry) (option_map (λ s. s.now) channel.entry)
+        (option_map (λ s. s.now) ty.entry) }
+{
+    let program = program?;
+    let channel = file_in(channel)?;
+    let ty = ty?;
+    Some(Command::Audit(Audit {
+        program,
+        channel,
+        ty,
+    }))
 }

@@ -20,6 +20,7 @@ pub(crate) enum Kind {
     Make,
     Check,
     Chain,
+    Audit,
 }
 
 /// What the command of this name does, if there is one.
@@ -33,6 +34,7 @@ pub(crate) fn kind_of(name: &str) -> Option<Kind>
         "make" => Some(Kind::Make),
         "check" => Some(Kind::Check),
         "chain" => Some(Kind::Chain),
+        "audit" => Some(Kind::Audit),
         _ => None,
     }
 }
@@ -73,6 +75,15 @@ pub(crate) fn command_in<'a>(alloc: Global, kind: Kind) -> Result<clap::Command<
                 Argument::Value("steps"),
             ];
             command_with(alloc, "chain", &arguments)
+        }
+        Kind::Audit => {
+            let arguments = [
+                Argument::Word("PROGRAM"),
+                Argument::Word("CHANNEL"),
+                Argument::Value("as"),
+                Argument::Value("shelf"),
+            ];
+            command_with(alloc, "audit", &arguments)
         }
     }
 }

@@ -2,7 +2,7 @@
 
 ghost use Rattle.std.specs.Prelude.{◌≡◌, ◌==◌, IfOk, map, option_map, slice_index};
 ghost use Rattle.std.specs.List.{list_all};
-ghost use Rattle.acute_words.specs.Commands.{are_one, channel_in, channel_named, channel_of, files_in, modules_in, shelf_in, steps_in};
+ghost use Rattle.acute_words.specs.Commands.{are_one, channel_in, channel_named, channel_of, file_in, files_in, modules_in, shelf_in, steps_in};
 ghost use Rattle.acute_words.specs.WordValues.{is_file, number_within};
 
 use crate::command::Channel;
@@ -59,6 +59,14 @@ pub(crate) fn is_file_name(text: &str) -> bool
     ensures { result ≡ is_file text.now }
 {
     !text.is_empty() && text != "-"
+}
+
+/// The file by the text of a FILE, if one is given.
+pub(crate) fn file_in<'a>(text: Option<&'a str>) -> Option<&'a str>
+    ensures { option_map (λ s. s.now) result ≡ file_in (option_map (λ s. s.now) text.entry) }
+{
+    let text = text?;
+    if is_file_name(text) { Some(text) } else { None }
 }
 
 // The channel that the text of a CH names, if it names one.

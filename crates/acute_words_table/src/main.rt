@@ -5,7 +5,7 @@
 #![tactic(auto)]
 
 use ac_types::Memory;
-use acute_words::{Chain, Channel, Check, Command, Make, Program, Run, read_words};
+use acute_words::{Audit, Chain, Channel, Check, Command, Make, Program, Run, read_words};
 use std::alloc::Global;
 use std::io;
 
@@ -30,6 +30,7 @@ fn answer_to(alloc: Global, line: &str) -> Result<String, Memory> {
         Some(Command::Make(make)) => make_answer(alloc, make),
         Some(Command::Check(check)) => check_answer(alloc, &check),
         Some(Command::Chain(chain)) => chain_answer(alloc, &chain),
+        Some(Command::Audit(audit)) => audit_answer(alloc, audit),
     }
 }
 
@@ -63,6 +64,15 @@ fn check_answer(alloc: Global, check: &Check) -> Result<String, Memory> {
 fn chain_answer(alloc: Global, chain: &Chain) -> Result<String, Memory> {
     let mut answer = files_answer(alloc, "chain", &chain.files, chain.shelf)?;
     add_steps(alloc, &mut answer, chain.steps)?;
+    Ok(answer)
+}
+
+fn audit_answer(alloc: Global, audit: Audit) -> Result<String, Memory> {
+    let program = audit.program;
+    let files = [program.file, audit.channel];
+    let mut answer = files_answer(alloc, "audit", &files, program.shelf)?;
+    answer.push_str(", as ")?;
+    answer.push_str(audit.ty)?;
     Ok(answer)
 }
 

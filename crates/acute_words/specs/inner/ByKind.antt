@@ -2,7 +2,7 @@
 use Rattle.std.specs.Prelude.{Option, Some, None, if◌then◌else◌, codes}
 use Rattle.std.specs.Str.{bytes_eq}
 use Rattle.acute_words.specs.Form.{Form, Given, Text}
-use Rattle.acute_words.specs.Commands.{Request, chain_form, chain_of, check_form, check_of, code_of, make_form, make_of, names_of, program_form, run_form, run_of}
+use Rattle.acute_words.specs.Commands.{Request, audit_form, audit_of, chain_form, chain_of, check_form, check_of, code_of, make_form, make_of, names_of, program_form, run_form, run_of}
 use Rattle.acute_words.specs.declared.kinds.Kind.{Kind}
 use Rattle.acute_words.specs.declared.kinds.Kind.TheVariants as kind
 
@@ -15,6 +15,7 @@ kind_named name =
     if bytes_eq name (codes "make") then Some kind.Make else
     if bytes_eq name (codes "check") then Some kind.Check else
     if bytes_eq name (codes "chain") then Some kind.Chain else
+    if bytes_eq name (codes "audit") then Some kind.Audit else
     None
 
 -- its form
@@ -25,6 +26,7 @@ form_of kind.Code = program_form
 form_of kind.Make = make_form
 form_of kind.Check = check_form
 form_of kind.Chain = chain_form
+form_of kind.Audit = audit_form
 
 -- what it asks for, by what was given
 abbrev pub asked_of : Kind → Given → Option Request
@@ -34,3 +36,4 @@ asked_of kind.Code = code_of
 asked_of kind.Make = make_of
 asked_of kind.Check = check_of
 asked_of kind.Chain = chain_of
+asked_of kind.Audit = audit_of

@@ -31,3 +31,7 @@ returns-in-Ok-clause-only g c = shelf_then g.F.Files (c.args.program.now ∷ [])
 
 pub returns-in-Err-clause-only : goal.returns-in-Err-clause-only
 returns-in-Err-clause-only g c = shelf_tried g.F.Files (c.args.program.now ∷ []) _ _ _ c.in-Err.ensures.only
+
+pub returns-in-Ok-clause-behind : goal.returns-in-Ok-clause-behind
+returns-in-Ok-clause-behind g c =
+    map_ok c.read_beside.result _ _ (λ t is. λ names later turn. shelf_then g.F.Files (c.args.program.now ∷ names) _ _ _ _ c.in-Ok.ensures.only (_, (c.read_beside.ensures.only, turn))) c.read_beside.ensures.shelf

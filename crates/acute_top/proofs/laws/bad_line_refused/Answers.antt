@@ -1,7 +1,7 @@
 use Rattle.std.proofs.Common.{◌≡◌, ℕ, IsTrue, List, Option, Some, refl}
 use Rattle.ac_types.specs.Types.{Bytes}
 use Rattle.ac_outside.specs.Outside.{Rose}
-use Rattle.acute_words.specs.Commands.{ChannelName, ProgramFiles, Request, run, names, code, make, check, chain}
+use Rattle.acute_words.specs.Commands.{ChannelName, ProgramFiles, Request, run, names, code, make, check, chain, audit}
 use Rattle.acute_files.specs.ManyTexts.{TextsFail}
 use Rattle.acute_files.specs.ProgramTexts.{HasBadLine, ReadsFail}
 use Rattle.acute_answers.specs.declared.status.Status.{Status}
@@ -27,6 +27,7 @@ module _ (o : Handed) {end : Status} (told : (name : Bytes) → IsTrue (o.files 
   not_given (make seed modules runs) a bad g = elim bad [ ]
   not_given (check files list) a bad g = shelf_or_bad o.files told g.is_shelf bad
   not_given (chain programs list steps) a bad g = g
+  not_given (audit prog channel type) a bad g = shelf_or_bad o.files told g.is_shelf bad
 
   answering : (r : Request) → (IsUnreadable o.files r → ⊥) → HasBadLine o.files (list_named r) n → AnswerEnded r o.files o.output o.errors end → end ≡ SHELF_REFUSED
   answering r f bad (has_printed a g x s) = absurd (not_given r a bad g)
@@ -63,6 +64,7 @@ module _ (o : Handed) {end : Status} (told : (name : Bytes) → IsTrue (o.files 
   complete (make seed modules runs) f bad ended = elim bad [ ]
   complete (check files list) f bad ended = answering (check files list) f bad ended
   complete (chain programs list steps) f bad ended = chaining programs list steps f bad ended
+  complete (audit prog channel type) f bad ended = answering (audit prog channel type) f bad ended
 
 pub returns : goal.returns
 returns c = λ r o status ended told f e m n bad. complete o told e m n r f bad ended

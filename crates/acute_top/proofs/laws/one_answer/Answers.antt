@@ -2,20 +2,22 @@ use Rattle.std.proofs.Common.{◌≡◌, ℕ, Bool, IsTrue, List, Option, refl, 
 use Rattle.ac_types.specs.Types.{Bytes}
 use Rattle.ac_types.specs.declared.text.Text.{Text}
 use Rattle.ac_rules.specs.Views.{Plain}
-use Rattle.acute_words.specs.Commands.{ProgramFiles, Request, run, names, code, make, check, chain}
+use Rattle.acute_words.specs.Commands.{ProgramFiles, Request, run, names, code, make, check, chain, audit}
 use Rattle.ac_load_rules.specs.Accepting.{Shelved}
+use Rattle.acute_files.specs.ChannelFiles.{HasFrames}
 use Rattle.acute_files.specs.Files.{Reading}
 use Rattle.ac_chain.specs.ChainTexts.{texts_of}
 use Rattle.acute_answers.specs.declared.showing.Showing.{Showing}
 use Rattle.acute_answers.specs.declared.showing.Showing.TheVariants.{Names, Code}
 use Rattle.acute_answers.specs.Answers.{ShownAnswer}
+use Rattle.acute_answers.specs.Auditing.{Audits}
 use Rattle.acute_answers.specs.Checking.{Checks}
 use Rattle.acute_answers.specs.Showing.{Shows}
-use Rattle.acute_answers.proofs.OneAnswer.{Alike, one_shown, one_made, one_checked}
+use Rattle.acute_answers.proofs.OneAnswer.{Alike, one_shown, one_made, one_checked, one_audited}
 use Rattle.acute_chain.specs.Chaining.{Chains}
 use Rattle.acute_top.specs.ChainEndings.{ChainsFiles}
-use Rattle.acute_top.specs.Giving.{Gives, ShowsFile, ChecksFiles}
-use Rattle.acute_top.proofs.FileLaws.{one_text, one_shelf, one_list}
+use Rattle.acute_top.specs.Giving.{Gives, ShowsFile, ChecksFiles, AuditsFile}
+use Rattle.acute_top.proofs.FileLaws.{one_text, one_shelf, one_list, one_channel}
 use Rattle.acute_top.proofs.OneChain.{AlikeWhere, one_chain}
 use Rattle.acute_top.proofs.laws.one_answer.Goals as goal
 
@@ -39,6 +41,13 @@ module _ (files : Bytes → Reading) (told : (name : Bytes) → IsTrue (files na
       let shelf = one_shelf files told x.is_shelf y.is_shelf in
       one_checked checked y.texts y.shelf a b (subst (λ (s : List Shelved). Checks checked y.texts s a) shelf (subst (λ (t : List Text). Checks checked t x.shelf a) texts x.checks)) y.checks
 
+  auditing : (p : ProgramFiles) (channel type : Bytes) → AuditsFile files p channel type a → AuditsFile files p channel type b → Alike a b
+  auditing p channel type x y =
+      let text = one_text (files p.file) (told p.file) x.text y.text x.is_text y.is_text in
+      let shelf = one_shelf files told x.is_shelf y.is_shelf in
+      let first = subst (λ (t : Bytes). Audits t x.shelf type (HasFrames (files channel)) a) text x.audits in
+      one_audited y.text y.shelf type (HasFrames (files channel)) (one_channel (files channel) (told channel)) a b (subst (λ (s : List Shelved). Audits y.text s type (HasFrames (files channel)) a) shelf first) y.audits
+
   one : (r : Request) → Gives files r a → Gives files r b → OneAnswer r a b
   one (run p steps from to) x y = absurd x
   one (names p) x y = alike (names p) a b (showing Names p x y)
@@ -46,6 +55,7 @@ module _ (files : Bytes → Reading) (told : (name : Bytes) → IsTrue (files na
   one (make seed modules runs) x y = alike (make seed modules runs) a b (one_made seed modules runs a b x y)
   one (check checked list) x y = (checking checked list x y, λ other. absurd (other checked list refl))
   one (chain programs list steps) x y = absurd x
+  one (audit p channel type) x y = alike (audit p channel type) a b (auditing p channel type x y)
 
   chaining : (programs : List Bytes) (list : Option Bytes) (steps : ℕ) (shown : Bool) → ChainsFiles files programs list steps shown a → ChainsFiles files programs list steps shown b → AlikeWhere shown a b
   chaining programs list steps shown x y =

@@ -1,4 +1,4 @@
-use Rattle.acute_top.proofs.TakenLaws.{landed_takes, takes_lands, refused_sinks, none_sinks}
+use Rattle.ac_audit.proofs.TakenLaws.{landed_takes, takes_lands, refused_sinks, none_sinks}
 use Rattle.acute_top.proofs.laws.taken_exactly.Goals as goal
 
 pub returns-clause-taken : goal.returns-clause-taken

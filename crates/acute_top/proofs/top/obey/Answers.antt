@@ -46,3 +46,9 @@ returns-in-Chain-clause-ends g c = rw (c.in-Chain.is, sym c.as_slice-programs.en
 
 pub returns-in-Chain-clause-kept : goal.returns-in-Chain-clause-kept
 returns-in-Chain-clause-kept g c = rw c.in-Chain.is (λ told name h. ap (λ (k : Contents). k name) (c.chain_files.ensures.same told))
+
+pub returns-in-Audit-clause-ends : goal.returns-in-Audit-clause-ends
+returns-in-Audit-clause-ends g c = rw c.in-Audit.is (AtTexts, (refl, c.audit_file.ensures.only), c.audit_file.ensures.ends)
+
+pub returns-in-Audit-clause-kept : goal.returns-in-Audit-clause-kept
+returns-in-Audit-clause-kept g c = rw c.in-Audit.is (λ told name h. ap (λ (k : Contents). k name) (c.audit_file.ensures.same told))

@@ -2,7 +2,7 @@ use Rattle.std.proofs.Common.{rules, ◌≡◌, ◌∙◌, sym, ap, subst, codes
 use Rattle.acute_words.specs.Commands.{code, files_of, names, request_of}
 use Rattle.acute_words.proofs.Getters.{all_found, first_found, whether_found}
 use Rattle.acute_words.specs.inner.ByKind.{asked_of}
-use Rattle.acute_words.proofs.Asked.{chain_is, check_is, make_is, run_is}
+use Rattle.acute_words.proofs.Asked.{audit_is, chain_is, check_is, make_is, run_is}
 use Rattle.acute_words.proofs.reader.command_from.Goals as goal
 
 pub returns-in-Run : goal.returns-in-Run
@@ -47,3 +47,12 @@ returns-in-Chain c = λ g rows.
     let steps = c.get_str-in-Chain-2.ensures ∙ first_found m g (codes "steps") rows in
     let asked = chain_is g _ _ _ files shelf steps ∙ ap (λ k. asked_of k g) (sym c.in-Chain.is) in
     subst (λ r. IfOk c.chain_from.result (λ o. option_map request_of o ≡ r)) asked c.chain_from.ensures
+
+pub returns-in-Audit : goal.returns-in-Audit
+returns-in-Audit c = λ g rows.
+    let m = c.args.matches.now in
+    let file = c.get_str-in-Audit.ensures ∙ first_found m g (codes "PROGRAM") rows in
+    let shelf = c.get_str-in-Audit-2.ensures ∙ first_found m g (codes "shelf") rows in
+    let channel = c.get_str-in-Audit-3.ensures ∙ first_found m g (codes "CHANNEL") rows in
+    let type = c.get_str-in-Audit-4.ensures ∙ first_found m g (codes "as") rows in
+    c.audit_from.ensures ∙ audit_is g _ _ _ _ _ c.program_from.ensures file shelf channel type ∙ ap (λ k. asked_of k g) (sym c.in-Audit.is)

@@ -1,0 +1,4 @@
+pub mod ChannelLaws
+pub mod FrontLaws
+pub mod ReadingLaws
+mod ChannelExamples

@@ -1,0 +1,3 @@
+pub mod ChannelFrames
+pub mod WholeChannels
+pub mod inner
