@@ -9,6 +9,7 @@ use Rattle.ac_terms.specs.Defs.{Environment}
 use Rattle.ac_rules.specs.Views.{Mode, Coloured}
 use Rattle.ac_meaning.specs.Writes.{Write, Console, written}
 use Rattle.ac_load_rules.specs.Accepting.{Shelved}
+use Rattle.ac_load.specs.Loading.{Loads}
 use Rattle.ac_batch.specs.Verdicts.{IsVerdict, AreVerdicts, accepted, refused}
 use Rattle.ac_batch.specs.declared.verdict.Verdict.{Verdict}
 use Rattle.acute_answers.specs.declared.showing.Showing.{Showing}
