@@ -3,6 +3,7 @@ ghost use Rattle.std.specs.Prelude.{◌≡◌, ◌≤◌, [], ◌∷◌, IsTrue,
 ghost use Rattle.ac_types.specs.Limits.{most_shelf_entries};
 ghost use Rattle.ac_types.specs.ReadTypes.{typ_of};
 ghost use Rattle.ac_terms.specs.Read.{environment_of};
+ghost use Rattle.ac_rules.specs.Coherent.{IsCoherent};
 ghost use Rattle.ac_load_rules.specs.Accepting.{IsShelf};
 ghost use Rattle.ac_load.specs.Loading.{shelf_of};
 ghost use Rattle.acute_files.specs.Files.{Since, reading, seen};
@@ -96,6 +97,7 @@ fn audit_channel<R: Threads + Sync, F: Files, O: Sink, E: Sink, G: Gate + Sync>(
     errors: &mut E,
     gate: &G,
 ) -> Status
+    requires { IsCoherent (environment_of auditor.now.program.env) }
     ensures ends { HasAuditedChannel (environment_of auditor.now.program.env)
         (typ_of auditor.now.ty) (reading F.Files files.old files.new channel.now)
         (writing O.Sink output.old output.new) (writing E.Sink errors.old errors.new) result }
