@@ -8,6 +8,7 @@ use Rattle.ac_channels.specs.ChannelFrames.{AllFrames, BadFrame}
 use Rattle.ac_channels.specs.declared.reading.ChannelFault.{ChannelFault}
 use Rattle.acute_files.specs.Files.{Reading, reading}
 use Rattle.acute_answers.specs.Auditing.{AuditsFrames, refused_channel}
+use Rattle.acute_top.specs.Streams.{writing}
 use Rattle.acute_top.specs.inner.Audited.{no_frames, no_memory_for_frames}
 use Rattle.acute_top.proofs.AuditLaws.{found_of}
 use Rattle.acute_top.proofs.EndingLaws.{still_whole}
@@ -31,7 +32,7 @@ returns-in-Err-BadFrame-clause-ends g c =
 
 pub returns-in-Err-Failed-clause-ends : goal.returns-in-Err-Failed-clause-ends
 returns-in-Err-Failed-clause-ends g c =
-    no_frames (c.in-Err-Failed.ensures.failed (ap (λ (f : ChannelFault). Err f) c.in-Err-Failed.field-0-is)) (still_whole _ (record { same = refl })) c.say.ensures.said
+    no_frames (c.in-Err-Failed.ensures.failed (ap (λ (f : ChannelFault). Err f) c.in-Err-Failed.field-0-is)) (still_whole (writing g.O.Sink c.args.output.now c.args.output.now) (record { same = refl })) c.say.ensures.said
 
 pub returns-in-Err-Memory-clause-ends : goal.returns-in-Err-Memory-clause-ends
-returns-in-Err-Memory-clause-ends g c = no_memory_for_frames (still_whole _ (record { same = refl })) c.no_memory.ensures
+returns-in-Err-Memory-clause-ends g c = no_memory_for_frames (still_whole (writing g.O.Sink c.args.output.now c.args.output.now) (record { same = refl })) c.no_memory.ensures

@@ -9,6 +9,7 @@ use Rattle.ac_audit.specs.TypeTexts.{IsTypeText}
 use Rattle.acute_answers.specs.declared.auditing.Unaudited.{Unaudited}
 use Rattle.acute_answers.specs.Answers.{answer_of}
 use Rattle.acute_answers.specs.Auditing.{RefusesAudit, not_audited}
+use Rattle.acute_top.specs.Streams.{writing}
 use Rattle.acute_top.specs.inner.Audited.{said_of_channel, no_memory_to_audit}
 use Rattle.acute_top.proofs.AuditLaws.{by_program}
 use Rattle.acute_top.proofs.EndingLaws.{still_whole}
@@ -34,7 +35,7 @@ returns-in-Err-Refused-clause-ends g c =
     let refused = arm.ensures.refused arm.answer (ap (λ (x : Unaudited). Err x) arm.field-0-is) in
     said_of_channel arm.answer
     (not_audited (subst (λ (text : Bytes). RefusesAudit text shelf c.args.asked.ty.now a) c.as_slice-text.ensures (subst (λ (type : Bytes). RefusesAudit c.as_slice-text.result.now shelf type a) c.as_bytes.ensures.value refused)))
-    c.deliver_answer.ensures
+    (rw arm.field-0-is at c.deliver_answer.ensures)
 
 pub returns-in-Err-Memory-clause-ends : goal.returns-in-Err-Memory-clause-ends
-returns-in-Err-Memory-clause-ends g c = no_memory_to_audit (still_whole _ (record { same = refl })) c.no_memory.ensures
+returns-in-Err-Memory-clause-ends g c = no_memory_to_audit (still_whole (writing g.O.Sink c.args.output.now c.args.output.now) (record { same = refl })) c.no_memory.ensures
