@@ -1,6 +1,6 @@
 -- How an audit comes to the end of its request.
-use Rattle.std.proofs.Common.{◌≡◌, ◌≤◌, ℕ, IsTrue, List, [], IfOk, Ok, refl, sym, ◌∙◌, ap, subst, arith}
-use Rattle.std.specs.Prelude.{Bool, Result, Some}
+use Rattle.std.proofs.Common.{◌≡◌, IsTrue, List, IfOk, Ok, refl, sym, ◌∙◌, ap, subst, arith}
+use Rattle.std.specs.Prelude.{Bool, Result}
 use Rattle.ac_types.specs.Types.{Bytes, Typ}
 use Rattle.ac_types.specs.declared.memory.Memory.{Memory}
 use Rattle.ac_terms.specs.Terms.{Expr}
@@ -13,7 +13,7 @@ use Rattle.ac_load.specs.Loading.{Loads}
 use Rattle.ac_audit.specs.TypeTexts.{IsTypeText}
 use Rattle.acute_files.specs.ChannelFiles.{HasFrames}
 use Rattle.acute_files.specs.Files.{FilesSeen, Reading, files_read, IsTextOf}
-use Rattle.acute_files.specs.ProgramTexts.{ReadRose, IsShelfBy}
+use Rattle.acute_files.specs.ProgramTexts.{IsShelfBy}
 use Rattle.acute_answers.specs.declared.answer.Answer.{Answer}
 use Rattle.acute_answers.specs.declared.status.Status.{Status}
 use Rattle.acute_answers.specs.Answers.{ShownAnswer, answer_of}

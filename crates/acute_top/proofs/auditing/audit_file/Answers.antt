@@ -1,6 +1,5 @@
 use Rattle.std.proofs.Common.{Err, [], ◌∷◌, ap, refl, ◌∙◌}
 use Rattle.ac_load.specs.Loading.{shelf_of}
-use Rattle.acute_words.specs.Commands.{files_of}
 use Rattle.acute_files.specs.Files.{seen}
 use Rattle.acute_files.specs.declared.shelf.TextsFault.{TextsFault}
 use Rattle.acute_files.proofs.Turns.{texts_more}
