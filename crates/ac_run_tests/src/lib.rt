@@ -1,7 +1,9 @@
-//! Tests of files, sinks and worlds, of sessions in them, of journals, of verdicts in parallel, and
-//! of the top call where no row of a table is.
+//! Tests of files, sinks and worlds, of channels, of sessions in them, of journals, of verdicts in
+//! parallel, and of the top call where no row of a table is.
 #![tactic(auto)]
 
+#[cfg(test)]
+mod channels;
 #[cfg(test)]
 mod journals;
 #[cfg(test)]
