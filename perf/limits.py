@@ -23,7 +23,7 @@ MARK = re.compile(r"ACUP|0x41435550|1094931792")
 OTHERS = [
     (r"(2|256) \^ \w+", "the width of a number"),
     (r"% (256|65_536|4_294_967_296)(?=\)? as u)|slice_index bs i < 256|bytes_read 8\b", "the bytes of a number"),
-    (r"const (PIECE|STACK|SHOWN|STEPS|MANY|MORE|DIGITS|GREATEST_INT|LEAST_INT): \w+ = .*;", "how much is read, shown or kept at once"),
+    (r"const (PIECE|MOST_PIECES|STACK|SHOWN|STEPS|MANY|MORE|DIGITS|GREATEST_INT|LEAST_INT): \w+ = .*;", "how much is read, shown or kept at once"),
 ]
 # Files with numbers of their own, the greatest of them, and what they are.
 OWN = [
@@ -35,6 +35,7 @@ OWN = [
     (r"acute_words/(src/values\.rt|specs/WordValues\.antt)", 10, "digits"),
     (r"(acute_answers|acute_top|acute_chain|acute_files|ac_text)/specs/.*", 10, "line feeds"),
     (r"lens_(say/src/excerpt|hints/src/lexical)\.rt", 255, "bytes of characters"),
+    (r"ac_channels/(src/reading\.rt|specs/ChannelFrames\.antt)", 67_108_864, "the limits of a channel that is read whole"),
     (r"ac_make/.*", 1000, "the numbers that are drawn"),
 ]
 
