@@ -22,6 +22,7 @@ MARK = re.compile(r"ACUP|0x41435550|1094931792")
 # Numbers that are equal to a limit and are none, by what stands around them.
 OTHERS = [
     (r"(2|256) \^ \w+", "the width of a number"),
+    (r"byte [/%] 16\b", "the digits of a byte"),
     (r"% (256|65_536|4_294_967_296)(?=\)? as u)|slice_index bs i < 256|bytes_read 8\b", "the bytes of a number"),
     (r"const (PIECE|MOST_PIECES|STACK|SHOWN|STEPS|MANY|MORE|DIGITS|GREATEST_INT|LEAST_INT): \w+ = .*;", "how much is read, shown or kept at once"),
 ]
