@@ -34,7 +34,7 @@ OWN = [
     (r"ac_syntax/specs/(Expressions|TypeForms)\.antt|ac_parser_(expressions/specs/inner/Levels|patterns/specs/Pieces)\.antt", 9, "the levels of operators"),
     (r"ac_lexer/(src/(quoted|words)\.rt|specs/(Gaps|Spellings)\.antt)|ac_text/.*", 16, "characters and digits"),
     (r"acute_words/(src/values\.rt|specs/WordValues\.antt)", 10, "digits"),
-    (r"(acute_answers|acute_top|acute_chain|acute_files|ac_text)/specs/.*", 10, "line feeds"),
+    (r"(acute_answers|acute_top|acute_chain|acute_pipe|acute_files|ac_text)/specs/.*", 10, "line feeds"),
     (r"lens_(say/src/excerpt|hints/src/lexical)\.rt", 255, "bytes of characters"),
     (r"ac_channels/(src/reading\.rt|specs/ChannelFrames\.antt)", 67_108_864, "the limits of a channel that is read whole"),
     (r"ac_make/.*", 1000, "the numbers that are drawn"),

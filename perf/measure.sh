@@ -72,3 +72,13 @@ measure '100,000 matches, 1,023 arms' \
 measure '4,000,000 exceptions' \
     'let rec f (n : int) : int = if n = 0 then 0 else (try raise Not_found : int with Not_found -> 1 end) + f (n - 1) in IO.print_int (f 4000000)' \
     'let rec f n = if n = 0 then 0 else (try raise Not_found with Not_found -> 1) + f (n - 1) let () = print_int (f 4000000)'
+measure '4 times 500,000 calls, 3 lets' \
+    'let rec f (n : int) : int = if n = 0 then 0 else let x : int = n * 2 in let y : int = x + 1 in let z : int = y - x in z + f (n - z) in
+     let rec g (k : int) : int = if k = 0 then 0 else f 500000 + g (k - 1) in IO.print_int (g 4)' \
+    'let rec f n = if n = 0 then 0 else let x = n * 2 in let y = x + 1 in let z = y - x in z + f (n - z)
+     let rec g k = if k = 0 then 0 else f 500000 + g (k - 1) let () = print_int (g 4)'
+measure 'a curried fold of 1,000,000' \
+    'let rec fold (g : int -> int -> int) : int -> int -> int = fun (n : int) -> fun (a : int) -> if n = 0 then a else fold g (n - 1) (g a n) in
+     IO.print_int (fold (fun (x : int) -> fun (y : int) -> x + y) 1000000 0)' \
+    'let rec fold (g : int -> int -> int) : int -> int -> int = fun (n : int) -> fun (a : int) -> if n = 0 then a else fold g (n - 1) (g a n)
+     let () = print_int (fold (fun (x : int) -> fun (y : int) -> x + y) 1000000 0)'

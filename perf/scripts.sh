@@ -124,7 +124,7 @@ passes() {
 tells_forms() {
     plainly "$1"
     local status=$?
-    head -n 9 "$room/output" >"$room/head"
+    head -n 10 "$room/output" >"$room/head"
     mv "$room/head" "$room/output"
     compare "$1" "forms" $status 0 "acute $(cat "$top/VERSION")"$'\n'"$forms"$'\n' ""
 }
@@ -137,6 +137,7 @@ forms="usage: acute run FILE [--shelf LIST] [--in CH] [--out CH] [--steps N]
        acute make SEED MODULES [--run]
        acute chain FILE.. [--shelf LIST] [--steps N]
        acute audit PROGRAM CHANNEL --as TYPE [--shelf LIST]
+       acute pipe TOOL A B [--shelf LIST] [--steps N]
        acute explain FILE.. [--shelf LIST]"
 explained="bad.ac:1:1: refused: \`totl\` isn't in scope
 totl
@@ -192,6 +193,7 @@ passes "./try make 7 20 --run" "make|7|20|--run"
 passes "./try chain 7 run --steps=7 no.ac" "chain|HERE/7|HERE/run|--steps=7|HERE/no.ac"
 passes "./try audit 7 frames --as=int --shelf no.list" "audit|HERE/7|HERE/frames|--as=int|--shelf|HERE/no.list"
 passes "./try audit --as 'int list' 7 frames" "audit|--as|int list|HERE/7|HERE/frames"
+passes "./try pipe tool --shelf=no.list 7 run --steps 5" "pipe|tool|--shelf=HERE/no.list|HERE/7|HERE/run|--steps|5"
 passes "./try run --out x --in - 'a b.ac' --shelf=" "run|--out|HERE/x|--in|-|HERE/a b.ac|--shelf="
 passes "./try run /a/run --out=- --in /b --in=-x" "run|/a/run|--out=-|--in|/b|--in=HERE/-x"
 passes "./try run -x --in --out=../x -- ''" "run|-x|--in|--out=HERE/../x|--|"
@@ -220,6 +222,9 @@ row "sub/ac run bad.ac" 1 "" "acute: refused: unbound at 0" "sub/ac explain bad.
 row "./acute chain 7 bad.ac 7" 1 "" "acute: refused: program 2: unbound at 0" "./explain FILE shows the place"
 row "./acute audit seven.ac frames --as int" 1 "frame 1: format" "" "./explain seven.ac shows the place, where the program is refused"
 row "./acute audit --as int bad.ac frames" 1 "" "acute: refused: unbound at 0" "./explain bad.ac shows the place, where the program is refused"
+row "./acute pipe no --shelf whole.list seven.ac bad.ac" 1 "" "acute: refused: unbound at 0" \
+    "./explain bad.ac --shelf whole.list shows the place"
+row "./acute pipe no seven.ac lost.ac" 5 "" "acute: read fault" "lost.ac can't be read: $unread"
 row "./acute audit seven.ac no --as int" 5 "" "acute: read fault" "no can't be read: No such file or directory"
 row "./explain bad.ac" 1 "$explained"
 

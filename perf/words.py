@@ -43,7 +43,7 @@ def empty():
     """empty words"""
     yield 7, []
     yield 7, [""]
-    for command in ("run", "names", "code", "check", "chain", "make", "audit"):
+    for command in ("run", "names", "code", "check", "chain", "make", "audit", "pipe"):
         yield 7, [command, ""]
         yield 7, ["", command, "a.ac"]
         yield 7, [command, "a.ac", "", ""]
@@ -56,7 +56,7 @@ def empty():
 
 def many():
     """100,000 words, and one too many"""
-    for command in ("run", "names", "code", "check", "chain", "make", "audit", "fly", ""):
+    for command in ("run", "names", "code", "check", "chain", "make", "audit", "pipe", "fly", ""):
         yield 7, [command] + ["a.ac"] * MANY
         yield 7, [command] + ["--steps=1"] * MANY
         yield 7, [command] + [""] * MANY

@@ -11,6 +11,7 @@ usage: acute run FILE [--shelf LIST] [--in CH] [--out CH] [--steps N]
        acute make SEED MODULES [--run]
        acute chain FILE.. [--shelf LIST] [--steps N]
        acute audit PROGRAM CHANNEL --as TYPE [--shelf LIST]
+       acute pipe TOOL A B [--shelf LIST] [--steps N]
        acute explain FILE.. [--shelf LIST]
 END
 }
@@ -27,6 +28,7 @@ check    says of each program whether it is accepted
 make     prints a generated program, or runs it
 chain    runs programs, each of which receives what the one before it sent
 audit    says of each frame of a file whether a program would take it at a type
+pipe     starts TOOL as the sender of program A, and runs program B on what it sends
 explain  says of each program whether it is accepted, and where and why it isn't
 
 LIST     a file that names the modules of a shelf, as lines URI FILE
@@ -75,9 +77,23 @@ find_files() {
         [ "$file" != - ] || file=
         files+=("$file") kinds+=("$kind") before=$word
     done
-    # The first word is the command, and those of `make` are numbers.
+    # The first word is the command, those of `make` are numbers, and the first file of a pipe is a tool.
     files[0]=
-    [ "${words[0]-}" != make ] || files=()
+    case ${words[0]-} in
+        make) files=() ;;
+        pipe) leave_tool ;;
+    esac
+}
+
+# Leaves out the first of the files.
+leave_tool() {
+    local i
+    for i in "${!files[@]}"; do
+        if [ "${kinds[i]}" = FILE ] && [ -n "${files[i]}" ]; then
+            files[i]=
+            return
+        fi
+    done
 }
 
 # Says that a file can't be read or written, and why, where there is a reason.
@@ -153,12 +169,12 @@ tell_place() {
         case ${kinds[i]}:${files[i]} in
             --shelf:?*) shelf=" --shelf $(printf %q "${files[i]}")" ;;
             FILE:?*)
-                # Of an audit, whose status may speak of frames, the first one is the program.
-                if [ "${words[0]}" != audit ]; then
-                    file=${file:+FILE} file=${file:-$(printf %q "${files[i]}")}
-                elif [ -z "$file" ]; then
-                    file=$(printf %q "${files[i]}") where=", where the program is refused"
-                fi ;;
+                # Of an audit, whose status may speak of frames, the first one is the program; of a pipe the last one.
+                case ${words[0]} in
+                    audit) file=${file:-$(printf %q "${files[i]}")} where=", where the program is refused" ;;
+                    pipe) file=$(printf %q "${files[i]}") ;;
+                    *) file=${file:+FILE} file=${file:-$(printf %q "${files[i]}")} ;;
+                esac ;;
         esac
     done
     [ -z "$file" ] || echo "$explain $file$shelf shows the place$where"

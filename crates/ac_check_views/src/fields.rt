@@ -17,9 +17,9 @@ use ac_terms::{Def, Entry, Env, Field, Home};
 use ac_types::{Memory, Sig, Ty, Word, small, type_named};
 use std::alloc::Global;
 
-// Field `f` of a home, where it has that many.
+/// Field `f` of a home, where it has that many.
 #[tactic(auto, using(ac_terms::proofs::EnvLaws::env_laws))]
-fn field_at<'a>(env: &'a Env, home: Home, f: u16) -> Option<&'a Field>
+pub fn field_at<'a>(env: &'a Env, home: Home, f: u16) -> Option<&'a Field>
     ensures { option_map field_of (option_copied result) ≡ slice_get
         (fields_of (environment_of env.now) (home_of home)) f }
 {
@@ -64,8 +64,8 @@ fn signature_of(entry: &Entry) -> Option<&Sig>
     }
 }
 
-// The type that an entry's signature writes for the value `x`.
-fn type_shown<'a>(entry: &'a Entry, x: &Word) -> Option<&'a Ty>
+/// The type that an entry's signature writes for the value `x`.
+pub fn type_shown<'a>(entry: &'a Entry, x: &Word) -> Option<&'a Ty>
     ensures { option_map typ_of (option_copied result) ≡ option_and_then
         (λ (s : Signature). named_type x.now s.vals) (signature (def_of_code entry.now.def)) }
 {

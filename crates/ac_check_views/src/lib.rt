@@ -12,8 +12,9 @@ mod site;
 mod sizes;
 mod types;
 
-pub use fields::{field_type, ref_type};
+pub use fields::{field_at, field_type, ref_type, type_shown};
 pub use heads::head;
+pub use known::are_known;
 pub use seen::{is_seen_as, is_view_of, seen_type};
 pub use site::Site;
 pub use types::{Base, ends, is_base, kept, list_item, option_item, small_copy, tuple_parts};

@@ -2,3 +2,4 @@ pub mod TableLaws
 pub mod CaseLaws
 pub mod ConstantExamples
 pub mod ContextLaws
+pub mod OpLaws

@@ -1,6 +1,7 @@
 pub mod Code
 pub mod Constants
 pub mod Contexts
+pub mod Ops
 pub mod ReadCode
 pub mod Table
 pub mod Tests

@@ -1,3 +1,4 @@
+pub mod AloneLaws
 pub mod RunLaws
 pub mod TestLaws
 pub mod TogetherLaws

@@ -1,2 +1,3 @@
+pub mod Alone
 pub mod Going
 pub mod Together

@@ -48,7 +48,9 @@ fn is_text(store: &Store, v: Value, text: &Text) -> bool
     }
 }
 
-fn is_exn(store: &Store, v: Value, exn: BareExn) -> bool
+/// Whether the value is this exception.
+#[inline(always)]
+pub fn is_exn(store: &Store, v: Value, exn: BareExn) -> bool
     ensures { Tested (bound (PExn (bare_number exn)) (stands_as store.now v.0)) result }
 {
     match exn_without(store, v) {

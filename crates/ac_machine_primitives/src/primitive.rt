@@ -3,11 +3,12 @@
 ghost use Rattle.std.specs.Prelude.{◌≡◌, ◌<◌, length, IfOk, MatchOption, Some, None};
 ghost use Rattle.std.specs.Fmt.{signed_decimal};
 ghost use Rattle.ac_types.specs.ReadNumbers.{primitive_number};
-ghost use Rattle.ac_code.specs.Constants.{CInt, CBool, CStr, CUnit, CPart, comes_before, meaning, concatenated, quotient, remainder, bytes_between, raise_invalid_argument};
+ghost use Rattle.ac_code.specs.Constants.{CInt, CBool, CStr, CUnit, CPart, Yields, comes_before, meaning, concatenated, quotient, remainder, bytes_between, raise_invalid_argument};
 ghost use Rattle.ac_values.specs.Values.{stands_as, values, values_at};
 ghost use Rattle.ac_machine_primitives.specs.Consts.{const_in, part_in};
-ghost use Rattle.ac_machine_primitives.specs.Meant.{constant_meant, answer_meant, of_binary, of_unary, meant};
+ghost use Rattle.ac_machine_primitives.specs.Meant.{constant_meant, answer_meant, of_arithmetic, of_comparison, of_binary, of_unary, meant};
 
+use ac_code::{Arithmetic, Comparison};
 use ac_types::limits::LONGEST_STRING;
 use ac_types::{Many, Memory, Primitive, Text};
 use ac_values::read::{int_in, text_in};
@@ -150,10 +151,9 @@ pub fn combined(
     }
 }
 
-/// What a primitive of two arguments answers of two ints.
-#[inline(always)]
+// What a primitive of two arguments answers of two ints.
 #[tactic(auto, using(crate::proofs::PrimitiveLaws::operator_laws))]
-pub fn of_ints(operator: Binary, x: i64, y: i64) -> PrimitiveResult
+fn of_ints(operator: Binary, x: i64, y: i64) -> PrimitiveResult
     ensures { answer_meant result ≡ of_binary operator (CInt x) (CInt y) }
 {
     match operator {
@@ -165,6 +165,30 @@ pub fn of_ints(operator: Binary, x: i64, y: i64) -> PrimitiveResult
         Binary::Equal => PrimitiveResult::Bool(x == y),
         Binary::Less => PrimitiveResult::Bool(x < y),
         Binary::Concat => PrimitiveResult::NoSense,
+    }
+}
+
+/// What arithmetic gives of two ints.
+#[inline(always)]
+#[tactic(auto, using(crate::proofs::PrimitiveLaws::operator_laws))]
+pub fn calculated(operator: Arithmetic, x: i64, y: i64) -> i64
+    ensures { of_arithmetic operator (CInt x) (CInt y) ≡ Yields (CInt result) }
+{
+    match operator {
+        Arithmetic::Add => x.wrapping_add(y),
+        Arithmetic::Sub => x.wrapping_sub(y),
+        Arithmetic::Mul => x.wrapping_mul(y),
+    }
+}
+
+/// What a comparison gives of two ints.
+#[inline(always)]
+pub fn compared(operator: Comparison, x: i64, y: i64) -> bool
+    ensures { of_comparison operator (CInt x) (CInt y) ≡ Yields (CBool result) }
+{
+    match operator {
+        Comparison::Equal => x == y,
+        Comparison::Less => x < y,
     }
 }
 

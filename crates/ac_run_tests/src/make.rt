@@ -7,6 +7,7 @@ ghost use Rattle.ac_meaning.specs.Loads.{IsLoaded};
 use ac_load::{Shelf, load};
 use ac_outside::{MemoryFile, MemoryFiles, OpenGate, Source, SureSink};
 use ac_rules::Loaded;
+use ac_spawn::MemorySpawner;
 use ac_types::{Many, Text};
 use acute_top::{Status, acute};
 use std::alloc::Global;
@@ -63,8 +64,18 @@ pub fn finish<R: Abort + Threads + Sync, I: Source>(
 ) {
     let words = words_of(rt, alloc, line);
     let mut files = one_file(rt, alloc, text, &[]);
+    let nothing = Text::new(alloc);
+    let mut spawner = MemorySpawner::new(alloc, nothing, 0, Many::new(alloc), Many::new(alloc));
     let status = acute(
-        rt, alloc, &words, &mut files, input, output, errors, &OpenGate,
+        rt,
+        alloc,
+        &words,
+        &mut files,
+        input,
+        output,
+        errors,
+        &mut spawner,
+        &OpenGate,
     );
     assert!(rt; status == Status::FINISHED);
 }

@@ -17,7 +17,6 @@ use Rattle.acute_answers.specs.declared.status.TheConstants.Status.{FINISHED, RE
 use Rattle.acute_answers.specs.Answers.{ShownAnswer}
 use Rattle.ac_channels.specs.ChannelFrames.{ChannelFrames}
 use Rattle.ac_audit.specs.TypeTexts.{IsTypeText, RefusesType}
-use Rattle.ac_audit.specs.declared.verdict.AuditVerdict.{AuditVerdict}
 use Rattle.ac_audit.proofs.TypeLaws.{one_text, text_or_refused}
 use Rattle.ac_audit.proofs.VerdictLaws.{one_list}
 use Rattle.acute_answers.specs.Auditing.{AuditsFrames, refused_channel, audited, RefusesAudit, refused_program, refused_type, Audits, not_audited, read_channel, frames_status, frame_lines}

@@ -1,5 +1,5 @@
 // The lines on errors that end a run, or say why there is none.
-ghost use Rattle.std.specs.Prelude.{◌≡◌, IfOk, string_bytes};
+ghost use Rattle.std.specs.Prelude.{◌≡◌, IfOk};
 ghost use Rattle.ac_meaning.specs.ReadExn.{exn_of};
 ghost use Rattle.acute_answers.specs.Lines.{refusal_line, uncaught_line, spent_line};
 

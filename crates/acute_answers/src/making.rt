@@ -1,5 +1,5 @@
 // Programs that are made, and printed or run.
-ghost use Rattle.std.specs.Prelude.{◌≡◌, None, false, IfOk, length};
+ghost use Rattle.std.specs.Prelude.{◌≡◌, None, false, IfOk};
 ghost use Rattle.ac_types.specs.ReadTypes.{typ_of};
 ghost use Rattle.ac_terms.specs.Read.{environment_of, expr_of};
 ghost use Rattle.ac_meaning.specs.Loads.{IsLoaded};

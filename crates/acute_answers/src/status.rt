@@ -23,6 +23,8 @@ impl Status {
     pub const WORDS_REFUSED: Status = Status(7);
     /// Two definitions of a chain have one name and two texts.
     pub const CLASH: Status = Status(8);
+    /// The sender of a pipe could not be started.
+    pub const START_FAULT: Status = Status(9);
     /// The list of the shelf has a bad line.
     pub const SHELF_REFUSED: Status = Status(10);
     /// The channel is refused.

@@ -1,18 +1,20 @@
 // A call of `acute`, and what it left.
 
 use crate::faults::{Fault, Place, numbers_at};
-use ac_outside::{MemoryFiles, MemorySink, MemorySource, OpenGate};
+use crate::given::Given;
+use ac_outside::{MemoryFiles, MemorySink, OpenGate};
 use ac_text::Page;
-use ac_types::{Memory, Text, both};
+use ac_types::{Many, Memory, Text, both};
 use acute_top::{Status, acute};
 use std::alloc::Global;
 use std::thread::Threads;
 
-/// How a call ended, and what it wrote.
+/// How a call ended, what it wrote, and the words of each child that it started, a line each.
 pub struct Left {
     pub status: u8,
     pub output: Text,
     pub errors: Text,
+    pub started: Text,
 }
 
 impl Drop for Left {
@@ -21,25 +23,27 @@ impl Drop for Left {
             status: _,
             output: _,
             errors: _,
+            started: _,
         } = self;
     }
 }
 
-/// Calls `acute` with these words over these files, with this on standard input and these faults,
-/// of which those of files are the files' own.
+/// Calls `acute` with these words over these files, with what it is given beside them and these
+/// faults, of which those of files are the files' own.
 pub fn call<R: Threads + Sync>(
     rt: &R,
     alloc: Global,
     words: &[String],
     files: &mut MemoryFiles,
-    input: &[u8],
+    given: &Given,
     faults: &[Fault],
 ) -> Result<Left, Memory> {
     let sinks = both(
         sink(alloc, faults, Place::Output),
         sink(alloc, faults, Place::Errors),
     );
-    let (mut input, (mut output, mut errors)) = both(source(alloc, input, faults), sinks)?;
+    let fed = both(given.source(alloc, faults), given.spawner(alloc, faults));
+    let ((mut input, mut spawner), (mut output, mut errors)) = both(fed, sinks)?;
     let Status(status) = acute(
         rt,
         alloc,
@@ -48,16 +52,26 @@ pub fn call<R: Threads + Sync>(
         &mut input,
         &mut output,
         &mut errors,
+        &mut spawner,
         &OpenGate,
     );
-    left_by(alloc, status, &output, &errors)
+    let started = started_by(alloc, spawner.started());
+    left_by(alloc, status, &output, &errors, started)
 }
 
-// These bytes on standard input, with its faults.
-fn source(alloc: Global, bytes: &[u8], faults: &[Fault]) -> Result<MemorySource, Memory> {
-    let numbers = numbers_at(alloc, faults, Place::Input);
-    let (bytes, numbers) = both(Text::from_slice(alloc, bytes), numbers)?;
-    Ok(MemorySource::new(bytes, numbers))
+// The words of each start, a line each.
+fn started_by(alloc: Global, starts: &Many<Many<String>>) -> Result<Text, Memory> {
+    let mut lines = Text::new(alloc);
+    for words in starts.as_slice() {
+        for (i, word) in words.as_slice().iter().enumerate() {
+            if 0 < i {
+                lines.extend(b" ")?;
+            }
+            lines.extend(word.as_bytes())?;
+        }
+        lines.extend(b"\n")?;
+    }
+    Ok(lines)
 }
 
 // An empty stream, with the faults of this place.
@@ -70,12 +84,15 @@ fn left_by(
     status: u8,
     output: &MemorySink,
     errors: &MemorySink,
+    started: Result<Text, Memory>,
 ) -> Result<Left, Memory> {
-    let (output, errors) = both(output.bytes().copy(alloc), errors.bytes().copy(alloc))?;
+    let written = both(output.bytes().copy(alloc), errors.bytes().copy(alloc));
+    let ((output, errors), started) = both(written, started)?;
     Ok(Left {
         status,
         output,
         errors,
+        started,
     })
 }
 

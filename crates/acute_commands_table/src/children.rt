@@ -1,4 +1,4 @@
-// Two children of this process, joined by a pipe.
+// Children of this process: one, or two that are joined by a pipe.
 
 use std::process::{Child, Command, Stdio};
 use std::time::Duration;
@@ -34,10 +34,23 @@ pub fn joined(rt: &HostRuntime, writer: &str, reader: &str) -> io::Result<(Ended
     Ok((wait_for(rt, writer)?, reader))
 }
 
+/// Starts this program by these words, without input, and gives how it ended. Words are parted by
+/// single spaces, and `%` is the name of this program's file.
+pub fn alone(rt: &HostRuntime, words: &str) -> io::Result<Ended> {
+    let child = started(rt, words, Stdio::null())?;
+    wait_for(rt, child)
+}
+
 // A child with this input. The input's end is no longer open in this process.
 fn started(rt: &HostRuntime, words: &str, input: Stdio) -> io::Result<Child> {
-    let mut command = Command::new(rt.alloc(), env::current_exe(rt)?.as_path())?;
-    command.args(words.split(' '))?;
+    let program = env::current_exe(rt)?;
+    let mut command = Command::new(rt.alloc(), program.as_path())?;
+    for word in words.split(' ') {
+        match word {
+            "%" => command.arg(program.as_path())?,
+            _ => command.arg(word)?,
+        };
+    }
     command.stdin(input);
     command.stdout(Stdio::piped());
     command.stderr(Stdio::piped());

@@ -3,6 +3,7 @@
 use crate::call::{Left, call, put_status, put_stream, words_in};
 use crate::faults::{Fault, Place, numbers_at};
 use crate::fronts::{End, are_alike, end_of, has_fronts, is_front_file, is_same_file, put_if_new};
+use crate::given::Given;
 use ac_outside::{Files, MemoryFile, MemoryFiles, Put};
 use ac_text::Page;
 use ac_types::{Many, Memory, Text, both};
@@ -13,13 +14,12 @@ use std::thread::Threads;
 const MOST: u64 = 10_000;
 
 /// Files in memory, their names, the name of the one that is being written, and what the next call
-/// gets on standard input and with which faults.
+/// is given beside them.
 pub struct Desk {
     files: MemoryFiles,
     names: Vec<String>,
     open: String,
-    input: Text,
-    faults: Vec<Fault>,
+    given: Given,
 }
 
 impl Drop for Desk {
@@ -28,8 +28,7 @@ impl Drop for Desk {
             files: _,
             names: _,
             open: _,
-            input: _,
-            faults: _,
+            given: _,
         } = self;
     }
 }
@@ -57,8 +56,7 @@ impl Desk {
             files: no_files(alloc),
             names: Vec::new(alloc),
             open: String::new(alloc),
-            input: Text::new(alloc),
-            faults: Vec::new(alloc),
+            given: Given::nothing(alloc),
         }
     }
 
@@ -89,12 +87,18 @@ impl Desk {
 
     /// The next call gets this on standard input.
     pub fn feed(&mut self, page: &mut Page, bytes: &[u8]) {
-        kept(page, self.input.extend(bytes).is_ok());
+        kept(page, self.given.input.extend(bytes).is_ok());
+    }
+
+    /// A child of the next call ends with this status and gives these bytes.
+    pub fn give(&mut self, page: &mut Page, status: i32, bytes: &[u8]) {
+        self.given.child_status = status;
+        kept(page, self.given.child.extend(bytes).is_ok());
     }
 
     /// In the next call this call fails, too.
     pub fn fail(&mut self, page: &mut Page, fault: Fault) {
-        kept(page, self.faults.push(fault).is_ok());
+        kept(page, self.given.faults.push(fault).is_ok());
     }
 
     /// A file's bytes.
@@ -137,11 +141,11 @@ impl Desk {
                 put_status(page, left.status);
                 put_stream(page, b"output", left.output.as_slice());
                 put_stream(page, b"errors", left.errors.as_slice());
+                put_stream(page, b"started", left.started.as_slice());
             }
             Err(_) => page.lose(),
         }
-        self.input = Text::new(alloc);
-        self.faults = Vec::new(alloc);
+        self.given = Given::nothing(alloc);
     }
 
     // What a call leaves.
@@ -152,8 +156,8 @@ impl Desk {
         line: &str,
     ) -> Result<Left, Memory> {
         let words = words_in(alloc, line)?;
-        let input = self.input.as_slice();
-        call(rt, alloc, &words, &mut self.files, input, &self.faults)
+        let given = &self.given;
+        call(rt, alloc, &words, &mut self.files, given, &given.faults)
     }
 
     /// Calls `acute` over copies of the files, with the first call of this place failing, then with
@@ -170,8 +174,7 @@ impl Desk {
         if self.each(rt, alloc, page, place, line).is_err() {
             page.lose();
         }
-        self.input = Text::new(alloc);
-        self.faults = Vec::new(alloc);
+        self.given = Given::nothing(alloc);
     }
 
     fn each<R: Threads + Sync>(
@@ -183,7 +186,7 @@ impl Desk {
         line: &str,
     ) -> Result<(), Memory> {
         let words = words_in(alloc, line)?;
-        let whole = self.outcome(rt, alloc, &words, &self.faults)?;
+        let whole = self.outcome(rt, alloc, &words, &self.given.faults)?;
         let mut last: Option<End> = None;
         for number in 0..MOST {
             let fault = Fault { place, number };
@@ -226,7 +229,7 @@ impl Desk {
         faults: &[Fault],
     ) -> Result<Outcome, Memory> {
         let mut files = self.copy(alloc, faults)?;
-        let left = call(rt, alloc, words, &mut files, self.input.as_slice(), faults)?;
+        let left = call(rt, alloc, words, &mut files, &self.given, faults)?;
         Ok(Outcome { left, files })
     }
 
@@ -257,7 +260,7 @@ impl Desk {
     }
 
     fn with_fault(&self, alloc: Global, fault: Fault) -> Result<Vec<Fault>, Memory> {
-        let mut faults = Vec::from_slice(alloc, self.faults.as_slice())?;
+        let mut faults = Vec::from_slice(alloc, self.given.faults.as_slice())?;
         faults.push(fault)?;
         Ok(faults)
     }

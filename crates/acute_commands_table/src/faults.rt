@@ -16,6 +16,10 @@ pub enum Place {
     Output,
     /// Writes on errors.
     Errors,
+    /// Starts of children.
+    Starts,
+    /// Reads of what a child gives, and waits for its end.
+    Child,
 }
 
 /// The place of that word.
@@ -26,6 +30,8 @@ pub fn place_of(word: &str) -> Option<Place> {
         "writes" => Some(Place::Writes),
         "output" => Some(Place::Output),
         "errors" => Some(Place::Errors),
+        "starts" => Some(Place::Starts),
+        "child" => Some(Place::Child),
         _ => None,
     }
 }

@@ -13,7 +13,9 @@
 //!   its status, what it wrote on output, a `|` in front and behind each line feed, and on errors.
 //! - `input DIGITS` stands in front of a call that gets these bytes on standard input, and `fail
 //!   PLACE NUMBER` in front of one in which the call of that number, from 0, fails; PLACE is
-//!   `input`, `output` or `errors`.
+//!   `input`, `output`, `errors`, `starts` of children or `child`, its reads and the wait for it.
+//! - `child STATUS DIGITS` stands in front of a call whose child gives these bytes and ends with this
+//!   status. Behind the call stand the words of each start, too.
 //! - `each PLACE WORDS` calls `acute` anew for each number, up to the first call without a fault;
 //!   PLACE may be `reads` or `writes` of files, too. The files stay as they are. Behind it stand
 //!   the statuses and lines of faults of these calls, the same ones once, and `no front` where a
@@ -24,6 +26,8 @@
 //!   process. Their files are those that lie beside the program, where `save NAME` lays one, too.
 //!   Behind it stands for each what stands behind a call. Under `rt try` the program can't start
 //!   itself, and both end with 127.
+//! - `alone WORDS` starts one process with these words, of which `%` is the name of this program's
+//!   file. Behind it stands what stands behind a call. Under `rt try` it ends with 127.
 //! - `new` begins anew, without files. Any other line is a heading.
 #![tactic(auto)]
 
@@ -32,13 +36,14 @@ mod children;
 mod desk;
 mod faults;
 mod fronts;
+mod given;
 mod pairs;
 
 use ac_text::Page;
 use acute_top_system::{Status, call_really, words_given};
 use desk::Desk;
 use faults::{Fault, place_of};
-use pairs::join_pair;
+use pairs::{join_pair, start_alone};
 use std::alloc::Global;
 use std::fs;
 use std::io::{self, Write};
@@ -69,7 +74,9 @@ fn set_up(rt: &HostRuntime, desk: &mut Desk, page: &mut Page, word: &str, rest: 
         "length" => desk.measure(page, rest),
         "input" => feed(alloc, desk, page, rest),
         "fail" => fail(desk, page, rest),
+        "child" => give(alloc, desk, page, rest),
         "pipe" => join_pair(rt, page, rest),
+        "alone" => start_alone(rt, page, rest),
         _ => {}
     }
 }
@@ -123,6 +130,14 @@ fn feed(alloc: Global, desk: &mut Desk, page: &mut Page, digits: &str) {
     match hex::decode(alloc, digits) {
         Ok(bytes) => desk.feed(page, &bytes),
         Err(_) => page.put(b"no digits\n"),
+    }
+}
+
+fn give(alloc: Global, desk: &mut Desk, page: &mut Page, rest: &str) {
+    let (status, digits) = parted(rest);
+    match (status.parse::<i32>(), hex::decode(alloc, digits)) {
+        (Ok(status), Ok(bytes)) => desk.give(page, status, &bytes),
+        _ => page.put(b"no child\n"),
     }
 }
 

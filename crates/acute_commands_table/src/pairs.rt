@@ -1,7 +1,7 @@
-// A writer and a reader, each a process, and how they end.
+// Processes of this program, and how they end.
 
 use crate::call::{put_status, put_stream};
-use crate::children::{Ended, joined};
+use crate::children::{Ended, alone, joined};
 use ac_text::Page;
 
 /// Joins the processes of a line, and prints how both ended and what they wrote.
@@ -13,6 +13,14 @@ pub fn join_pair(rt: &HostRuntime, page: &mut Page, line: &str) {
             put_ended(page, b"reader ", &reader);
         }
         Err(_) => page.put(b"no processes\n"),
+    }
+}
+
+/// Starts the process of a line, and prints how it ended and what it wrote.
+pub fn start_alone(rt: &HostRuntime, page: &mut Page, line: &str) {
+    match alone(rt, line) {
+        Ok(ended) => put_ended(page, b"", &ended),
+        Err(_) => page.put(b"no process\n"),
     }
 }
 

@@ -1,6 +1,7 @@
 // Strings that are files of a command.
 
 use ac_outside::{Files, MemoryFiles, OpenGate, Put, SureSink, SureSource};
+use ac_spawn::MemorySpawner;
 use ac_text::Page;
 use ac_types::{Many, Memory, Text};
 use acute_top::{Status, acute};
@@ -74,6 +75,8 @@ fn status<R: Threads + Sync>(
     let mut input = SureSource::new(Text::new(alloc));
     let mut output = SureSink::new(alloc);
     let mut errors = SureSink::new(alloc);
+    let nothing = Text::new(alloc);
+    let mut spawner = MemorySpawner::new(alloc, nothing, 0, Many::new(alloc), Many::new(alloc));
     let Status(status) = acute(
         rt,
         alloc,
@@ -82,6 +85,7 @@ fn status<R: Threads + Sync>(
         &mut input,
         &mut output,
         &mut errors,
+        &mut spawner,
         &OpenGate,
     );
     let mut page = Page::new(alloc);

@@ -1,12 +1,15 @@
 // Calls of `acute`.
 
+ghost use Rattle.std.specs.Prelude.{◌≡◌, false};
+
 use crate::desk::Desk;
 use crate::faults::{Fault, Place, numbers_at};
 use crate::outcome::{Outcome, text_on};
 use crate::paced::Pace;
 use ac_outside::{MemorySink, OpenGate};
+use ac_spawn::MemorySpawner;
 use ac_text::Page;
-use ac_types::{Memory, Text};
+use ac_types::{Many, Memory, Text};
 use acute_top::{Status, acute};
 use std::alloc::Global;
 use std::thread::Threads;
@@ -37,6 +40,7 @@ pub fn call<R: Threads + Sync>(
         &mut input,
         &mut output,
         &mut errors,
+        &mut no_child(alloc),
         &OpenGate,
     );
     let (front, last) = parted(errors.bytes().as_slice());
@@ -57,6 +61,14 @@ fn words_of(alloc: Global, line: &str) -> Result<Vec<String>, Memory> {
 
 fn sink(alloc: Global, fault: Option<Fault>, place: Place) -> Result<MemorySink, Memory> {
     Ok(MemorySink::new(alloc, numbers_at(alloc, fault, place)?))
+}
+
+// A child that gives nothing. No line starts one.
+fn no_child(alloc: Global) -> MemorySpawner
+    ensures { result.running ≡ false }
+{
+    let nothing = Text::new(alloc);
+    MemorySpawner::new(alloc, nothing, 0, Many::new(alloc), Many::new(alloc))
 }
 
 // What stands on errors in front of the line of a fault, and what that line says.

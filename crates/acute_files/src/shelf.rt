@@ -2,7 +2,7 @@
 ghost use Rattle.std.specs.Prelude.{◌≡◌, ◌≤◌, ℕ, Some, IsTrue, IfOk, IsErrOf, MatchResult, length, map};
 ghost use Rattle.ac_types.specs.Limits.{most_shelf_entries};
 ghost use Rattle.ac_outside.specs.Outside.{NeverFall, Rose};
-ghost use Rattle.acute_files.specs.ShelfLists.{Lists, BadLine, listed_of, shelf_answer};
+ghost use Rattle.acute_files.specs.ShelfLists.{BadLine, listed_of, shelf_answer};
 ghost use Rattle.ac_load_rules.specs.Accepting.{IsShelf};
 ghost use Rattle.ac_load.specs.Loading.{shelf_of, shelved};
 ghost use Rattle.acute_files.specs.Files.{reading, IsTextOf, name_in};

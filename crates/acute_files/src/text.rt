@@ -1,7 +1,7 @@
 // Reads a file, up to one byte past the limit of a text.
-ghost use Rattle.std.specs.Prelude.{◌≡◌, ◌≤◌, ◌<◌, ◌++◌, IsTrue, IfOk, IsErrOf, length, take, drop};
-ghost use Rattle.ac_outside.specs.Outside.{Rose, NeverFall, ReadsFrom};
-ghost use Rattle.acute_files.specs.inner.Fronts.{IsFrontOf, Begins};
+ghost use Rattle.std.specs.Prelude.{◌≡◌, ◌<◌, IsTrue, IfOk, IsErrOf};
+ghost use Rattle.ac_outside.specs.Outside.{Rose, NeverFall};
+ghost use Rattle.acute_files.specs.inner.Fronts.{IsFrontOf};
 
 use ac_outside::{Files, Got};
 use ac_types::limits::LONGEST_READ;

@@ -2,7 +2,7 @@
 use Rattle.std.proofs.Common.{◌≡◌, ◌⊎◌, inl, inr, ℕ, Bool, true, IsTrue, List, [], ◌∷◌, Option, Some, None, refl, sym, ◌∙◌}
 use Rattle.std.proofs.lemmas.List.{append-nil}
 use Rattle.ac_types.specs.Types.{Bytes}
-use Rattle.acute_words.specs.Commands.{ChannelName, ProgramFiles, Request, run, names, code, make, check, chain, audit}
+use Rattle.acute_words.specs.Commands.{ChannelName, ProgramFiles, Request, run, names, code, make, check, chain, audit, pipe}
 use Rattle.acute_files.specs.ProgramTexts.{HasBadLine, ReadsFail}
 use Rattle.acute_files.specs.declared.shelf.TextsFault.{TextsFault}
 use Rattle.acute_files.specs.declared.shelf.TextsFault.TheVariants as fault
@@ -17,7 +17,9 @@ use Rattle.acute_top.specs.Saying.{Said, SaidIfAny}
 use Rattle.acute_top.specs.Handed.{Handed, is_told, before_run, after_run, behind_run, IsMade, Untouched}
 use Rattle.acute_top.specs.RunEndings.{HasRead, GivesStatus, InputLeft, RunEnded, has_run, bad_list, unread_file, no_memory_yet, no_memory_left}
 use Rattle.acute_top.specs.Stages.{AtTexts}
+use Rattle.acute_pipe.specs.Spawnings.{Spawning, NoStart}
 use Rattle.acute_top.specs.ChainEndings.{no_memory_to_chain}
+use Rattle.acute_top.specs.PipeEndings.{no_memory_to_start}
 use Rattle.acute_top.specs.Endings.{CallEnded, NoCommand, refused_words, no_memory_for_words, no_memory_to_find}
 use Rattle.acute_top.specs.inner.Delivered.{SaysUnread}
 
@@ -37,15 +39,16 @@ pub words_refused : (o : Handed) → Still o.output → (end : Status) → Said 
 words_refused o still end s = refused_words (still_whole o.output still) s
 
 -- want of memory while the words were read
-pub end_at_words : (request : Option Request) (o : Handed) → Still o.output → ((to : Option ChannelName) → Untouched to o) → o.stage ≡ AtTexts → (end : Status) → Said o.errors memory_line OUT_OF_MEMORY end → CallEnded request o end
-end_at_words None o still same at end s = no_memory_for_words (still_whole o.output still) s
-end_at_words (Some (run prog steps from to)) o still same at end s = no_memory_yet (still_whole o.output still) (same to) at s
-end_at_words (Some (names prog)) o still same at end s = no_memory_to_find (still_whole o.output still) s
-end_at_words (Some (code prog)) o still same at end s = no_memory_to_find (still_whole o.output still) s
-end_at_words (Some (make seed modules runs)) o still same at end s = no_memory_to_find (still_whole o.output still) s
-end_at_words (Some (check files list)) o still same at end s = no_memory_to_find (still_whole o.output still) s
-end_at_words (Some (chain programs list steps)) o still same at end s = no_memory_to_chain (still_whole o.output still) s
-end_at_words (Some (audit prog channel type)) o still same at end s = no_memory_to_find (still_whole o.output still) s
+pub end_at_words : (request : Option Request) (o : Handed) (c : Spawning) → Still o.output → ((to : Option ChannelName) → Untouched to o) → o.stage ≡ AtTexts → NoStart c → (end : Status) → Said o.errors memory_line OUT_OF_MEMORY end → CallEnded request o c end
+end_at_words None o c still same at none end s = no_memory_for_words (still_whole o.output still) s
+end_at_words (Some (run prog steps from to)) o c still same at none end s = no_memory_yet (still_whole o.output still) (same to) at s
+end_at_words (Some (names prog)) o c still same at none end s = no_memory_to_find (still_whole o.output still) s
+end_at_words (Some (code prog)) o c still same at none end s = no_memory_to_find (still_whole o.output still) s
+end_at_words (Some (make seed modules runs)) o c still same at none end s = no_memory_to_find (still_whole o.output still) s
+end_at_words (Some (check files list)) o c still same at none end s = no_memory_to_find (still_whole o.output still) s
+end_at_words (Some (chain programs list steps)) o c still same at none end s = no_memory_to_chain (still_whole o.output still) s
+end_at_words (Some (audit prog channel type)) o c still same at none end s = no_memory_to_find (still_whole o.output still) s
+end_at_words (Some (pipe tool sender prog steps written)) o c still same at none end s = no_memory_to_start (still_whole o.output still) none s
 
 -- all that was to be written was, so some of it was and then none
 behind_all : (told : Bool) (writes : List Write) (old new : Streams) → (IsTrue told → new ≡ with_writes writes old) → StopsBehind told writes old new

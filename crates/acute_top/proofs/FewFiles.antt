@@ -9,7 +9,7 @@ use Rattle.acute_words.specs.Form.{look_of, option_in, place_of_number, with_nex
 use Rattle.acute_words.specs.Form.{with_values, with_run, with_place, with_place_in, place_after, given_from, is_once, given_once, given_of}
 use Rattle.acute_words.specs.WordValues.{all_in, first_in, is_file}
 use Rattle.acute_words.specs.Commands.{ChannelName, ProgramFiles, Request, run, names, code, are_one, run_with, run_of, names_of, code_of}
-use Rattle.acute_words.specs.Commands.{make_with, make_of, check_with, check_of, chain_with, chain_of, audit_with, audit_of, file_in, program_by, program_of, run_form, program_form, make_form, check_form, chain_form, audit_form}
+use Rattle.acute_words.specs.Commands.{make_with, make_of, check_with, check_of, chain_with, chain_of, audit_with, audit_of, pipe_with, pipe_of, file_in, program_by, program_of, run_form, program_form, make_form, check_form, chain_form, audit_form, pipe_form}
 use Rattle.acute_words.specs.Commands.{steps_in, channel_in, seed_in, modules_in, shelf_in, files_in, command_of}
 use Rattle.acute_top.specs.inner.Apart.{HasFewPrograms}
 
@@ -235,6 +235,18 @@ given_chain (Some g) h =
     a_chain (files_in (all_in (codes "FILE") g)) (shelf_in (first_in (codes "shelf") g)) (steps_in (first_in (codes "steps") g))
     (few_named 16 (all_in (codes "FILE") g) (few_in 16 (codes "FILE") g h))
 
+a_pipe : (tool sender : Option Text) (p : Option ProgramFiles) (steps : Option ℕ) (n : Option Text) → IsShortIf (pipe_with tool sender p steps n)
+a_pipe None sender p steps n = tt
+a_pipe (Some t) None p steps n = tt
+a_pipe (Some t) (Some s) None steps n = tt
+a_pipe (Some t) (Some s) (Some p) None n = tt
+a_pipe (Some t) (Some s) (Some p) (Some k) n = tt
+
+given_pipe : (g : Option Given) → IsShortIf (option_and_then pipe_of g)
+given_pipe None = tt
+given_pipe (Some g) =
+    a_pipe (file_in (first_in (codes "TOOL") g)) (file_in (first_in (codes "A") g)) (program_by (first_in (codes "B") g) (first_in (codes "shelf") g)) (steps_in (first_in (codes "steps") g)) (first_in (codes "steps") g)
+
 given_audit : (g : Option Given) → IsShortIf (option_and_then audit_of g)
 given_audit None = tt
 given_audit (Some g) = a_audit (program_by (first_in (codes "PROGRAM") g) (first_in (codes "shelf") g)) (file_in (first_in (codes "CHANNEL") g)) (first_in (codes "as") g)
@@ -252,7 +264,8 @@ all_few (w ∷ ws) =
     (if_so (bytes_eq w (codes "make")) _ _ (given_make (given_of make_form ws))
     (if_so (bytes_eq w (codes "check")) _ _ (given_check (given_of check_form ws))
     (if_so (bytes_eq w (codes "chain")) _ _ (given_chain (given_of chain_form ws) (few_chained ws))
-    (if_so (bytes_eq w (codes "audit")) _ None (given_audit (given_of audit_form ws)) tt))))))
+    (if_so (bytes_eq w (codes "audit")) _ _ (given_audit (given_of audit_form ws))
+    (if_so (bytes_eq w (codes "pipe")) _ None (given_pipe (given_of pipe_form ws)) tt)))))))
 
 -- a `chain` that words ask for has at most 16 files
 pub words_short : (ws : List Text) (r : Request) → command_of ws ≡ Some r → HasFewPrograms r

@@ -7,6 +7,7 @@ pub mod FewFiles
 pub mod FileLaws
 pub mod LeftLaws
 pub mod OneChain
+pub mod PipeLaws
 pub mod PlaceLaws
 pub mod RefusedLaws
 pub mod RunLaws

@@ -4,7 +4,7 @@ use Rattle.std.specs.Prelude.{is_some, option_and_then, option_map, if◌then◌
 use Rattle.std.specs.Str.{bytes_eq}
 use Rattle.acute_words.specs.Form.{Text, Given, given_of}
 use Rattle.acute_words.specs.WordValues.{all_in, first_in}
-use Rattle.acute_words.specs.Commands.{ChannelName, ProgramFiles, Request, run, names, code, are_one, run_with, run_of, names_of, code_of, make_with, make_of, check_with, check_of, chain_with, chain_of, audit_with, audit_of, file_in, program_by, program_of, run_form, program_form, make_form, check_form, chain_form, audit_form, steps_in, channel_in, seed_in, modules_in, shelf_in, files_in, command_of}
+use Rattle.acute_words.specs.Commands.{ChannelName, ProgramFiles, Request, run, names, code, are_one, run_with, run_of, names_of, code_of, make_with, make_of, check_with, check_of, chain_with, chain_of, audit_with, audit_of, pipe_with, pipe_of, file_in, program_by, program_of, run_form, program_form, make_form, check_form, chain_form, audit_form, pipe_form, steps_in, channel_in, seed_in, modules_in, shelf_in, files_in, command_of}
 use Rattle.acute_top.specs.inner.Apart.{IsApart}
 
 abbrev AreApart : Option Request → Type 0
@@ -80,6 +80,18 @@ given_chain : (g : Option Given) → AreApart (option_and_then chain_of g)
 given_chain None = tt
 given_chain (Some g) = a_chain (files_in (all_in (codes "FILE") g)) (shelf_in (first_in (codes "shelf") g)) (steps_in (first_in (codes "steps") g))
 
+a_pipe : (tool sender : Option Text) (p : Option ProgramFiles) (steps : Option ℕ) (n : Option Text) → AreApart (pipe_with tool sender p steps n)
+a_pipe None sender p steps n = tt
+a_pipe (Some t) None p steps n = tt
+a_pipe (Some t) (Some s) None steps n = tt
+a_pipe (Some t) (Some s) (Some p) None n = tt
+a_pipe (Some t) (Some s) (Some p) (Some k) n = tt
+
+given_pipe : (g : Option Given) → AreApart (option_and_then pipe_of g)
+given_pipe None = tt
+given_pipe (Some g) =
+    a_pipe (file_in (first_in (codes "TOOL") g)) (file_in (first_in (codes "A") g)) (program_by (first_in (codes "B") g) (first_in (codes "shelf") g)) (steps_in (first_in (codes "steps") g)) (first_in (codes "steps") g)
+
 given_audit : (g : Option Given) → AreApart (option_and_then audit_of g)
 given_audit None = tt
 given_audit (Some g) = a_audit (program_by (first_in (codes "PROGRAM") g) (first_in (codes "shelf") g)) (file_in (first_in (codes "CHANNEL") g)) (first_in (codes "as") g)
@@ -93,7 +105,8 @@ all_apart (w ∷ ws) =
     (if_so (bytes_eq w (codes "make")) _ _ (given_make (given_of make_form ws))
     (if_so (bytes_eq w (codes "check")) _ _ (given_check (given_of check_form ws))
     (if_so (bytes_eq w (codes "chain")) _ _ (given_chain (given_of chain_form ws))
-    (if_so (bytes_eq w (codes "audit")) _ None (given_audit (given_of audit_form ws)) tt))))))
+    (if_so (bytes_eq w (codes "audit")) _ _ (given_audit (given_of audit_form ws))
+    (if_so (bytes_eq w (codes "pipe")) _ None (given_pipe (given_of pipe_form ws)) tt)))))))
 
 moved : (o : Option Request) (r : Request) → o ≡ Some r → AreApart o → IsApart r
 moved o r is h = subst AreApart is h

@@ -3,7 +3,7 @@ use Rattle.std.specs.Prelude.{◌≡◌, ℕ, List, [], Option, Some, None, map,
 use Rattle.std.specs.declared.alloc.Global.{Global}
 use Rattle.ac_types.specs.Types.{Bytes}
 use Rattle.ac_outside.specs.Outside.{Rose}
-use Rattle.acute_words.specs.Commands.{Request, run, chain}
+use Rattle.acute_words.specs.Commands.{Request, run, chain, pipe}
 use Rattle.acute_files.specs.Files.{Reading}
 use Rattle.acute_files.specs.ProgramTexts.{HasBadLine}
 use Rattle.acute_answers.specs.declared.status.Status.{Status}
@@ -14,7 +14,10 @@ use Rattle.acute_top.specs.Saying.{Said, SaidIfAny}
 use Rattle.acute_top.specs.Handed.{Handed}
 use Rattle.acute_top.specs.Requests.{list_named, IsUnreadable}
 use Rattle.acute_top.specs.Giving.{Gives}
+use Rattle.acute_pipe.specs.Senders.{started_words}
+use Rattle.acute_pipe.specs.Spawnings.{Spawning}
 use Rattle.acute_top.specs.ChainEndings.{ChainEnded}
+use Rattle.acute_top.specs.PipeEndings.{PipeEnded}
 use Rattle.acute_top.specs.RunEndings.{RunEnded}
 
 -- the words as bytes
@@ -41,8 +44,9 @@ pub data AnswerEnded (r : Request) (files : Bytes → Reading) (output errors : 
   no_memory_to_print : (a : ShownAnswer) → Gives files r a → PrefixWritten output a.printed → Said errors memory_line OUT_OF_MEMORY end → AnswerEnded r files output errors end
 
 -- how a call ends, by what the words ask for
-abbrev pub CallEnded : Option Request → Handed → Status → Type 0
-CallEnded None o end = NoCommand o end
-CallEnded (Some (run p steps from to)) o end = RunEnded p steps from to o end
-CallEnded (Some (chain programs list steps)) o end = ChainEnded programs list steps o.files o.output o.errors end
-CallEnded (Some r) o end = AnswerEnded r o.files o.output o.errors end
+abbrev pub CallEnded : Option Request → Handed → Spawning → Status → Type 0
+CallEnded None o c end = NoCommand o end
+CallEnded (Some (run p steps from to)) o c end = RunEnded p steps from to o end
+CallEnded (Some (chain programs list steps)) o c end = ChainEnded programs list steps o.files o.output o.errors end
+CallEnded (Some (pipe tool sender p steps written)) o c end = PipeEnded (started_words tool sender p.shelf written) p steps o.files c o.output o.errors end
+CallEnded (Some r) o c end = AnswerEnded r o.files o.output o.errors end

@@ -2,7 +2,7 @@
 use Rattle.std.specs.Prelude.{List, Option}
 use Rattle.ac_types.specs.Types.{Bytes}
 use Rattle.ac_types.specs.declared.text.Text.{Text}
-use Rattle.acute_words.specs.Commands.{ProgramFiles, Request, run, names, code, make, check, chain, audit}
+use Rattle.acute_words.specs.Commands.{ProgramFiles, Request, run, names, code, make, check, chain, audit, pipe}
 use Rattle.ac_load_rules.specs.Accepting.{Shelved}
 use Rattle.acute_files.specs.ChannelFiles.{HasFrames}
 use Rattle.acute_files.specs.Files.{Reading, IsTextOf}
@@ -40,7 +40,7 @@ pub record AuditsFile (files : Bytes → Reading) (p : ProgramFiles) (channel ty
   pub is_text : IsTextOf (files p.file) text
   pub audits : Audits text shelf type (HasFrames (files channel)) a
 
--- what each request gives; `run` and `chain` print as they go, and end in their own ways
+-- what each request gives; `run`, `chain` and `pipe` print as they go, and end in their own ways
 abbrev pub Gives : (Bytes → Reading) → Request → ShownAnswer → Type 0
 Gives files (run p steps from to) a = ⊥
 Gives files (names p) a = ShowsFile Names files p a
@@ -49,3 +49,4 @@ Gives files (make seed modules runs) a = Makes seed modules runs a
 Gives files (check checked list) a = ChecksFiles files checked list a
 Gives files (chain programs list steps) a = ⊥
 Gives files (audit p channel type) a = AuditsFile files p channel type a
+Gives files (pipe tool sender p steps written) a = ⊥

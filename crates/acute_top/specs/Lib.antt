@@ -3,6 +3,7 @@ pub mod ChainEndings
 pub mod Endings
 pub mod Giving
 pub mod Handed
+pub mod PipeEndings
 pub mod Requests
 pub mod RunEndings
 pub mod Saying

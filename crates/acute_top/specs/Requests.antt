@@ -3,7 +3,7 @@ use Rattle.std.specs.Prelude.{List, [], ◌∷◌, Option, Some, None}
 use Rattle.ac_types.specs.Types.{Bytes, Typ}
 use Rattle.ac_terms.specs.Terms.{Expr}
 use Rattle.ac_terms.specs.Defs.{Environment}
-use Rattle.acute_words.specs.Commands.{ChannelName, ProgramFiles, Request, run, names, code, make, check, chain, audit}
+use Rattle.acute_words.specs.Commands.{ChannelName, ProgramFiles, Request, run, names, code, make, check, chain, audit, pipe}
 use Rattle.ac_load_rules.specs.Accepting.{Shelved}
 use Rattle.ac_load.specs.Loading.{Loads}
 use Rattle.ac_audit.specs.TypeTexts.{IsTypeText}
@@ -20,6 +20,7 @@ files_loaded (make seed modules runs) = []
 files_loaded (check files list) = files
 files_loaded (chain programs list steps) = programs
 files_loaded (audit p channel type) = p.file ∷ channel ∷ []
+files_loaded (pipe tool sender p steps written) = p.file ∷ []
 
 -- the file of the list of the shelf beside them
 abbrev pub list_named : Request → Option Bytes
@@ -30,6 +31,7 @@ list_named (make seed modules runs) = None
 list_named (check files list) = list
 list_named (chain programs list steps) = list
 list_named (audit p channel type) = p.shelf
+list_named (pipe tool sender p steps written) = p.shelf
 
 -- a read failed in an `audit`: of the texts; or of the channel, where the program loads and TYPE is a type
 pub data AuditFails (files : Bytes → Reading) (p : ProgramFiles) (channel type : Bytes) : Type 0 where
@@ -52,3 +54,8 @@ abbrev pub channel_written : Option Request → Option ChannelName
 channel_written None = None
 channel_written (Some (run p steps from to)) = to
 channel_written (Some r) = None
+
+-- a request starts no child
+abbrev pub StartsNone : Option Request → Type 0
+StartsNone (Some (pipe tool sender p steps written)) = ⊥
+StartsNone r = Unit {0}

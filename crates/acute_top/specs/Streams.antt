@@ -50,6 +50,9 @@ write_line = codes "acute: write fault" ++ 10 ∷ []
 abbrev pub memory_line : List ℕ
 memory_line = codes "acute: out of memory" ++ 10 ∷ []
 
+abbrev pub start_line : List ℕ
+start_line = codes "acute: start fault" ++ 10 ∷ []
+
 -- the list of a shelf has a bad line of this number
 abbrev pub shelf_line : ℕ → List ℕ
 shelf_line n = codes "acute: shelf: line " ++ (decimal n ++ 10 ∷ [])

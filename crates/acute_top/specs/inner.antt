@@ -5,5 +5,6 @@ pub mod Apart
 pub mod ChainDelivered
 pub mod Asked
 pub mod Audited
+pub mod Piped
 pub mod Delivered
 pub mod Told

@@ -13,7 +13,7 @@ use crate::saying::tell_unread;
 use ac_outside::{Files, Gate, Sink};
 use acute_answers::{Showing, Status, check, make_answer, show};
 use acute_files::{read_program, read_texts};
-use acute_words::{Check, Make, Program};
+use acute_words::{Make, Program};
 use std::alloc::Global;
 use std::thread::Threads;
 

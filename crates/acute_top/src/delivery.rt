@@ -50,8 +50,8 @@ fn print<O: Sink>(bytes: &[u8], output: &mut O) -> Put
     output.write(bytes)
 }
 
-// Writes a line, if it is one, before an end with this status.
-fn say_if_any<E: Sink>(line: &[u8], status: Status, errors: &mut E) -> Status
+/// Writes a line, if it is one, before an end with this status.
+pub fn say_if_any<E: Sink>(line: &[u8], status: Status, errors: &mut E) -> Status
     ensures { SaidIfAny (writing E.Sink errors.old errors.new) line.now status result }
 {
     if line.is_empty() {

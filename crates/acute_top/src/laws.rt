@@ -1,5 +1,5 @@
 // What follows from the contract of the top call.
-ghost use Rattle.std.specs.Prelude.{◌≡◌, ◌≤◌, ◌⊎◌, ◌↔◌, List, [], ◌++◌, ℕ, length, Bool, Option, IsTrue, None, Some, is_some, codes};
+ghost use Rattle.std.specs.Prelude.{◌≡◌, ◌≤◌, ◌⊎◌, ◌↔◌, ◌&&◌, List, [], ◌++◌, ℕ, length, Bool, false, Option, IsTrue, None, Some, is_some, codes};
 ghost use Rattle.ac_types.specs.Limits.{most_shelf_entries};
 ghost use Rattle.ac_types.specs.Types.{Bytes, Typ};
 ghost use Rattle.ac_terms.specs.Terms.{Expr, PValue};
@@ -9,7 +9,7 @@ ghost use Rattle.ac_rules.specs.Packets.{PacketCause, Accepts, RefusesPacket};
 ghost use Rattle.ac_meaning.specs.Packing.{Lands, Sinks, landing, of_cause, unmarshal_failure_exn};
 ghost use Rattle.ac_outside.specs.Outside.{Rose};
 ghost use Rattle.ac_rules.specs.Views.{Mode, Coloured};
-ghost use Rattle.acute_words.specs.Commands.{ChannelName, ProgramFiles, Request, run, check, chain};
+ghost use Rattle.acute_words.specs.Commands.{ChannelName, ProgramFiles, Request, run, check, chain, pipe};
 ghost use Rattle.ac_load_rules.specs.Accepting.{Shelved, IsShelf};
 ghost use Rattle.ac_load.specs.Loading.{Loads};
 ghost use Rattle.acute_files.specs.Files.{Reading, IsTextOf};
@@ -23,6 +23,8 @@ ghost use Rattle.acute_chain.specs.Chaining.{lines_behind};
 ghost use Rattle.acute_answers.specs.declared.status.TheConstants.Status.{FINISHED, REFUSED, OUT_OF_MEMORY, SHELF_REFUSED};
 ghost use Rattle.acute_answers.specs.Answers.{ShownAnswer};
 ghost use Rattle.acute_answers.specs.Meaning.{CommandAnswer, Means};
+ghost use Rattle.ac_meaning.specs.Writes.{Console, written};
+ghost use Rattle.acute_pipe.specs.Spawnings.{ChildFailed, Spawning, StartFailed};
 ghost use Rattle.acute_top.specs.Streams.{AllWritten};
 ghost use Rattle.acute_top.specs.Handed.{Handed, is_told, input_of, InputFailed, OutputFailed, MakingFailed};
 ghost use Rattle.acute_top.specs.Requests.{list_named, IsUnreadable};
@@ -75,7 +77,7 @@ pub fn taken_exactly()
 /// and writes to.
 pub fn nothing_failed()
     ensures { (p : ProgramFiles) (steps : ℕ) (from to : Option ChannelName) (o : Handed)
-        (status : Status) → CallEnded (Some (run p steps from to)) o status →
+        (c : Spawning) (status : Status) → CallEnded (Some (run p steps from to)) o c status →
         ((name : Bytes) → IsTrue (o.files name).told) →
         (from ≡ None) ⊎ IsTrue (is_told from to o) →
         (ReadsFail o.files p.file p.shelf → ⊥) → (InputFailed from o → ⊥) →
@@ -84,6 +86,21 @@ pub fn nothing_failed()
         (shelf : List Shelved) (text : Bytes) → IsShelfBy o.files p.shelf shelf →
         IsTextOf (o.files p.file) text → (mode : Mode) (a : CommandAnswer) →
         Means mode text shelf steps (input_of from o) (is_some to) a → status ≡ a.status }
+{}
+
+/// Where files, child and output are told and no count rose, a pipe ends with the status that its
+/// receiver's text means with what the child gives, and has printed just that.
+pub fn nothing_failed_piping()
+    ensures { (tool sender : Bytes) (p : ProgramFiles) (steps : ℕ) (n : Option Bytes)
+        (o : Handed) (c : Spawning) (status : Status) →
+        CallEnded (Some (pipe tool sender p steps n)) o c status →
+        ((name : Bytes) → IsTrue (o.files name).told) → IsTrue (c.told && o.output.told) →
+        (ReadsFail o.files p.file p.shelf → ⊥) → (StartFailed c → ⊥) → (ChildFailed c → ⊥) →
+        (Rose o.output.before o.output.after → ⊥) → (Rose o.errors.before o.errors.after → ⊥) →
+        (status ≡ OUT_OF_MEMORY → ⊥) → (shelf : List Shelved) (text : Bytes) →
+        IsShelfBy o.files p.shelf shelf → IsTextOf (o.files p.file) text →
+        (mode : Mode) (a : CommandAnswer) → Means mode text shelf steps c.old.left false a →
+        (status ≡ a.status) × (o.output.new ≡ o.output.old ++ written Console a.writes) }
 {}
 
 /// In the same way a request that prints what it finds ends with an answer that it gives, and has
@@ -96,7 +113,8 @@ pub fn nothing_failed_printing()
         (status ≡ OUT_OF_MEMORY → ⊥) → (a : ShownAnswer) × (Gives o.files r a ×
         ((status ≡ a.status) × (AllWritten o.output a.printed × AllWritten o.errors a.line))) }
     ensures chained { (programs : List Bytes) (list : Option Bytes) (steps : ℕ) (o : Handed)
-        (status : Status) → CallEnded (Some (chain programs list steps)) o status →
+        (c : Spawning) (status : Status) →
+        CallEnded (Some (chain programs list steps)) o c status →
         ((n : ℕ) → HasBadLine o.files list n → ⊥) → (TextsFail o.files programs list → ⊥) →
         (Rose o.output.before o.output.after → ⊥) → (Rose o.errors.before o.errors.after → ⊥) →
         (status ≡ OUT_OF_MEMORY → ⊥) → (a : ShownAnswer) ×
@@ -122,7 +140,8 @@ pub fn one_answer()
 
 /// Where the list of a shelf has a bad line, each request that names it ends so.
 pub fn bad_line_refused()
-    ensures { (r : Request) (o : Handed) (status : Status) → CallEnded (Some r) o status →
+    ensures { (r : Request) (o : Handed) (c : Spawning) (status : Status) →
+        CallEnded (Some r) o c status →
         ((name : Bytes) → IsTrue (o.files name).told) → (IsUnreadable o.files r → ⊥) →
         (Rose o.errors.before o.errors.after → ⊥) → (status ≡ OUT_OF_MEMORY → ⊥) →
         (n : ℕ) → HasBadLine o.files (list_named r) n → status ≡ SHELF_REFUSED }

@@ -8,6 +8,7 @@ mod delivery;
 mod laws;
 mod no_files;
 mod no_input;
+mod piping;
 mod run;
 mod saying;
 mod top;
@@ -15,7 +16,7 @@ mod world;
 
 pub use acute_answers::Status;
 pub use laws::{
-    bad_line_refused, good_shelf, nothing_failed, nothing_failed_printing, one_answer, one_meaning,
-    some_meaning, taken_exactly,
+    bad_line_refused, good_shelf, nothing_failed, nothing_failed_piping, nothing_failed_printing,
+    one_answer, one_meaning, some_meaning, taken_exactly,
 };
 pub use top::acute;

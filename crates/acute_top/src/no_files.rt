@@ -1,5 +1,5 @@
 // Files of which there is none.
-ghost use Rattle.std.specs.Prelude.{◌≡◌, true, None, ⊤};
+ghost use Rattle.std.specs.Prelude.{true, None, ⊤};
 
 use ac_outside::{Files, Got, Put};
 

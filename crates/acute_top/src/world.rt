@@ -1,7 +1,7 @@
 // The world of a program that is run: it joins files and streams.
-ghost use Rattle.std.specs.Prelude.{◌≡◌, ◌≤◌, ◌<◌, ◌⊎◌, ℕ, [], Option, None, Some, IsTrue, true, false, length, option_map, is_some};
+ghost use Rattle.std.specs.Prelude.{◌≡◌, ◌≤◌, ◌<◌, ◌⊎◌, ℕ, Option, None, Some, IsTrue, true, false, option_map};
 ghost use native.Mathlib.Omega.{arith};
-ghost use Rattle.ac_outside.specs.Outside.{Rose, Contents, NeverFall};
+ghost use Rattle.ac_outside.specs.Outside.{Rose, Contents};
 ghost use Rattle.acute_words.specs.Commands.{ChannelName, are_one, channel_of};
 ghost use Rattle.ac_run.specs.Sessions.{streams};
 ghost use Rattle.acute_top.specs.inner.Told.{tells, left_in, stream_left, sent_in};

@@ -1,15 +1,16 @@
-// A call over the real files and streams.
+// A call over the files, streams and children of the system.
 
 use crate::words::received_from;
 use ac_outside::OpenGate;
 use ac_outside_system::{RealFiles, RealSink, RealSource};
+use ac_spawn_system::RealSpawner;
 use ac_types::Memory;
 use acute_top::{Status, acute};
 use std::alloc::Global;
 use std::thread::Threads;
 
-/// Calls `acute` with these words over the real files and streams. It starts its threads by a handle
-/// of its own.
+/// Calls `acute` with these words over the files, streams and children of the system. It starts its
+/// threads by a handle of its own.
 pub fn call_really<R: Threads + Sync>(threads: &R, rt: HostRuntime, words: &[String]) -> Status {
     let mut input = RealSource::new(rt.stdin());
     let mut output = RealSink::new(rt.stdout());
@@ -19,6 +20,7 @@ pub fn call_really<R: Threads + Sync>(threads: &R, rt: HostRuntime, words: &[Str
         Ok(files) => files,
         Err(_) => return Status::OUT_OF_MEMORY,
     };
+    let mut spawner = RealSpawner::new(alloc, &rt);
     acute(
         threads,
         alloc,
@@ -27,6 +29,7 @@ pub fn call_really<R: Threads + Sync>(threads: &R, rt: HostRuntime, words: &[Str
         &mut input,
         &mut output,
         &mut errors,
+        &mut spawner,
         &OpenGate,
     )
 }

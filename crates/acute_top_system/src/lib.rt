@@ -1,4 +1,4 @@
-//! The top call in a process: its words, and the files and streams of the system.
+//! The top call in a process: its words, and the files, streams and children of the system.
 #![tactic(auto)]
 
 mod call;

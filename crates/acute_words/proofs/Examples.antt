@@ -1,7 +1,7 @@
 -- Command lines, and what they ask for.
 use Rattle.std.proofs.Common.{◌≡◌, refl, [], ◌∷◌, Some, None, codes, replicate, true, false}
 use Rattle.acute_words.specs.Form.{Form, Text, given_of, look_of, named, plain, refused}
-use Rattle.acute_words.specs.Commands.{ProgramFiles, audit, chain, check, command_of, code, file, make, names, run, standard}
+use Rattle.acute_words.specs.Commands.{ProgramFiles, audit, chain, check, command_of, code, file, make, names, pipe, run, standard}
 
 -- an option, with its value and without; a plain word; words that are refused
 look_option : look_of (codes "--steps=5") ≡ named (codes "steps") (Some (codes "5"))
@@ -192,6 +192,20 @@ audit_alone = refl
 
 audit_hyphen : command_of (codes "audit" ∷ codes "p" ∷ codes "-" ∷ codes "--as=int" ∷ []) ≡ None
 audit_hyphen = refl
+
+-- `pipe t a b`, and with both options, whose values stand as they were written
+pipe_plain : command_of (codes "pipe" ∷ codes "t" ∷ codes "a" ∷ codes "b" ∷ []) ≡ Some (pipe (codes "t") (codes "a") (alone (codes "b")) 1000000 None)
+pipe_plain = refl
+
+pipe_full : command_of (codes "pipe" ∷ codes "--steps=007" ∷ codes "t" ∷ codes "a" ∷ codes "b" ∷ codes "--shelf" ∷ codes "s" ∷ []) ≡ Some (pipe (codes "t") (codes "a") (record { file = codes "b"; shelf = Some (codes "s") }) 7 (Some (codes "007")))
+pipe_full = refl
+
+-- no B, and an A that is `-`
+pipe_two : command_of (codes "pipe" ∷ codes "t" ∷ codes "a" ∷ []) ≡ None
+pipe_two = refl
+
+pipe_hyphen : command_of (codes "pipe" ∷ codes "t" ∷ codes "-" ∷ codes "b" ∷ []) ≡ None
+pipe_hyphen = refl
 
 -- a form with a flag, an option with a value, a place of one word, and a run of at most two words
 abbrev tried : Form

@@ -38,6 +38,8 @@ pub data Request : Type 0 where
   chain : List Text → Option Text → ℕ → Request
   -- to say of each frame of a channel's file whether the program of a file would take it at the type of a text
   audit : ProgramFiles → Text → Text → Request
+  -- to start a tool as the sender of a file's program, and to run the program of a file on what that sends for at most so many steps, a number that stands as it was written where it was
+  pipe : Text → Text → ProgramFiles → ℕ → Option Text → Request
 
 -- the channel that a command names
 abbrev pub channel_of : Channel → ChannelName
@@ -57,6 +59,7 @@ request_of (command.Make m) = make m.seed m.modules m.runs
 request_of (command.Check c) = check (map (λ s. s.now) c.files.items) (option_map (λ s. s.now) c.shelf)
 request_of (command.Chain c) = chain (map (λ s. s.now) c.files.items) (option_map (λ s. s.now) c.shelf) c.steps
 request_of (command.Audit a) = audit (files_of a.program) a.channel.now a.ty.now
+request_of (command.Pipe p) = pipe p.tool.now p.sender.now (files_of p.receiver) p.steps (option_map (λ s. s.now) p.written)
 
 -- run FILE [--in CH] [--out CH] [--shelf FILE] [--steps N]
 abbrev pub run_form : Form
@@ -179,6 +182,13 @@ chain_with files shelf steps = None
 abbrev pub chain_by : Option (List Text) → Option Text → Option Text → Option Request
 chain_by files shelf steps = chain_with (files_in files) (shelf_in shelf) (steps_in steps)
 
+-- pipe TOOL A B [--shelf FILE] [--steps N]
+abbrev pub pipe_form : Form
+pipe_form = record {
+  options = (codes "shelf", true) ∷ (codes "steps", true) ∷ [];
+  places = record { number = 1; name = codes "TOOL"; most = None } ∷ record { number = 2; name = codes "A"; most = None } ∷ record { number = 3; name = codes "B"; most = None } ∷ [];
+}
+
 -- a file that has to be given
 abbrev pub file_in : Option Text → Option Text
 file_in None = None
@@ -219,6 +229,18 @@ chain_of given = chain_by (all_in (codes "FILE") given) (first_in (codes "shelf"
 abbrev pub audit_of : Given → Option Request
 audit_of given = audit_by (program_by (first_in (codes "PROGRAM") given) (first_in (codes "shelf") given)) (first_in (codes "CHANNEL") given) (first_in (codes "as") given)
 
+-- a `pipe` of a tool, its program and a receiver, for so many steps
+abbrev pub pipe_with : Option Text → Option Text → Option ProgramFiles → Option ℕ → Option Text → Option Request
+pipe_with (Some tool) (Some sender) (Some p) (Some steps) written = Some (pipe tool sender p steps written)
+pipe_with tool sender p steps written = None
+
+-- a `pipe` by the texts of its TOOL and of its A, by the files of its receiver, and by the text of its N
+abbrev pub pipe_by : Option Text → Option Text → Option ProgramFiles → Option Text → Option Request
+pipe_by tool sender p written = pipe_with (file_in tool) (file_in sender) p (steps_in written) written
+
+abbrev pub pipe_of : Given → Option Request
+pipe_of given = pipe_by (first_in (codes "TOOL") given) (first_in (codes "A") given) (program_by (first_in (codes "B") given) (first_in (codes "shelf") given)) (first_in (codes "steps") given)
+
 -- the words after a command's name, read by the command's form and then by what was given
 abbrev pub words_of : Form → (Given → Option Request) → List Text → Option Request
 words_of form of words = option_and_then of (given_of form words)
@@ -233,6 +255,7 @@ command_by name rest =
     if bytes_eq name (codes "check") then words_of check_form check_of rest else
     if bytes_eq name (codes "chain") then words_of chain_form chain_of rest else
     if bytes_eq name (codes "audit") then words_of audit_form audit_of rest else
+    if bytes_eq name (codes "pipe") then words_of pipe_form pipe_of rest else
     None
 
 -- what the words of a command line ask for, or none where they are refused

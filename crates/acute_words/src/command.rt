@@ -73,6 +73,21 @@ pub struct Audit<'a> {
     pub ty: &'a str,
 }
 
+/// Starts a tool as the sender of a program, and runs another program on what it sends.
+#[derive(Clone, Copy)]
+pub struct Pipe<'a> {
+    /// The file of the tool.
+    pub tool: &'a str,
+    /// The file of the program that it is to run.
+    pub sender: &'a str,
+    /// The program that receives what that sends.
+    pub receiver: Program<'a>,
+    /// How many applications the receiver may make.
+    pub steps: u64,
+    /// The number of applications as it was written, if it was.
+    pub written: Option<&'a str>,
+}
+
 /// What the words of a command line ask for.
 #[derive(Drop)]
 pub enum Command<'a> {
@@ -90,4 +105,6 @@ pub enum Command<'a> {
     Chain(Chain<'a>),
     /// To say which frames of a channel a program would take.
     Audit(Audit<'a>),
+    /// To start a sender, and to run a program on what it sends.
+    Pipe(Pipe<'a>),
 }

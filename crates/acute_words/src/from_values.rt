@@ -1,9 +1,9 @@
 // The commands, by the texts of their values.
 
 ghost use Rattle.std.specs.Prelude.{◌≡◌, IfOk, map, option_map};
-ghost use Rattle.acute_words.specs.Commands.{audit_by, chain_by, check_by, files_of, make_by, program_by, request_of, run_by};
+ghost use Rattle.acute_words.specs.Commands.{audit_by, chain_by, check_by, files_of, make_by, pipe_by, program_by, request_of, run_by};
 
-use crate::command::{Audit, Chain, Check, Command, Make, Program, Run};
+use crate::command::{Audit, Chain, Check, Command, Make, Pipe, Program, Run};
 use crate::values::{
     are_one, channel_in, file_in, files_in, is_file_name, modules_of, number_of, shelf_in, steps_of,
 };
@@ -131,5 +131,29 @@ pub(crate) fn audit_from<'a>(
         program,
         channel,
         ty,
+    }))
+}
+
+/// A `pipe`, by the texts of its TOOL and of its A, by the program of its B, and by the text of its N.
+pub(crate) fn pipe_from<'a>(
+    tool: Option<&'a str>,
+    sender: Option<&'a str>,
+    receiver: Option<Program<'a>>,
+    written: Option<&'a str>,
+) -> Option<Command<'a>>
+    ensures { option_map request_of result
+        ≡ pipe_by (option_map (λ s. s.now) tool.entry) (option_map (λ s. s.now) sender.entry)
+        (option_map files_of receiver.entry) (option_map (λ s. s.now) written.entry) }
+{
+    let tool = file_in(tool)?;
+    let sender = file_in(sender)?;
+    let receiver = receiver?;
+    let steps = steps_of(written)?;
+    Some(Command::Pipe(Pipe {
+        tool,
+        sender,
+        receiver,
+        steps,
+        written,
     }))
 }

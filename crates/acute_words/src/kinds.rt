@@ -21,6 +21,7 @@ pub(crate) enum Kind {
     Check,
     Chain,
     Audit,
+    Pipe,
 }
 
 /// What the command of this name does, if there is one.
@@ -35,6 +36,7 @@ pub(crate) fn kind_of(name: &str) -> Option<Kind>
         "check" => Some(Kind::Check),
         "chain" => Some(Kind::Chain),
         "audit" => Some(Kind::Audit),
+        "pipe" => Some(Kind::Pipe),
         _ => None,
     }
 }
@@ -84,6 +86,16 @@ pub(crate) fn command_in<'a>(alloc: Global, kind: Kind) -> Result<clap::Command<
                 Argument::Value("shelf"),
             ];
             command_with(alloc, "audit", &arguments)
+        }
+        Kind::Pipe => {
+            let arguments = [
+                Argument::Word("TOOL"),
+                Argument::Word("A"),
+                Argument::Word("B"),
+                Argument::Value("shelf"),
+                Argument::Value("steps"),
+            ];
+            command_with(alloc, "pipe", &arguments)
         }
     }
 }

@@ -10,5 +10,5 @@ mod reader;
 mod values;
 mod words;
 
-pub use command::{Audit, Chain, Channel, Check, Command, Make, Program, Run};
+pub use command::{Audit, Chain, Channel, Check, Command, Make, Pipe, Program, Run};
 pub use reader::read_words;

@@ -7,7 +7,9 @@ ghost use Rattle.acute_words.specs.inner.ByKind.{asked_of};
 ghost use Rattle.acute_words.specs.inner.Rules.{row, rows_in};
 
 use crate::command::{Command, Program};
-use crate::from_values::{audit_from, chain_from, check_from, make_from, program_from, run_from};
+use crate::from_values::{
+    audit_from, chain_from, check_from, make_from, pipe_from, program_from, run_from,
+};
 use crate::kinds::{Kind, command_in, kind_of};
 use crate::matching::matches_in;
 use ac_types::Memory;
@@ -56,6 +58,12 @@ fn command_from<'a>(
             program_from(matches.get_str("PROGRAM"), matches.get_str("shelf")),
             matches.get_str("CHANNEL"),
             matches.get_str("as"),
+        )),
+        Kind::Pipe => Ok(pipe_from(
+            matches.get_str("TOOL"),
+            matches.get_str("A"),
+            program_from(matches.get_str("B"), matches.get_str("shelf")),
+            matches.get_str("steps"),
         )),
     }
 }

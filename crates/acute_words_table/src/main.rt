@@ -5,7 +5,7 @@
 #![tactic(auto)]
 
 use ac_types::Memory;
-use acute_words::{Audit, Chain, Channel, Check, Command, Make, Program, Run, read_words};
+use acute_words::{Audit, Chain, Channel, Check, Command, Make, Pipe, Program, Run, read_words};
 use std::alloc::Global;
 use std::io;
 
@@ -31,6 +31,7 @@ fn answer_to(alloc: Global, line: &str) -> Result<String, Memory> {
         Some(Command::Check(check)) => check_answer(alloc, &check),
         Some(Command::Chain(chain)) => chain_answer(alloc, &chain),
         Some(Command::Audit(audit)) => audit_answer(alloc, audit),
+        Some(Command::Pipe(pipe)) => pipe_answer(alloc, pipe),
     }
 }
 
@@ -73,6 +74,18 @@ fn audit_answer(alloc: Global, audit: Audit) -> Result<String, Memory> {
     let mut answer = files_answer(alloc, "audit", &files, program.shelf)?;
     answer.push_str(", as ")?;
     answer.push_str(audit.ty)?;
+    Ok(answer)
+}
+
+fn pipe_answer(alloc: Global, pipe: Pipe) -> Result<String, Memory> {
+    let receiver = pipe.receiver;
+    let files = [pipe.tool, pipe.sender, receiver.file];
+    let mut answer = files_answer(alloc, "pipe", &files, receiver.shelf)?;
+    add_steps(alloc, &mut answer, pipe.steps)?;
+    if let Some(written) = pipe.written {
+        answer.push_str(", written ")?;
+        answer.push_str(written)?;
+    }
     Ok(answer)
 }
 

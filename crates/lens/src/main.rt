@@ -3,7 +3,7 @@
 
 use ac_outside_system::{RealFiles, RealSink};
 use ac_types::Memory;
-use lens_top::{Status, lens};
+use lens_top::{LensStatus, lens};
 use std::alloc::Global;
 use std::env;
 use std::io::ErrorKind;
@@ -26,7 +26,7 @@ fn words_given(alloc: Global, rt: &HostRuntime) -> Result<Vec<String>, Memory> {
     Ok(words)
 }
 
-fn call(rt: HostRuntime) -> Result<Status, Memory> {
+fn call(rt: HostRuntime) -> Result<LensStatus, Memory> {
     let alloc = rt.alloc();
     let words = words_given(alloc, &rt)?;
     let mut output = RealSink::new(rt.stdout());
@@ -37,7 +37,7 @@ fn call(rt: HostRuntime) -> Result<Status, Memory> {
 
 fn main(rt: HostRuntime) -> ExitCode {
     match call(rt) {
-        Ok(Status(status)) => ExitCode::from(status),
-        Err(_) => ExitCode::from(Status::OUT_OF_MEMORY.0),
+        Ok(LensStatus(status)) => ExitCode::from(status),
+        Err(_) => ExitCode::from(LensStatus::OUT_OF_MEMORY.0),
     }
 }

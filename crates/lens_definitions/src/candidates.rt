@@ -1,7 +1,7 @@
 // Imports that no module serves, and the modules that might.
 
 use crate::faults::{why_passed, write_passed};
-use crate::trees::{Part, name_of, place_of};
+use crate::trees::{ExplainedPart, name_of_tree, place_of};
 use ac_terms::{Def, Entry, Import};
 use ac_text::{Page, put_literal};
 use ac_types::{Resolve, Text, Word};
@@ -18,7 +18,7 @@ fn write_uri(alloc: Global, page: &mut Page, uri: &Text) {
 }
 
 // Adds where entry `j` stands.
-fn write_origin(alloc: Global, page: &mut Page, part: &Part<'_>, j: u32) {
+fn write_origin(alloc: Global, page: &mut Page, part: &ExplainedPart<'_>, j: u32) {
     if let Some(tree) = part.tree_of_entry(j) {
         page.put(b" at ");
         write_place(page, part.text, place_of(tree));
@@ -33,7 +33,7 @@ fn write_origin(alloc: Global, page: &mut Page, part: &Part<'_>, j: u32) {
 fn write_candidate(
     alloc: Global,
     page: &mut Page,
-    part: &Part<'_>,
+    part: &ExplainedPart<'_>,
     import: &Import,
     j: u32,
     entry: &Entry,
@@ -64,7 +64,7 @@ fn is_called(entry: &Entry, word: &Word) -> bool {
 fn write_candidates(
     alloc: Global,
     page: &mut Page,
-    part: &Part<'_>,
+    part: &ExplainedPart<'_>,
     import: &Import,
     i: u32,
 ) -> usize {
@@ -96,10 +96,10 @@ fn write_atoms(alloc: Global, page: &mut Page, by: &[Resolve]) {
 }
 
 // Adds a line for the first module of that name that stands behind the import.
-fn write_later(page: &mut Page, part: &Part<'_>, import: &Import, def: u32) {
+fn write_later(page: &mut Page, part: &ExplainedPart<'_>, import: &Import, def: u32) {
     let defs = part.surface.defs.as_slice();
     for tree in defs.get(def as usize..).unwrap_or(&[]).iter().skip(1) {
-        if let Some(name) = name_of(tree)
+        if let Some(name) = name_of_tree(tree)
             && name.word.is(&import.name)
         {
             page.put(b"  one stands behind the import, at ");
@@ -112,7 +112,7 @@ fn write_later(page: &mut Page, part: &Part<'_>, import: &Import, def: u32) {
 
 /// What is said of definition `def`, an import that no module serves: where it looks, and for each
 /// module of its name the first condition that fails.
-pub fn why_unresolved(alloc: Global, part: &Part<'_>, def: u32) -> Option<Message> {
+pub fn why_unresolved(alloc: Global, part: &ExplainedPart<'_>, def: u32) -> Option<Message> {
     let tree = part.tree(def)?;
     let Def::Import(import) = &part.entry(def)?.def else {
         return None;

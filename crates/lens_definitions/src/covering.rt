@@ -1,6 +1,6 @@
 // Structs that don't cover their signatures.
 
-use crate::trees::{Part, place_of, spec_at};
+use crate::trees::{ExplainedPart, place_of, spec_at};
 use ac_terms::{Def, Field, Module};
 use ac_types::{Ty, Word, type_named};
 use lens_say::{Message, Owners, write_name, write_two};
@@ -72,7 +72,7 @@ fn write_uncovered(message: &mut Message, owners: &Owners<'_>, name: &Word, foun
 }
 
 /// What is said of definition `def`, whose struct doesn't cover spec `k` of its signature.
-pub fn why_uncovered(alloc: Global, part: &Part<'_>, def: u32, k: u32) -> Option<Message> {
+pub fn why_uncovered(alloc: Global, part: &ExplainedPart<'_>, def: u32, k: u32) -> Option<Message> {
     let tree = part.tree(def)?;
     let Def::Module(module) = &part.entry(def)?.def else {
         return None;

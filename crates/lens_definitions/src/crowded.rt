@@ -1,6 +1,6 @@
 // The first place at which a count passes its limit.
 
-use crate::trees::{name_of, place_of, signature};
+use crate::trees::{name_of_tree, place_of, signature_of_tree};
 use ac_resolve_signatures::{
     Externals, Scan, entries_in_front, put_outside, shown_sig, type_flaws, walk_abbrev,
 };
@@ -345,7 +345,7 @@ fn in_definition<'a>(
     def: &'a SDef,
     count: u32,
 ) -> Result<Option<u32>, Memory> {
-    if let Some(sig) = signature(def)
+    if let Some(sig) = signature_of_tree(def)
         && let Some(at) = in_signature(alloc, externals, sig.specs.as_slice(), count)?
     {
         return Ok(Some(at));
@@ -388,7 +388,7 @@ fn put_shown<'a>(
     externals: &mut Externals<'a>,
     def: &'a SDef,
 ) -> Result<(), Memory> {
-    if let (Some(name), Some(sig)) = (name_of(def), signature(def)) {
+    if let (Some(name), Some(sig)) = (name_of_tree(def), signature_of_tree(def)) {
         let shown = shown_sig(alloc, externals, sig.specs.as_slice())?;
         put_outside(externals, &name.word, shown.outside)?;
     }

@@ -2,7 +2,7 @@
 
 ghost use Rattle.std.specs.Prelude.{◌+◌, ◌<◌, ◌^◌, length};
 
-use crate::trees::Part;
+use crate::trees::ExplainedPart;
 use ac_link::{LinkFault, link_ok};
 use ac_terms::{Env, Import, Module};
 use ac_text::Page;
@@ -51,7 +51,7 @@ fn fault(env: &Env, import: &Import, j: u32) -> Option<LinkFault> {
 }
 
 /// Why an import isn't linked to entry `j`.
-pub fn why_passed(part: &Part<'_>, import: &Import, j: u32) -> Passed {
+pub fn why_passed(part: &ExplainedPart<'_>, import: &Import, j: u32) -> Passed {
     if let Some(fault) = fault(part.env, import, j) {
         return Passed::Fault(fault);
     }

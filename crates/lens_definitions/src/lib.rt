@@ -14,5 +14,5 @@ pub use candidates::why_unresolved;
 pub use covering::why_uncovered;
 pub use crowded::why_too_many;
 pub use likespecs::why_like_missing;
-pub use trees::{Part, name_of};
+pub use trees::{ExplainedPart, name_of_tree};
 pub use valuable::why_not_valuable;

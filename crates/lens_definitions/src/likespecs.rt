@@ -1,12 +1,17 @@
 // Imports that don't say what their abstract types stand for.
 
-use crate::trees::{Part, place_of, spec_at};
+use crate::trees::{ExplainedPart, place_of, spec_at};
 use ac_terms::Def;
 use lens_say::{Message, write_name};
 use std::alloc::Global;
 
 /// What is said of definition `def`, an import whose abstract type `k` has no likespec.
-pub fn why_like_missing(alloc: Global, part: &Part<'_>, def: u32, k: u32) -> Option<Message> {
+pub fn why_like_missing(
+    alloc: Global,
+    part: &ExplainedPart<'_>,
+    def: u32,
+    k: u32,
+) -> Option<Message> {
     let tree = part.tree(def)?;
     let Def::Import(import) = &part.entry(def)?.def else {
         return None;

@@ -8,7 +8,7 @@ use ac_types::Text;
 /// The tree of a text, and its entries, behind those of the texts of a shelf that stand in front of
 /// it, one of each.
 #[derive(Clone, Copy)]
-pub struct Part<'a> {
+pub struct ExplainedPart<'a> {
     /// The text.
     pub text: &'a [u8],
     /// Its tree.
@@ -21,7 +21,7 @@ pub struct Part<'a> {
     pub front: u32,
 }
 
-impl<'a> Part<'a> {
+impl<'a> ExplainedPart<'a> {
     /// The number of the entry of definition `def`.
     pub fn number(&self, def: u32) -> u32 {
         self.front.saturating_add(def)
@@ -55,7 +55,7 @@ impl<'a> Part<'a> {
 }
 
 /// The UPPER name of a definition, which a mark has none of.
-pub fn name_of(def: &SDef) -> Option<&SName> {
+pub fn name_of_tree(def: &SDef) -> Option<&SName> {
     match &def.kind {
         SDefKind::Module {
             name,
@@ -79,14 +79,14 @@ pub fn name_of(def: &SDef) -> Option<&SName> {
 
 /// The place of a definition: that of its name, if it has one.
 pub fn place_of(def: &SDef) -> u32 {
-    match name_of(def) {
+    match name_of_tree(def) {
         Some(name) => name.at,
         None => def.at,
     }
 }
 
 /// The signature of a definition.
-pub fn signature(def: &SDef) -> Option<&SSig> {
+pub fn signature_of_tree(def: &SDef) -> Option<&SSig> {
     match &def.kind {
         SDefKind::Module {
             name: _,
@@ -141,7 +141,7 @@ fn value_at(specs: &[SSpec], k: usize) -> Option<&SName> {
 
 /// The name of spec `k` of a definition's signature, of which the types are counted first.
 pub fn spec_at(def: &SDef, k: u32) -> Option<&SName> {
-    let specs = signature(def)?.specs.as_slice();
+    let specs = signature_of_tree(def)?.specs.as_slice();
     match type_at(specs, k as usize) {
         Ok(name) => Some(name),
         Err(left) => value_at(specs, left),

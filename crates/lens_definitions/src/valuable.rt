@@ -1,6 +1,6 @@
 // Fields that compute something as their module is loaded.
 
-use crate::trees::{Part, field_at};
+use crate::trees::{ExplainedPart, field_at};
 use ac_modules::valuable;
 use ac_syntax::{SDefKind, SExpr, SExprKind, SField};
 use ac_terms::{Def, Term};
@@ -52,7 +52,12 @@ fn place_in(tree: &SExpr, term: &Term) -> u32 {
 }
 
 /// What is said of definition `def`, whose value `k` computes something.
-pub fn why_not_valuable(alloc: Global, part: &Part<'_>, def: u32, k: u32) -> Option<Message> {
+pub fn why_not_valuable(
+    alloc: Global,
+    part: &ExplainedPart<'_>,
+    def: u32,
+    k: u32,
+) -> Option<Message> {
     let SDefKind::Module { fields, .. } = &part.tree(def)?.kind else {
         return None;
     };

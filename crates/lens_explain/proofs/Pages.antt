@@ -3,7 +3,7 @@ use Rattle.std.proofs.Common.{◌≡◌, refl, sym, subst, ap, ◌∙◌, [], �
 use Rattle.std.specs.Prelude.{option_map}
 use Rattle.ac_types.specs.Types.{Bytes}
 use Rattle.lens_explain.specs.Verdicts.{SaysInLines, SaysInJson, verdict_words, json_words}
-use Rattle.lens_explain.specs.declared.explained.Verdict.{Verdict}
+use Rattle.lens_explain.specs.declared.explained.TextVerdict.{TextVerdict}
 use Rattle.lens_explain.specs.inner.Pages.{Adds}
 
 -- where bytes were added, some were
@@ -28,7 +28,7 @@ nothing_said None = tt
 nothing_said (Some b) = refl
 
 -- lines say the verdict whose words were added, whatever stands in front and behind
-pub lines_say : (v : Verdict) (words : Bytes) → words ≡ verdict_words v → (front before all : Option Bytes) → (before ≡ None) ⊎ (before ≡ option_map (λ b. b ++ words) front) → Adds before all → IfSome all (SaysInLines v)
+pub lines_say : (v : TextVerdict) (words : Bytes) → words ≡ verdict_words v → (front before all : Option Bytes) → (before ≡ None) ⊎ (before ≡ option_map (λ b. b ++ words) front) → Adds before all → IfSome all (SaysInLines v)
 lines_say v words is front before all put more =
     let Ends : Bytes → Type 0 = λ b. (file : Bytes) × (b ≡ file ++ verdict_words v) in
     let ends = grown (λ b. b ≡ b) Ends words (λ b h. (b, ap (λ w. b ++ w) is)) front before (nothing_said front) put in
@@ -37,7 +37,7 @@ lines_say v words is front before all put more =
     grown_by_some Ends (SaysInLines v) says before all ends more
 
 -- JSON says the verdict with whose words it begins
-pub json_says : (v : Verdict) (words : Bytes) → words ≡ json_words v → (empty before all : Option Bytes) → empty ≡ Some [] → (before ≡ None) ⊎ (before ≡ option_map (λ b. b ++ words) empty) → Adds before all → IfSome all (SaysInJson v)
+pub json_says : (v : TextVerdict) (words : Bytes) → words ≡ json_words v → (empty before all : Option Bytes) → empty ≡ Some [] → (before ≡ None) ⊎ (before ≡ option_map (λ b. b ++ words) empty) → Adds before all → IfSome all (SaysInJson v)
 json_says v words is empty before all none put more =
     let begins = grown (λ b. b ≡ []) (λ b. b ≡ json_words v) words (λ b h. ap (λ x. x ++ words) h ∙ is) empty before (subst (λ o. IfSome o (λ b. b ≡ [])) (sym none) refl) put in
     let says : (b rest : Bytes) → b ≡ json_words v → SaysInJson v (b ++ rest) = λ b rest h. record { rest = rest; is_said = ap (λ x. x ++ rest) h } in

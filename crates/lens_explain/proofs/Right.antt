@@ -6,12 +6,12 @@ use Rattle.ac_types.specs.declared.memory.Memory.{Memory}
 use Rattle.ac_load_rules.specs.Accepting.{Shelved}
 use Rattle.lens_explain.specs.Verdicts.{IsRejected, IsRight, refused}
 use Rattle.lens_explain.specs.declared.explained.Explained.{Explained}
-use Rattle.lens_explain.specs.declared.explained.Verdict.{Verdict}
-use Rattle.lens_explain.specs.declared.explained.Verdict.TheVariants.{Refused}
+use Rattle.lens_explain.specs.declared.explained.TextVerdict.{TextVerdict}
+use Rattle.lens_explain.specs.declared.explained.TextVerdict.TheVariants.{Refused}
 
 -- where a text is rejected, it is right that it is refused
 pub refused_right : (text : Bytes) (shelf : List Shelved) → IsRejected text shelf → (r : Result Explained Memory) → IfOk r (λ x. x.verdict ≡ Refused) → IfOk r (λ x. IsRight text shelf x.verdict)
-refused_right text shelf h (Ok x) is = subst (λ (v : Verdict). IsRight text shelf v) (sym is) (refused h)
+refused_right text shelf h (Ok x) is = subst (λ (v : TextVerdict). IsRight text shelf v) (sym is) (refused h)
 refused_right text shelf h (Err m) is = tt
 
 -- the only text of a shelf is among its texts

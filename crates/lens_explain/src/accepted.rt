@@ -1,12 +1,12 @@
 // What is said of an accepted text: its type, and its definitions.
 
 use crate::heading::{Form, Heading};
-use crate::members::{put_lines, put_said, put_text};
+use crate::members::{put_lines_member, put_page_member, put_text_member};
 use ac_rules::Loaded;
 use ac_terms::{Def, Entry, Seen};
 use ac_text::{Page, put_literal};
 use ac_types::Text;
-use lens_say::{Owners, write_definition, write_type};
+use lens_say::{Owners, write_definition, write_type_with_owner};
 use std::alloc::Global;
 
 // Adds bytes as they are written.
@@ -68,7 +68,7 @@ fn write_entries(alloc: Global, page: &mut Page, loaded: &Loaded, front: usize) 
 fn in_lines(alloc: Global, loaded: &Loaded, front: usize, is_program: bool) -> Page {
     let mut page = Page::new(alloc);
     if is_program {
-        write_type(&mut page, &Owners::new(alloc, &loaded.env), &loaded.ty);
+        write_type_with_owner(&mut page, &Owners::new(alloc, &loaded.env), &loaded.ty);
     } else {
         page.put(b": a program has an expression behind its definitions");
     }
@@ -79,15 +79,15 @@ fn in_lines(alloc: Global, loaded: &Loaded, front: usize, is_program: bool) -> P
 
 fn in_json(alloc: Global, file: &str, loaded: &Loaded, front: usize, is_program: bool) -> Page {
     let mut page = Page::new(alloc);
-    put_text(&mut page, b"file", file.as_bytes());
+    put_text_member(&mut page, b"file", file.as_bytes());
     if is_program {
         let mut ty = Page::new(alloc);
-        write_type(&mut ty, &Owners::new(alloc, &loaded.env), &loaded.ty);
-        put_said(&mut page, b"type", &ty);
+        write_type_with_owner(&mut ty, &Owners::new(alloc, &loaded.env), &loaded.ty);
+        put_page_member(&mut page, b"type", &ty);
     }
     let mut entries = Page::new(alloc);
     write_entries(alloc, &mut entries, loaded, front);
-    put_lines(&mut page, b"definitions", &entries);
+    put_lines_member(&mut page, b"definitions", &entries);
     page.put(b"}\n");
     page
 }

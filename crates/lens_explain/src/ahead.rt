@@ -17,7 +17,7 @@ use std::alloc::Global;
 
 /// Entries that keep their names.
 #[derive(Drop)]
-pub struct Ahead {
+pub struct EntriesAhead {
     /// The entries.
     pub env: Env,
     ghost named: { IsTrue (list_all keeps_name (environment_of env)) },
@@ -27,15 +27,15 @@ pub struct Ahead {
 #[derive(Drop)]
 pub struct Elaborated {
     /// The entries.
-    pub ahead: Ahead,
+    pub ahead: EntriesAhead,
     /// The term.
     pub main: Term,
 }
 
-impl Ahead {
+impl EntriesAhead {
     /// No entries.
-    pub fn none(alloc: Global) -> Ahead {
-        Ahead {
+    pub fn none(alloc: Global) -> EntriesAhead {
+        EntriesAhead {
             env: Env::new(alloc),
         }
     }
@@ -43,14 +43,14 @@ impl Ahead {
     /// What a tree elaborates to behind these entries, `None` where it has a fault of its names or
     /// counts, or where there are too many entries.
     pub fn with(self, alloc: Global, surface: &Surface) -> Result<Option<Elaborated>, Memory> {
-        let Ahead { env } = self;
+        let EntriesAhead { env } = self;
         if env.len() > MOST_ENTRIES {
             drop(env);
             return Ok(None);
         }
         match elaborate(alloc, surface, env) {
             Ok(RawProgram { env, main }) => Ok(Some(Elaborated {
-                ahead: Ahead { env },
+                ahead: EntriesAhead { env },
                 main,
             })),
             Err(ScopeFault::Memory) => Err(Memory),
@@ -59,7 +59,7 @@ impl Ahead {
     }
 
     // With the entries of a text of the shelf.
-    fn with_text(self, alloc: Global, text: &[u8]) -> Result<Option<Ahead>, Memory> {
+    fn with_text(self, alloc: Global, text: &[u8]) -> Result<Option<EntriesAhead>, Memory> {
         let surface = match parse_module(alloc, text) {
             Ok(surface) => surface,
             Err(ParseFault::Memory) => return Err(Memory),
@@ -78,8 +78,8 @@ impl Ahead {
 
     /// The entries of some texts of a shelf, `None` where one of them has no tree or a fault of its
     /// names or counts.
-    pub fn of_shelf(alloc: Global, shelf: &[ShelfEntry]) -> Result<Option<Ahead>, Memory> {
-        let mut ahead = Ahead::none(alloc);
+    pub fn of_shelf(alloc: Global, shelf: &[ShelfEntry]) -> Result<Option<EntriesAhead>, Memory> {
+        let mut ahead = EntriesAhead::none(alloc);
         for entry in shelf {
             match ahead.with_text(alloc, entry.text.as_slice())? {
                 Some(more) => ahead = more,

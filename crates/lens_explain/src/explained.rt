@@ -21,7 +21,7 @@ use std::alloc::Global;
 
 /// What is said of a text: whether it is accepted.
 #[derive(Clone, Copy, Debug, PartialEq, Eq)]
-pub enum Verdict {
+pub enum TextVerdict {
     /// It is accepted.
     Accepted,
     /// It is a module by itself, and accepted as a module of a shelf.
@@ -34,7 +34,7 @@ pub enum Verdict {
 #[derive(Drop)]
 pub struct Explained {
     /// Whether it is accepted.
-    pub verdict: Verdict,
+    pub verdict: TextVerdict,
     /// What is printed.
     pub page: Page,
 }
@@ -66,7 +66,7 @@ pub fn explain(
             let front = beside.shelf.0.len();
             let said = program_said(alloc, heading, &loaded, front);
             drop(loaded);
-            let verdict = Verdict::Accepted;
+            let verdict = TextVerdict::Accepted;
             let page = heading.headed(alloc, &Page::new(alloc), verdict, &said);
             Ok(Explained { verdict, page })
         }
@@ -172,11 +172,11 @@ pub fn explain_subject(
     subject: &Subject<'_>,
     refusal: Refusal,
 ) -> Result<Explained, Memory>
-    ensures refused { IfOk result (λ x. x.verdict ≡ Verdict.Refused) }
+    ensures refused { IfOk result (λ x. x.verdict ≡ TextVerdict.Refused) }
     ensures said { IfOk result (λ x. IfSome x.page (SaysVerdict heading.entry.form x.verdict)) }
 {
     let found = refusal_said(alloc, heading, subject, refusal)?;
-    let verdict = Verdict::Refused;
+    let verdict = TextVerdict::Refused;
     let page = heading.headed(alloc, &found.place, verdict, &found.said);
     Ok(Explained { verdict, page })
 }

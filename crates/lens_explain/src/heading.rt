@@ -4,7 +4,7 @@ ghost use Rattle.std.specs.Prelude.{◌≡◌, IfSome};
 ghost use Rattle.lens_explain.specs.Verdicts.{SaysVerdict, SaysInLines, SaysInJson, verdict_words, json_words};
 ghost use Rattle.lens_explain.specs.inner.Pages.{Adds};
 
-use crate::explained::Verdict;
+use crate::explained::TextVerdict;
 use ac_text::Page;
 use std::alloc::Global;
 
@@ -26,15 +26,15 @@ pub struct Heading<'a> {
     pub file: &'a str,
 }
 
-impl Verdict {
+impl TextVerdict {
     // The words of the verdict in lines.
     fn words(self) -> &'static [u8]
         ensures { result.now ≡ verdict_words self }
     {
         match self {
-            Verdict::Accepted => b": accepted, of type ",
-            Verdict::AcceptedModule => b": accepted as a module of a shelf",
-            Verdict::Refused => b": refused: ",
+            TextVerdict::Accepted => b": accepted, of type ",
+            TextVerdict::AcceptedModule => b": accepted as a module of a shelf",
+            TextVerdict::Refused => b": refused: ",
         }
     }
 
@@ -43,9 +43,9 @@ impl Verdict {
         ensures { result.now ≡ json_words self }
     {
         match self {
-            Verdict::Accepted => b"{\"verdict\":\"accepted\"",
-            Verdict::AcceptedModule => b"{\"verdict\":\"accepted module\"",
-            Verdict::Refused => b"{\"verdict\":\"refused\"",
+            TextVerdict::Accepted => b"{\"verdict\":\"accepted\"",
+            TextVerdict::AcceptedModule => b"{\"verdict\":\"accepted module\"",
+            TextVerdict::Refused => b"{\"verdict\":\"refused\"",
         }
     }
 }
@@ -61,7 +61,7 @@ pub fn put_page(page: &mut Page, more: &Page)
 }
 
 // Lines that say a verdict of a file, perhaps with a place in it.
-fn in_lines(alloc: Global, file: &str, place: &Page, verdict: Verdict, more: &Page) -> Page
+fn in_lines(alloc: Global, file: &str, place: &Page, verdict: TextVerdict, more: &Page) -> Page
     ensures { IfSome result (SaysInLines verdict) }
 {
     let mut page = Page::new(alloc);
@@ -73,7 +73,7 @@ fn in_lines(alloc: Global, file: &str, place: &Page, verdict: Verdict, more: &Pa
 }
 
 // JSON that says a verdict.
-fn in_json(alloc: Global, verdict: Verdict, more: &Page) -> Page
+fn in_json(alloc: Global, verdict: TextVerdict, more: &Page) -> Page
     ensures { IfSome result (SaysInJson verdict) }
 {
     let mut page = Page::new(alloc);
@@ -85,7 +85,7 @@ fn in_json(alloc: Global, verdict: Verdict, more: &Page) -> Page
 impl Heading<'_> {
     /// What says a verdict of the file: its name, perhaps a place in it, the words of the verdict, and
     /// more; in JSON the words and more. It is lost where one of the two pages is.
-    pub fn headed(self, alloc: Global, place: &Page, verdict: Verdict, more: &Page) -> Page
+    pub fn headed(self, alloc: Global, place: &Page, verdict: TextVerdict, more: &Page) -> Page
         ensures { IfSome result (SaysVerdict self.entry.form verdict) }
     {
         match self.form {

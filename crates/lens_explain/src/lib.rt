@@ -13,6 +13,6 @@ mod reasons;
 mod refused;
 mod told;
 
-pub use explained::{Beside, Explained, Verdict, explain};
+pub use explained::{Beside, Explained, TextVerdict, explain};
 pub use heading::{Form, Heading, put_page};
-pub use members::{put_number, put_said, put_text};
+pub use members::{put_number_member, put_page_member, put_text_member};

@@ -6,7 +6,7 @@ ghost use Rattle.ac_load.specs.Loading.{shelf_of};
 ghost use Rattle.lens_explain.specs.Verdicts.{IsRight, IsRejected, SaysVerdict};
 
 use crate::accepted::module_said;
-use crate::explained::{Explained, Verdict, explain_subject};
+use crate::explained::{Explained, TextVerdict, explain_subject};
 use crate::heading::Heading;
 use crate::reasons::Subject;
 use ac_load::{Kind, Refusal, Shelf, ShelfEntry, load};
@@ -54,7 +54,7 @@ pub fn explain_module(alloc: Global, heading: Heading<'_>, text: &[u8]) -> Resul
         Ok(loaded) => {
             let said = module_said(alloc, heading, &loaded, 0);
             drop(loaded);
-            let verdict = Verdict::AcceptedModule;
+            let verdict = TextVerdict::AcceptedModule;
             let page = heading.headed(alloc, &Page::new(alloc), verdict, &said);
             Ok(Explained { verdict, page })
         }

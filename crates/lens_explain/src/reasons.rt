@@ -2,13 +2,14 @@
 
 ghost use Rattle.std.specs.Prelude.{◌<◌, ◌^◌, length};
 
-use crate::ahead::{Ahead, Elaborated};
+use crate::ahead::{Elaborated, EntriesAhead};
 use ac_load::{Kind, ShelfEntry};
 use ac_syntax::{ParseFault, Surface};
 use ac_types::Memory;
 use ac_types::limits::{LONGEST_TEXT, MOST_ENTRIES, MOST_OPENERS};
 use lens_definitions::{
-    Part, name_of, why_like_missing, why_not_valuable, why_too_many, why_uncovered, why_unresolved,
+    ExplainedPart, name_of_tree, why_like_missing, why_not_valuable, why_too_many, why_uncovered,
+    why_unresolved,
 };
 use lens_hints::{Grammar, why_lexical, why_syntax};
 use lens_say::{Message, name_at, write_name};
@@ -69,8 +70,8 @@ fn why_repeated(alloc: Global, text: &[u8], at: u32) -> Message {
 }
 
 // What is said of a definition with the name of another one, and another text.
-fn why_clash(alloc: Global, part: &Part<'_>, second: u32) -> Message {
-    let at = match part.tree_of_entry(second).and_then(name_of) {
+fn why_clash(alloc: Global, part: &ExplainedPart<'_>, second: u32) -> Message {
+    let at = match part.tree_of_entry(second).and_then(name_of_tree) {
         Some(name) => name.at,
         None => 0,
     };
@@ -84,7 +85,7 @@ fn why_clash(alloc: Global, part: &Part<'_>, second: u32) -> Message {
 // What is said of entries that are refused.
 fn why_entries(
     alloc: Global,
-    part: &Part<'_>,
+    part: &ExplainedPart<'_>,
     elaborated: &Elaborated,
     kind: Kind,
 ) -> Result<Option<Message>, Memory>
@@ -113,7 +114,7 @@ fn why_elaborated(
     alloc: Global,
     subject: &Subject<'_>,
     surface: &Surface,
-    ahead: Ahead,
+    ahead: EntriesAhead,
     kind: Kind,
 ) -> Result<Option<Message>, Memory> {
     let front = ahead.env.len();
@@ -124,7 +125,7 @@ fn why_elaborated(
     if front > MOST_ENTRIES || env.len() > MOST_SPOKEN_OF {
         return Ok(None);
     }
-    let part = Part {
+    let part = ExplainedPart {
         text: subject.text,
         surface,
         env,
@@ -141,7 +142,7 @@ fn why_with_tree(
     surface: &Surface,
     kind: Kind,
 ) -> Result<Option<Message>, Memory> {
-    let Some(ahead) = Ahead::of_shelf(alloc, subject.shelf)? else {
+    let Some(ahead) = EntriesAhead::of_shelf(alloc, subject.shelf)? else {
         return Ok(None);
     };
     match kind {

@@ -1,7 +1,7 @@
 // What is said of a refused text.
 
 use crate::heading::{Form, Heading, put_page};
-use crate::members::{put_lines, put_number, put_said, put_text};
+use crate::members::{put_lines_member, put_number_member, put_page_member, put_text_member};
 use crate::reasons::{Subject, why};
 use crate::told::{write_cause, write_told};
 use ac_load::Refusal;
@@ -54,15 +54,15 @@ fn in_lines(alloc: Global, text: &[u8], refusal: Refusal, message: &Message) -> 
 fn in_json(alloc: Global, file: &str, text: &[u8], refusal: Refusal, message: &Message) -> Refused {
     let mut said = Page::new(alloc);
     let place = place_behind(&text[..(message.at as usize).min(text.len())]);
-    put_text(&mut said, b"file", file.as_bytes());
-    put_number(&mut said, b"line", place.line as u64);
-    put_number(&mut said, b"column", place.column as u64);
-    put_number(&mut said, b"byte", u64::from(message.at));
-    put_said(&mut said, b"message", &message.why);
-    put_lines(&mut said, b"details", &details(alloc, text, message));
+    put_text_member(&mut said, b"file", file.as_bytes());
+    put_number_member(&mut said, b"line", place.line as u64);
+    put_number_member(&mut said, b"column", place.column as u64);
+    put_number_member(&mut said, b"byte", u64::from(message.at));
+    put_page_member(&mut said, b"message", &message.why);
+    put_lines_member(&mut said, b"details", &details(alloc, text, message));
     let mut cause = Page::new(alloc);
     write_cause(&mut cause, refusal);
-    put_said(&mut said, b"cause", &cause);
+    put_page_member(&mut said, b"cause", &cause);
     said.put(b"}\n");
     let place = Page::new(alloc);
     Refused { place, said }

@@ -3,7 +3,7 @@
 use ac_outside::{Files, MemoryFiles, MemorySink, Put};
 use ac_text::Page;
 use ac_types::{Many, Memory};
-use lens_top::{Status, lens};
+use lens_top::{LensStatus, lens};
 use std::alloc::Global;
 
 /// Files in memory, and the name of the one that is being written.
@@ -82,7 +82,7 @@ impl Desk {
         };
         let mut output = MemorySink::new(alloc, Many::new(alloc));
         let mut errors = MemorySink::new(alloc, Many::new(alloc));
-        let Status(status) = lens(alloc, &words, &mut self.files, &mut output, &mut errors);
+        let LensStatus(status) = lens(alloc, &words, &mut self.files, &mut output, &mut errors);
         page.put(b"status ");
         page.number(u64::from(status));
         page.put(b"\n");

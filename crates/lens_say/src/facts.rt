@@ -1,7 +1,7 @@
 // Lines below a message, and names in its text.
 
 use crate::owners::Owners;
-use crate::types::write_type;
+use crate::types::write_type_with_owner;
 use ac_text::Page;
 use ac_types::Ty;
 
@@ -17,7 +17,7 @@ pub fn write_fact(page: &mut Page, owners: &Owners<'_>, what: &[u8], ty: &Ty) {
     page.put(b"  ");
     page.put(what);
     page.put(b" ");
-    write_type(page, owners, ty);
+    write_type_with_owner(page, owners, ty);
     page.put(b"\n");
 }
 

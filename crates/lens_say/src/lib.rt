@@ -12,4 +12,4 @@ pub use excerpt::{name_at, write_excerpt, write_place};
 pub use facts::{write_fact, write_name, write_two};
 pub use message::Message;
 pub use owners::{Owners, external, write_definition};
-pub use types::write_type;
+pub use types::write_type_with_owner;

@@ -18,7 +18,7 @@ fn write_tuple(page: &mut Page, owners: &Owners<'_>, parts: &Many<Ty>) {
 #[cycle(types)]
 fn write_closed(page: &mut Page, owners: &Owners<'_>, ty: &Ty) {
     page.put(b"(");
-    write_type(page, owners, ty);
+    write_type_with_owner(page, owners, ty);
     page.put(b")");
 }
 
@@ -28,7 +28,7 @@ fn write_argument(page: &mut Page, owners: &Owners<'_>, ty: &Ty) {
     if let Ty::Fun(_, _) = ty {
         write_closed(page, owners, ty);
     } else {
-        write_type(page, owners, ty);
+        write_type_with_owner(page, owners, ty);
     }
 }
 
@@ -38,13 +38,13 @@ fn write_item(page: &mut Page, owners: &Owners<'_>, ty: &Ty) {
     if let Ty::Fun(_, _) | Ty::Tuple(_) = ty {
         write_closed(page, owners, ty);
     } else {
-        write_type(page, owners, ty);
+        write_type_with_owner(page, owners, ty);
     }
 }
 
 /// Adds a type, with the fewest parentheses.
 #[cycle(types)]
-pub fn write_type(page: &mut Page, owners: &Owners<'_>, ty: &Ty) {
+pub fn write_type_with_owner(page: &mut Page, owners: &Owners<'_>, ty: &Ty) {
     match ty {
         Ty::Int => page.put(b"int"),
         Ty::Bool => page.put(b"bool"),
@@ -63,7 +63,7 @@ pub fn write_type(page: &mut Page, owners: &Owners<'_>, ty: &Ty) {
         Ty::Fun(from, to) => {
             write_argument(page, owners, from);
             page.put(b" -> ");
-            write_type(page, owners, to);
+            write_type_with_owner(page, owners, to);
         }
         Ty::Abs(name, word) => owners.write_abstract(page, name, word),
         Ty::Mine(word) => page.put(word.text().as_slice()),

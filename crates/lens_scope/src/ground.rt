@@ -1,7 +1,7 @@
 // What is in sight at a place of a text.
 
 use crate::members::{Members, bytes_of};
-use crate::variables::{Names, add_variables};
+use crate::variables::{NamesInSight, add_variables};
 use ac_syntax::{SAbbrev, SDef, SDefKind, SField, SName, SSpec, Surface};
 use ac_terms::{Def, Entry};
 use ac_types::{Many, Memory};
@@ -113,7 +113,7 @@ impl<'a> Ground<'a> {
     }
 
     /// The names of modules and imports that a place sees, the latest first.
-    pub fn modules(&self, alloc: Global, at: u32) -> Result<Names<'a>, Memory> {
+    pub fn modules(&self, alloc: Global, at: u32) -> Result<NamesInSight<'a>, Memory> {
         let mut names = Many::new(alloc);
         for def in self.defs_in_front(at).iter().rev() {
             if let Some(name) = name_of(def) {
@@ -154,7 +154,7 @@ impl<'a> Ground<'a> {
     }
 
     /// The variables and the fields that a place sees, the nearest first.
-    pub fn values(&self, alloc: Global, at: u32) -> Result<Names<'a>, Memory> {
+    pub fn values(&self, alloc: Global, at: u32) -> Result<NamesInSight<'a>, Memory> {
         let mut names = Many::new(alloc);
         match (self.def_at(at), &self.surface.expr) {
             (Some(def), _) => add_inner_values(&mut names, def, at)?,
@@ -165,7 +165,7 @@ impl<'a> Ground<'a> {
     }
 
     /// The types with a plain name that a place sees, the nearest first.
-    pub fn types(&self, alloc: Global, at: u32) -> Result<Names<'a>, Memory> {
+    pub fn types(&self, alloc: Global, at: u32) -> Result<NamesInSight<'a>, Memory> {
         let mut names = Many::new(alloc);
         if let Some(def) = self.def_at(at) {
             add_inner_types(&mut names, def, at)?;
@@ -182,7 +182,7 @@ impl<'a> Ground<'a> {
     }
 
     /// The modules that a place sees and that have a value of this name, the latest first.
-    pub fn owners(&self, alloc: Global, at: u32, name: &[u8]) -> Result<Names<'a>, Memory> {
+    pub fn owners(&self, alloc: Global, at: u32, name: &[u8]) -> Result<NamesInSight<'a>, Memory> {
         let modules = self.modules(alloc, at)?;
         let mut owners = Many::new(alloc);
         for owner in modules.as_slice() {
@@ -204,7 +204,7 @@ fn has(names: &[&[u8]], name: &[u8]) -> bool {
 }
 
 // The same names, the last first.
-fn turned<'a>(alloc: Global, names: &Names<'a>) -> Result<Names<'a>, Memory> {
+fn turned<'a>(alloc: Global, names: &NamesInSight<'a>) -> Result<NamesInSight<'a>, Memory> {
     let mut turned = Many::new(alloc);
     for name in names.as_slice().iter().rev() {
         turned.push(*name)?;
@@ -213,7 +213,11 @@ fn turned<'a>(alloc: Global, names: &Names<'a>) -> Result<Names<'a>, Memory> {
 }
 
 // Adds the fields in front of a place of a definition, and the variables around it.
-fn add_inner_values<'a>(names: &mut Names<'a>, def: &'a SDef, at: u32) -> Result<(), Memory> {
+fn add_inner_values<'a>(
+    names: &mut NamesInSight<'a>,
+    def: &'a SDef,
+    at: u32,
+) -> Result<(), Memory> {
     let SDefKind::Module {
         name: _,
         sig: _,
@@ -244,7 +248,7 @@ fn add_inner_values<'a>(names: &mut Names<'a>, def: &'a SDef, at: u32) -> Result
 }
 
 // Adds a name that begins in front of a place.
-fn add_in_front<'a>(names: &mut Names<'a>, name: &'a SName, at: u32) -> Result<(), Memory> {
+fn add_in_front<'a>(names: &mut NamesInSight<'a>, name: &'a SName, at: u32) -> Result<(), Memory> {
     if name.at < at {
         names.push(bytes_of(&name.word))?;
     }
@@ -252,11 +256,11 @@ fn add_in_front<'a>(names: &mut Names<'a>, name: &'a SName, at: u32) -> Result<(
 }
 
 // Adds the types of a struct or a likespec that begin in front of a place.
-fn add_alias<'a>(names: &mut Names<'a>, alias: &'a SAbbrev, at: u32) -> Result<(), Memory> {
+fn add_alias<'a>(names: &mut NamesInSight<'a>, alias: &'a SAbbrev, at: u32) -> Result<(), Memory> {
     add_in_front(names, &alias.name, at)
 }
 
-fn add_specs<'a>(names: &mut Names<'a>, specs: &'a [SSpec], at: u32) -> Result<(), Memory> {
+fn add_specs<'a>(names: &mut NamesInSight<'a>, specs: &'a [SSpec], at: u32) -> Result<(), Memory> {
     for spec in specs {
         match spec {
             SSpec::Abstract(name) => add_in_front(names, name, at)?,
@@ -268,7 +272,7 @@ fn add_specs<'a>(names: &mut Names<'a>, specs: &'a [SSpec], at: u32) -> Result<(
 }
 
 // Adds the types of a definition that a place in it sees: those of its signature, or of its struct.
-fn add_inner_types<'a>(names: &mut Names<'a>, def: &'a SDef, at: u32) -> Result<(), Memory> {
+fn add_inner_types<'a>(names: &mut NamesInSight<'a>, def: &'a SDef, at: u32) -> Result<(), Memory> {
     match &def.kind {
         SDefKind::Module {
             name: _,

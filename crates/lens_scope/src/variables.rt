@@ -8,15 +8,15 @@ use ac_types::{Many, Memory};
 const STEPS: usize = 1000;
 
 /// Names in the order in which they come into scope.
-pub type Names<'a> = Many<&'a [u8]>;
+pub type NamesInSight<'a> = Many<&'a [u8]>;
 
-fn add<'a>(names: &mut Names<'a>, name: &'a SName) -> Result<(), Memory> {
+fn add<'a>(names: &mut NamesInSight<'a>, name: &'a SName) -> Result<(), Memory> {
     names.push(bytes_of(&name.word))
 }
 
 // Adds the variables of a pattern.
 #[cycle(pattern)]
-fn add_pattern<'a>(names: &mut Names<'a>, pat: &'a SPat) -> Result<(), Memory> {
+fn add_pattern<'a>(names: &mut NamesInSight<'a>, pat: &'a SPat) -> Result<(), Memory> {
     match &pat.kind {
         SPatKind::Var(name, _) => add(names, name),
         SPatKind::Tuple(parts) => add_patterns(names, parts.as_slice()),
@@ -30,7 +30,7 @@ fn add_pattern<'a>(names: &mut Names<'a>, pat: &'a SPat) -> Result<(), Memory> {
 }
 
 #[cycle(pattern)]
-fn add_patterns<'a>(names: &mut Names<'a>, pats: &'a [SPat]) -> Result<(), Memory> {
+fn add_patterns<'a>(names: &mut NamesInSight<'a>, pats: &'a [SPat]) -> Result<(), Memory> {
     for pat in pats {
         add_pattern(names, pat)?;
     }
@@ -71,7 +71,7 @@ fn part_at<'a>(kind: &'a SExprKind, at: u32) -> Option<&'a SExpr> {
 
 // Steps into the body of a function with a name.
 fn in_recursive<'a>(
-    names: &mut Names<'a>,
+    names: &mut NamesInSight<'a>,
     fun: &'a SFun,
     at: u32,
 ) -> Result<Option<&'a SExpr>, Memory> {
@@ -85,7 +85,7 @@ fn in_recursive<'a>(
 
 // Steps into a `match` or a `try`.
 fn in_arms<'a>(
-    names: &mut Names<'a>,
+    names: &mut NamesInSight<'a>,
     tree: &'a SExpr,
     arms: &'a [SArm],
     at: u32,
@@ -108,7 +108,7 @@ fn in_arms<'a>(
 
 // Steps into the part in which a place is, and adds the variables that the part sees.
 fn inward<'a>(
-    names: &mut Names<'a>,
+    names: &mut NamesInSight<'a>,
     tree: &'a SExpr,
     at: u32,
 ) -> Result<Option<&'a SExpr>, Memory> {
@@ -143,7 +143,11 @@ fn inward<'a>(
 }
 
 /// Adds the variables that are in scope at a place of an expression, the outermost first.
-pub fn add_variables<'a>(names: &mut Names<'a>, tree: &'a SExpr, at: u32) -> Result<(), Memory> {
+pub fn add_variables<'a>(
+    names: &mut NamesInSight<'a>,
+    tree: &'a SExpr,
+    at: u32,
+) -> Result<(), Memory> {
     let mut here = tree;
     for _ in 0..STEPS {
         match inward(names, here, at)? {

@@ -6,30 +6,30 @@ ghost use Rattle.ac_load_rules.specs.Accepting.{IsShelf};
 ghost use Rattle.ac_load.specs.Loading.{shelf_of};
 
 use crate::faults::{write_fault, write_unread};
-use crate::files::{read_lines, read_one, read_shelf};
-use crate::status::Status;
+use crate::files::{read_lines, read_one, shelf_of_list};
+use crate::status::LensStatus;
 use ac_outside::{Files, Put, Sink};
 use ac_text::Page;
 use ac_types::Memory;
 use acute_files::TextsFault;
-use lens_explain::{Beside, Form, Heading, Verdict, explain, put_page};
-use lens_words::{Asked, Explain, read_words};
+use lens_explain::{Beside, Form, Heading, TextVerdict, explain, put_page};
+use lens_words::{Asked, Explain, asked_by};
 use std::alloc::Global;
 
 // Writes bytes, and gives the status that goes with it.
-fn write<S: Sink>(sink: &mut S, bytes: &[u8], status: Status) -> Status {
+fn write<S: Sink>(sink: &mut S, bytes: &[u8], status: LensStatus) -> LensStatus {
     match sink.write(bytes) {
         Put::Done => status,
-        Put::Failed => Status::WRITE_FAULT,
-        Put::Memory => Status::OUT_OF_MEMORY,
+        Put::Failed => LensStatus::WRITE_FAULT,
+        Put::Memory => LensStatus::OUT_OF_MEMORY,
     }
 }
 
 // Writes a page, or that memory ran out.
-fn write_page<S: Sink>(sink: &mut S, page: &Page, status: Status) -> Status {
+fn write_page<S: Sink>(sink: &mut S, page: &Page, status: LensStatus) -> LensStatus {
     match page.bytes() {
         Some(bytes) => write(sink, bytes, status),
-        None => write(sink, b"lens: out of memory\n", Status::OUT_OF_MEMORY),
+        None => write(sink, b"lens: out of memory\n", LensStatus::OUT_OF_MEMORY),
     }
 }
 
@@ -44,7 +44,7 @@ fn explain_file<F: Files>(
     page: &mut Page,
     beside: &Beside<'_>,
     heading: Heading<'_>,
-) -> Result<Status, Memory>
+) -> Result<LensStatus, Memory>
     requires few { length beside.now.shelf.now.0 ≤ most_shelf_entries }
     requires shelved { IsShelf (shelf_of beside.now.shelf.now) }
 {
@@ -53,14 +53,14 @@ fn explain_file<F: Files>(
         Err(TextsFault::Memory) => return Err(Memory),
         Err(_) => {
             write_unread(page, heading);
-            return Ok(Status::READ_FAULT);
+            return Ok(LensStatus::READ_FAULT);
         }
     };
     let found = explain(alloc, beside, heading, text.as_slice())?;
     put_page(page, &found.page);
     match found.verdict {
-        Verdict::Accepted | Verdict::AcceptedModule => Ok(Status::DONE),
-        Verdict::Refused => Ok(Status::REFUSED),
+        TextVerdict::Accepted | TextVerdict::AcceptedModule => Ok(LensStatus::DONE),
+        TextVerdict::Refused => Ok(LensStatus::REFUSED),
     }
 }
 
@@ -71,11 +71,11 @@ fn explain_each<F: Files, S: Sink>(
     output: &mut S,
     beside: &Beside<'_>,
     asked: &Explain<'_>,
-) -> Status
+) -> LensStatus
     requires few { length beside.now.shelf.now.0 ≤ most_shelf_entries }
     requires shelved { IsShelf (shelf_of beside.now.shelf.now) }
 {
-    let mut status = Status::DONE;
+    let mut status = LensStatus::DONE;
     for file in &asked.files {
         let mut page = Page::new(alloc);
         let heading = Heading {
@@ -86,7 +86,7 @@ fn explain_each<F: Files, S: Sink>(
             Ok(status) => status,
             Err(_) => {
                 page.lose();
-                Status::OUT_OF_MEMORY
+                LensStatus::OUT_OF_MEMORY
             }
         };
         status = status.and(write_page(output, &page, here));
@@ -100,8 +100,8 @@ fn explain_files<F: Files, S: Sink>(
     files: &mut F,
     output: &mut S,
     asked: &Explain<'_>,
-) -> Status {
-    let shelf = match read_shelf(alloc, files, asked.shelf) {
+) -> LensStatus {
+    let shelf = match shelf_of_list(alloc, files, asked.shelf) {
         Ok(shelf) => shelf,
         Err(fault) => {
             let mut page = Page::new(alloc);
@@ -121,7 +121,7 @@ fn explain_files<F: Files, S: Sink>(
             };
             explain_each(alloc, files, output, &beside, asked)
         }
-        Err(_) => write(output, b"lens: out of memory\n", Status::OUT_OF_MEMORY),
+        Err(_) => write(output, b"lens: out of memory\n", LensStatus::OUT_OF_MEMORY),
     }
 }
 
@@ -132,11 +132,11 @@ pub fn lens<F: Files, O: Sink, E: Sink>(
     files: &mut F,
     output: &mut O,
     errors: &mut E,
-) -> Status {
-    match read_words(alloc, words) {
+) -> LensStatus {
+    match asked_by(alloc, words) {
         Ok(Asked::Explain(asked)) => explain_files(alloc, files, output, &asked),
-        Ok(Asked::Print(text)) => write(output, text.as_bytes(), Status::DONE),
-        Ok(Asked::Refused(text)) => write(errors, text.as_bytes(), Status::WORDS_REFUSED),
-        Err(_) => write(errors, b"lens: out of memory\n", Status::OUT_OF_MEMORY),
+        Ok(Asked::Print(text)) => write(output, text.as_bytes(), LensStatus::DONE),
+        Ok(Asked::Refused(text)) => write(errors, text.as_bytes(), LensStatus::WORDS_REFUSED),
+        Err(_) => write(errors, b"lens: out of memory\n", LensStatus::OUT_OF_MEMORY),
     }
 }

@@ -2,11 +2,11 @@
 
 use crate::files::{read_lines, read_one};
 use crate::list::write_bad_line;
-use crate::status::Status;
+use crate::status::LensStatus;
 use ac_outside::Files;
 use ac_text::Page;
 use acute_files::TextsFault;
-use lens_explain::{Form, Heading, put_text};
+use lens_explain::{Form, Heading, put_text_member};
 use std::alloc::Global;
 
 /// Adds that a file can't be read.
@@ -18,7 +18,7 @@ pub fn write_unread(page: &mut Page, heading: Heading<'_>) {
         }
         Form::Json => {
             page.put(b"{\"verdict\":\"unread\"");
-            put_text(page, b"file", heading.file.as_bytes());
+            put_text_member(page, b"file", heading.file.as_bytes());
             page.put(b"}\n");
         }
     }
@@ -52,22 +52,22 @@ pub fn write_fault<F: Files>(
     page: &mut Page,
     list: Heading<'_>,
     fault: TextsFault,
-) -> Status {
+) -> LensStatus {
     match fault {
         TextsFault::Line(number) => {
             match read_one(alloc, files, list.file) {
                 Ok(text) => write_bad_line(page, list, text.as_slice(), number),
                 Err(_) => page.lose(),
             }
-            Status::SHELF_REFUSED
+            LensStatus::SHELF_REFUSED
         }
         TextsFault::Failed => {
             write_unread_of(alloc, files, page, list);
-            Status::READ_FAULT
+            LensStatus::READ_FAULT
         }
         TextsFault::Memory => {
             page.lose();
-            Status::OUT_OF_MEMORY
+            LensStatus::OUT_OF_MEMORY
         }
     }
 }

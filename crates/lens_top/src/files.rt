@@ -24,7 +24,7 @@ pub fn read_one<F: Files>(alloc: Global, files: &mut F, name: &str) -> Result<Te
 }
 
 /// The shelf whose list is in a file, where there is one.
-pub fn read_shelf<F: Files>(
+pub fn shelf_of_list<F: Files>(
     alloc: Global,
     files: &mut F,
     list: Option<&str>,

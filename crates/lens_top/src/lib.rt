@@ -8,4 +8,4 @@ mod list;
 mod status;
 
 pub use call::lens;
-pub use status::Status;
+pub use status::LensStatus;

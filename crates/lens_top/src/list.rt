@@ -2,7 +2,7 @@
 
 use ac_text::Page;
 use ac_types::limits::{LONGEST_SHELF_LIST, LONGEST_URI, MOST_SHELF_ENTRIES};
-use lens_explain::{Form, Heading, put_number, put_text};
+use lens_explain::{Form, Heading, put_number_member, put_text_member};
 use lens_say::{write_excerpt, write_place};
 
 fn line_feed(bytes: &[u8]) -> Option<usize> {
@@ -117,11 +117,11 @@ fn write_lines(page: &mut Page, list: &str, text: &[u8], at: u32, said: &[u8]) {
 
 fn write_json(page: &mut Page, list: &str, number: u32, at: u32, said: &[u8]) {
     page.put(b"{\"verdict\":\"shelf refused\"");
-    put_text(page, b"file", list.as_bytes());
-    put_number(page, b"line", u64::from(number));
-    put_number(page, b"column", 1);
-    put_number(page, b"byte", u64::from(at));
-    put_text(page, b"message", said);
+    put_text_member(page, b"file", list.as_bytes());
+    put_number_member(page, b"line", u64::from(number));
+    put_number_member(page, b"column", 1);
+    put_number_member(page, b"byte", u64::from(at));
+    put_text_member(page, b"message", said);
     page.put(b"}\n");
 }
 

@@ -10,6 +10,6 @@ mod unlike;
 mod untyped;
 mod whole;
 
-pub use parts::{Part, parts_of};
+pub use parts::{InnerExpression, parts_of};
 pub use untyped::Standing;
 pub use whole::why_ill_typed;

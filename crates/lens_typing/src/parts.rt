@@ -9,17 +9,17 @@ use std::alloc::Global;
 /// An expression, the term that it elaborates to, and the types of the variables in scope, the
 /// newest first.
 #[derive(Drop)]
-pub struct Part<'a> {
+pub struct InnerExpression<'a> {
     pub tree: &'a SExpr,
     pub term: &'a Term,
     pub vars: Many<Ty>,
 }
 
-impl<'a> Part<'a> {
+impl<'a> InnerExpression<'a> {
     /// The same part.
-    pub fn copy(&self, alloc: Global) -> Result<Part<'a>, Memory> {
+    pub fn copy(&self, alloc: Global) -> Result<InnerExpression<'a>, Memory> {
         let vars = self.vars.copy(alloc)?;
-        Ok(Part {
+        Ok(InnerExpression {
             tree: self.tree,
             term: self.term,
             vars,
@@ -30,19 +30,19 @@ impl<'a> Part<'a> {
 // Adds a part that sees the same variables.
 fn add<'a>(
     alloc: Global,
-    parts: &mut Many<Part<'a>>,
+    parts: &mut Many<InnerExpression<'a>>,
     tree: &'a SExpr,
     term: &'a Term,
     vars: &Many<Ty>,
 ) -> Result<(), Memory> {
     let vars = vars.copy(alloc)?;
-    parts.push(Part { tree, term, vars })
+    parts.push(InnerExpression { tree, term, vars })
 }
 
 // Adds parts that see the same variables.
 fn add_all<'a>(
     alloc: Global,
-    parts: &mut Many<Part<'a>>,
+    parts: &mut Many<InnerExpression<'a>>,
     trees: &'a [SExpr],
     terms: &'a [Term],
     vars: &Many<Ty>,
@@ -72,14 +72,14 @@ fn under_one(alloc: Global, ty: &Ty, vars: &Many<Ty>) -> Result<Many<Ty>, Memory
 // Adds a part that sees one more variable.
 fn add_under<'a>(
     alloc: Global,
-    parts: &mut Many<Part<'a>>,
+    parts: &mut Many<InnerExpression<'a>>,
     tree: &'a SExpr,
     term: &'a Term,
     ty: &Ty,
     vars: &Many<Ty>,
 ) -> Result<(), Memory> {
     let vars = under_one(alloc, ty, vars)?;
-    parts.push(Part { tree, term, vars })
+    parts.push(InnerExpression { tree, term, vars })
 }
 
 // The type of the functions between two types, with copies of both.
@@ -91,7 +91,7 @@ fn type_of_functions(alloc: Global, from: &Ty, to: &Ty) -> Result<Ty, Memory> {
 // Adds the body of a recursive function, which sees the function and its argument.
 fn add_recursive<'a>(
     alloc: Global,
-    parts: &mut Many<Part<'a>>,
+    parts: &mut Many<InnerExpression<'a>>,
     tree: &'a SExpr,
     term: &'a Term,
     vars: &Many<Ty>,
@@ -133,14 +133,14 @@ fn bound_by_all(alloc: Global, pats: &[Pat], vars: Many<Ty>) -> Result<Many<Ty>,
 // Adds the bodies of arms, which see their patterns' variables.
 fn add_arms<'a>(
     alloc: Global,
-    parts: &mut Many<Part<'a>>,
+    parts: &mut Many<InnerExpression<'a>>,
     cases: &'a [SArm],
     arms: &'a [Arm],
     vars: &Many<Ty>,
 ) -> Result<(), Memory> {
     for i in 0..cases.len().min(arms.len()) {
         let vars = bound(alloc, &arms[i].pat, vars.copy(alloc)?)?;
-        parts.push(Part {
+        parts.push(InnerExpression {
             tree: &cases[i].body,
             term: &arms[i].body,
             vars,
@@ -152,7 +152,7 @@ fn add_arms<'a>(
 // Adds the parts of a form that binds no variable.
 fn add_plain<'a>(
     alloc: Global,
-    parts: &mut Many<Part<'a>>,
+    parts: &mut Many<InnerExpression<'a>>,
     kind: &'a SExprKind,
     term: &'a Term,
     vars: &Many<Ty>,
@@ -191,8 +191,8 @@ fn add_plain<'a>(
 // Adds the parts of an expression.
 fn add_parts<'a>(
     alloc: Global,
-    parts: &mut Many<Part<'a>>,
-    whole: &Part<'a>,
+    parts: &mut Many<InnerExpression<'a>>,
+    whole: &InnerExpression<'a>,
 ) -> Result<(), Memory> {
     let vars = &whole.vars;
     match (&whole.tree.kind, whole.term) {
@@ -216,7 +216,10 @@ fn add_parts<'a>(
 }
 
 /// The parts of an expression. Those of a `let` see the type that it writes.
-pub fn parts_of<'a>(alloc: Global, whole: &Part<'a>) -> Result<Many<Part<'a>>, Memory> {
+pub fn parts_of<'a>(
+    alloc: Global,
+    whole: &InnerExpression<'a>,
+) -> Result<Many<InnerExpression<'a>>, Memory> {
     let mut parts = Many::new(alloc);
     add_parts(alloc, &mut parts, whole)?;
     Ok(parts)

@@ -2,7 +2,7 @@
 
 ghost use Rattle.std.specs.Prelude.{◌<◌, ◌^◌, length};
 
-use crate::parts::{Part, parts_of};
+use crate::parts::{InnerExpression, parts_of};
 use ac_check::{CheckFault, type_of};
 use ac_check_views::{Site, is_view_of};
 use ac_syntax::SExpr;
@@ -70,7 +70,7 @@ pub struct Untyped<'a> {
 fn types_of(
     alloc: Global,
     standing: &Standing<'_>,
-    parts: &[Part<'_>],
+    parts: &[InnerExpression<'_>],
 ) -> Result<Many<Typed>, Memory>
     requires { length standing.now.env.now.entries < 2 ^ 32 }
 {
@@ -97,7 +97,7 @@ pub fn first_untyped<'a>(
 ) -> Result<Option<Untyped<'a>>, Memory>
     requires { length standing.now.env.now.entries < 2 ^ 32 }
 {
-    let mut whole = Part {
+    let mut whole = InnerExpression {
         tree,
         term,
         vars: Many::new(alloc),

@@ -5,4 +5,4 @@
 mod commands;
 mod reader;
 
-pub use reader::{Asked, Explain, read_words};
+pub use reader::{Asked, Explain, asked_by};

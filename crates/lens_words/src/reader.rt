@@ -49,7 +49,7 @@ fn explain_of<'a>(alloc: Global, matches: &ArgMatches<'a>) -> Result<Asked<'a>, 
 }
 
 /// What the words behind the program's own name ask for.
-pub fn read_words<'a>(alloc: Global, words: &'a [String]) -> Result<Asked<'a>, Memory> {
+pub fn asked_by<'a>(alloc: Global, words: &'a [String]) -> Result<Asked<'a>, Memory> {
     let command = lens(alloc)?;
     match command.try_get_matches_from(words) {
         Ok(matches) => match matches.subcommand_matches("explain") {

@@ -1,5 +1,5 @@
 -- The front of a file, and what is left of it while it is read.
-use Rattle.std.specs.Prelude.{◌≡◌, ℕ, ◌+◌, List, [], ◌∷◌, Option, Some, None, take, drop}
+use Rattle.std.specs.Prelude.{◌≡◌, ℕ, ◌+◌, [], ◌∷◌, Option, Some, None, take, drop}
 use Rattle.ac_types.specs.Types.{Bytes}
 use Rattle.ac_outside.specs.Outside.{or_empty}
 use Rattle.ac_channels.specs.ChannelFrames.{longest_channel}

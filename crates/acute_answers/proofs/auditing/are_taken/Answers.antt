@@ -1,4 +1,4 @@
-use Rattle.std.proofs.Common.{rules, ◌≡◌, ◌∙◌, ◌&&◌, ◌+◌, sym, ap, arith, drop, true, false, get_or}
+use Rattle.std.proofs.Common.{rules, ◌≡◌, ◌∙◌, ◌&&◌, ◌+◌, sym, ap, arith, drop, true, false}
 use Rattle.std.specs.List.{list_all}
 use Rattle.acute_answers.specs.Auditing.{takes_frame}
 use Rattle.acute_answers.proofs.VerdictLines.{all_at}

@@ -6,7 +6,7 @@ use Rattle.ac_terms.specs.Read.{bytes_of, environment_of}
 use Rattle.ac_channels.specs.ChannelFrames.{AllFrames}
 use Rattle.ac_audit.specs.declared.verdict.AuditVerdict.{AuditVerdict}
 use Rattle.acute_answers.specs.declared.status.Status.{Status}
-use Rattle.acute_answers.specs.Answers.{ShownAnswer, answer_of, printing}
+use Rattle.acute_answers.specs.Answers.{answer_of, printing}
 use Rattle.acute_answers.specs.Auditing.{AuditsFrames, audited, frame_lines, frames_status}
 use Rattle.acute_answers.proofs.auditing.audit.Goals as goal
 

@@ -3,9 +3,8 @@ use Rattle.ac_types.specs.ReadTypes.{typ_of}
 use Rattle.ac_terms.specs.Read.{environment_of, expr_of}
 use Rattle.ac_load.specs.Loading.{Rejects, shelf_of}
 use Rattle.ac_batch.proofs.Saying.{said}
-use Rattle.acute_answers.specs.declared.answer.Answer.{Answer}
 use Rattle.acute_answers.specs.declared.auditing.Auditor.{Auditor}
-use Rattle.acute_answers.specs.Answers.{ShownAnswer, answer_of}
+use Rattle.acute_answers.specs.Answers.{answer_of}
 use Rattle.acute_answers.specs.Auditing.{RefusesAudit, refused_program, refused_type}
 use Rattle.acute_answers.proofs.RefusalLaws.{one_refusal}
 use Rattle.acute_answers.proofs.auditing.load_auditor.Goals as goal

@@ -1,7 +1,7 @@
 use Rattle.std.proofs.Common.{◌≡◌, ℕ, IsTrue, List, Option, Some, refl}
 use Rattle.ac_types.specs.Types.{Bytes}
 use Rattle.ac_outside.specs.Outside.{Rose}
-use Rattle.acute_words.specs.Commands.{ChannelName, ProgramFiles, Request, run, names, code, make, check, chain, audit}
+use Rattle.acute_words.specs.Commands.{ChannelName, ProgramFiles, Request, run, names, code, make, check, chain, audit, pipe}
 use Rattle.acute_files.specs.ManyTexts.{TextsFail}
 use Rattle.acute_files.specs.ProgramTexts.{HasBadLine, ReadsFail}
 use Rattle.acute_answers.specs.declared.status.Status.{Status}
@@ -12,6 +12,9 @@ use Rattle.acute_top.specs.Requests.{list_named, IsUnreadable}
 use Rattle.acute_top.specs.Giving.{Gives}
 use Rattle.acute_top.specs.RunEndings.{RunEnded, is_refused, has_run, bad_list, unread_file, unmade_file, unread_input, unwritten, no_memory_yet, no_memory_making, no_memory_left}
 use Rattle.acute_top.specs.ChainEndings.{ChainEnded, has_chained, bad_chain_list, unread_chain, unprinted_chain, no_memory_to_chain, no_memory_in_chain}
+use Rattle.acute_pipe.specs.Senders.{started_words}
+use Rattle.acute_pipe.specs.Spawnings.{Spawning}
+use Rattle.acute_top.specs.PipeEndings.{PipeEnded, refused_receiver, bad_pipe_list, unread_receiver, no_memory_to_start, not_started, has_piped, unread_child, unread_rest, unprinted_pipe, no_memory_in_pipe}
 use Rattle.acute_top.specs.Endings.{AnswerEnded, has_printed, no_shelf, unread, unprinted, no_memory_to_find, no_memory_to_print, CallEnded}
 use Rattle.acute_top.proofs.AnswerLaws.{one_fails}
 use Rattle.acute_top.proofs.FileLaws.{shelf_or_bad}
@@ -28,6 +31,7 @@ module _ (o : Handed) {end : Status} (told : (name : Bytes) → IsTrue (o.files 
   not_given (check files list) a bad g = shelf_or_bad o.files told g.is_shelf bad
   not_given (chain programs list steps) a bad g = g
   not_given (audit prog channel type) a bad g = shelf_or_bad o.files told g.is_shelf bad
+  not_given (pipe tool sender prog steps written) a bad g = g
 
   answering : (r : Request) → (IsUnreadable o.files r → ⊥) → HasBadLine o.files (list_named r) n → AnswerEnded r o.files o.output o.errors end → end ≡ SHELF_REFUSED
   answering r f bad (has_printed a g x s) = absurd (not_given r a bad g)
@@ -57,14 +61,27 @@ module _ (o : Handed) {end : Status} (told : (name : Bytes) → IsTrue (o.files 
   chaining programs list steps f bad (no_memory_to_chain x s) = absurd (m (said_wholly m o.errors e refl s))
   chaining programs list steps f bad (no_memory_in_chain a g x s) = absurd (shelf_or_bad o.files told g.is_shelf bad)
 
-  complete : (r : Request) → (IsUnreadable o.files r → ⊥) → HasBadLine o.files (list_named r) n → CallEnded (Some r) o end → end ≡ SHELF_REFUSED
-  complete (run prog steps from to) f bad ended = running prog steps from to (λ fails. f (one_fails o.files prog.file fails)) bad ended
-  complete (names prog) f bad ended = answering (names prog) f bad ended
-  complete (code prog) f bad ended = answering (code prog) f bad ended
-  complete (make seed modules runs) f bad ended = elim bad [ ]
-  complete (check files list) f bad ended = answering (check files list) f bad ended
-  complete (chain programs list steps) f bad ended = chaining programs list steps f bad ended
-  complete (audit prog channel type) f bad ended = answering (audit prog channel type) f bad ended
+  piping : (words : List Bytes) (prog : ProgramFiles) (steps : ℕ) (c : Spawning) → (ReadsFail o.files prog.file prog.shelf → ⊥) → HasBadLine o.files prog.shelf n → PipeEnded words prog steps o.files c o.output o.errors end → end ≡ SHELF_REFUSED
+  piping words prog steps c f bad (refused_receiver r b g runs x none s) = absurd (shelf_or_bad o.files told r.is_shelf bad)
+  piping words prog steps c f bad (bad_pipe_list k other x none s) = said_wholly m o.errors e refl s
+  piping words prog steps c f bad (unread_receiver fails x none s) = absurd (f fails)
+  piping words prog steps c f bad (no_memory_to_start x none s) = absurd (m (said_wholly m o.errors e refl s))
+  piping words prog steps c f bad (not_started r b g runs h x s) = absurd (shelf_or_bad o.files told r.is_shelf bad)
+  piping words prog steps c f bad (has_piped r b sender g runs h x s) = absurd (shelf_or_bad o.files told r.is_shelf bad)
+  piping words prog steps c f bad (unread_child r b sender g runs h failed x stood s) = absurd (shelf_or_bad o.files told r.is_shelf bad)
+  piping words prog steps c f bad (unread_rest r b sender g runs h failed x s) = absurd (shelf_or_bad o.files told r.is_shelf bad)
+  piping words prog steps c f bad (unprinted_pipe r b sender g runs h rose x s) = absurd (shelf_or_bad o.files told r.is_shelf bad)
+  piping words prog steps c f bad (no_memory_in_pipe r b sender g runs h x s) = absurd (shelf_or_bad o.files told r.is_shelf bad)
+
+  complete : (c : Spawning) (r : Request) → (IsUnreadable o.files r → ⊥) → HasBadLine o.files (list_named r) n → CallEnded (Some r) o c end → end ≡ SHELF_REFUSED
+  complete c (run prog steps from to) f bad ended = running prog steps from to (λ fails. f (one_fails o.files prog.file fails)) bad ended
+  complete c (names prog) f bad ended = answering (names prog) f bad ended
+  complete c (code prog) f bad ended = answering (code prog) f bad ended
+  complete c (make seed modules runs) f bad ended = elim bad [ ]
+  complete c (check files list) f bad ended = answering (check files list) f bad ended
+  complete c (chain programs list steps) f bad ended = chaining programs list steps f bad ended
+  complete c (audit prog channel type) f bad ended = answering (audit prog channel type) f bad ended
+  complete c (pipe tool sender prog steps written) f bad ended = piping (started_words tool sender prog.shelf written) prog steps c (λ fails. f (one_fails o.files prog.file fails)) bad ended
 
 pub returns : goal.returns
-returns c = λ r o status ended told f e m n bad. complete o told e m n r f bad ended
+returns c = λ r o s status ended told f e m n bad. complete o told e m n s r f bad ended

@@ -55,4 +55,4 @@ module _ (prog : ProgramFiles) (steps : ℕ) (from to : Option ChannelName) (o :
   complete (no_memory_left r b mid g runs made x s) = absurd (m (said_wholly m (behind_run to o mid) (behind to o mid e) refl s))
 
 pub returns : goal.returns
-returns c = λ prog steps from to o status ended told known f i w k e m shelf text is_shelf is_text mode a means. complete prog steps from to o told known f i w k e m shelf text is_shelf is_text mode a means ended
+returns c = λ prog steps from to o s status ended told known f i w k e m shelf text is_shelf is_text mode a means. complete prog steps from to o told known f i w k e m shelf text is_shelf is_text mode a means ended

@@ -42,4 +42,4 @@ pub returns-clause-found : goal.returns-clause-found
 returns-clause-found c = λ r o status ended b f w e m. complete r o b f w e m ended
 
 pub returns-clause-chained : goal.returns-clause-chained
-returns-clause-chained c = λ programs list steps o status ended b f w e m. chained programs list steps o b f w e m ended
+returns-clause-chained c = λ programs list steps o s status ended b f w e m. chained programs list steps o b f w e m ended

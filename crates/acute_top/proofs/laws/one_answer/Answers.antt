@@ -2,7 +2,7 @@ use Rattle.std.proofs.Common.{◌≡◌, ℕ, Bool, IsTrue, List, Option, refl, 
 use Rattle.ac_types.specs.Types.{Bytes}
 use Rattle.ac_types.specs.declared.text.Text.{Text}
 use Rattle.ac_rules.specs.Views.{Plain}
-use Rattle.acute_words.specs.Commands.{ProgramFiles, Request, run, names, code, make, check, chain, audit}
+use Rattle.acute_words.specs.Commands.{ProgramFiles, Request, run, names, code, make, check, chain, audit, pipe}
 use Rattle.ac_load_rules.specs.Accepting.{Shelved}
 use Rattle.acute_files.specs.ChannelFiles.{HasFrames}
 use Rattle.acute_files.specs.Files.{Reading}
@@ -56,6 +56,7 @@ module _ (files : Bytes → Reading) (told : (name : Bytes) → IsTrue (files na
   one (check checked list) x y = (checking checked list x y, λ other. absurd (other checked list refl))
   one (chain programs list steps) x y = absurd x
   one (audit p channel type) x y = alike (audit p channel type) a b (auditing p channel type x y)
+  one (pipe tool sender p steps written) x y = absurd x
 
   chaining : (programs : List Bytes) (list : Option Bytes) (steps : ℕ) (shown : Bool) → ChainsFiles files programs list steps shown a → ChainsFiles files programs list steps shown b → AlikeWhere shown a b
   chaining programs list steps shown x y =

@@ -29,7 +29,7 @@ returns-in-Ok-Some-clause-ends g c =
     rw (sym some) c.obey.ensures.ends
 
 pub returns-in-Err-clause-ends : goal.returns-in-Err-clause-ends
-returns-in-Err-clause-ends g c = (AtTexts, (refl, no_texts g.F.Files _ _), end_at_words _ _ (record { same = refl }) (λ to. untouched_by _ _ _ _ _ _ _ to (λ t. refl)) refl _ c.no_memory.ensures)
+returns-in-Err-clause-ends g c = (AtTexts, (refl, no_texts g.F.Files _ _), end_at_words _ _ _ (record { same = refl }) (λ to. untouched_by _ _ _ _ _ _ _ to (λ t. refl)) refl (record { started = λ t. refl; left = λ t. refl }) _ c.no_memory.ensures)
 
 pub returns-in-Ok-None-clause-kept : goal.returns-in-Ok-None-clause-kept
 returns-in-Ok-None-clause-kept g c = λ told name h. refl
@@ -41,3 +41,8 @@ returns-in-Ok-Some-clause-kept g c =
 
 pub returns-in-Err-clause-kept : goal.returns-in-Err-clause-kept
 returns-in-Err-clause-kept g c = λ told name h. refl
+
+pub returns-in-Ok-Some-clause-unspawned : goal.returns-in-Ok-Some-clause-unspawned
+returns-in-Ok-Some-clause-unspawned g c =
+    let some = rw c.in-Ok-Some.field-0-is at c.in-Ok-Some.ensures in
+    rw (sym some) c.obey.ensures.unspawned

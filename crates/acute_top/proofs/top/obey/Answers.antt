@@ -52,3 +52,12 @@ returns-in-Audit-clause-ends g c = rw c.in-Audit.is (AtTexts, (refl, c.audit_fil
 
 pub returns-in-Audit-clause-kept : goal.returns-in-Audit-clause-kept
 returns-in-Audit-clause-kept g c = rw c.in-Audit.is (λ told name h. ap (λ (k : Contents). k name) (c.audit_file.ensures.same told))
+
+pub returns-in-Pipe-clause-ends : goal.returns-in-Pipe-clause-ends
+returns-in-Pipe-clause-ends g c = rw c.in-Pipe.is (AtTexts, (refl, c.pipe_files.ensures.only), c.pipe_files.ensures.ends)
+
+pub returns-in-Pipe-clause-kept : goal.returns-in-Pipe-clause-kept
+returns-in-Pipe-clause-kept g c = rw c.in-Pipe.is (λ told name h. ap (λ (k : Contents). k name) (c.pipe_files.ensures.same told))
+
+pub returns-in-Pipe-clause-unspawned : goal.returns-in-Pipe-clause-unspawned
+returns-in-Pipe-clause-unspawned g c = rw c.in-Pipe.is (λ none. absurd none)

@@ -2,7 +2,7 @@ use Rattle.std.proofs.Common.{rules, ◌≡◌, ◌∙◌, sym, ap, subst, codes
 use Rattle.acute_words.specs.Commands.{code, files_of, names, request_of}
 use Rattle.acute_words.proofs.Getters.{all_found, first_found, whether_found}
 use Rattle.acute_words.specs.inner.ByKind.{asked_of}
-use Rattle.acute_words.proofs.Asked.{audit_is, chain_is, check_is, make_is, run_is}
+use Rattle.acute_words.proofs.Asked.{audit_is, chain_is, check_is, make_is, pipe_is, run_is}
 use Rattle.acute_words.proofs.reader.command_from.Goals as goal
 
 pub returns-in-Run : goal.returns-in-Run
@@ -56,3 +56,13 @@ returns-in-Audit c = λ g rows.
     let channel = c.get_str-in-Audit-3.ensures ∙ first_found m g (codes "CHANNEL") rows in
     let type = c.get_str-in-Audit-4.ensures ∙ first_found m g (codes "as") rows in
     c.audit_from.ensures ∙ audit_is g _ _ _ _ _ c.program_from.ensures file shelf channel type ∙ ap (λ k. asked_of k g) (sym c.in-Audit.is)
+
+pub returns-in-Pipe : goal.returns-in-Pipe
+returns-in-Pipe c = λ g rows.
+    let m = c.args.matches.now in
+    let tool = c.get_str-in-Pipe.ensures ∙ first_found m g (codes "TOOL") rows in
+    let sender = c.get_str-in-Pipe-2.ensures ∙ first_found m g (codes "A") rows in
+    let file = c.get_str-in-Pipe-3.ensures ∙ first_found m g (codes "B") rows in
+    let shelf = c.get_str-in-Pipe-4.ensures ∙ first_found m g (codes "shelf") rows in
+    let written = c.get_str-in-Pipe-5.ensures ∙ first_found m g (codes "steps") rows in
+    c.pipe_from.ensures ∙ pipe_is g _ _ _ _ _ _ tool sender c.program_from-in-Pipe.ensures file shelf written ∙ ap (λ k. asked_of k g) (sym c.in-Pipe.is)

@@ -1,4 +1,4 @@
-use Rattle.std.proofs.Common.{◌≡◌, ◌≤◌, ◌<◌, ◌+◌, ◌∙◌, ℕ, Option, Some, None, length, drop, sym, arith}
+use Rattle.std.proofs.Common.{◌<◌, ◌∙◌, ℕ, length, drop, sym, arith}
 use Rattle.std.proofs.lemmas.List.{length-append, length-take}
 use Rattle.ac_outside.specs.declared.traits.Got.TheVariants as got
 use Rattle.ac_channels.specs.ChannelFrames.{longest_channel}

@@ -1,0 +1,2 @@
+mod DrainLaws
+mod ToldLaws

@@ -1,0 +1,4 @@
+pub mod Draining
+pub mod PipeEnds
+pub mod Receives
+pub mod inner

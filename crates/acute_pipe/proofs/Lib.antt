@@ -1,0 +1,3 @@
+pub mod ReceivedLaws
+mod PipedLaws
+mod SenderLaws
